@@ -1,0 +1,46 @@
+//! The small values that every other crate speaks of: names, identifications, pointers, rights,
+//! attributes, exceptions and mnemonics, and lists of them.
+#![tactic(auto)]
+
+mod attr;
+mod exception;
+mod fault;
+mod fields;
+mod id;
+mod name;
+mod op;
+mod page;
+mod pointer;
+mod rights;
+mod seq;
+mod words;
+
+pub use attr::Attr;
+pub use exception::{Exception, Rule};
+pub use fault::{Failed, NoMemory};
+pub use fields::{read_u32_at, read_u64_at};
+pub use id::{Id, Kind, ObjNum, UserNum};
+pub use name::{BadName, Name};
+pub use op::Op;
+pub use page::{Change, Key, Page};
+pub use pointer::Pointer;
+pub use rights::{Rights, Special};
+pub use seq::{AttrList, Bytes, Seq, Twin, twins};
+pub use words::{Category, LockState, Relation, Seek};
+
+/// What is sent between threads.
+fn sends<T: Send + Sync>() {}
+
+/// Each value of this crate may be sent and shared.
+pub fn all_may_be_sent() {
+    sends::<Name>();
+    sends::<Id>();
+    sends::<Attr>();
+    sends::<Pointer>();
+    sends::<Exception>();
+    sends::<Bytes>();
+    sends::<AttrList>();
+    sends::<Change>();
+    sends::<NoMemory>();
+    sends::<Failed>();
+}
