@@ -1,0 +1,69 @@
+use s38_base::{Attr, AttrList, Bytes, Id, Name, NoMemory, Pointer, Seq, Twin};
+use std::alloc::Global;
+
+/// An operand as the machine gets it: the process has put in the values of its variables.
+#[derive(Drop, Debug)]
+pub enum Operand {
+    /// A scalar that is read.
+    Value {
+        attr: Attr,
+        bytes: Bytes,
+    },
+    /// A variable of the process that gets a value of this attribute.
+    Receiver {
+        attr: Attr,
+    },
+    /// An item in a space: its base, and its offset from there.
+    InSpace {
+        base: Option<Pointer>,
+        offset: u32,
+        attr: Attr,
+    },
+    /// A pointer that is used, or none.
+    Ptr(Option<Pointer>),
+    /// A whole number.
+    Whole(i64),
+    /// A word of the row: rights, a relation, a lock state, as their numbers.
+    Word(u32),
+    /// An identification.
+    Ident(Id),
+    /// The name of a template or of a job.
+    Text(Name),
+    /// Attributes in a row.
+    Attrs(AttrList),
+    /// `*NONE`
+    Nothing,
+    /// `*MACHINE`
+    MachineContext,
+    /// `*LIST`
+    ContextList,
+}
+
+/// The operands of a request, in order.
+pub type Operands = Seq<Operand>;
+
+impl Twin for Operand {
+    fn twin(&self, alloc: Global) -> Result<Self, NoMemory> {
+        match self {
+            Operand::Value { attr, bytes } => Ok(Operand::Value {
+                attr: *attr,
+                bytes: bytes.twin(alloc)?,
+            }),
+            Operand::Receiver { attr } => Ok(Operand::Receiver { attr: *attr }),
+            Operand::InSpace { base, offset, attr } => Ok(Operand::InSpace {
+                base: *base,
+                offset: *offset,
+                attr: *attr,
+            }),
+            Operand::Ptr(pointer) => Ok(Operand::Ptr(*pointer)),
+            Operand::Whole(number) => Ok(Operand::Whole(*number)),
+            Operand::Word(word) => Ok(Operand::Word(*word)),
+            Operand::Ident(id) => Ok(Operand::Ident(*id)),
+            Operand::Text(name) => Ok(Operand::Text(*name)),
+            Operand::Attrs(attrs) => Ok(Operand::Attrs(Seq::from_slice(alloc, attrs.as_slice())?)),
+            Operand::Nothing => Ok(Operand::Nothing),
+            Operand::MachineContext => Ok(Operand::MachineContext),
+            Operand::ContextList => Ok(Operand::ContextList),
+        }
+    }
+}
