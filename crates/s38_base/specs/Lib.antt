@@ -1,3 +1,4 @@
 pub mod Fields
+pub mod Ids
 pub mod NameText
 pub mod Scalar

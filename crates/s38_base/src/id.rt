@@ -1,3 +1,6 @@
+ghost use Rattle.std.specs.Prelude.{◌≡◌};
+ghost use Rattle.s38_base.specs.Ids.{kind_code, same_id};
+
 use crate::name::Name;
 
 /// The number of an object, from 1 on.
@@ -23,10 +26,41 @@ pub enum Kind {
     Block = 11,
 }
 
+impl Kind {
+    /// The number of the kind, 1 to 11.
+    pub fn code(self) -> u8
+        ensures { result ≡ kind_code self }
+    {
+        match self {
+            Kind::Context => 1,
+            Kind::Program => 2,
+            Kind::Profile => 3,
+            Kind::Space => 4,
+            Kind::Queue => 5,
+            Kind::Index => 6,
+            Kind::DataSpace => 7,
+            Kind::Cursor => 8,
+            Kind::Port => 9,
+            Kind::Journal => 10,
+            Kind::Block => 11,
+        }
+    }
+}
+
 /// An identification: two objects in one context differ in it.
 #[derive(Clone, Copy, PartialEq, Eq, PartialOrd, Ord, Debug)]
 pub struct Id {
     pub kind: Kind,
     pub sub: u8,
     pub name: Name,
+}
+
+impl Id {
+    /// Whether both are one identification.
+    #[tactic(auto, unfolding(crate::specs::Ids::same_id))]
+    pub fn is(&self, other: &Id) -> bool
+        ensures { result ≡ same_id self.now other.now }
+    {
+        self.kind.code() == other.kind.code() && self.sub == other.sub && self.name == other.name
+    }
 }
