@@ -1,0 +1,188 @@
+ghost use Rattle.std.specs.Prelude.{◌≡◌, ◌≢◌, ◌+◌, ◌<◌, ◌≤◌, ◌↔◌, ◌∷◌, [], length, Some, IfOk, IsErrOf, OnOk, OnErr};
+ghost use Rattle.std.specs.Prelude.{slice_get};
+ghost use Rattle.std.specs.Option.{option_copied};
+ghost use Rattle.std.specs.List.{remove};
+ghost use Rattle.std.specs.VecDeque.{deque_len};
+ghost use Rattle.s38_queues.specs.MessageQueue.{image_size, message, message_size, with_message, without_message};
+
+use crate::message::{Message, Order};
+use s38_base::{NoMemory, Seq};
+use std::alloc::Global;
+use std::collections::VecDeque;
+use std::marker::Model;
+use thiserror::Error;
+
+/// The longest image of a queue, in bytes.
+const LARGEST: u32 = 16_777_216;
+
+/// The messages of a queue, in the order of their arrival.
+#[derive(Drop)]
+pub struct Queue {
+    alloc: Global,
+    order: Order,
+    key_len: u8,
+    longest: u16,
+    size: u32,
+    messages: VecDeque<Message>,
+}
+
+impl Model for Queue {
+    ghost use Rattle.std.specs.Prelude.{◌≡◌, ◌≤◌};
+    ghost use Rattle.s38_queues.specs.MessageQueue.{MessageQueue, image_size};
+
+    ghost Value = { MessageQueue };
+
+    ghost view = { λ q. record { order = q.order; key_len = q.key_len; longest = q.longest; messages = q.messages.items } };
+
+    ghost invariant = { λ q. (q.size ≡ image_size q.messages.items) × (q.size ≤ 16777216) };
+}
+
+/// A message of its own memory.
+fn message_of(alloc: Global, key: &[u8], text: &[u8]) -> Result<Message, NoMemory>
+    ensures { IfOk result (λ made. made ≡ message key.now text.now) }
+{
+    let key = Seq::from_slice(alloc, key)?;
+    let text = Seq::from_slice(alloc, text)?;
+    Ok(Message { key, text })
+}
+
+fn take_first(messages: &mut VecDeque<Message>) -> Message
+    requires { 0 < deque_len messages.old }
+    ensures { messages.old.items ≡ result ∷ messages.new.items }
+{
+    messages.pop_front().unwrap()
+}
+
+fn take_any(messages: &mut VecDeque<Message>, at: usize) -> Message
+    requires { at < deque_len messages.old }
+    ensures message { slice_get messages.old.items at ≡ Some result }
+    ensures rest { messages.new.items ≡ remove messages.old.items at }
+{
+    if at == 0 {
+        take_first(messages)
+    } else {
+        messages.remove(at).unwrap()
+    }
+}
+
+fn take_at(messages: &mut VecDeque<Message>, at: usize) -> Message
+    requires { at < deque_len messages.old }
+    ensures message { slice_get messages.old.items at ≡ Some result }
+    ensures rest { messages.new.items ≡ remove messages.old.items at }
+    ensures size { image_size messages.new.items + message_size result ≡ image_size messages.old.items }
+{
+    take_any(messages, at)
+}
+
+/// Why a message was not put.
+#[derive(Clone, Copy, PartialEq, Eq, Debug, Error)]
+pub enum QueueFault {
+    #[error("the key has not the length of the queue's keys")]
+    BadKey,
+    #[error("the message is longer than the queue's longest")]
+    TooLong,
+    #[error("the queue's image would be too large")]
+    Full,
+    #[error("no memory")]
+    NoMemory,
+}
+
+impl Queue {
+    /// A queue without a message; it takes no memory until it grows.
+    pub fn new(alloc: Global, order: Order, key_len: u8, longest: u16) -> Queue
+        ensures { result ≡ record { order = order; key_len = key_len; longest = longest; messages = [] } }
+    {
+        Queue {
+            alloc,
+            order,
+            key_len,
+            longest,
+            size: 8,
+            messages: VecDeque::new(alloc),
+        }
+    }
+
+    /// Which message is taken.
+    pub fn order(&self) -> Order
+        ensures { result ≡ self.now.order }
+    {
+        self.order
+    }
+
+    /// How many bytes a key has, 0 without keys.
+    pub fn key_len(&self) -> u8
+        ensures { result ≡ self.now.key_len }
+    {
+        self.key_len
+    }
+
+    /// How many bytes a message has at most.
+    pub fn longest(&self) -> u16
+        ensures { result ≡ self.now.longest }
+    {
+        self.longest
+    }
+
+    /// How many messages there are.
+    pub fn len(&self) -> usize
+        ensures { result ≡ length self.now.messages }
+    {
+        self.messages.len()
+    }
+
+    /// How many bytes the image of the queue has.
+    pub fn image_len(&self) -> u32
+        ensures size { result ≡ image_size self.now.messages }
+        ensures bound { result ≤ 16777216 }
+    {
+        self.size
+    }
+
+    /// The message at a place in the order of arrival, from 0 on; None exactly past the last.
+    pub fn message(&self, at: usize) -> Option<&Message>
+        ensures { option_copied result ≡ slice_get self.now.messages at }
+    {
+        self.messages.get(at)
+    }
+
+    /// Puts a message behind the others. It is refused for its key, then for its length, then where the image
+    /// would exceed 16,777,216 bytes; a refused message changes nothing.
+    pub fn put(&mut self, key: &[u8], text: &[u8]) -> Result<(), QueueFault>
+        ensures ok { OnOk result (self.new ≡ with_message self.old (message key.now text.now)) }
+        ensures bad_key { IsErrOf result QueueFault.BadKey ↔ (length key.now ≢ self.old.key_len) }
+        ensures too_long { IsErrOf result QueueFault.TooLong ↔ ((length key.now ≡ self.old.key_len) × (self.old.longest < length text.now)) }
+        ensures full { IsErrOf result QueueFault.Full ↔ ((length key.now ≡ self.old.key_len) × (length text.now ≤ self.old.longest)
+            × (16777216 < image_size self.old.messages + message_size (message key.now text.now))) }
+        ensures err { OnErr result (self.new ≡ self.old) }
+    {
+        if key.len() != self.key_len as usize {
+            return Err(QueueFault::BadKey);
+        }
+        if text.len() > self.longest as usize {
+            return Err(QueueFault::TooLong);
+        }
+        let size = self.size + key.len() as u32 + text.len() as u32 + 2;
+        if size > LARGEST {
+            return Err(QueueFault::Full);
+        }
+        let Ok(message) = message_of(self.alloc, key, text) else {
+            return Err(QueueFault::NoMemory);
+        };
+        if self.messages.push_back(message).is_err() {
+            return Err(QueueFault::NoMemory);
+        }
+        self.size = size;
+        Ok(())
+    }
+
+    /// Takes the message at a place.
+    pub fn take(&mut self, at: usize) -> Message
+        requires { at < length self.old.messages }
+        ensures message { slice_get self.old.messages at ≡ Some result }
+        ensures rest { self.new ≡ without_message self.old at }
+    {
+        let message = take_at(&mut self.messages, at);
+        self.size -= message.key.len() as u32 + message.text.len() as u32 + 2;
+        message
+    }
+}
