@@ -1,0 +1,47 @@
+-- Which histories are the machine's: each entry is a step from the state to which those before it lead.
+use Rattle.std.specs.Prelude.{◌≡◌, ℕ, IsTrue, List, [], ◌∷◌, ◌++◌, length, if◌then◌else◌}
+use Rattle.s38_code.specs.declared.entry.Entry.{Entry}
+use Rattle.s38_code.specs.declared.event.Event.{Event}
+use Rattle.s38_code.specs.History.{count_of, entry_after}
+use Rattle.s38_rules.specs.State.{State}
+use Rattle.s38_rules.specs.Step.{Stepped, step}
+
+-- behind the entries before it, from this state, the machine makes this entry
+pub record IsEntry (s : State) (before : List Entry) (e : Entry) : Type 0 where
+  pub entered : IsTrue (step s e.process e.event).enters
+  pub reply : (step s e.process e.event).reply ≡ e.reply
+  pub seq : e.seq ≡ count_of e.process before
+
+-- from s, behind the entries before them, the entries lead to t
+abbrev pub Leads : State → List Entry → List Entry → State → Type 0
+Leads s before [] t = s ≡ t
+Leads s before (e ∷ es) t = IsEntry s before e × Leads (step s e.process e.event).state (before ++ e ∷ []) es t
+
+-- a machine: what it was started with, its state now, and how it came there
+pub record Run : Type 0 where
+  pub origin : State
+  pub state : State
+  pub history : List Entry
+  -- the store's moment as each entry was answered
+  pub marks : List ℕ
+
+-- the history is legal and leads from the origin to the state; each entry has a mark
+pub record IsSound (m : Run) : Type 0 where
+  pub legal : Leads m.origin [] m.history m.state
+  pub marked : length m.marks ≡ length m.history
+
+abbrev pub history_after : List Entry → ℕ → Event → Stepped → List Entry
+history_after history process event x = if x.enters then history ++ entry_after history process event x.reply ∷ [] else history
+
+abbrev pub marks_after : List ℕ → Stepped → List ℕ
+marks_after marks x = if x.enters then marks ++ 0 ∷ [] else marks
+
+-- the machine behind one more step
+unfoldable pub after : Run → ℕ → Event → Run
+after m process event =
+    let x = step m.state process event in
+    record { origin = m.origin; state = x.state; history = history_after m.history process event x; marks = marks_after m.marks x }
+
+-- a machine that has just begun
+abbrev pub begun : State → Run
+begun s = record { origin = s; state = s; history = []; marks = [] }

@@ -1,0 +1,11 @@
+pub mod Authority
+pub mod Effect
+pub mod Legal
+pub mod Needs
+pub mod Opening
+pub mod Operands
+pub mod Process
+pub mod State
+pub mod Step
+pub mod Users
+pub mod Verdict

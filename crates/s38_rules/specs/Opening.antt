@@ -1,0 +1,59 @@
+-- With what the machine begins: the machine context and the security officer, a context for everybody, a user
+-- without special authorities, and a queue that everybody may find and nobody else may use.
+use Rattle.std.specs.Prelude.{ℕ, false, List, [], ◌∷◌, None, map, codes}
+use Rattle.s38_base.specs.declared.id.ObjNum.{ObjNum}
+use Rattle.s38_base.specs.declared.id.Id.{Id}
+use Rattle.s38_base.specs.declared.id.Kind.{Kind}
+use Rattle.s38_base.specs.declared.id.Kind.TheVariants as kinds
+use Rattle.s38_queues.specs.declared.message.Order.TheVariants.{Fifo}
+use Rattle.s38_code.specs.declared.deck.Job.{Job}
+use Rattle.s38_rules.specs.declared.object.Object.{Object}
+use Rattle.s38_rules.specs.declared.object.Body.{Body}
+use Rattle.s38_rules.specs.declared.object.Body.TheVariants as bodies
+use Rattle.s38_rules.specs.declared.object.PrivateRow.{PrivateRow}
+use Rattle.s38_rules.specs.declared.process.Standing.{Standing}
+use Rattle.s38_rules.specs.State.{State}
+
+abbrev num : ℕ → ObjNum
+num n = record { 0 = n }
+
+-- all eight rights of the security officer, who is user 2
+abbrev officer_rows : List PrivateRow
+officer_rows = record { user = num 2; rights = record { 0 = 255 } } ∷ []
+
+abbrev named : Kind → List ℕ → Id
+named kind name = record { kind = kind; sub = 0; name = name }
+
+-- an object of the security officer
+abbrev owned : ℕ → Id → ℕ → ℕ → Body → Object
+owned number id context public body =
+    record { number = num number; id = id; context = num context; owner = num 2; public = record { 0 = public }; rows = officer_rows; body = body }
+
+abbrev machine_context : Object
+machine_context = owned 1 (named kinds.Context (codes "QMACHINE")) 1 12 bodies.Context
+
+abbrev officer : Object
+officer = owned 2 (named kinds.Profile (codes "QSECOFR")) 1 0 (bodies.Profile (record { 0 = 192 }) 4294967295)
+
+abbrev general_context : Object
+general_context = owned 3 (named kinds.Context (codes "QGPL")) 1 12 bodies.Context
+
+abbrev plain_user : Object
+plain_user = owned 4 (named kinds.Profile (codes "QUSER")) 1 0 (bodies.Profile (record { 0 = 0 }) 100)
+
+abbrev locked_queue : Object
+locked_queue = owned 5 (named kinds.Queue (codes "QLOCKED")) 3 8 (bodies.Queue (record { order = Fifo; key_len = 0; longest = 8; messages = [] }))
+
+unfoldable pub opening : List Object
+opening = machine_context ∷ officer ∷ general_context ∷ plain_user ∷ locked_queue ∷ []
+
+-- no process has started
+abbrev pub standings : List Job → List Standing
+standings jobs = map (λ job. record { job = job; started = None; ended = false }) jobs
+
+abbrev pub state_of : List Object → ℕ → List Job → State
+state_of objects next jobs = record { objects = objects; next = next; processes = standings jobs; waiting = [] }
+
+-- the state in which a deck's jobs find the machine
+abbrev pub opened : List Job → State
+opened jobs = state_of opening 6 jobs

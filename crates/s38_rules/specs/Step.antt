@@ -1,0 +1,31 @@
+-- One step of the machine: an event takes effect, or is refused, or waits; each answer makes an entry, but that
+-- to a process which waits already.
+use Rattle.std.specs.Prelude.{ℕ, Bool, true, false, [], ◌∷◌, if◌then◌else◌}
+use Rattle.s38_code.specs.declared.event.Event.{Event}
+use Rattle.s38_code.specs.declared.reply.Reply.{Reply}
+use Rattle.s38_code.specs.declared.reply.Reply.TheVariants.{Done, Signal, MustWait}
+use Rattle.s38_rules.specs.declared.verdict.Verdict.{Verdict}
+use Rattle.s38_rules.specs.declared.verdict.Verdict.TheVariants.{Permit, Wait, Refuse}
+use Rattle.s38_rules.specs.State.{State, waits}
+use Rattle.s38_rules.specs.Verdict.{verdict_of}
+use Rattle.s38_rules.specs.Effect.{effect_of}
+
+pub record Stepped : Type 0 where
+  pub reply : Reply
+  pub state : State
+  -- whether the answer makes an entry
+  pub enters : Bool
+
+-- nobody waits any more
+abbrev pub awake : State → State
+awake s = record s { waiting = [] }
+
+abbrev pub by_verdict : State → ℕ → Event → Verdict → Stepped
+by_verdict s process event Permit = record { reply = Done (effect_of s process event).values; state = awake (effect_of s process event).state; enters = true }
+by_verdict s process event Wait = record { reply = MustWait; state = record s { waiting = process ∷ s.waiting }; enters = true }
+by_verdict s process event (Refuse x) = record { reply = Signal x; state = s; enters = true }
+
+unfoldable pub step : State → ℕ → Event → Stepped
+step s process event =
+    if waits s process then record { reply = MustWait; state = s; enters = false }
+    else by_verdict s process event (verdict_of s process event)

@@ -1,0 +1,18 @@
+/// A pointer operand has no pointer.
+pub const POINTER_MISSING: u16 = 0x2401;
+/// The pointer is of another kind than the instruction uses.
+pub const POINTER_TYPE_INVALID: u16 = 0x2402;
+/// The object of the pointer is there no more.
+pub const OBJECT_DESTROYED: u16 = 0x2202;
+/// The object is of another kind than the instruction uses.
+pub const OBJECT_TYPE_INVALID: u16 = 0x2403;
+/// No object has the identification.
+pub const OBJECT_NOT_FOUND: u16 = 0x2201;
+/// Needed rights are not available.
+pub const UNAUTHORIZED: u16 = 0x0A01;
+/// A length, or a relation, is not the object's.
+pub const LENGTH_INVALID: u16 = 0x2405;
+/// No message meets the request.
+pub const NO_MESSAGE: u16 = 0x2601;
+/// A limit would be passed.
+pub const LIMIT_EXCEEDED: u16 = 0x1C03;

@@ -1,0 +1,34 @@
+use s38_base::{Category, Kind, ObjNum, Rights};
+
+/// Which object a need speaks of.
+#[derive(Clone, Copy, PartialEq, Eq, Debug)]
+pub enum Named {
+    /// That of the pointer at the operand.
+    Written,
+    /// One that the operand stands for without a pointer.
+    Implied(ObjNum),
+}
+
+/// What kind of pointer an operand has to be.
+#[derive(Clone, Copy, PartialEq, Eq, Debug)]
+pub enum PointerKind {
+    System,
+    Space,
+    Item,
+    Any,
+}
+
+/// What an instruction needs of an operand: the kinds of pointer and of object, rights on the object, and
+/// what the instruction does to it.
+#[derive(Clone, Copy, PartialEq, Eq, Debug)]
+pub struct Need {
+    /// The number of the operand, from 1 on; 0 for an object that no operand names.
+    pub place: u8,
+    pub named: Named,
+    pub pointer: PointerKind,
+    /// None: of any kind.
+    pub kind: Option<Kind>,
+    pub rights: Rights,
+    /// None: locks of others don't block.
+    pub category: Option<Category>,
+}

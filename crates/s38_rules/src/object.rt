@@ -1,0 +1,35 @@
+use s38_base::{Id, ObjNum, Rights, Seq, Special, UserNum};
+use s38_queues::Queue;
+
+/// The rights that a user holds on an object by a row of its own.
+#[derive(Clone, Copy, PartialEq, Eq, Debug)]
+pub struct PrivateRow {
+    pub user: UserNum,
+    pub rights: Rights,
+}
+
+/// The private rows of an object, users strictly rising.
+pub type RowList = Seq<PrivateRow>;
+
+/// What an object holds, by its kind.
+#[derive(Drop)]
+pub enum Body {
+    Context,
+    /// A user: special authorities, and how many pages it may own.
+    Profile { special: Special, limit: u32 },
+    Queue(Queue),
+}
+
+/// An encapsulated object.
+#[derive(Drop)]
+pub struct Object {
+    pub number: ObjNum,
+    pub id: Id,
+    /// The context that holds it, or 0.
+    pub context: ObjNum,
+    pub owner: UserNum,
+    /// The rights of everybody.
+    pub public: Rights,
+    pub rows: RowList,
+    pub body: Body,
+}
