@@ -22,8 +22,11 @@ abbrev pub rights_in : Option PrivateRow → ℕ
 rights_in None = 0
 rights_in (Some row) = row.rights.0
 
+abbrev pub is_row : ℕ → PrivateRow → Bool
+is_row user row = row.user.0 == user
+
 abbrev pub row_of : List PrivateRow → ℕ → ℕ
-row_of rows user = rights_in (find (λ row. row.user.0 == user) rows)
+row_of rows user = rights_in (find (is_row user) rows)
 
 -- what one user brings: nothing without a profile, everything by all-object authority, else the row
 abbrev pub brought : Option ℕ → ℕ → ℕ

@@ -12,12 +12,13 @@ use Rattle.s38_code.specs.declared.event.Event.{Event}
 use Rattle.s38_code.specs.declared.event.Event.TheVariants.{Start, Act, Finish}
 use Rattle.s38_code.specs.declared.operand.Operand.{Operand}
 use Rattle.s38_code.specs.declared.reply.Val.TheVariants as vals
+use Rattle.s38_rules.specs.declared.need.Located.{Located}
 use Rattle.s38_rules.specs.declared.object.Object.{Object}
 use Rattle.s38_rules.specs.declared.process.Standing.{Standing}
 use Rattle.s38_rules.specs.declared.process.Started.{Started}
 use Rattle.s38_rules.specs.State.{State, found, on_queue, queue_at, standing, stand}
 use Rattle.s38_rules.specs.Operands.{Done, deliver, place, bytes_at, word_at, room_at, target}
-use Rattle.s38_rules.specs.Needs.{Place, resolved}
+use Rattle.s38_rules.specs.Needs.{resolved}
 use Rattle.s38_rules.specs.Verdict.{profile_id, context_id}
 
 -- bytes cut to a length, or filled to it on the right
@@ -27,9 +28,9 @@ fitted len fill bytes = take len bytes ++ replicate (len - length bytes) fill
 -- ---- instructions
 
 -- a system pointer to what was found, which carries the rights that were asked
-abbrev pub pointer_to : ℕ → Option Place → Option Pointer
+abbrev pub pointer_to : ℕ → Option Located → Option Pointer
 pointer_to word None = None
-pointer_to word (Some p) = Some (pointers.System p.object.number (record { 0 = word }))
+pointer_to word (Some p) = Some (pointers.System p.object (record { 0 = word }))
 
 unfoldable pub rslvsp_effect : State → ℕ → ℕ → List Operand → Done
 rslvsp_effect s process depth ops = deliver s (place ops 1) (vals.Ptr (pointer_to (word_at ops 4) (resolved s process depth ops)))

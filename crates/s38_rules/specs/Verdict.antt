@@ -18,6 +18,7 @@ use Rattle.s38_code.specs.declared.event.Event.TheVariants.{Start, Act, Finish}
 use Rattle.s38_code.specs.declared.operand.Operand.{Operand}
 use Rattle.s38_rules.specs.declared.exceptions.TheConstants.{POINTER_MISSING, POINTER_TYPE_INVALID, OBJECT_DESTROYED, OBJECT_TYPE_INVALID, OBJECT_NOT_FOUND, UNAUTHORIZED, LENGTH_INVALID, NO_MESSAGE, LIMIT_EXCEEDED}
 use Rattle.s38_rules.specs.declared.need.Need.{Need}
+use Rattle.s38_rules.specs.declared.need.Located.{Located}
 use Rattle.s38_rules.specs.declared.need.Named.{Named}
 use Rattle.s38_rules.specs.declared.need.Named.TheVariants.{Written, Implied}
 use Rattle.s38_rules.specs.declared.need.PointerKind.{PointerKind}
@@ -30,7 +31,7 @@ use Rattle.s38_rules.specs.State.{State, object, found, kind_of, queue_at, stand
 use Rattle.s38_rules.specs.Users.{acting}
 use Rattle.s38_rules.specs.Authority.{available, has_rights}
 use Rattle.s38_rules.specs.Operands.{pointer_at, bytes_at, is_given, word_at, object_of, carried_by, target}
-use Rattle.s38_rules.specs.Needs.{Place, needs, resolved}
+use Rattle.s38_rules.specs.Needs.{needs, resolved}
 
 -- ---- failures
 
@@ -108,10 +109,10 @@ rights_rule s users ops need = missing need.place need.rights.0 (available_to s 
 abbrev pub body_limit : ℕ
 body_limit = 1048576
 
-abbrev pub carried_rights : State → ℕ → ℕ → ℕ → Option Place → Option Exception
+abbrev pub carried_rights : State → ℕ → ℕ → ℕ → Option Located → Option Exception
 carried_rights s process depth word None = Some (plain OBJECT_NOT_FOUND 3)
 carried_rights s process depth word (Some p) =
-    if word == 0 then None else missing 0 (bit_or 32 word) (available s (acting s process depth) p.object.number.0 0)
+    if word == 0 then None else missing 0 (bit_or 32 word) (available s (acting s process depth) p.object.0 0)
 
 -- the object is found; where the pointer is to carry rights, they and AUTPTR are available on it
 unfoldable pub rslvsp_conditions : State → ℕ → ℕ → List Operand → Option Exception

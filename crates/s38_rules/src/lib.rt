@@ -13,7 +13,7 @@ pub use exceptions::{
     LENGTH_INVALID, LIMIT_EXCEEDED, NO_MESSAGE, OBJECT_DESTROYED, OBJECT_NOT_FOUND,
     OBJECT_TYPE_INVALID, POINTER_MISSING, POINTER_TYPE_INVALID, UNAUTHORIZED,
 };
-pub use need::{Named, Need, PointerKind};
+pub use need::{Located, Named, Need, PointerKind};
 pub use object::{Body, Object, PrivateRow, RowList};
 pub use process::{Standing, Started, Status};
 pub use verdict::Verdict;

@@ -32,3 +32,10 @@ pub struct Need {
     /// None: locks of others don't block.
     pub category: Option<Category>,
 }
+
+/// An object, and the context in which a search found it.
+#[derive(Clone, Copy, PartialEq, Eq, Debug)]
+pub struct Located {
+    pub context: ObjNum,
+    pub object: ObjNum,
+}

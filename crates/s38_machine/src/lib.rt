@@ -1,0 +1,9 @@
+//! The machine: it answers the events of processes one by one, and keeps their history.
+#![tactic(auto)]
+
+mod authority;
+mod needs;
+mod objects;
+mod operands;
+mod processes;
+mod world;

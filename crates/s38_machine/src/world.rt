@@ -1,0 +1,19 @@
+use s38_rules::{Object, Standing};
+use std::marker::Model;
+
+/// The objects and the processes. Contracts see it as the machine's state.
+#[derive(Drop)]
+pub struct World {
+    pub objects: Vec<Object>,
+    pub next: u64,
+    pub processes: Vec<Standing>,
+    pub waiting: Vec<u32>,
+}
+
+impl Model for World {
+    ghost use Rattle.s38_rules.specs.State.{State};
+
+    ghost Value = { State };
+
+    ghost view = { λ w. record { objects = w.objects.items; next = w.next; processes = w.processes.items; waiting = w.waiting.items } };
+}
