@@ -6,4 +6,6 @@ mod needs;
 mod objects;
 mod operands;
 mod processes;
+mod queues;
+mod verdicts;
 mod world;

@@ -18,6 +18,7 @@ use std::marker::Model;
 const MOST: usize = 6;
 
 /// What an instruction needs, in order; it takes no memory.
+#[derive(Drop)]
 pub struct Needs {
     held: [Need; MOST],
     count: usize,

@@ -2,7 +2,7 @@ ghost use Rattle.std.specs.Prelude.{◌≡◌};
 ghost use Rattle.std.specs.Option.{option_copied};
 ghost use Rattle.s38_base.specs.Scalar.{length_of};
 ghost use Rattle.s38_rules.specs.Verdict.{carried_in};
-ghost use Rattle.s38_rules.specs.Operands.{bytes_at, bytes_of, carried_by, id_at, id_of, is_given, is_given_in, is_list, is_list_in, object_of, place, pointer_at, pointer_of, room_at, room_of, target, target_of, word_at, word_of};
+ghost use Rattle.s38_rules.specs.Operands.{bytes_at, bytes_of, carried_by, id_at, id_of, is_given, is_given_in, is_list, is_list_in, object_of, place, pointer_at, pointer_of, rights_at, room_at, room_of, target, target_of, word_at, word_of};
 
 use crate::world::World;
 use s38_base::{Attr, Id, ObjNum, Pointer, Rights};
@@ -96,6 +96,13 @@ pub fn word_at(operands: &[Operand], k: usize) -> u32
     ensures { result ≡ word_at operands.now k }
 {
     word_of(place(operands, k))
+}
+
+/// A word of rights: its eight bits.
+pub fn rights_word(operands: &[Operand], k: usize) -> u8
+    ensures { result ≡ rights_at operands.now k }
+{
+    (word_at(operands, k) & 0xff) as u8
 }
 
 fn id_of(operand: Option<&Operand>) -> Option<&Id>

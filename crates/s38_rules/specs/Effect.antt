@@ -17,7 +17,7 @@ use Rattle.s38_rules.specs.declared.object.Object.{Object}
 use Rattle.s38_rules.specs.declared.process.Standing.{Standing}
 use Rattle.s38_rules.specs.declared.process.Started.{Started}
 use Rattle.s38_rules.specs.State.{State, found, on_queue, queue_at, standing, stand}
-use Rattle.s38_rules.specs.Operands.{Done, deliver, place, bytes_at, word_at, room_at, target}
+use Rattle.s38_rules.specs.Operands.{Done, deliver, place, bytes_at, rights_at, room_at, target}
 use Rattle.s38_rules.specs.Needs.{resolved}
 use Rattle.s38_rules.specs.Verdict.{profile_id, context_id}
 
@@ -33,7 +33,7 @@ pointer_to word None = None
 pointer_to word (Some p) = Some (pointers.System p.object (record { 0 = word }))
 
 unfoldable pub rslvsp_effect : State → ℕ → ℕ → List Operand → Done
-rslvsp_effect s process depth ops = deliver s (place ops 1) (vals.Ptr (pointer_to (word_at ops 4) (resolved s process depth ops)))
+rslvsp_effect s process depth ops = deliver s (place ops 1) (vals.Ptr (pointer_to (rights_at ops 4) (resolved s process depth ops)))
 
 -- the message stands last in the queue
 unfoldable pub enq_effect : State → List Operand → Done

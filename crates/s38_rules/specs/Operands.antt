@@ -1,5 +1,5 @@
 -- What stands at an operand. Operands are numbered from 1; what an instruction does not have reads as nothing.
-use Rattle.std.specs.Prelude.{ℕ, ◌-◌, Bool, true, false, List, [], ◌∷◌, Option, Some, None, slice_get}
+use Rattle.std.specs.Prelude.{ℕ, ◌-◌, Bool, true, false, List, [], ◌∷◌, Option, Some, None, bit_and, slice_get}
 use Rattle.s38_base.specs.declared.id.Id.{Id}
 use Rattle.s38_base.specs.declared.pointer.Pointer.{Pointer}
 use Rattle.s38_base.specs.declared.pointer.Pointer.TheVariants as pointers
@@ -52,6 +52,10 @@ word_of _ = 0
 -- the number of a word
 abbrev pub word_at : List Operand → ℕ → ℕ
 word_at ops k = word_of (place ops k)
+
+-- a word of rights: its eight bits
+abbrev pub rights_at : List Operand → ℕ → ℕ
+rights_at ops k = bit_and (word_at ops k) 255
 
 abbrev pub id_of : Option Operand → Option Id
 id_of (Some (operands.Ident id)) = Some id

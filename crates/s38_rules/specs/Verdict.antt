@@ -30,7 +30,7 @@ use Rattle.s38_rules.specs.declared.verdict.Verdict.TheVariants.{Permit, Wait, R
 use Rattle.s38_rules.specs.State.{State, object, found, kind_of, queue_at, standing, is_early}
 use Rattle.s38_rules.specs.Users.{acting}
 use Rattle.s38_rules.specs.Authority.{available, has_rights}
-use Rattle.s38_rules.specs.Operands.{pointer_at, bytes_at, is_given, word_at, object_of, carried_by, target}
+use Rattle.s38_rules.specs.Operands.{pointer_at, bytes_at, is_given, rights_at, word_at, object_of, carried_by, target}
 use Rattle.s38_rules.specs.Needs.{needs, resolved}
 
 -- ---- failures
@@ -109,14 +109,13 @@ rights_rule s users ops need = missing need.place need.rights.0 (available_to s 
 abbrev pub body_limit : ℕ
 body_limit = 1048576
 
-abbrev pub carried_rights : State → ℕ → ℕ → ℕ → Option Located → Option Exception
-carried_rights s process depth word None = Some (plain OBJECT_NOT_FOUND 3)
-carried_rights s process depth word (Some p) =
-    if word == 0 then None else missing 0 (bit_or 32 word) (available s (acting s process depth) p.object.0 0)
+abbrev pub carried_rights : State → List ℕ → ℕ → Option Located → Option Exception
+carried_rights s users word None = Some (plain OBJECT_NOT_FOUND 3)
+carried_rights s users word (Some p) = if word == 0 then None else missing 0 (bit_or 32 word) (available s users p.object.0 0)
 
 -- the object is found; where the pointer is to carry rights, they and AUTPTR are available on it
 unfoldable pub rslvsp_conditions : State → ℕ → ℕ → List Operand → Option Exception
-rslvsp_conditions s process depth ops = carried_rights s process depth (word_at ops 4) (resolved s process depth ops)
+rslvsp_conditions s process depth ops = carried_rights s (acting s process depth) (rights_at ops 4) (resolved s process depth ops)
 
 abbrev pub put_failure : MessageQueue → List ℕ → List ℕ → Option Exception
 put_failure q key text =
