@@ -2,6 +2,7 @@
 #![tactic(auto)]
 
 mod authority;
+mod changes;
 mod needs;
 mod objects;
 mod operands;
