@@ -8,5 +8,6 @@ mod objects;
 mod operands;
 mod processes;
 mod queues;
+mod values;
 mod verdicts;
 mod world;

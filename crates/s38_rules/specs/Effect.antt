@@ -1,5 +1,5 @@
 -- What a permitted event does: the new state, and the values that come back.
-use Rattle.std.specs.Prelude.{ℕ, ◌-◌, true, List, [], ◌∷◌, ◌++◌, length, take, replicate, Option, Some, None}
+use Rattle.std.specs.Prelude.{ℕ, ◌-◌, true, List, [], ◌∷◌, ◌++◌, length, map, take, replicate, Option, Some, None}
 use Rattle.s38_base.specs.declared.id.ObjNum.{ObjNum}
 use Rattle.s38_base.specs.declared.pointer.Pointer.{Pointer}
 use Rattle.s38_base.specs.declared.pointer.Pointer.TheVariants as pointers
@@ -63,8 +63,7 @@ number_in (Some o) = o.number
 
 -- the numbers of the contexts of a list, by name
 abbrev pub numbers_of : State → List (List ℕ) → List ObjNum
-numbers_of s [] = []
-numbers_of s (name ∷ names) = number_in (found s 1 (context_id name)) ∷ numbers_of s names
+numbers_of s names = map (λ name. number_in (found s 1 (context_id name))) names
 
 abbrev pub started_as : State → Job → Started
 started_as s job = record { user = number_in (found s 1 (profile_id job.user)); contexts = numbers_of s job.contexts; stack = record { 0 = 0 } ∷ [] }
