@@ -3,6 +3,7 @@
 
 mod authority;
 mod changes;
+mod effects;
 mod needs;
 mod objects;
 mod operands;
