@@ -4,6 +4,7 @@
 mod authority;
 mod changes;
 mod effects;
+mod log;
 mod needs;
 mod objects;
 mod operands;

@@ -1,0 +1,22 @@
+-- How many entries each process has, behind one more.
+use Rattle.std.proofs.Common.{◌≡◌, ◌≢◌, ℕ, ◌+◌, ◌-◌, ◌<◌, ◌≤◌, ◌==◌, Bool, true, false, cond, List, [], ◌∷◌, ◌++◌, length, filter, get_or, refl, sym, ◌∙◌, ap, arith, length-append, get_or-set_other, get_or-set_same}
+use Rattle.std.specs.Prelude.{slice_index, slice_set}
+use Rattle.std.proofs.lemmas.List.Elements.{filter-append}
+use Rattle.std.proofs.lemmas.Bool.Decides.{nat_tests}
+use Rattle.s38_code.specs.declared.entry.Entry.{Entry}
+use Rattle.s38_code.specs.History.{count_of, entries_of, is_of}
+
+of_one : (p : ℕ) (e : Entry) → length (entries_of p (e ∷ [])) ≡ cond (e.process == p) 1 0
+of_one p e = elim (e.process == p) as (λ b. length (cond b (e ∷ []) []) ≡ cond b 1 0) [ true ↦ refl | false ↦ refl ]
+
+pub count_of-more : (p : ℕ) (h : List Entry) (e : Entry) → count_of p (h ++ e ∷ []) ≡ count_of p h + cond (e.process == p) 1 0
+count_of-more p h e =
+    ap length (filter-append (is_of p) h (e ∷ [])) ∙ length-append (entries_of p h) (entries_of p (e ∷ []))
+    ∙ ap (λ n. count_of p h + n) (of_one p e)
+
+-- no process has more entries than there are
+pub count_of-le : (p : ℕ) (h : List Entry) → count_of p h ≤ length h
+count_of-le p [] = omega arith
+count_of-le p (e ∷ h) =
+    let rest = count_of-le p h in
+    elim (e.process == p) as (λ b. length (cond b (e ∷ entries_of p h) (entries_of p h)) ≤ length (e ∷ h)) [ true ↦ omega arith | false ↦ omega arith ]
