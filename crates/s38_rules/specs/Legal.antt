@@ -36,11 +36,13 @@ history_after history process event x = if x.enters then history ++ entry_after 
 abbrev pub marks_after : List ℕ → Stepped → List ℕ
 marks_after marks x = if x.enters then marks ++ 0 ∷ [] else marks
 
+-- the machine behind an outcome of an event
+abbrev pub after_by : Run → ℕ → Event → Stepped → Run
+after_by m process event x = record { origin = m.origin; state = x.state; history = history_after m.history process event x; marks = marks_after m.marks x }
+
 -- the machine behind one more step
 unfoldable pub after : Run → ℕ → Event → Run
-after m process event =
-    let x = step m.state process event in
-    record { origin = m.origin; state = x.state; history = history_after m.history process event x; marks = marks_after m.marks x }
+after m process event = after_by m process event (step m.state process event)
 
 -- a machine that has just begun
 abbrev pub begun : State → Run

@@ -14,34 +14,34 @@ use Rattle.s38_rules.specs.declared.object.PrivateRow.{PrivateRow}
 use Rattle.s38_rules.specs.declared.process.Standing.{Standing}
 use Rattle.s38_rules.specs.State.{State}
 
-abbrev num : ℕ → ObjNum
+abbrev pub num : ℕ → ObjNum
 num n = record { 0 = n }
 
 -- all eight rights of the security officer, who is user 2
-abbrev officer_rows : List PrivateRow
+abbrev pub officer_rows : List PrivateRow
 officer_rows = record { user = num 2; rights = record { 0 = 255 } } ∷ []
 
-abbrev named : Kind → List ℕ → Id
+abbrev pub named : Kind → List ℕ → Id
 named kind name = record { kind = kind; sub = 0; name = name }
 
 -- an object of the security officer
-abbrev owned : ℕ → Id → ℕ → ℕ → Body → Object
+abbrev pub owned : ℕ → Id → ℕ → ℕ → Body → Object
 owned number id context public body =
     record { number = num number; id = id; context = num context; owner = num 2; public = record { 0 = public }; rows = officer_rows; body = body }
 
-abbrev machine_context : Object
+abbrev pub machine_context : Object
 machine_context = owned 1 (named kinds.Context (codes "QMACHINE")) 1 12 bodies.Context
 
-abbrev officer : Object
+abbrev pub officer : Object
 officer = owned 2 (named kinds.Profile (codes "QSECOFR")) 1 0 (bodies.Profile (record { 0 = 192 }) 4294967295)
 
-abbrev general_context : Object
+abbrev pub general_context : Object
 general_context = owned 3 (named kinds.Context (codes "QGPL")) 1 12 bodies.Context
 
-abbrev plain_user : Object
+abbrev pub plain_user : Object
 plain_user = owned 4 (named kinds.Profile (codes "QUSER")) 1 0 (bodies.Profile (record { 0 = 0 }) 100)
 
-abbrev locked_queue : Object
+abbrev pub locked_queue : Object
 locked_queue = owned 5 (named kinds.Queue (codes "QLOCKED")) 3 8 (bodies.Queue (record { order = Fifo; key_len = 0; longest = 8; messages = [] }))
 
 unfoldable pub opening : List Object

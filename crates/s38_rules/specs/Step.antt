@@ -1,6 +1,6 @@
 -- One step of the machine: an event takes effect, or is refused, or waits; each answer makes an entry, but that
 -- to a process which waits already.
-use Rattle.std.specs.Prelude.{ℕ, Bool, true, false, [], ◌∷◌, if◌then◌else◌}
+use Rattle.std.specs.Prelude.{ℕ, Bool, true, false, [], ◌∷◌}
 use Rattle.s38_code.specs.declared.event.Event.{Event}
 use Rattle.s38_code.specs.declared.reply.Reply.{Reply}
 use Rattle.s38_code.specs.declared.reply.Reply.TheVariants.{Done, Signal, MustWait}
@@ -25,7 +25,9 @@ by_verdict s process event Permit = record { reply = Done (effect_of s process e
 by_verdict s process event Wait = record { reply = MustWait; state = record s { waiting = process ∷ s.waiting }; enters = true }
 by_verdict s process event (Refuse x) = record { reply = Signal x; state = s; enters = true }
 
+abbrev pub by_waiting : Bool → State → ℕ → Event → Stepped
+by_waiting true s process event = record { reply = MustWait; state = s; enters = false }
+by_waiting false s process event = by_verdict s process event (verdict_of s process event)
+
 unfoldable pub step : State → ℕ → Event → Stepped
-step s process event =
-    if waits s process then record { reply = MustWait; state = s; enters = false }
-    else by_verdict s process event (verdict_of s process event)
+step s process event = by_waiting (waits s process) s process event

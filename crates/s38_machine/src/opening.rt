@@ -1,0 +1,141 @@
+ghost use Rattle.std.specs.Prelude.{◌≡◌, IsTrue, IfOk};
+ghost use Rattle.s38_base.specs.NameText.{is_name};
+ghost use Rattle.s38_rules.specs.Opening.{general_context, locked_queue, machine_context, named, officer, officer_rows, opened, opening, owned, plain_user, standings};
+
+use crate::world::World;
+use s38_base::{Id, Kind, Name, NoMemory, ObjNum, Rights, Seq, Special, Twin};
+use s38_code::Job;
+use s38_queues::{Order, Queue};
+use s38_rules::{Body, Object, PrivateRow, RowList, Standing};
+use std::alloc::Global;
+
+fn named(kind: Kind, name: &[u8]) -> Id
+    requires { IsTrue (is_name name.now) }
+    ensures { result ≡ named kind name.now }
+{
+    match Name::parse(name) {
+        Ok(name) => Id { kind, sub: 0, name },
+        Err(_) => unreachable!(),
+    }
+}
+
+fn officer_rows(alloc: Global) -> Result<RowList, NoMemory>
+    ensures { IfOk result (λ rows. rows ≡ officer_rows) }
+{
+    let mut rows = Seq::new(alloc);
+    rows.push(PrivateRow {
+        user: ObjNum(2),
+        rights: Rights(255),
+    })?;
+    Ok(rows)
+}
+
+fn owned(
+    alloc: Global,
+    number: u64,
+    id: &Id,
+    context: u64,
+    public: Rights,
+    body: Body,
+) -> Result<Object, NoMemory>
+    ensures { IfOk result (λ object. object ≡ owned number id.now context public.0 body) }
+{
+    let rows = officer_rows(alloc)?;
+    Ok(Object {
+        number: ObjNum(number),
+        id: *id,
+        context: ObjNum(context),
+        owner: ObjNum(2),
+        public,
+        rows,
+        body,
+    })
+}
+
+fn machine_context(alloc: Global) -> Result<Object, NoMemory>
+    ensures { IfOk result (λ object. object ≡ machine_context) }
+{
+    let id = named(Kind::Context, b"QMACHINE");
+    owned(alloc, 1, &id, 1, Rights(12), Body::Context)
+}
+
+fn officer(alloc: Global) -> Result<Object, NoMemory>
+    ensures { IfOk result (λ object. object ≡ officer) }
+{
+    let id = named(Kind::Profile, b"QSECOFR");
+    let body = Body::Profile {
+        special: Special(192),
+        limit: 4_294_967_295,
+    };
+    owned(alloc, 2, &id, 1, Rights(0), body)
+}
+
+fn general_context(alloc: Global) -> Result<Object, NoMemory>
+    ensures { IfOk result (λ object. object ≡ general_context) }
+{
+    let id = named(Kind::Context, b"QGPL");
+    owned(alloc, 3, &id, 1, Rights(12), Body::Context)
+}
+
+fn plain_user(alloc: Global) -> Result<Object, NoMemory>
+    ensures { IfOk result (λ object. object ≡ plain_user) }
+{
+    let id = named(Kind::Profile, b"QUSER");
+    let body = Body::Profile {
+        special: Special(0),
+        limit: 100,
+    };
+    owned(alloc, 4, &id, 1, Rights(0), body)
+}
+
+fn locked_queue(alloc: Global) -> Result<Object, NoMemory>
+    ensures { IfOk result (λ object. object ≡ locked_queue) }
+{
+    let id = named(Kind::Queue, b"QLOCKED");
+    let body = Body::Queue(Queue::new(alloc, Order::Fifo, 0, 8));
+    owned(alloc, 5, &id, 3, Rights(8), body)
+}
+
+/// The objects that the machine begins with.
+#[tactic(auto, unfolding(s38_rules::specs::Opening::opening))]
+fn opening(alloc: Global) -> Result<Vec<Object>, NoMemory>
+    ensures { IfOk result (λ objects. objects.items ≡ opening) }
+{
+    let mut objects = Vec::new(alloc);
+    objects.push(machine_context(alloc)?)?;
+    objects.push(officer(alloc)?)?;
+    objects.push(general_context(alloc)?)?;
+    objects.push(plain_user(alloc)?)?;
+    objects.push(locked_queue(alloc)?)?;
+    Ok(objects)
+}
+
+/// No process has started.
+fn standings(alloc: Global, jobs: &[Job]) -> Result<Vec<Standing>, NoMemory>
+    ensures { IfOk result (λ made. made.items ≡ standings jobs.now) }
+{
+    let mut made = Vec::new(alloc);
+    for job in jobs {
+        let standing = Standing {
+            job: job.twin(alloc)?,
+            started: None,
+            ended: false,
+        };
+        made.push(standing)?;
+    }
+    Ok(made)
+}
+
+/// The state in which the jobs find the machine.
+pub fn opened(alloc: Global, jobs: &[Job]) -> Result<World, NoMemory>
+    ensures { IfOk result (λ world. world ≡ opened jobs.now) }
+{
+    let objects = opening(alloc)?;
+    let processes = standings(alloc, jobs)?;
+    Ok(World {
+        objects,
+        next: 6,
+        processes,
+        waiting: Vec::new(alloc),
+    })
+}

@@ -1,0 +1,87 @@
+-- Laws of the definitions that the crates above rest on.
+use Rattle.std.proofs.Common.{◌≡◌, ℕ, ◌+◌, Bool, true, false, cond, IsTrue, List, [], ◌∷◌, ◌++◌, length, refl, sym, ◌∙◌, ap, subst, append_assoc, length-append, length-set, arith}
+use Rattle.std.proofs.lemmas.List.{append-nil}
+use Rattle.std.specs.Prelude.{Option, Some, None}
+use Rattle.s38_base.specs.declared.op.Op.{Op}
+use Rattle.s38_base.specs.declared.op.Op.TheVariants.{Rslvsp, Enq, Deq}
+use Rattle.s38_code.specs.declared.entry.Entry.{Entry}
+use Rattle.s38_code.specs.declared.event.Event.{Event}
+use Rattle.s38_code.specs.declared.event.Event.TheVariants.{Start, Act, Finish}
+use Rattle.s38_code.specs.declared.operand.Operand.{Operand}
+use Rattle.s38_code.specs.History.{count_of, entry_after}
+use Rattle.s38_rules.specs.declared.process.Standing.{Standing}
+use Rattle.s38_rules.specs.State.{State, standing, waits}
+use Rattle.s38_rules.specs.Effect.{effect, effect_of, start_at, end_at, rslvsp_effect, enq_effect, deq_effect}
+use Rattle.s38_rules.specs.declared.verdict.Verdict.{Verdict}
+use Rattle.s38_rules.specs.declared.verdict.Verdict.TheVariants.{Permit, Wait, Refuse}
+use Rattle.s38_rules.specs.Verdict.{verdict_of}
+use Rattle.s38_rules.specs.Step.{Stepped, step, by_verdict, by_waiting}
+use Rattle.s38_rules.specs.Legal.{IsEntry, Leads, Run, IsSound, after, after_by, history_after, marks_after, begun}
+
+-- entries that lead somewhere, and one more from there
+pub leads_more : (s : State) (before es : List Entry) (t : State) (e : Entry) → Leads s before es t → IsEntry t (before ++ es) e → Leads s before (es ++ e ∷ []) (step t e.process e.event).state
+leads_more s before [] t e h one =
+    let here : IsEntry t before e = subst (λ (b : List Entry). IsEntry t b e) (append-nil before) one in
+    subst (λ (u : State). IsEntry u before e × ((step u e.process e.event).state ≡ (step t e.process e.event).state)) (sym h) (here, refl)
+leads_more s before (x ∷ es) t e h one =
+    (h.0, leads_more (step s x.process x.event).state (before ++ x ∷ []) es t e h.1
+        (subst (λ (b : List Entry). IsEntry t b e) (sym (append_assoc before (x ∷ []) es)) one))
+
+by_verdict_silent : (s : State) (p : ℕ) (e : Event) (v : Verdict) → (by_verdict s p e v).enters ≡ false → (by_verdict s p e v).state ≡ s
+by_verdict_silent s p e Permit h = cc
+by_verdict_silent s p e Wait h = cc
+by_verdict_silent s p e (Refuse x) h = refl
+
+by_waiting_silent : (b : Bool) (s : State) (p : ℕ) (e : Event) → (by_waiting b s p e).enters ≡ false → (by_waiting b s p e).state ≡ s
+by_waiting_silent true s p e h = refl
+by_waiting_silent false s p e h = by_verdict_silent s p e (verdict_of s p e) h
+
+-- an answer without an entry leaves the state
+pub silent : (s : State) (p : ℕ) (e : Event) → (step s p e).enters ≡ false → (step s p e).state ≡ s
+unfolding step
+silent s p e h = by_waiting_silent (waits s p) s p e h
+
+sound_by : (m : Run) (p : ℕ) (e : Event) (b : Bool) → (step m.state p e).enters ≡ b → IsSound m → IsSound (after_by m p e (step m.state p e))
+sound_by m p e true h sound =
+    let one : IsEntry m.state ([] ++ m.history) (entry_after m.history p e (step m.state p e).reply) =
+        record { entered = h; reply = refl; seq = refl } in
+    record {
+      legal = rw h (leads_more m.origin [] m.history m.state _ sound.legal one);
+      marked = rw h (simp length-append (ap (λ n. n + 1) sound.marked))
+    }
+sound_by m p e false h sound =
+    record {
+      legal = rw h (subst (λ t. Leads m.origin [] m.history t) (sym (silent m.state p e h)) sound.legal);
+      marked = rw h sound.marked
+    }
+
+-- a step keeps a machine sound
+pub sound_after : (m : Run) (p : ℕ) (e : Event) → IsSound m → IsSound (after m p e)
+unfolding after
+sound_after m p e sound = sound_by m p e (step m.state p e).enters refl sound
+
+-- a machine that has just begun is sound
+pub sound_begun : (s : State) → IsSound (begun s)
+sound_begun s = record { legal = refl; marked = refl }
+
+start_keeps : (s : State) (p : ℕ) (x : Option Standing) → length (start_at s p x).processes ≡ length s.processes
+start_keeps s p None = refl
+start_keeps s p (Some x) = simp length-set
+
+end_keeps : (s : State) (p : ℕ) (x : Option Standing) → length (end_at s p x).processes ≡ length s.processes
+end_keeps s p None = refl
+end_keeps s p (Some x) = simp length-set
+
+act_keeps : (s : State) (p depth : ℕ) (op : Op) (ops : List Operand) → (effect s p depth op ops).state.processes ≡ s.processes
+unfolding effect rslvsp_effect enq_effect deq_effect
+act_keeps s p depth Rslvsp ops = refl
+act_keeps s p depth Enq ops = refl
+act_keeps s p depth Deq ops = refl
+act_keeps s p depth _ ops = refl
+
+-- an effect neither makes a process nor takes one away
+pub effect_keeps : (s : State) (p : ℕ) (e : Event) → length (effect_of s p e).state.processes ≡ length s.processes
+unfolding effect_of
+effect_keeps s p Start = start_keeps s p (standing s p)
+effect_keeps s p (Act depth request) = ap length (act_keeps s p depth request.op request.operands)
+effect_keeps s p (Finish cause) = end_keeps s p (standing s p)
