@@ -142,6 +142,7 @@ fn take_effect(
 }
 
 /// A permitted event takes effect, and nobody waits any more; where memory is refused nothing changes.
+#[tactic(auto, using(s38_rules::proofs::Laws::effect_keeps))]
 pub fn apply(
     alloc: Global,
     world: &mut World,
@@ -151,6 +152,7 @@ pub fn apply(
     requires { verdict_of world.old process event.now ≡ Verdict.Permit }
     ensures ok { OnOk result (world.new ≡ awake (effect_of world.old process event.now).state) }
     ensures err { OnErr result (world.new ≡ world.old) }
+    ensures kept { length world.new.processes ≡ length world.old.processes }
 {
     match take_effect(alloc, world, process, event) {
         Err(fault) => Err(fault),

@@ -3,7 +3,9 @@ ghost use Rattle.s38_code.specs.declared.event.Event.{Event};
 ghost use Rattle.s38_rules.specs.State.{ready};
 ghost use Rattle.s38_rules.specs.Verdict.{verdict_of};
 ghost use Rattle.s38_rules.specs.Effect.{effect_of};
-ghost use Rattle.s38_rules.specs.Legal.{IsSound, after, begun};
+ghost use Rattle.s38_rules.specs.declared.verdict.Verdict.{Verdict};
+ghost use Rattle.s38_rules.specs.Step.{by_verdict};
+ghost use Rattle.s38_rules.specs.Legal.{IsSound, after, after_by, begun};
 ghost use Rattle.s38_rules.specs.Opening.{opened};
 
 use crate::effects::apply;
@@ -42,6 +44,7 @@ impl Model for Machine {
 }
 
 /// The values that a permitted event gives.
+#[tactic(auto, unfolding(s38_rules::specs::Effect::effect_of))]
 fn values_of_event(
     alloc: Global,
     world: &World,
@@ -51,6 +54,7 @@ fn values_of_event(
     ensures { IfOk result (λ made. made ≡ (effect_of world.now process event.now).values) }
 {
     match event {
+        Event::Start => Ok(Seq::new(alloc)),
         Event::Act { depth, request } => values_of(
             alloc,
             world,
@@ -59,7 +63,7 @@ fn values_of_event(
             request.op,
             request.operands.as_slice(),
         ),
-        _ => Ok(Seq::new(alloc)),
+        Event::Finish { .. } => Ok(Seq::new(alloc)),
     }
 }
 
@@ -118,5 +122,74 @@ impl Machine {
         ensures { result ≡ verdict_of self.now.state process event.now }
     {
         verdict_of(&self.world, process, event)
+    }
+
+    /// A permitted event takes effect and is entered.
+    fn permit(&mut self, process: u32, event: &Event) -> Result<Reply, NoMemory>
+        requires first { 0 < process }
+        requires last { process ≤ length self.old.state.processes }
+        requires permit { verdict_of self.old.state process event.now ≡ Verdict.Permit }
+        ensures ok { IfOk result (λ r. (r ≡ (by_verdict self.old.state process event.now Verdict.Permit).reply)
+            × (self.new ≡ after_by self.old process event.now (by_verdict self.old.state process event.now Verdict.Permit))) }
+        ensures err { OnErr result (self.new ≡ self.old) }
+    {
+        let values = values_of_event(self.alloc, &self.world, process, event)?;
+        let reply = Reply::Done(values);
+        let entered = reply.twin(self.alloc)?;
+        let asked = event.twin(self.alloc)?;
+        self.log.reserve()?;
+        match apply(self.alloc, &mut self.world, process, event) {
+            Ok(()) => {}
+            Err(fault) => return Err(fault),
+        }
+        self.log.push(process, asked, entered);
+        Ok(reply)
+    }
+
+    /// An event that is not permitted is entered with its reply.
+    fn refuse(&mut self, process: u32, event: &Event, exception: Exception) -> Result<Reply, NoMemory>
+        requires first { 0 < process }
+        requires last { process ≤ length self.old.state.processes }
+        ensures ok { IfOk result (λ r. (r ≡ (by_verdict self.old.state process event.now (Verdict.Refuse exception)).reply)
+            × (self.new ≡ after_by self.old process event.now (by_verdict self.old.state process event.now (Verdict.Refuse exception)))) }
+        ensures err { OnErr result (self.new ≡ self.old) }
+    {
+        let asked = event.twin(self.alloc)?;
+        self.log.reserve()?;
+        self.log.push(process, asked, Reply::Signal(exception));
+        Ok(Reply::Signal(exception))
+    }
+
+    /// A process joins those that wait, and that is entered.
+    fn wait(&mut self, process: u32, event: &Event) -> Result<Reply, NoMemory>
+        requires first { 0 < process }
+        requires last { process ≤ length self.old.state.processes }
+        ensures ok { IfOk result (λ r. (r ≡ (by_verdict self.old.state process event.now Verdict.Wait).reply)
+            × (self.new ≡ after_by self.old process event.now (by_verdict self.old.state process event.now Verdict.Wait))) }
+        ensures err { OnErr result (self.new ≡ self.old) }
+    {
+        let asked = event.twin(self.alloc)?;
+        self.log.reserve()?;
+        match self.world.waiting.insert(0, process) {
+            Ok(()) => {}
+            Err(_) => return Err(NoMemory),
+        }
+        self.log.push(process, asked, Reply::MustWait);
+        Ok(Reply::MustWait)
+    }
+
+    fn answer(&mut self, process: u32, event: &Event, verdict: Verdict) -> Result<Reply, NoMemory>
+        requires first { 0 < process }
+        requires last { process ≤ length self.old.state.processes }
+        requires verdict { verdict_of self.old.state process event.now ≡ verdict }
+        ensures ok { IfOk result (λ r. (r ≡ (by_verdict self.old.state process event.now verdict).reply)
+            × (self.new ≡ after_by self.old process event.now (by_verdict self.old.state process event.now verdict))) }
+        ensures err { OnErr result (self.new ≡ self.old) }
+    {
+        match verdict {
+            Verdict::Permit => self.permit(process, event),
+            Verdict::Wait => self.wait(process, event),
+            Verdict::Refuse(exception) => self.refuse(process, event, exception),
+        }
     }
 }
