@@ -15,3 +15,17 @@ mod queues;
 mod values;
 mod verdicts;
 mod world;
+
+pub use machine::Machine;
+
+use log::Log;
+use world::World;
+
+/// What is sent between threads.
+fn sends<T: Send + Sync>() {}
+
+/// Each value of this crate may be sent and shared.
+pub fn all_may_be_sent() {
+    sends::<World>();
+    sends::<Log>();
+}

@@ -1,11 +1,11 @@
-ghost use Rattle.std.specs.Prelude.{◌≡◌, ◌<◌, ◌≤◌, ℕ, Option, None, IfOk, OnErr, length, slice_get};
+ghost use Rattle.std.specs.Prelude.{◌≡◌, ◌<◌, ◌≤◌, IfOk, IsErrOf, OnErr, length};
 ghost use Rattle.s38_code.specs.declared.event.Event.{Event};
 ghost use Rattle.s38_rules.specs.State.{ready};
 ghost use Rattle.s38_rules.specs.Verdict.{verdict_of};
 ghost use Rattle.s38_rules.specs.Effect.{effect_of};
 ghost use Rattle.s38_rules.specs.declared.verdict.Verdict.{Verdict};
-ghost use Rattle.s38_rules.specs.Step.{by_verdict};
-ghost use Rattle.s38_rules.specs.Legal.{IsSound, after, after_by, begun};
+ghost use Rattle.s38_rules.specs.Step.{by_verdict, step};
+ghost use Rattle.s38_rules.specs.Legal.{IsSound, MayAsk, after, after_by, begun};
 ghost use Rattle.s38_rules.specs.Opening.{opened};
 
 use crate::effects::apply;
@@ -16,7 +16,7 @@ use crate::values::values_of;
 use crate::verdicts::verdict_of;
 use crate::world::World;
 use s38_base::{Exception, NoMemory, Seq, Twin};
-use s38_code::{Entry, Event, Job, Reply, StepFault, Vals};
+use s38_code::{Entry, Event, Job, Reply, StepFault, Stepper, Vals};
 use s38_rules::Verdict;
 use std::alloc::Global;
 use std::marker::Model;
@@ -191,5 +191,59 @@ impl Machine {
             Verdict::Wait => self.wait(process, event),
             Verdict::Refuse(exception) => self.refuse(process, event, exception),
         }
+    }
+
+    #[tactic(auto, unfolding(s38_rules::specs::Step::step, s38_rules::specs::Legal::after))]
+    fn step_or(&mut self, process: u32, event: &Event) -> Result<Reply, NoMemory>
+        requires first { 0 < process }
+        requires last { process ≤ length self.old.state.processes }
+        ensures ok { IfOk result (λ r. (r ≡ (step self.old.state process event.now).reply) × (self.new ≡ after self.old process event.now)) }
+        ensures err { OnErr result (self.new ≡ self.old) }
+    {
+        if waits(&self.world, process) {
+            return Ok(Reply::MustWait);
+        }
+        let verdict = verdict_of(&self.world, process, event);
+        self.answer(process, event, verdict)
+    }
+
+    /// Answers one event of a process: it takes effect, is refused by the first rule that fails, or waits. The
+    /// answer is entered in the history, but that to a process which waits already. Memory is taken before
+    /// anything changes; where it is refused, machine and history are as they were. This machine never stops.
+    pub fn step(&mut self, process: u32, event: &Event) -> Result<Reply, StepFault>
+        requires sound { IsSound self.old }
+        requires may { MayAsk self.old.origin process }
+        ensures ok { IfOk result (λ r. (r ≡ (step self.old.state process event.now).reply) × (self.new ≡ after self.old process event.now)) }
+        ensures err { OnErr result (self.new ≡ self.old) }
+        ensures sound { IsSound self.new }
+        ensures going { IsErrOf result StepFault.Stopped → ⊥ }
+    {
+        match self.step_or(process, event) {
+            Ok(reply) => Ok(reply),
+            Err(_) => Err(StepFault::NoMemory),
+        }
+    }
+}
+
+impl Stepper for Machine {
+    ghost use Rattle.std.specs.Prelude.{None, Option, ℕ};
+    ghost use Rattle.s38_code.specs.declared.event.Event.{Event};
+    ghost use Rattle.s38_rules.specs.State.{State};
+    ghost use Rattle.s38_rules.specs.Legal.{IsSound, MayAsk};
+
+    ghost Origin = { State };
+
+    ghost origin = { λ m. m.origin };
+
+    ghost history = { λ m. m.history };
+
+    ghost stopped = { λ _. None };
+
+    ghost is_sound = { IsSound };
+
+    ghost may_ask = { λ origin process event entries. MayAsk origin process };
+
+    fn step(&mut self, process: u32, event: &Event) -> Result<Reply, StepFault> {
+        Machine::step(self, process, event)
     }
 }

@@ -1,5 +1,5 @@
 -- Laws of the definitions that the crates above rest on.
-use Rattle.std.proofs.Common.{◌≡◌, ℕ, ◌+◌, Bool, true, false, cond, IsTrue, List, [], ◌∷◌, ◌++◌, length, refl, sym, ◌∙◌, ap, subst, append_assoc, length-append, length-set, arith}
+use Rattle.std.proofs.Common.{◌≡◌, ℕ, ◌+◌, Bool, true, false, cond, IsTrue, List, [], ◌∷◌, ◌++◌, length, refl, sym, ◌∙◌, ap, subst, inl, inr, append_assoc, length-append, length-set, arith}
 use Rattle.std.proofs.lemmas.List.{append-nil}
 use Rattle.std.specs.Prelude.{Option, Some, None}
 use Rattle.s38_base.specs.declared.op.Op.{Op}
@@ -8,7 +8,8 @@ use Rattle.s38_code.specs.declared.entry.Entry.{Entry}
 use Rattle.s38_code.specs.declared.event.Event.{Event}
 use Rattle.s38_code.specs.declared.event.Event.TheVariants.{Start, Act, Finish}
 use Rattle.s38_code.specs.declared.operand.Operand.{Operand}
-use Rattle.s38_code.specs.History.{count_of, entry_after}
+use Rattle.s38_code.specs.declared.reply.Reply.TheVariants.{MustWait}
+use Rattle.s38_code.specs.History.{IsAnswered, count_of, entry_after}
 use Rattle.s38_rules.specs.declared.process.Standing.{Standing}
 use Rattle.s38_rules.specs.State.{State, standing, waits}
 use Rattle.s38_rules.specs.Effect.{effect, effect_of, start_at, end_at, rslvsp_effect, enq_effect, deq_effect}
@@ -36,33 +37,23 @@ by_waiting_silent : (b : Bool) (s : State) (p : ℕ) (e : Event) → (by_waiting
 by_waiting_silent true s p e h = refl
 by_waiting_silent false s p e h = by_verdict_silent s p e (verdict_of s p e) h
 
+by_verdict_reply : (s : State) (p : ℕ) (e : Event) (v : Verdict) → (by_verdict s p e v).enters ≡ false → (by_verdict s p e v).reply ≡ MustWait
+by_verdict_reply s p e Permit h = cc
+by_verdict_reply s p e Wait h = refl
+by_verdict_reply s p e (Refuse x) h = cc
+
+by_waiting_reply : (b : Bool) (s : State) (p : ℕ) (e : Event) → (by_waiting b s p e).enters ≡ false → (by_waiting b s p e).reply ≡ MustWait
+by_waiting_reply true s p e h = refl
+by_waiting_reply false s p e h = by_verdict_reply s p e (verdict_of s p e) h
+
+silent_reply : (s : State) (p : ℕ) (e : Event) → (step s p e).enters ≡ false → (step s p e).reply ≡ MustWait
+unfolding step
+silent_reply s p e h = by_waiting_reply (waits s p) s p e h
+
 -- an answer without an entry leaves the state
 pub silent : (s : State) (p : ℕ) (e : Event) → (step s p e).enters ≡ false → (step s p e).state ≡ s
 unfolding step
 silent s p e h = by_waiting_silent (waits s p) s p e h
-
-sound_by : (m : Run) (p : ℕ) (e : Event) (b : Bool) → (step m.state p e).enters ≡ b → IsSound m → IsSound (after_by m p e (step m.state p e))
-sound_by m p e true h sound =
-    let one : IsEntry m.state ([] ++ m.history) (entry_after m.history p e (step m.state p e).reply) =
-        record { entered = h; reply = refl; seq = refl } in
-    record {
-      legal = rw h (leads_more m.origin [] m.history m.state _ sound.legal one);
-      marked = rw h (simp length-append (ap (λ n. n + 1) sound.marked))
-    }
-sound_by m p e false h sound =
-    record {
-      legal = rw h (subst (λ t. Leads m.origin [] m.history t) (sym (silent m.state p e h)) sound.legal);
-      marked = rw h sound.marked
-    }
-
--- a step keeps a machine sound
-pub sound_after : (m : Run) (p : ℕ) (e : Event) → IsSound m → IsSound (after m p e)
-unfolding after
-sound_after m p e sound = sound_by m p e (step m.state p e).enters refl sound
-
--- a machine that has just begun is sound
-pub sound_begun : (s : State) → IsSound (begun s)
-sound_begun s = record { legal = refl; marked = refl }
 
 start_keeps : (s : State) (p : ℕ) (x : Option Standing) → length (start_at s p x).processes ≡ length s.processes
 start_keeps s p None = refl
@@ -85,3 +76,55 @@ unfolding effect_of
 effect_keeps s p Start = start_keeps s p (standing s p)
 effect_keeps s p (Act depth request) = ap length (act_keeps s p depth request.op request.operands)
 effect_keeps s p (Finish cause) = end_keeps s p (standing s p)
+
+verdict_keeps : (s : State) (p : ℕ) (e : Event) (v : Verdict) → length (by_verdict s p e v).state.processes ≡ length s.processes
+verdict_keeps s p e Permit = effect_keeps s p e
+verdict_keeps s p e Wait = refl
+verdict_keeps s p e (Refuse x) = refl
+
+waiting_keeps : (b : Bool) (s : State) (p : ℕ) (e : Event) → length (by_waiting b s p e).state.processes ≡ length s.processes
+waiting_keeps true s p e = refl
+waiting_keeps false s p e = verdict_keeps s p e (verdict_of s p e)
+
+-- a step neither makes a process nor takes one away
+pub step_keeps : (s : State) (p : ℕ) (e : Event) → length (step s p e).state.processes ≡ length s.processes
+unfolding step
+step_keeps s p e = waiting_keeps (waits s p) s p e
+
+sound_by : (m : Run) (p : ℕ) (e : Event) (b : Bool) → (step m.state p e).enters ≡ b → IsSound m → IsSound (after_by m p e (step m.state p e))
+sound_by m p e true h sound =
+    let one : IsEntry m.state ([] ++ m.history) (entry_after m.history p e (step m.state p e).reply) =
+        record { entered = h; reply = refl; seq = refl } in
+    record {
+      legal = rw h (leads_more m.origin [] m.history m.state _ sound.legal one);
+      marked = rw h (simp length-append (ap (λ n. n + 1) sound.marked));
+      kept = step_keeps m.state p e ∙ sound.kept
+    }
+sound_by m p e false h sound =
+    record {
+      legal = rw h (subst (λ t. Leads m.origin [] m.history t) (sym (silent m.state p e h)) sound.legal);
+      marked = rw h sound.marked;
+      kept = step_keeps m.state p e ∙ sound.kept
+    }
+
+-- a step keeps a machine sound
+pub sound_after : (m : Run) (p : ℕ) (e : Event) → IsSound m → IsSound (after m p e)
+unfolding after
+sound_after m p e sound = sound_by m p e (step m.state p e).enters refl sound
+
+-- a machine that has just begun is sound
+pub sound_begun : (s : State) → IsSound (begun s)
+sound_begun s = record { legal = refl; marked = refl; kept = refl }
+
+answered_by : (m : Run) (p : ℕ) (e : Event) (b : Bool) → (step m.state p e).enters ≡ b → IsAnswered p e (step m.state p e).reply m.history (history_after m.history p e (step m.state p e))
+answered_by m p e true h = rw h (inl refl)
+answered_by m p e false h = rw h (inr (silent_reply m.state p e h, refl))
+
+-- each answer is entered, but that to a process which waits already
+pub answered_after : (m : Run) (p : ℕ) (e : Event) → IsAnswered p e (step m.state p e).reply m.history (after m p e).history
+unfolding after
+answered_after m p e = answered_by m p e (step m.state p e).enters refl
+
+pub origin_after : (m : Run) (p : ℕ) (e : Event) → (after m p e).origin ≡ m.origin
+unfolding after
+origin_after m p e = refl

@@ -1,5 +1,5 @@
 -- Which histories are the machine's: each entry is a step from the state to which those before it lead.
-use Rattle.std.specs.Prelude.{◌≡◌, ℕ, IsTrue, List, [], ◌∷◌, ◌++◌, length, if◌then◌else◌}
+use Rattle.std.specs.Prelude.{◌≡◌, ◌<◌, ◌≤◌, ℕ, IsTrue, List, [], ◌∷◌, ◌++◌, length, if◌then◌else◌}
 use Rattle.s38_code.specs.declared.entry.Entry.{Entry}
 use Rattle.s38_code.specs.declared.event.Event.{Event}
 use Rattle.s38_code.specs.History.{count_of, entry_after}
@@ -25,10 +25,17 @@ pub record Run : Type 0 where
   -- the store's moment as each entry was answered
   pub marks : List ℕ
 
--- the history is legal and leads from the origin to the state; each entry has a mark
+-- the history is legal and leads from the origin to the state; each entry has a mark; the processes are those
+-- of the origin's jobs
 pub record IsSound (m : Run) : Type 0 where
   pub legal : Leads m.origin [] m.history m.state
   pub marked : length m.marks ≡ length m.history
+  pub kept : length m.state.processes ≡ length m.origin.processes
+
+-- a process is that of a job, from 1 on
+pub record MayAsk (origin : State) (process : ℕ) : Type 0 where
+  pub first : 0 < process
+  pub last : process ≤ length origin.processes
 
 abbrev pub history_after : List Entry → ℕ → Event → Stepped → List Entry
 history_after history process event x = if x.enters then history ++ entry_after history process event x.reply ∷ [] else history
