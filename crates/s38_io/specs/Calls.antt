@@ -1,0 +1,19 @@
+-- The calls of a source or a sink in memory: which of them are to fail, how many were made, and how many failed.
+use Rattle.std.specs.Prelude.{ℕ, ◌==◌, Bool, List, if◌then◌else◌}
+use Rattle.std.specs.List.{list_any}
+use Rattle.s38_base.specs.Faults.{counted}
+
+-- `failing` numbers the calls that are to fail, from 0 on
+pub record CallRecord : Type 0 where
+  pub failing : List ℕ
+  pub made : ℕ
+  pub faults : ℕ
+
+-- the next call is listed
+abbrev pub fails_next : CallRecord → Bool
+fails_next calls = list_any (λ n. n == calls.made) calls.failing
+
+-- one more call was made, and it failed or not
+abbrev pub after_call : CallRecord → Bool → CallRecord
+after_call calls failed =
+    record { failing = calls.failing; made = counted calls.made; faults = if failed then counted calls.faults else calls.faults }

@@ -1,0 +1,20 @@
+ghost use Rattle.std.specs.Prelude.{List, Option, ℕ};
+ghost use Rattle.s38_base.specs.Faults.{HasCause};
+ghost use Rattle.s38_io.specs.Sink.{Puts};
+
+use s38_base::Failed;
+
+/// Where bytes go. A call that fails is counted.
+pub trait Sink {
+    /// The bytes that were written, where the sink tells them.
+    ghost written: { Self → Option (List ℕ) };
+
+    /// How often the sink has failed.
+    ghost faults: { Self → ℕ };
+
+    /// Writes a piece behind what was written. After `Failed` some prefix of the piece was; it comes only
+    /// where the count of faults rose in this call, or stands at its last value.
+    fn put(&mut self, piece: &[u8]) -> Result<(), Failed>
+        ensures puts { Puts (written self.old) (written self.new) result piece.now }
+        ensures cause { HasCause (faults self.old) (faults self.new) result };
+}
