@@ -1,0 +1,8 @@
+//! Makes checked programs of templates.
+#![tactic(auto)]
+
+mod declaration;
+mod literal;
+mod text;
+
+pub use declaration::program_name;
