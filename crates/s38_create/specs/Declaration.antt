@@ -56,13 +56,17 @@ row_said text = row_from (declared_name (before 32 text)) (option_and_then attr_
 unfoldable pub row_of : List ℕ → Option Row
 row_of line = option_and_then row_said (rest_after (codes "DCL ") line)
 
--- the number of the item that has a name, from 0 on
-unfoldable pub item_of : List Row → List ℕ → Option ℕ
-item_of rows name = position_from (λ row. bytes_eq name row.name) 0 rows
+-- where a name stands among rows, from 0 on
+unfoldable pub place_in : List Row → List ℕ → Option ℕ
+place_in rows name = position_from (λ row. bytes_eq row.name name) 0 rows
+
+-- the number of the item that a word names
+abbrev pub item_of : List Row → List ℕ → Option ℕ
+item_of rows word = if is_name word then place_in rows word else None
 
 -- the rows with one more, whose name is new
 abbrev pub with_row : List Row → Row → Option (List Row)
-with_row rows row = if is_some (item_of rows row.name) then None else Some (rows ++ row ∷ [])
+with_row rows row = if is_some (place_in rows row.name) then None else Some (rows ++ row ∷ [])
 
 abbrev pub row_added : List Row → List ℕ → Option (List Row)
 row_added rows line = option_and_then (with_row rows) (row_of line)

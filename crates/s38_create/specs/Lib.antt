@@ -1,3 +1,7 @@
+pub mod Created
 pub mod Declaration
+pub mod Instruction
 pub mod Literal
+pub mod Operand
+pub mod Places
 pub mod Text
