@@ -1,11 +1,10 @@
 -- One more row: where a name then stands, and the map that says it.
-use Rattle.std.proofs.Common.{◌≡◌, ℕ, ◌+◌, ◌<◌, suc, Bool, true, false, cond, List, [], ◌∷◌, ◌++◌, length, get_or, drop, drop-cons, add-one, Option, Some, None, refl, sym, ◌∙◌, ap, subst, arith}
+use Rattle.std.proofs.Common.{◌≡◌, ℕ, ◌+◌, ◌<◌, suc, Bool, true, false, cond, List, [], ◌∷◌, ◌++◌, length, get_or, drop, drop-cons, add-one, Option, Some, None, refl, sym, ◌∙◌, ap, arith}
 use Rattle.std.specs.Option.{is_some, option_and_then}
 use Rattle.std.specs.Map.{lookup}
 use Rattle.std.specs.List.{position_from}
-use Rattle.std.proofs.lemmas.Grind.{common_steps}
 use Rattle.std.proofs.lemmas.Slice.Eq.{bytes_eq-Decides}
-use Rattle.std.specs.Ordering.{nat_cmp, is_eq}
+use Rattle.std.specs.Ordering.{nat_cmp}
 use Rattle.std.specs.Str.{bytes_eq}
 use Rattle.std.specs.Cmp.Lexicographic.{slice_cmp}
 use Rattle.std.specs.BTreeMap.{BTreeMap, get, is_at, Updates}
@@ -40,14 +39,16 @@ or_at-new (Some k) false n h = refl
 -- a name that is new goes in with the number of its row
 pub IsTied-push : (m n : BTreeMap (List ℕ) ℕ) (rows : List Row) (row : Row) →
     IsTied m rows → get (slice_cmp nat_cmp) m row.name ≡ None → Updates (slice_cmp nat_cmp) m n row.name (Some (length rows)) → IsTied n (rows ++ row ∷ [])
-IsTied-push m n rows row tied absent updates = record { place = λ q.
-    let at_new : bytes_eq row.name q ≡ true → place_in rows q ≡ None =
-        λ e. sym (tied.place q) ∙ (ap (λ name. get (slice_cmp nat_cmp) m name) (sym ((bytes_eq-Decides row.name q).0 e)) ∙ absent) in
-    updates.0 q
-    ∙ (ap (λ b. cond b (Some (length rows)) (get (slice_cmp nat_cmp) m q)) (is_eq-slice_cmp row.name q)
-    ∙ (ap (λ o. cond (bytes_eq row.name q) (Some (length rows)) o) (tied.place q)
-    ∙ (or_at-new (place_in rows q) (bytes_eq row.name q) (length rows) at_new
-    ∙ sym (place_in-push rows row q)))) }
+IsTied-push m n rows row tied absent updates = record {
+  place = λ q.
+      let at_new : bytes_eq row.name q ≡ true → place_in rows q ≡ None =
+      λ e. sym (tied.place q) ∙ (ap (λ name. get (slice_cmp nat_cmp) m name) (sym ((bytes_eq-Decides row.name q).0 e)) ∙ absent) in
+      updates.0 q
+      ∙ (ap (λ b. cond b (Some (length rows)) (get (slice_cmp nat_cmp) m q)) (is_eq-slice_cmp row.name q)
+      ∙ (ap (λ o. cond (bytes_eq row.name q) (Some (length rows)) o) (tied.place q)
+      ∙ (or_at-new (place_in rows q) (bytes_eq row.name q) (length rows) at_new
+      ∙ sym (place_in-push rows row q))));
+}
 
 -- no name stands in no rows
 pub IsTied-none : (m : BTreeMap (List ℕ) ℕ) → m.entries ≡ [] → IsTied m []
@@ -57,7 +58,7 @@ IsTied-none m e = record { place = λ q. ap (λ es. lookup (is_at (slice_cmp nat
 pub with_row-is : (rows more : List Row) (row : Row) → with_row rows row ≡ Some more → more ≡ rows ++ row ∷ []
 with_row-is rows more row h =
     let by_test : (b : Bool) → cond b None (Some (rows ++ row ∷ [])) ≡ Some more → more ≡ rows ++ row ∷ [] =
-        λ b. elim b as (λ b. cond b None (Some (rows ++ row ∷ [])) ≡ Some more → more ≡ rows ++ row ∷ []) [ true ↦ λ e. cc | false ↦ λ e. cc ] in
+    λ b. elim b as (λ b. cond b None (Some (rows ++ row ∷ [])) ≡ Some more → more ≡ rows ++ row ∷ []) [ true ↦ λ e. cc | false ↦ λ e. cc ] in
     by_test (is_some (place_in rows row.name)) h
 
 -- the rows of the lines from a place on, once the line there has made its row

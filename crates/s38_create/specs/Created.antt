@@ -1,5 +1,5 @@
 -- The program that a template makes: a head, declarations, instructions and END.
-use Rattle.std.specs.Prelude.{ℕ, ◌+◌, ◌-◌, Bool, false, ◌&&◌, List, [], take, drop, length, slice_index_or, codes, Option, Some, None, nat_le, if◌then◌else◌}
+use Rattle.std.specs.Prelude.{ℕ, ◌-◌, Bool, false, ◌&&◌, List, [], take, drop, length, slice_index_or, codes, Option, None, nat_le, if◌then◌else◌}
 use Rattle.std.specs.List.{prefix_len}
 use Rattle.std.specs.Option.{is_some, option_map, option_and_then}
 use Rattle.s38_code.specs.declared.program.Instruction.{Instruction}

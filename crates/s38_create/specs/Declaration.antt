@@ -1,6 +1,6 @@
 -- The head of a template, and its declarations.
-use Rattle.std.specs.Prelude.{ℕ, ◌+◌, ◌-◌, ◌*◌, Bool, ◌&&◌, ◌||◌, ◌==◌, not, List, [], ◌∷◌, ◌++◌, drop, length, replicate, slice_index, codes, Option, Some, None, is_some, nat_le, nat_lt, if◌then◌else◌}
-use Rattle.std.specs.List.{list_all, position_from}
+use Rattle.std.specs.Prelude.{ℕ, ◌+◌, ◌-◌, ◌*◌, ◌&&◌, ◌==◌, not, List, [], ◌∷◌, ◌++◌, length, replicate, slice_index, codes, Option, Some, None, is_some, nat_le, nat_lt, if◌then◌else◌}
+use Rattle.std.specs.List.{position_from}
 use Rattle.std.specs.Option.{option_map, option_and_then}
 use Rattle.std.specs.Str.{bytes_eq}
 use Rattle.s38_base.specs.NameText.{is_name}

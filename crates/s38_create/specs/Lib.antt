@@ -5,3 +5,4 @@ pub mod Literal
 pub mod Operand
 pub mod Places
 pub mod Text
+pub mod WellFormed

@@ -1,5 +1,5 @@
 -- What a word of an operand is, by the class that stands at its place.
-use Rattle.std.specs.Prelude.{ℕ, Bool, true, false, ◌&&◌, ◌==◌, List, [], length, slice_get, slice_index, codes, Option, Some, None, if◌then◌else◌}
+use Rattle.std.specs.Prelude.{ℕ, Bool, true, false, ◌&&◌, ◌==◌, List, length, slice_get, slice_index, codes, Option, Some, None, if◌then◌else◌}
 use Rattle.std.specs.Option.{option_map, option_and_then}
 use Rattle.s38_base.specs.NameText.{is_name}
 use Rattle.s38_base.specs.declared.attr.Attr.{Attr}

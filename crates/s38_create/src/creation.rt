@@ -1,7 +1,7 @@
 ghost use Rattle.std.specs.Prelude.{◌≡◌, ◌⊎◌, ◌≤◌, length, Some, None, IfOk, IfErr};
 ghost use Rattle.std.specs.Option.{option_map};
 ghost use Rattle.s38_create.specs.Created.{created, created_inner, declaration_count, inner, is_declaration, is_framed, is_small, program_from};
-
+ghost use Rattle.s38_create.specs.WellFormed.{WellFormed};
 
 use crate::declaration::program_name;
 use crate::declared::declarations;
@@ -44,11 +44,19 @@ fn declaration_count(lines: &[Bytes]) -> usize
     ensures count { result ≡ declaration_count lines.now }
     ensures bound { result ≤ length lines.now }
 {
-    lines.iter().take_while(|line| is_declaration(line.as_slice())).count()
+    lines
+        .iter()
+        .take_while(|line| is_declaration(line.as_slice()))
+        .count()
 }
 
 /// The program of these declarations and instructions; None where one of them is bad.
-fn program(alloc: Global, template: &Template, declared: &[Bytes], code: &[Bytes]) -> Result<Option<Program>, NoMemory>
+fn program(
+    alloc: Global,
+    template: &Template,
+    declared: &[Bytes],
+    code: &[Bytes],
+) -> Result<Option<Program>, NoMemory>
     requires { length declared.now ≤ 1024 }
     ensures { IfOk result (λ program. program ≡ program_from template.now declared.now code.now) }
 {
@@ -69,7 +77,11 @@ fn program(alloc: Global, template: &Template, declared: &[Bytes], code: &[Bytes
 }
 
 /// The program of the lines between the first and the last.
-fn created_inner(alloc: Global, template: &Template, body: &[Bytes]) -> Result<Option<Program>, NoMemory>
+fn created_inner(
+    alloc: Global,
+    template: &Template,
+    body: &[Bytes],
+) -> Result<Option<Program>, NoMemory>
     ensures { IfOk result (λ program. program ≡ created_inner template.now body.now) }
 {
     let count = declaration_count(body);
@@ -94,11 +106,15 @@ fn created(alloc: Global, template: &Template) -> Result<Option<Program>, NoMemo
 /// Makes a checked program of a template. `Bad` exactly where its lines make none.
 pub fn create(alloc: Global, template: &Template) -> Result<Program, CreateFault>
     ensures made { IfOk result (λ program. created template.now ≡ Some program) }
+    ensures formed { IfOk result (λ program. WellFormed program) }
     ensures bad { IfErr result (λ fault. (fault ≡ CreateFault.NoMemory) ⊎ ((fault ≡ CreateFault.Bad 0x2A04 0) × (created template.now ≡ None))) }
 {
     match created(alloc, template) {
         Ok(Some(program)) => Ok(program),
-        Ok(None) => Err(CreateFault::Bad { id: NOT_BUILT, number: 0 }),
+        Ok(None) => Err(CreateFault::Bad {
+            id: NOT_BUILT,
+            number: 0,
+        }),
         Err(NoMemory) => Err(CreateFault::NoMemory),
     }
 }

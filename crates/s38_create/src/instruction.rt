@@ -31,7 +31,12 @@ fn operation(word: &[u8]) -> Option<Op>
 }
 
 /// One operand for each class, parted by commas; None where one is not of its class, or their number is another.
-fn arguments(alloc: Global, declared: &Declared, classes: &[Class], text: Option<&[u8]>) -> Result<Option<Vec<Arg>>, NoMemory>
+fn arguments(
+    alloc: Global,
+    declared: &Declared,
+    classes: &[Class],
+    text: Option<&[u8]>,
+) -> Result<Option<Vec<Arg>>, NoMemory>
     requires { IsTied declared.now.places declared.now.rows.items }
     ensures { IfOk result (λ args. option_map (λ v. v.items) args ≡ args_from declared.now.rows.items [] classes.now (option_map (λ t. t.now) text.entry)) }
 {
@@ -55,7 +60,11 @@ fn arguments(alloc: Global, declared: &Declared, classes: &[Class], text: Option
 
 /// The instruction that a line makes; None where it makes none.
 #[tactic(auto, unfolding(crate::specs::Instruction::instruction_of))]
-fn instruction(alloc: Global, declared: &Declared, line: &[u8]) -> Result<Option<Instruction>, NoMemory>
+fn instruction(
+    alloc: Global,
+    declared: &Declared,
+    line: &[u8],
+) -> Result<Option<Instruction>, NoMemory>
     requires { IsTied declared.now.places declared.now.rows.items }
     ensures { IfOk result (λ instruction. instruction ≡ instruction_of declared.now.rows.items line.now) }
 {
@@ -73,7 +82,11 @@ fn instruction(alloc: Global, declared: &Declared, line: &[u8]) -> Result<Option
 }
 
 /// The instructions of these lines; None where one makes none.
-pub fn instructions(alloc: Global, declared: &Declared, lines: &[Bytes]) -> Result<Option<Vec<Instruction>>, NoMemory>
+pub fn instructions(
+    alloc: Global,
+    declared: &Declared,
+    lines: &[Bytes],
+) -> Result<Option<Vec<Instruction>>, NoMemory>
     requires { IsTied declared.now.places declared.now.rows.items }
     ensures { IfOk result (λ code. option_map (λ v. v.items) code ≡ code_from declared.now.rows.items [] lines.now) }
 {

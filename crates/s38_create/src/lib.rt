@@ -11,3 +11,6 @@ mod text;
 
 pub use creation::create;
 pub use declaration::program_name;
+
+#[cfg(test)]
+mod tests;

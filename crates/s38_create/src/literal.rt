@@ -116,7 +116,9 @@ pub fn literal(alloc: Global, text: &[u8]) -> Result<Option<Arg>, NoMemory>
         return Ok(None);
     }
     Ok(Some(Arg::Literal {
-        attr: Attr::Chars { len: bytes.len() as u16 },
+        attr: Attr::Chars {
+            len: bytes.len() as u16,
+        },
         bytes: Seq::from_vec(bytes),
     }))
 }

@@ -13,14 +13,26 @@ use std::alloc::Global;
 fn is_pointer(form: &Form) -> bool
     ensures { result ≡ is_pointer form.now }
 {
-    matches!(form, Form::Local { attr: Attr::Pointer, .. })
+    matches!(
+        form,
+        Form::Local {
+            attr: Attr::Pointer,
+            ..
+        }
+    )
 }
 
 /// A variable that holds bytes.
 fn is_chars(form: &Form) -> bool
     ensures { result ≡ is_chars form.now }
 {
-    matches!(form, Form::Local { attr: Attr::Chars { .. }, .. })
+    matches!(
+        form,
+        Form::Local {
+            attr: Attr::Chars { .. },
+            ..
+        }
+    )
 }
 
 /// The declared pointer that a word names.
@@ -30,7 +42,11 @@ fn pointer_item(declared: &Declared, word: &[u8]) -> Option<Arg>
 {
     let at = item(declared, word)?;
     match declared.rows.as_slice().get(at as usize) {
-        Some(row) => if is_pointer(&row.form) { Some(Arg::Item(at)) } else { None },
+        Some(row) => if is_pointer(&row.form) {
+            Some(Arg::Item(at))
+        } else {
+            None
+        },
         None => None,
     }
 }
@@ -42,7 +58,11 @@ fn chars_item(declared: &Declared, word: &[u8]) -> Option<Arg>
 {
     let at = item(declared, word)?;
     match declared.rows.as_slice().get(at as usize) {
-        Some(row) => if is_chars(&row.form) { Some(Arg::Item(at)) } else { None },
+        Some(row) => if is_chars(&row.form) {
+            Some(Arg::Item(at))
+        } else {
+            None
+        },
         None => None,
     }
 }
@@ -50,7 +70,11 @@ fn chars_item(declared: &Declared, word: &[u8]) -> Option<Arg>
 fn kind(word: &[u8]) -> Option<Kind>
     ensures { result ≡ kind_of word.now }
 {
-    if is_word(b"QUEUE", word) { Some(Kind::Queue) } else { None }
+    if is_word(b"QUEUE", word) {
+        Some(Kind::Queue)
+    } else {
+        None
+    }
 }
 
 fn subtype(word: &[u8]) -> Option<u8>
@@ -80,12 +104,21 @@ fn identification(word: &[u8]) -> Option<Id>
 fn stands_for(expected: &[u8], arg: Arg, word: &[u8]) -> Option<Arg>
     ensures { result ≡ stands_for expected.now arg word.now }
 {
-    if is_word(expected, word) { Some(arg) } else { None }
+    if is_word(expected, word) {
+        Some(arg)
+    } else {
+        None
+    }
 }
 
 /// What a word of an operand is at a place of this class; None where it is nothing there.
 #[tactic(auto, unfolding(crate::specs::Operand::arg_of))]
-pub fn argument(alloc: Global, declared: &Declared, class: Class, word: &[u8]) -> Result<Option<Arg>, NoMemory>
+pub fn argument(
+    alloc: Global,
+    declared: &Declared,
+    class: Class,
+    word: &[u8],
+) -> Result<Option<Arg>, NoMemory>
     requires { IsTied declared.now.places declared.now.rows.items }
     ensures { IfOk result (λ arg. arg ≡ arg_of declared.now.rows.items class word.now) }
 {

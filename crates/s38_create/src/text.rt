@@ -74,7 +74,11 @@ fn hex_value(digit: u8) -> u8
     ensures value { result ≡ hex_value digit }
     ensures small { result ≤ 15 }
 {
-    if digit <= b'9' { digit - b'0' } else { digit - b'7' }
+    if digit <= b'9' {
+        digit - b'0'
+    } else {
+        digit - b'7'
+    }
 }
 
 /// The byte that two hexadecimal digits spell.

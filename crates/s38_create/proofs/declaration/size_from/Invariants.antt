@@ -5,4 +5,5 @@ use Rattle.s38_create.proofs.declaration.size_from.Given as goal
 abbrev pub invariant-loop-digit : goal.invariant-loop-digit
 invariant-loop-digit l = record {
   within : l.size ≤ 4096;
-  rest : size_from 0 l.digits ≡ size_from l.size (drop l.digit-index l.digits) }
+  rest : size_from 0 l.digits ≡ size_from l.size (drop l.digit-index l.digits);
+}

@@ -1,4 +1,4 @@
-use Rattle.std.proofs.Common.{◌≡◌, ◌∷◌, ◌++◌, ◌∙◌, ◌<◌, List, [], Some, ap, subst, length, length-append, sym, arith, rules, get_or, refl}
+use Rattle.std.proofs.Common.{◌≡◌, ◌∙◌, List, [], Some, ap, subst, length, length-append, sym, arith}
 use Rattle.std.proofs.lemmas.Grind.{common_steps}
 use Rattle.s38_code.specs.declared.program.Row.{Row}
 use Rattle.s38_create.specs.Declaration.{row_of, rows_from, with_row}
