@@ -1,2 +1,4 @@
-pub mod Texts
+pub mod Options
 pub mod Sets
+pub mod Texts
+pub mod Words

@@ -67,28 +67,27 @@ run_in text = elim (cut 32 text) as (λ _. Option (List ℕ × List (List ℕ)))
     Some (name, contexts)
 ]
 
--- a word and a name, ended by a blank
-unfoldable pub named : List ℕ → List ℕ → Option (List ℕ × List ℕ)
-named word text = do
+-- what stands behind a word and before a blank, and what stands behind the blank
+unfoldable pub worded : List ℕ → List ℕ → Option (List ℕ × List ℕ)
+worded word text = do
   behind ← after word text
-  parts ← cut 32 behind
-  name ← name_in parts.0
-  Some (name, parts.1)
+  cut 32 behind
 
--- the names of job and user, and what stands behind RUN
+-- the texts behind JOB and USER, and what stands behind RUN
 unfoldable pub head_in : List ℕ → Option (List ℕ × List ℕ × List ℕ)
 head_in line = do
-  job ← named job_word line
-  name ← own_name_in job.0
-  user ← named (codes "USER ") job.1
-  rest ← after (codes "RUN ") user.1
-  Some (name, user.0, rest)
+  job ← worded job_word line
+  user ← worded (codes "USER ") job.1
+  run ← after (codes "RUN ") user.1
+  Some (job.0, user.0, run)
 
 unfoldable pub job_in : ℕ → List ℕ → Option Job
 job_in stage line = do
   head ← head_in line
+  name ← own_name_in head.0
+  user ← name_in head.1
   run ← run_in head.2
-  Some (record { name = head.0; user = head.1; template = run.0; budget = 1000000; contexts = run.1; stage = stage })
+  Some (record { name = name; user = user; template = run.0; budget = 1000000; contexts = run.1; stage = stage })
 
 -- ---- what was read so far
 

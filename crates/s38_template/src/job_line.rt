@@ -1,7 +1,7 @@
 ghost use Rattle.std.specs.Prelude.{◌≡◌, ◌++◌, ◌∷◌, [], codes};
 ghost use Rattle.std.specs.Option.{option_map};
 ghost use Rattle.s38_template.specs.Grammar.{is_own_name};
-ghost use Rattle.s38_template.specs.Reading.{Gives, contexts_in, head_in, job_in, name_in, named, names_in, own_name_in, run_in};
+ghost use Rattle.s38_template.specs.Reading.{Gives, contexts_in, head_in, job_in, name_in, names_in, own_name_in, run_in, worded};
 
 use crate::cut::{after, cut};
 use crate::fault::DeckFault;
@@ -31,15 +31,15 @@ pub fn own_name_in(text: &[u8]) -> Option<Name>
     }
 }
 
-/// The name behind a word, ended by a blank, and what stands behind the blank.
-#[tactic(auto, unfolding(crate::specs::Reading::named))]
-fn named<'a>(text: &'a [u8], word: &[u8]) -> Option<(Name, &'a [u8])>
-    ensures { option_map (λ parts. (parts.0, parts.1.now)) result ≡ named word.now text.now }
+/// What stands behind a word and before a blank, and what stands behind the blank.
+#[tactic(auto, unfolding(crate::specs::Reading::worded))]
+fn worded<'a>(text: &'a [u8], word: &[u8]) -> Option<(&'a [u8], &'a [u8])>
+    ensures { option_map (λ parts. (parts.0.now, parts.1.now)) result ≡ worded word.now text.now }
 {
-    let behind = after(text, word)?;
-    let (name, rest) = cut(behind, b' ')?;
-    let name = name_in(name)?;
-    Some((name, rest))
+    match after(text, word) {
+        Some(behind) => cut(behind, b' '),
+        None => None,
+    }
 }
 
 /// These names and the one that a text is.
@@ -63,7 +63,10 @@ fn read_names(alloc: Global, text: &[u8]) -> Result<Names, DeckFault>
     let mut names = Seq::new(alloc);
     let mut rest = text;
     while let Some((name, more)) = cut(rest, b' ') {
-        names = with_name(names, name)?;
+        match with_name(names, name) {
+            Ok(longer) => names = longer,
+            Err(fault) => return Err(fault),
+        }
         rest = more;
     }
     with_name(names, rest)
@@ -96,16 +99,15 @@ fn read_run(alloc: Global, text: &[u8]) -> Result<(Name, Names), DeckFault>
     }
 }
 
-/// The names of job and user that a line begins with, and what stands behind RUN.
+/// The texts behind JOB and behind USER, and what stands behind RUN.
 #[tactic(auto, unfolding(crate::specs::Reading::head_in))]
-fn head_in(line: &[u8]) -> Option<(Name, Name, &[u8])>
-    ensures { option_map (λ head. (head.0, head.1, head.2.now)) result ≡ head_in line.now }
+fn head_in(line: &[u8]) -> Option<(&[u8], &[u8], &[u8])>
+    ensures { option_map (λ head. (head.0.now, head.1.now, head.2.now)) result ≡ head_in line.now }
 {
-    let (job, rest) = named(line, JOB)?;
-    let name = own_name_in(job.as_bytes())?;
-    let (user, rest) = named(rest, b"USER ")?;
-    let rest = after(rest, b"RUN ")?;
-    Some((name, user, rest))
+    let (job, rest) = worded(line, JOB)?;
+    let (user, rest) = worded(rest, b"USER ")?;
+    let run = after(rest, b"RUN ")?;
+    Some((job, user, run))
 }
 
 /// The job of this stage that a line says. `Bad` exactly where it says none.
@@ -115,6 +117,8 @@ pub fn read_job(alloc: Global, stage: u16, line: &[u8]) -> Result<Job, DeckFault
 {
     match head_in(line) {
         Some((name, user, run)) => {
+            let name = own_name_in(name).ok_or(DeckFault::Bad)?;
+            let user = name_in(user).ok_or(DeckFault::Bad)?;
             let (template, contexts) = read_run(alloc, run)?;
             Ok(Job {
                 name,

@@ -22,7 +22,10 @@ fn read_lines(alloc: Global, text: &[u8]) -> Result<Reader, DeckFault>
     let mut reader = start(alloc);
     let mut rest = text;
     while let Some((line, more)) = cut(rest, b'\n') {
-        reader = turn(alloc, reader, line)?;
+        match turn(alloc, reader, line) {
+            Ok(next) => reader = next,
+            Err(fault) => return Err(fault),
+        }
         rest = more;
     }
     if rest.is_empty() {

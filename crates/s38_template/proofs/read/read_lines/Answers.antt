@@ -1,0 +1,25 @@
+use Rattle.std.proofs.Common.{◌≡◌, sym, ◌∙◌, ap, subst, List, ℕ, Option}
+use Rattle.std.specs.Option.{option_and_then}
+use Rattle.s38_template.specs.Reading.{Fails, Gives, State, reads, start}
+use Rattle.s38_template.specs.Views.{state_of}
+use Rattle.s38_template.proofs.Words.{rest_falls}
+use Rattle.s38_template.proofs.Texts.{reads_turn, reads_fault, reads_done, reads_left}
+use Rattle.s38_template.proofs.read.read_lines.Goals as goal
+
+pub loop-line-init : goal.loop-line-init
+loop-line-init c = ap (λ s. reads s c.args.text.now) c.start-reader.ensures
+
+pub returns-in-Err : goal.returns-in-Err
+returns-in-Err c =
+    let f = reads_fault c.in-Err.fault (state_of c.loop-line.reader) c.loop-line.rest.now (c.in-Some.line.now, c.in-Some.more.now) (sym c.in-Some.ensures) c.in-Err.ensures in
+    let P : Option State → Type 0 = Fails c.in-Err.fault in
+    subst P c.loop-line.invariant f
+
+pub loop-line-smaller : goal.loop-line-smaller
+loop-line-smaller c = rest_falls 10 c.loop-line.rest.now (c.in-Some.line.now, c.in-Some.more.now) (sym c.in-Some.ensures)
+
+pub loop-line-preserved : goal.loop-line-preserved
+loop-line-preserved c =
+    sym (ap (option_and_then (λ t. reads t c.in-Some.more.now)) c.in-Ok.ensures)
+    ∙ sym (reads_turn (state_of c.loop-line.reader) c.loop-line.rest.now (c.in-Some.line.now, c.in-Some.more.now) (sym c.in-Some.ensures))
+    ∙ c.loop-line.invariant
