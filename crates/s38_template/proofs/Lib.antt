@@ -1,3 +1,4 @@
+pub mod JobText
 pub mod Options
 pub mod Sets
 pub mod Texts

@@ -13,7 +13,7 @@ use Rattle.s38_template.specs.Reading.{Fails, is_blank, names_in, name_in}
 use Rattle.s38_template.proofs.Options.{map_some, map_none, then_some}
 use Rattle.s38_template.proofs.Texts.{cut_joins}
 
-split_at : (text : List ℕ) (p : List ℕ × List ℕ) → cut 32 text ≡ Some p → slice_split is_blank text ≡ p.0 ∷ slice_split is_blank p.1
+pub split_at : (text : List ℕ) (p : List ℕ × List ℕ) → cut 32 text ≡ Some p → slice_split is_blank text ≡ p.0 ∷ slice_split is_blank p.1
 split_at [] p e = absurd cc
 split_at (c ∷ cs) p e =
     let P : List ℕ × List ℕ → Type 0 = λ q. slice_split is_blank (c ∷ cs) ≡ q.0 ∷ slice_split is_blank q.1 in
@@ -22,7 +22,7 @@ split_at (c ∷ cs) p e =
       | inr f ↦ map_some (onto_front c) (cut 32 cs) p (rw f at e) (λ q eq back. subst P back (rw f (rw (split_at cs q eq) refl)))
     ]
 
-split_none : (text : List ℕ) → cut 32 text ≡ None → slice_split is_blank text ≡ text ∷ []
+pub split_none : (text : List ℕ) → cut 32 text ≡ None → slice_split is_blank text ≡ text ∷ []
 split_none [] e = refl
 split_none (c ∷ cs) e =
     elim (cases_Bool (c == 32)) [

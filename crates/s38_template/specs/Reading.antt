@@ -57,15 +57,16 @@ contexts_in text = do
   names ← after (codes "CONTEXTS ") text
   names_in names
 
--- a template's name, and the contexts behind it
+-- a template's name and the contexts behind it, by what a cut at the first blank gives
+abbrev pub run_from : List ℕ → Option (List ℕ × List ℕ) → Option (List ℕ × List (List ℕ))
+run_from text None = option_map (λ name. (name, [])) (name_in text)
+run_from text (Some parts) = do
+  name ← name_in parts.0
+  contexts ← contexts_in parts.1
+  Some (name, contexts)
+
 unfoldable pub run_in : List ℕ → Option (List ℕ × List (List ℕ))
-run_in text = elim (cut 32 text) as (λ _. Option (List ℕ × List (List ℕ))) [
-  | None ↦ option_map (λ name. (name, [])) (name_in text)
-  | Some parts ↦ do
-    name ← name_in parts.0
-    contexts ← contexts_in parts.1
-    Some (name, contexts)
-]
+run_in text = run_from text (cut 32 text)
 
 -- what stands behind a word and before a blank, and what stands behind the blank
 unfoldable pub worded : List ℕ → List ℕ → Option (List ℕ × List ℕ)

@@ -23,3 +23,13 @@ loop-line-preserved c =
     sym (ap (option_and_then (λ t. reads t c.in-Some.more.now)) c.in-Ok.ensures)
     ∙ sym (reads_turn (state_of c.loop-line.reader) c.loop-line.rest.now (c.in-Some.line.now, c.in-Some.more.now) (sym c.in-Some.ensures))
     ∙ c.loop-line.invariant
+
+pub returns-then-is_empty : goal.returns-then-is_empty
+returns-then-is_empty c =
+    let h = c.if-is_empty.ensures in
+    let k = c.if-is_empty.true in
+    sym c.loop-line.invariant ∙ reads_done (state_of c.loop-line.reader) c.loop-line.rest.now (omega arith)
+
+pub returns-else-is_empty : goal.returns-else-is_empty
+returns-else-is_empty c =
+    sym c.loop-line.invariant ∙ reads_left (state_of c.loop-line.reader) c.loop-line.rest.now (sym c.in_default.ensures) (λ e. omega (arith, e))
