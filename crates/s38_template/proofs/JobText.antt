@@ -1,14 +1,12 @@
 -- The line of a job says what is read of it, and is read as the job that it says.
-use Rattle.std.proofs.Common.{◌≡◌, ℕ, ◌+◌, ◌<◌, ◌≤◌, suc, Bool, true, false, not, ◌&&◌, ◌||◌, cond, ◌==◌, nat_lt, nat_le, nat_eq, List, [], ◌∷◌, ◌++◌, length, take, drop, Option, Some, None, codes, sym, ap, subst, ◌∙◌, refl, arith, inl, inr}
-use Rattle.std.proofs.lemmas.Bool.{cases_Bool, and_parts, and_from, or_cases, ne_eqb, eqb-true, leb-true, not_from_false, false≢true}
+use Rattle.std.proofs.Common.{◌≡◌, ℕ, ◌<◌, Bool, true, not, ◌&&◌, cond, ◌==◌, nat_lt, nat_le, nat_eq, List, [], ◌∷◌, ◌++◌, length, drop, Option, Some, None, codes, sym, ap, subst, ◌∙◌, refl, arith, inl, inr}
+use Rattle.std.proofs.lemmas.Bool.{cases_Bool, and_parts, and_from, or_cases, ne_eqb, eqb-true, leb-true, not_from_false}
 use Rattle.std.proofs.lemmas.Bool.Decides.{Decides-eqb}
-use Rattle.std.proofs.lemmas.List.{append_assoc, append-nil, take-append-drop}
+use Rattle.std.proofs.lemmas.List.{append-nil}
 use Rattle.std.proofs.lemmas.List.Splits.{length-slice_split}
 use Rattle.std.proofs.lemmas.Option.{same_Some, cond_some}
 use Rattle.std.proofs.lemmas.Slice.Eq.{starts_is}
-use Rattle.std.specs.Cmp.Lexicographic.{pointwise}
-use Rattle.std.specs.List.{list_all, slice_split, onto_first, flat_map, starts_with, count_by}
-use Rattle.std.specs.Option.{option_map, option_and_then}
+use Rattle.std.specs.List.{list_all, slice_split, onto_first, flat_map, starts_with}
 use Rattle.s38_base.specs.NameText.{is_name, is_name_byte, are_name_bytes}
 use Rattle.s38_code.specs.declared.deck.Job.{Job}
 use Rattle.s38_template.specs.Cut.{cut, after}
@@ -31,7 +29,7 @@ after_joins word text rest e =
 free_name_byte : (c : ℕ) → is_name_byte c ≡ true → not (c == 32) ≡ true
 free_name_byte c h =
     not_from_false (c == 32) (ne_eqb c 32 (λ e. elim (or_cases (nat_le 65 c && nat_le c 90) (nat_le 48 c && nat_le c 57) h) [
-        inl a ↦ omega (arith, leb-true 65 c (and_parts (nat_le 65 c) (nat_le c 90) a).0)
+      | inl a ↦ omega (arith, leb-true 65 c (and_parts (nat_le 65 c) (nat_le c 90) a).0)
       | inr a ↦ omega (arith, leb-true 48 c (and_parts (nat_le 48 c) (nat_le c 57) a).0)
     ]))
 
@@ -72,7 +70,7 @@ split_joins : (text : List ℕ) → text ≡ names_text (slice_split is_blank te
 split_joins [] = refl
 split_joins (c ∷ cs) =
     elim (cases_Bool (c == 32)) [
-        inl t ↦ rw t (ap (λ b. b ∷ cs) (eqb-true c 32 t) ∙ blank_joins cs (slice_split is_blank cs) (omega (arith, length-slice_split is_blank cs)) (split_joins cs))
+      | inl t ↦ rw t (ap (λ b. b ∷ cs) (eqb-true c 32 t) ∙ blank_joins cs (slice_split is_blank cs) (omega (arith, length-slice_split is_blank cs)) (split_joins cs))
       | inr f ↦ rw f (byte_joins c cs (slice_split is_blank cs) (split_joins cs))
     ]
 
@@ -91,29 +89,29 @@ pub record IsRun (text : List ℕ) (run : List ℕ × List (List ℕ)) : Type 0 
 run_from_says : (text : List ℕ) (o : Option (List ℕ × List ℕ)) (run : List ℕ × List (List ℕ)) → cut 32 text ≡ o → run_from text o ≡ Some run → IsRun text run
 run_from_says text None run c e =
     map_some (λ (name : List ℕ). (name, [])) (name_in text) run e (λ name eq back.
-      let h = cond_some (is_name text) text name eq in
-      let P : List ℕ × List (List ℕ) → Type 0 = IsRun text in
-      let Q : List ℕ → Type 0 = λ n. is_name n ≡ true in
-      let r : IsRun text (name, []) = record { said = h.1 ∙ sym (append-nil name); name = subst Q h.1 h.0; contexts = refl } in
-      subst P back r)
+    let h = cond_some (is_name text) text name eq in
+    let P : List ℕ × List (List ℕ) → Type 0 = IsRun text in
+    let Q : List ℕ → Type 0 = λ n. is_name n ≡ true in
+    let r : IsRun text (name, []) = record { said = h.1 ∙ sym (append-nil name); name = subst Q h.1 h.0; contexts = refl } in
+    subst P back r)
 run_from_says text (Some p) run c e =
     then_some _ (name_in p.0) run e (λ name eq e1. then_some _ (contexts_in p.1) run e1 (λ contexts ec back. then_some names_in (after (codes "CONTEXTS ") p.1) contexts ec (λ rest a en.
-      let h = cond_some (is_name p.0) p.0 name eq in
-      let g = cond_some (list_all is_name (slice_split is_blank rest)) (slice_split is_blank rest) contexts en in
-      let P : List ℕ × List (List ℕ) → Type 0 = IsRun text in
-      let Q : List ℕ → Type 0 = λ n. is_name n ≡ true in
-      let R : List (List ℕ) → Type 0 = λ l. list_all is_name l ≡ true in
-      let behind : 32 ∷ p.1 ≡ contexts_part contexts =
-          ap (λ l. 32 ∷ l) (after_joins (codes "CONTEXTS ") p.1 rest a)
-          ∙ parts_print rest (slice_split is_blank rest) (omega (arith, length-slice_split is_blank rest)) (split_joins rest)
-          ∙ ap contexts_part g.1
-      in
-      let r : IsRun text (name, contexts) = record {
-        said = cut_joins 32 text p c ∙ ap (λ b. p.0 ++ b) behind ∙ ap (λ n. n ++ contexts_part contexts) h.1;
-        name = subst Q h.1 h.0;
-        contexts = subst R g.1 g.0
-      } in
-      subst P (same_Some _ run back) r)))
+    let h = cond_some (is_name p.0) p.0 name eq in
+    let g = cond_some (list_all is_name (slice_split is_blank rest)) (slice_split is_blank rest) contexts en in
+    let P : List ℕ × List (List ℕ) → Type 0 = IsRun text in
+    let Q : List ℕ → Type 0 = λ n. is_name n ≡ true in
+    let R : List (List ℕ) → Type 0 = λ l. list_all is_name l ≡ true in
+    let behind : 32 ∷ p.1 ≡ contexts_part contexts =
+    ap (λ l. 32 ∷ l) (after_joins (codes "CONTEXTS ") p.1 rest a)
+    ∙ parts_print rest (slice_split is_blank rest) (omega (arith, length-slice_split is_blank rest)) (split_joins rest)
+    ∙ ap contexts_part g.1
+    in
+    let r : IsRun text (name, contexts) = record {
+      said = cut_joins 32 text p c ∙ ap (λ b. p.0 ++ b) behind ∙ ap (λ n. n ++ contexts_part contexts) h.1;
+      name = subst Q h.1 h.0;
+      contexts = subst R g.1 g.0;
+    } in
+    subst P (same_Some _ run back) r)))
 
 pub run_says : (text : List ℕ) (run : List ℕ × List (List ℕ)) → run_in text ≡ Some run → IsRun text run
 unfolding run_in
@@ -144,11 +142,11 @@ head_says : (line : List ℕ) (head : List ℕ × List ℕ × List ℕ) → head
 unfolding head_in
 head_says line head e =
     then_some _ (worded job_word line) head e (λ job j e1. then_some _ (worded (codes "USER ") job.1) head e1 (λ user u e2. then_some _ (after (codes "RUN ") user.1) head e2 (λ run r back.
-      let P : List ℕ × List ℕ × List ℕ → Type 0 = λ h. line ≡ head_line h in
-      subst P (same_Some _ head back) (
-        worded_joins job_word line job j
-        ∙ ap (λ x. job_word ++ (job.0 ++ 32 ∷ x)) (worded_joins (codes "USER ") job.1 user u ∙ ap (λ y. codes "USER " ++ (user.0 ++ 32 ∷ y)) (after_joins (codes "RUN ") user.1 run r))
-      ))))
+    let P : List ℕ × List ℕ × List ℕ → Type 0 = λ h. line ≡ head_line h in
+    subst P (same_Some _ head back) (
+    worded_joins job_word line job j
+    ∙ ap (λ x. job_word ++ (job.0 ++ 32 ∷ x)) (worded_joins (codes "USER ") job.1 user u ∙ ap (λ y. codes "USER " ++ (user.0 ++ 32 ∷ y)) (after_joins (codes "RUN ") user.1 run r))
+    ))))
 
 head_read : (job user run : List ℕ) → is_name job ≡ true → is_name user ≡ true → head_in (head_line (job, user, run)) ≡ Some (job, user, run)
 unfolding head_in worded
@@ -164,19 +162,19 @@ pub job_says : (stage : ℕ) (line : List ℕ) (job : Job) → job_in stage line
 unfolding job_in
 job_says stage line job e =
     then_some _ (head_in line) job e (λ head h e1. then_some _ (own_name_in head.0) job e1 (λ name n e2. then_some _ (name_in head.1) job e2 (λ user u e3. then_some _ (run_in head.2) job e3 (λ run r back.
-      let hn = cond_some (is_own_name head.0) head.0 name n in
-      let hu = cond_some (is_name head.1) head.1 user u in
-      let hr = run_says head.2 run r in
-      let made : Job = record { name = name; user = user; template = run.0; budget = 1000000; contexts = run.1; stage = stage } in
-      let N : List ℕ → Type 0 = λ t. is_own_name t ≡ true in
-      let U : List ℕ → Type 0 = λ t. is_name t ≡ true in
-      let says : SaysJob stage line made = record {
-        said = head_says line head h ∙ ap (λ t. head_line (t, head.1, head.2)) hn.1 ∙ ap (λ t. head_line (name, t, head.2)) hu.1 ∙ ap (λ t. head_line (name, user, t)) hr.said;
-        fits = and_from _ _ (subst N hn.1 hn.0) (and_from _ _ (subst U hu.1 hu.0) (and_from _ _ hr.name (and_from _ _ hr.contexts refl)));
-        staged = refl
-      } in
-      let P : Job → Type 0 = SaysJob stage line in
-      subst P (same_Some made job back) says))))
+    let hn = cond_some (is_own_name head.0) head.0 name n in
+    let hu = cond_some (is_name head.1) head.1 user u in
+    let hr = run_says head.2 run r in
+    let made : Job = record { name = name; user = user; template = run.0; budget = 1000000; contexts = run.1; stage = stage } in
+    let N : List ℕ → Type 0 = λ t. is_own_name t ≡ true in
+    let U : List ℕ → Type 0 = λ t. is_name t ≡ true in
+    let says : SaysJob stage line made = record {
+      said = head_says line head h ∙ ap (λ t. head_line (t, head.1, head.2)) hn.1 ∙ ap (λ t. head_line (name, t, head.2)) hu.1 ∙ ap (λ t. head_line (name, user, t)) hr.said;
+      fits = and_from _ _ (subst N hn.1 hn.0) (and_from _ _ (subst U hu.1 hu.0) (and_from _ _ hr.name (and_from _ _ hr.contexts refl)));
+      staged = refl;
+    } in
+    let P : Job → Type 0 = SaysJob stage line in
+    subst P (same_Some made job back) says))))
 
 same_job : (job : Job) (stage : ℕ) → job.budget ≡ 1000000 → job.stage ≡ stage → Some (record job { budget = 1000000; stage = stage }) ≡ Some job
 same_job job stage b e = sym (ap (λ n. Some (record job { budget = n })) b ∙ ap (λ n. Some (record job { budget = 1000000; stage = n })) e)

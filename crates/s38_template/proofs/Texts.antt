@@ -1,9 +1,9 @@
 -- Parts of a text.
-use Rattle.std.proofs.Common.{◌≡◌, ℕ, ◌+◌, ◌-◌, ◌<◌, ◌≤◌, suc, Bool, true, false, not, ◌&&◌, cond, eqb, ◌==◌, nat_lt, nat_le, List, [], ◌∷◌, ◌++◌, length, take, drop, Option, Some, None, sym, ap, subst, ◌∙◌, refl, arith, add-one, inl, inr, ⊎_elim}
-use Rattle.std.proofs.lemmas.Bool.{cases_Bool, cases_lt, eqb-true, eq-eqb, ne_eqb, lt-ltb, le-ltb, leb-true, false≢true, and_parts, not-true, not_from_false}
-use Rattle.std.proofs.lemmas.List.{append_assoc, length-append}
+use Rattle.std.proofs.Common.{◌≡◌, ℕ, ◌+◌, suc, Bool, true, false, not, ◌==◌, nat_le, List, [], ◌∷◌, ◌++◌, length, take, drop, Option, Some, None, sym, ap, subst, ◌∙◌, refl, arith, add-one, inl, inr}
+use Rattle.std.proofs.lemmas.Bool.{cases_Bool, cases_lt, eqb-true, eq-eqb, ne_eqb, lt-ltb, le-ltb, leb-true, and_parts, not-true, not_from_false}
+use Rattle.std.proofs.lemmas.List.{append_assoc}
 use Rattle.std.proofs.lemmas.Option.{same_Some}
-use Rattle.std.specs.List.{position_or_len, position, list_all, flat_map, slice_split}
+use Rattle.std.specs.List.{position_or_len, position, list_all, flat_map}
 use Rattle.std.specs.Option.{option_map, option_and_then}
 use Rattle.s38_template.specs.Cut.{cut, onto_front}
 use Rattle.s38_template.specs.Grammar.{with_feed, is_plain, is_plain_byte}
@@ -27,7 +27,7 @@ at_first sep cs = position_or_len (λ b. b == sep) cs
 position_more : (sep c : ℕ) (cs : List ℕ) → (c == sep) ≡ false → position (λ b. b == sep) (c ∷ cs) ≡ option_map (λ at. 1 + at) (position (λ b. b == sep) cs)
 position_more sep c cs e =
     rw e (elim (cases_lt (at_first sep cs) (length cs)) [
-        inl h ↦ rw (lt-ltb (1 + at_first sep cs) (suc (length cs)) (omega arith), lt-ltb (at_first sep cs) (length cs) h) refl
+      | inl h ↦ rw (lt-ltb (1 + at_first sep cs) (suc (length cs)) (omega arith), lt-ltb (at_first sep cs) (length cs) h) refl
       | inr h ↦ rw (le-ltb (1 + at_first sep cs) (suc (length cs)) (omega arith), le-ltb (at_first sep cs) (length cs) h) refl
     ])
 
@@ -39,7 +39,7 @@ pub cut_position : (sep : ℕ) (text : List ℕ) → cut sep text ≡ option_map
 cut_position sep [] = refl
 cut_position sep (c ∷ cs) =
     elim (cases_Bool (c == sep)) [
-        inl e ↦ rw e (rw (lt-ltb 0 (suc (length cs)) (omega arith)) refl)
+      | inl e ↦ rw e (rw (lt-ltb 0 (suc (length cs)) (omega arith)) refl)
       | inr e ↦ rw (position_more sep c cs e) (rw e (rw (cut_position sep cs) (moved c cs (position (λ b. b == sep) cs))))
     ]
 
@@ -49,7 +49,7 @@ cut_joins sep [] p e = absurd cc
 cut_joins sep (c ∷ cs) p e =
     let P : List ℕ × List ℕ → Type 0 = λ q. c ∷ cs ≡ q.0 ++ sep ∷ q.1 in
     elim (cases_Bool (c == sep)) [
-        inl t ↦ subst P (same_Some _ p (rw t at e)) (ap (λ b. b ∷ cs) (eqb-true c sep t))
+      | inl t ↦ subst P (same_Some _ p (rw t at e)) (ap (λ b. b ∷ cs) (eqb-true c sep t))
       | inr f ↦ map_some (onto_front c) (cut sep cs) p (rw f at e) (λ q eq back. subst P back (ap (λ l. c ∷ l) (cut_joins sep cs q eq)))
     ]
 
@@ -80,19 +80,19 @@ lines_at [] p e = absurd cc
 lines_at (c ∷ cs) p e =
     let P : List ℕ × List ℕ → Type 0 = λ q. lines_of (c ∷ cs) ≡ option_map (λ lines. q.0 ∷ lines) (lines_of q.1) in
     elim (cases_Bool (c == 10)) [
-        inl t ↦ subst P (same_Some _ p (rw t at e)) (rw t refl)
+      | inl t ↦ subst P (same_Some _ p (rw t at e)) (rw t refl)
       | inr f ↦ map_some (onto_front c) (cut 10 cs) p (rw f at e) (λ q eq back. subst P back (rw f (rw (lines_at cs q eq) (onto_lines c q.0 (lines_of q.1)))))
     ]
 
 pub lines_none : (c : ℕ) (cs : List ℕ) → cut 10 (c ∷ cs) ≡ None → lines_of (c ∷ cs) ≡ None
 lines_none c [] e =
     elim (cases_Bool (c == 10)) [
-        inl t ↦ absurd (let h = rw t at e in cc)
+      | inl t ↦ absurd (let h = rw t at e in cc)
       | inr f ↦ rw f refl
     ]
 lines_none c (d ∷ cs) e =
     elim (cases_Bool (c == 10)) [
-        inl t ↦ absurd (let h = rw t at e in cc)
+      | inl t ↦ absurd (let h = rw t at e in cc)
       | inr f ↦ rw f (rw (lines_none d cs (map_none (onto_front c) (cut 10 (d ∷ cs)) (rw f at e))) refl)
     ]
 
@@ -110,7 +110,7 @@ lines_printed [] lines e =
 lines_printed (c ∷ cs) lines e =
     let P : List (List ℕ) → Type 0 = λ q. c ∷ cs ≡ flat_map with_feed q in
     elim (cases_Bool (c == 10)) [
-        inl t ↦ map_some (λ ls. [] ∷ ls) (lines_of cs) lines (rw t at e) (λ ls eq back. subst P back (ap (λ b. b ∷ cs) (eqb-true c 10 t) ∙ ap (λ l. 10 ∷ l) (lines_printed cs ls eq)))
+      | inl t ↦ map_some (λ ls. [] ∷ ls) (lines_of cs) lines (rw t at e) (λ ls eq back. subst P back (ap (λ b. b ∷ cs) (eqb-true c 10 t) ∙ ap (λ l. 10 ∷ l) (lines_printed cs ls eq)))
       | inr f ↦ then_some (onto_first c) (lines_of cs) lines (rw f at e) (λ ls eq back. printed_onto c cs ls lines (lines_printed cs ls eq) back)
     ]
 

@@ -1,16 +1,16 @@
 -- Names that are parted by blanks.
-use Rattle.std.proofs.Common.{◌≡◌, ℕ, ◌+◌, ◌<◌, Bool, true, false, not, ◌&&◌, cond, ◌==◌, List, [], ◌∷◌, ◌++◌, length, Option, Some, None, sym, ap, subst, ◌∙◌, refl, arith, inl, inr}
+use Rattle.std.proofs.Common.{◌≡◌, ℕ, ◌<◌, Bool, true, false, cond, ◌==◌, List, [], ◌∷◌, ◌++◌, length, Option, Some, None, sym, ap, subst, ◌∙◌, refl, arith, inl, inr}
 use Rattle.std.proofs.lemmas.Bool.{cases_Bool}
 use Rattle.std.proofs.lemmas.List.{append_assoc, length-append}
 use Rattle.std.proofs.lemmas.Option.{same_Some}
-use Rattle.std.specs.List.{list_all, slice_split, onto_first}
-use Rattle.std.specs.Option.{option_map, option_and_then}
+use Rattle.std.specs.List.{list_all, slice_split}
+use Rattle.std.specs.Option.{option_map}
 use Rattle.s38_base.specs.NameText.{is_name}
 use Rattle.s38_template.specs.Cut.{cut, onto_front}
 use Rattle.s38_template.specs.declared.fault.DeckFault.{DeckFault}
 use Rattle.s38_template.specs.declared.fault.DeckFault.TheVariants.{Bad, NoMemory}
 use Rattle.s38_template.specs.Reading.{Fails, is_blank, names_in, name_in}
-use Rattle.s38_template.proofs.Options.{map_some, map_none, then_some}
+use Rattle.s38_template.proofs.Options.{map_some, map_none}
 use Rattle.s38_template.proofs.Texts.{cut_joins}
 
 pub split_at : (text : List ℕ) (p : List ℕ × List ℕ) → cut 32 text ≡ Some p → slice_split is_blank text ≡ p.0 ∷ slice_split is_blank p.1
@@ -18,7 +18,7 @@ split_at [] p e = absurd cc
 split_at (c ∷ cs) p e =
     let P : List ℕ × List ℕ → Type 0 = λ q. slice_split is_blank (c ∷ cs) ≡ q.0 ∷ slice_split is_blank q.1 in
     elim (cases_Bool (c == 32)) [
-        inl t ↦ subst P (same_Some _ p (rw t at e)) (rw t refl)
+      | inl t ↦ subst P (same_Some _ p (rw t at e)) (rw t refl)
       | inr f ↦ map_some (onto_front c) (cut 32 cs) p (rw f at e) (λ q eq back. subst P back (rw f (rw (split_at cs q eq) refl)))
     ]
 
@@ -26,7 +26,7 @@ pub split_none : (text : List ℕ) → cut 32 text ≡ None → slice_split is_b
 split_none [] e = refl
 split_none (c ∷ cs) e =
     elim (cases_Bool (c == 32)) [
-        inl t ↦ absurd (let h = rw t at e in cc)
+      | inl t ↦ absurd (let h = rw t at e in cc)
       | inr f ↦ rw f (rw (split_none cs (map_none (onto_front c) (cut 32 cs) (rw f at e))) refl)
     ]
 
@@ -49,7 +49,7 @@ joined_names names more name new true e = ap (λ l. Some l) (sym (append_assoc n
 pub names_turn : (names : List (List ℕ)) (text : List ℕ) (p : List ℕ × List ℕ) (new : List (List ℕ)) → cut 32 text ≡ Some p → option_map (λ name. names ++ name ∷ []) (name_in p.0) ≡ Some new → more_names names (names_in text) ≡ more_names new (names_in p.1)
 names_turn names text p new e h =
     rw (split_at text p e) (elim (cases_Bool (is_name p.0)) [
-        inl t ↦ rw t (joined_names names (slice_split is_blank p.1) p.0 new (list_all is_name (slice_split is_blank p.1)) (same_Some _ new (rw t at h)))
+      | inl t ↦ rw t (joined_names names (slice_split is_blank p.1) p.0 new (list_all is_name (slice_split is_blank p.1)) (same_Some _ new (rw t at h)))
       | inr f ↦ absurd (let g = rw f at h in cc)
     ])
 

@@ -1,9 +1,7 @@
-use Rattle.std.proofs.Common.{◌≡◌, ◌∙◌, ap, sym, take, drop, Some, ◌+◌, ◌==◌, refl}
+use Rattle.std.proofs.Common.{◌∙◌, ap, sym, ◌+◌}
 use Rattle.std.proofs.lemmas.List.{take_rest}
-use Rattle.std.specs.List.{position}
 use Rattle.std.specs.Option.{option_map}
 use Rattle.s38_template.proofs.Texts.{around, cut_position}
-use Rattle.s38_template.proofs.Words.{names_begin}
 use Rattle.s38_template.proofs.cut.cut.Goals as goal
 
 pub returns-in-Some : goal.returns-in-Some

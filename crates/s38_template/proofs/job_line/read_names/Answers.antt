@@ -1,4 +1,4 @@
-use Rattle.std.proofs.Common.{◌≡◌, sym, ◌∙◌, subst, List, ℕ, Option}
+use Rattle.std.proofs.Common.{sym, ◌∙◌, subst, List, ℕ, Option}
 use Rattle.s38_template.specs.Reading.{Fails, Gives}
 use Rattle.s38_template.proofs.Words.{names_turn, names_fault, names_end, rest_falls}
 use Rattle.s38_template.proofs.job_line.read_names.Goals as goal

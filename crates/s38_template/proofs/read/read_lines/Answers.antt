@@ -1,6 +1,7 @@
-use Rattle.std.proofs.Common.{◌≡◌, sym, ◌∙◌, ap, subst, List, ℕ, Option}
+use Rattle.std.proofs.Common.{sym, ◌∙◌, ap, subst, Option, length}
+use Rattle.std.proofs.lemmas.Bool.{eqb-true, eqb-false}
 use Rattle.std.specs.Option.{option_and_then}
-use Rattle.s38_template.specs.Reading.{Fails, Gives, State, reads, start}
+use Rattle.s38_template.specs.Reading.{Fails, State, reads}
 use Rattle.s38_template.specs.Views.{state_of}
 use Rattle.s38_template.proofs.Words.{rest_falls}
 use Rattle.s38_template.proofs.Texts.{reads_turn, reads_fault, reads_done, reads_left}
@@ -26,10 +27,10 @@ loop-line-preserved c =
 
 pub returns-then-is_empty : goal.returns-then-is_empty
 returns-then-is_empty c =
-    let h = c.if-is_empty.ensures in
-    let k = c.if-is_empty.true in
-    sym c.loop-line.invariant ∙ reads_done (state_of c.loop-line.reader) c.loop-line.rest.now (omega arith)
+    let rest = c.loop-line.rest.now in
+    sym c.loop-line.invariant ∙ reads_done (state_of c.loop-line.reader) rest (eqb-true (length rest) 0 (sym c.if-is_empty.ensures))
 
 pub returns-else-is_empty : goal.returns-else-is_empty
 returns-else-is_empty c =
-    sym c.loop-line.invariant ∙ reads_left (state_of c.loop-line.reader) c.loop-line.rest.now (sym c.in_default.ensures) (λ e. omega (arith, e))
+    let rest = c.loop-line.rest.now in
+    sym c.loop-line.invariant ∙ reads_left (state_of c.loop-line.reader) rest (sym c.in_default.ensures) (eqb-false (length rest) 0 (sym c.if-is_empty.ensures))

@@ -1,4 +1,4 @@
-use Rattle.std.proofs.Common.{◌≡◌, sym, subst, List, ℕ}
+use Rattle.std.proofs.Common.{sym, subst, List, ℕ}
 use Rattle.s38_template.specs.Known.{IsKnown}
 use Rattle.s38_template.proofs.Sets.{known_more}
 use Rattle.s38_template.proofs.seen.Seen.with.Goals as goal
