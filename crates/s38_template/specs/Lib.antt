@@ -1,0 +1,5 @@
+pub mod Cut
+pub mod Grammar
+pub mod Known
+pub mod Reading
+pub mod Views

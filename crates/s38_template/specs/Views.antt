@@ -1,0 +1,6 @@
+-- What the definitions see of a reader.
+use Rattle.s38_template.specs.declared.reader.Reader.{Reader}
+use Rattle.s38_template.specs.Reading.{State}
+
+abbrev pub state_of : Reader → State
+state_of r = record { place = r.place; templates = r.templates; draft = r.draft; names = r.names; jobs = r.jobs; job_names = r.job_names; stage = r.stage }

@@ -1,0 +1,24 @@
+ghost use Rattle.std.specs.Prelude.{◌≡◌};
+ghost use Rattle.s38_template.specs.declared.fault.DeckFault.TheVariants.{NoMemory};
+
+use s38_base::NoMemory;
+use thiserror::Error;
+
+/// Why a text gives no deck.
+#[derive(Clone, Copy, PartialEq, Eq, Debug, Error)]
+pub enum DeckFault {
+    /// The text spells no deck.
+    #[error("bad deck")]
+    Bad,
+    /// Memory was refused.
+    #[error("no memory")]
+    NoMemory,
+}
+
+impl From<NoMemory> for DeckFault {
+    ghost from_gives = { λ _ e. e ≡ NoMemory };
+
+    fn from(_: NoMemory) -> Self {
+        DeckFault::NoMemory
+    }
+}

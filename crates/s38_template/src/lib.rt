@@ -1,0 +1,16 @@
+//! The text of a deck: the grammar as a relation, and the reader that is exact against it.
+#![tactic(auto)]
+
+mod cut;
+mod fault;
+mod job_line;
+mod line;
+mod place;
+mod read;
+mod reader;
+mod seen;
+mod step;
+
+pub use fault::DeckFault;
+pub use read::{one_deck, read_deck};
+pub use s38_code::Deck;

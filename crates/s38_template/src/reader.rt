@@ -1,0 +1,21 @@
+use crate::place::Place;
+use crate::seen::Seen;
+use s38_base::{Bytes, Seq};
+use s38_code::{Jobs, Templates};
+
+/// What was read of a deck so far.
+#[derive(Drop)]
+pub struct Reader {
+    pub place: Place,
+    /// The templates that have ended.
+    pub templates: Templates,
+    /// The lines of the template that has begun.
+    pub draft: Seq<Bytes>,
+    /// The names of the templates.
+    pub names: Seen,
+    pub jobs: Jobs,
+    /// The names of the jobs.
+    pub job_names: Seen,
+    /// How many stages have begun.
+    pub stage: u16,
+}
