@@ -106,10 +106,10 @@ impl Twin for Seq<u8> {
 pub fn twins<T: Twin>(alloc: Global, items: &[T]) -> Result<Seq<T>, NoMemory>
     ensures { IfOk result (λ list. list ≡ items.now) }
 {
-    let mut list = Seq::new(alloc);
+    let mut list = Vec::with_capacity(alloc, items.len())?;
     for item in items {
         let twin = item.twin(alloc)?;
         list.push(twin)?;
     }
-    Ok(list)
+    Ok(Seq::from_vec(list))
 }

@@ -1,0 +1,16 @@
+//! A process: it asks one event after another, and goes on by the replies.
+#![tactic(auto)]
+
+mod process;
+mod request;
+mod variables;
+
+pub use process::{Next, Process};
+
+/// What is sent between threads.
+fn sends<T: Send + Sync>() {}
+
+/// Each value of this crate may be sent and shared.
+pub fn all_may_be_sent() {
+    sends::<Process>();
+}

@@ -1,0 +1,123 @@
+ghost use Rattle.std.specs.Prelude.{◌≡◌, ◌++◌, IfOk, OnOk};
+ghost use Rattle.std.specs.Option.{option_copied};
+ghost use Rattle.s38_rules.specs.Process.{item_operand, operand_of, operands_of, request_of, source_by};
+
+use crate::variables::{attr_in, is_receiver, value_bytes, value_pointer};
+use s38_base::{Attr, NoMemory, Seq, Twin};
+use s38_code::{Arg, Class, Instruction, Operand, Request, Row, Val, classes};
+use std::alloc::Global;
+
+fn source_by(alloc: Global, attr: Attr, value: Option<&Val>) -> Result<Operand, NoMemory>
+    ensures { IfOk result (λ operand. operand ≡ source_by attr (option_copied value.entry)) }
+{
+    match attr {
+        Attr::Pointer => Ok(Operand::Ptr(value_pointer(value))),
+        _ => Ok(Operand::Value {
+            attr,
+            bytes: Seq::from_slice(alloc, value_bytes(value))?,
+        }),
+    }
+}
+
+fn item_operand(
+    alloc: Global,
+    receiver: bool,
+    attr: Attr,
+    value: Option<&Val>,
+) -> Result<Operand, NoMemory>
+    ensures { IfOk result (λ operand. operand ≡ item_operand receiver attr (option_copied value.entry)) }
+{
+    if receiver {
+        Ok(Operand::Receiver { attr })
+    } else {
+        source_by(alloc, attr, value)
+    }
+}
+
+fn operand_of(
+    alloc: Global,
+    rows: &[Row],
+    values: &[Val],
+    class: Class,
+    arg: &Arg,
+) -> Result<Operand, NoMemory>
+    ensures { IfOk result (λ operand. operand ≡ operand_of rows.now values.now class arg.now) }
+{
+    match arg {
+        Arg::Item(item) => item_operand(
+            alloc,
+            is_receiver(class),
+            attr_in(rows.get(*item as usize)),
+            values.get(*item as usize),
+        ),
+        Arg::Literal { attr, bytes } => Ok(Operand::Value {
+            attr: *attr,
+            bytes: bytes.twin(alloc)?,
+        }),
+        Arg::Whole(number) => Ok(Operand::Whole(*number)),
+        Arg::Jump(_) => Ok(Operand::Nothing),
+        Arg::Word(word) => Ok(Operand::Word(*word)),
+        Arg::Ident(id) => Ok(Operand::Ident(*id)),
+        Arg::Text(name) => Ok(Operand::Text(*name)),
+        Arg::Attrs(attrs) => Ok(Operand::Attrs(Seq::from_slice(alloc, attrs.as_slice())?)),
+        Arg::Nothing => Ok(Operand::Nothing),
+        Arg::MachineContext => Ok(Operand::MachineContext),
+        Arg::ContextList => Ok(Operand::ContextList),
+    }
+}
+
+fn add_operands(
+    alloc: Global,
+    made: &mut Vec<Operand>,
+    rows: &[Row],
+    values: &[Val],
+    classes: &[Class],
+    args: &[Arg],
+) -> Result<(), NoMemory>
+    ensures { OnOk result (made.new.items ≡ made.old.items ++ operands_of rows.now values.now classes.now args.now) }
+{
+    match classes {
+        [] => Ok(()),
+        [class, more @ ..] => match args {
+            [] => Ok(()),
+            [arg, rest @ ..] => {
+                let operand = operand_of(alloc, rows, values, *class, arg)?;
+                match made.push(operand) {
+                    Ok(()) => {}
+                    Err(_) => return Err(NoMemory),
+                }
+                add_operands(alloc, made, rows, values, more, rest)
+            }
+        },
+    }
+}
+
+/// What an instruction asks, with the values of the variables put in.
+#[tactic(auto, unfolding(s38_rules::specs::Process::request_of))]
+pub fn request_of(
+    alloc: Global,
+    rows: &[Row],
+    values: &[Val],
+    instruction: &Instruction,
+) -> Result<Request, NoMemory>
+    ensures { IfOk result (λ request. request ≡ request_of rows.now values.now instruction.now) }
+{
+    let args = instruction.args.as_slice();
+    let mut made = Vec::with_capacity(alloc, args.len())?;
+    match add_operands(
+        alloc,
+        &mut made,
+        rows,
+        values,
+        classes(instruction.op),
+        args,
+    ) {
+        Ok(()) => {}
+        Err(fault) => return Err(fault),
+    }
+    Ok(Request {
+        op: instruction.op,
+        round: instruction.round,
+        operands: Seq::from_vec(made),
+    })
+}
