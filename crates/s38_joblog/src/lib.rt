@@ -1,13 +1,11 @@
-// A library with one function.
+//! The text of a history.
 #![tactic(auto)]
 
-ghost use Rattle.std.specs.Prelude.{◌≡◌};
-ghost use Rattle.s38_joblog.specs.Echo.{echo_of};
+mod log;
+mod text;
+mod words;
 
-// The `ensures` clause is the contract: what `echo` returns is `echo_of` of its argument, a definition
-// in `specs/Echo.antt`, which a caller's clause can cite too.
-pub fn echo(x: usize) -> usize
-    ensures { result ≡ echo_of x }
-{
-    x
-}
+pub use log::{last_line, log_text};
+
+#[cfg(test)]
+mod tests;

@@ -1,0 +1,101 @@
+ghost use Rattle.std.specs.Prelude.{◌≡◌, ◌<◌, ◌++◌, [], decimal, OnOk};
+ghost use Rattle.s38_joblog.specs.Words.{hex_byte, hex_code, hex_digit, hex_text};
+
+use itoa::Buffer;
+use s38_base::NoMemory;
+use std::alloc::Global;
+use std::marker::Model;
+
+/// A text that grows at its end. Contracts see it as the list of its bytes.
+#[derive(Drop)]
+pub struct Text {
+    bytes: Vec<u8>,
+}
+
+impl Model for Text {
+    ghost use Rattle.std.specs.Prelude.{List, ℕ};
+
+    ghost Value = { List ℕ };
+
+    ghost view = { λ t. t.bytes.items };
+}
+
+/// The digit of a number below 16.
+fn hex_digit(number: u8) -> u8
+    requires { number < 16 }
+    ensures { result ≡ hex_digit number }
+{
+    if number <= 9 {
+        number + b'0'
+    } else {
+        number + 55
+    }
+}
+
+impl Text {
+    /// The empty text.
+    pub fn new(alloc: Global) -> Text
+        ensures { result ≡ [] }
+    {
+        Text {
+            bytes: Vec::new(alloc),
+        }
+    }
+
+    /// The bytes of the text, without a copy.
+    pub fn into_bytes(self) -> Vec<u8>
+        ensures { result.items ≡ self }
+    {
+        self.bytes
+    }
+
+    /// The bytes of the text.
+    pub fn as_slice(&self) -> &[u8]
+        ensures { result.now ≡ self.now }
+    {
+        self.bytes.as_slice()
+    }
+
+    /// Adds bytes.
+    pub fn add(&mut self, bytes: &[u8]) -> Result<(), NoMemory>
+        ensures { OnOk result (self.new ≡ self.old ++ bytes.now) }
+    {
+        match self.bytes.extend_from_slice(bytes) {
+            Ok(()) => Ok(()),
+            Err(_) => Err(NoMemory),
+        }
+    }
+
+    /// Adds a number in decimal digits.
+    pub fn add_number(&mut self, number: u64) -> Result<(), NoMemory>
+        ensures { OnOk result (self.new ≡ self.old ++ decimal number) }
+    {
+        let mut buffer = Buffer::new();
+        self.add(buffer.format(number).as_bytes())
+    }
+
+    /// Adds two hexadecimal digits.
+    pub fn add_hex_byte(&mut self, byte: u8) -> Result<(), NoMemory>
+        ensures { OnOk result (self.new ≡ self.old ++ hex_byte byte) }
+    {
+        self.add(&[hex_digit(byte / 16), hex_digit(byte % 16)])
+    }
+
+    /// Adds four hexadecimal digits.
+    pub fn add_hex_code(&mut self, code: u16) -> Result<(), NoMemory>
+        ensures { OnOk result (self.new ≡ self.old ++ hex_code code) }
+    {
+        self.add_hex_byte((code / 256) as u8)?;
+        self.add_hex_byte((code % 256) as u8)
+    }
+
+    /// Adds two hexadecimal digits for each byte.
+    pub fn add_hex_bytes(&mut self, bytes: &[u8]) -> Result<(), NoMemory>
+        ensures { OnOk result (self.new ≡ self.old ++ hex_text bytes.now) }
+    {
+        for byte in bytes {
+            self.add_hex_byte(*byte)?;
+        }
+        Ok(())
+    }
+}
