@@ -1,0 +1,4 @@
+mod Cells
+mod Images
+mod Reading
+mod Writing
