@@ -3,6 +3,7 @@ use s38_base::{Attr, ObjNum, Pointer, Rights};
 use std::test::Fail;
 
 /// A pointer, and the sixteen bytes that show it.
+#[derive(Clone, Copy)]
 struct Shown {
     pointer: Pointer,
     bytes: [u8; 16],
