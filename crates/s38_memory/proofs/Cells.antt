@@ -1,5 +1,5 @@
 -- Every cell reads as sixteen bytes.
-use Rattle.std.proofs.Common.{◌≡◌, List, length, refl}
+use Rattle.std.proofs.Common.{◌≡◌, length, refl}
 use Rattle.s38_base.specs.declared.attr.Attr.TheVariants.{Packed, Zoned, Binary, Chars}
 use Rattle.s38_base.specs.declared.pointer.Pointer.{Pointer}
 use Rattle.s38_base.specs.declared.pointer.Pointer.TheVariants.{System, Space, Item}

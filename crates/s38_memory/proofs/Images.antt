@@ -1,6 +1,6 @@
 -- The bytes of an image give its pointer back.
 use Rattle.std.proofs.lemmas.Bool.{false≢true}
-use Rattle.std.proofs.Common.{◌≡◌, ◌↔◌, Bool, false, IsTrue, sym, subst, ℕ, ◌^◌, ◌<◌, List, [], ◌∷◌, ◌++◌, Option, Some, None, option_and_then, drop, ap, ◌∙◌}
+use Rattle.std.proofs.Common.{◌≡◌, ◌↔◌, Bool, false, IsTrue, sym, subst, ℕ, ◌^◌, ◌<◌, List, [], ◌++◌, Option, Some, None, ap, ◌∙◌}
 use Rattle.byteorder.specs.Endian.{big_bytes, big_number}
 use Rattle.byteorder.specs.Numbers.{big_number-reads_back}
 use Rattle.s38_base.specs.declared.attr.Attr.{Attr}

@@ -1,4 +1,5 @@
 mod Cells
 mod Images
+pub mod Meaning
 mod Reading
 mod Writing

@@ -1,5 +1,5 @@
 -- The storage of a space is a list of cells. What its calls give and leave.
-use Rattle.std.specs.Prelude.{◌≡◌, ℕ, ◌+◌, ◌-◌, ◌*◌, ◌/◌, ◌%◌, ◌≤◌, ◌==◌, Bool, ◌&&◌, List, [], ◌∷◌, ◌++◌, length, take, drop, replicate, All, Option, Some, None, Result, Ok, Err, nat_le, if◌then◌else◌}
+use Rattle.std.specs.Prelude.{◌≡◌, ℕ, ◌+◌, ◌-◌, ◌*◌, ◌/◌, ◌%◌, ◌<◌, ◌≤◌, ◌==◌, slice_index_or, Bool, ◌&&◌, List, [], ◌∷◌, ◌++◌, length, take, drop, replicate, All, Option, Some, None, Result, Ok, Err, nat_le, if◌then◌else◌}
 use Rattle.std.specs.List.{flat_map, slice_get}
 use Rattle.s38_base.specs.declared.pointer.Pointer.{Pointer}
 use Rattle.s38_memory.specs.declared.cell.Cell.{Cell}
@@ -77,3 +77,18 @@ unless_refused (Some fault) found = Err fault
 -- the pointer at a place, or why there is none
 abbrev pub pointer_at : ℕ → List Cell → Result Pointer MemoryFault
 pointer_at at cells = unless_refused (cells_fault at 16 cells) (pointer_in (slice_get cells (at / 16)))
+
+-- the cell at place k has a byte of the piece
+abbrev pub Touches : ℕ → ℕ → ℕ → Type 0
+Touches at len k = (at < 16 * k + 16) × (16 * k < at + len) × (0 < len)
+
+abbrev pub IsBytes : Cell → Type 0
+IsBytes (Bytes bytes) = Unit {0}
+IsBytes (Tagged pointer) = ⊥
+
+-- what a write of bytes means: the cells read as before but for the piece; those that it touches hold bytes,
+-- and the others stay, with their tags
+pub record IsWritten (at : ℕ) (piece : List ℕ) (old new : List Cell) : Type 0 where
+  pub bytes : bytes_in new ≡ overlaid at piece (bytes_in old)
+  pub touched : (k : ℕ) (d : Cell) → k < length old → Touches at (length piece) k → IsBytes (slice_index_or new k d)
+  pub others : (k : ℕ) (d : Cell) → ¬ Touches at (length piece) k → slice_index_or new k d ≡ slice_index_or old k d

@@ -1,7 +1,7 @@
 //! The calls of the storage, over its cells.
 ghost use Rattle.std.specs.Prelude.{◌≡◌, ◌+◌, ◌*◌, ◌≤◌, All, length, take, drop};
 ghost use Rattle.s38_memory.specs.Cell.{IsCell};
-ghost use Rattle.s38_memory.specs.Tagged.{answer, bytes_in, cells_fault, copy_fault, is_aligned, is_within, piece_fault, pointer_at, written};
+ghost use Rattle.s38_memory.specs.Tagged.{IsWritten, answer, bytes_in, cells_fault, copy_fault, is_aligned, is_within, piece_fault, pointer_at, written};
 
 use crate::cell::{CELL, Cell, overlaid, read_cell};
 use crate::fault::MemoryFault;
@@ -97,6 +97,7 @@ pub fn write(cells: &mut [Cell], at: usize, piece: &[u8])
     requires room { at + length piece.now ≤ 16 * length cells.old }
     requires cells { All IsCell cells.old }
     ensures written { cells.new ≡ written at piece.now cells.old }
+    ensures meaning { IsWritten at piece.now cells.old cells.new }
     ensures cells { All IsCell cells.new }
 {
     let mut place = at / CELL;

@@ -2,7 +2,7 @@ ghost use Rattle.std.specs.Prelude.{◌≡◌, ◌+◌, ◌*◌, ◌/◌, ◌%�
 ghost use Rattle.s38_memory.specs.declared.cell.Cell.TheVariants.{Tagged as Pointing};
 ghost use Rattle.s38_memory.specs.Cell.{IsCell};
 ghost use Rattle.s38_memory.specs.Image.{IsStorable};
-ghost use Rattle.s38_memory.specs.Tagged.{IsStorage, answer, bytes_in, cells_fault, cells_in, copy_fault, overlaid, piece_fault, pointer_at, resized, written};
+ghost use Rattle.s38_memory.specs.Tagged.{IsStorage, IsWritten, answer, bytes_in, cells_fault, cells_in, copy_fault, overlaid, piece_fault, pointer_at, resized, written};
 
 use crate::cell::{CELL, Cell};
 use crate::fault::MemoryFault;
@@ -48,6 +48,14 @@ impl Tagged {
         }
     }
 
+    /// The storage of these cells, without a copy.
+    pub fn from_cells(cells: Vec<Cell>) -> Tagged
+        requires { IsStorage cells.items }
+        ensures { result ≡ cells.items }
+    {
+        Tagged { cells }
+    }
+
     /// The length in bytes.
     pub fn len(&self) -> u32
         ensures len { result ≡ 16 * length self.now }
@@ -80,6 +88,7 @@ impl Tagged {
     pub fn write(&mut self, at: u32, from: &[u8]) -> Result<(), MemoryFault>
         ensures answer { result ≡ answer (piece_fault at (length from.now) self.old) }
         ensures ok { OnOk result (self.new ≡ written at from.now self.old) }
+        ensures meaning { OnOk result (IsWritten at from.now self.old self.new) }
         ensures err { OnErr result (self.new ≡ self.old) }
     {
         check_piece(&self.cells, at, from.len())?;

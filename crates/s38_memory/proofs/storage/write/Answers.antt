@@ -1,7 +1,9 @@
-use Rattle.std.proofs.Common.{◌≡◌, ℕ, ◌+◌, ◌*◌, ◌<◌, length, arith, sym, ap, ◌∙◌}
+use Rattle.std.proofs.Common.{◌≡◌, ℕ, List, ◌<◌, length, arith, sym, ap, ◌∙◌}
+use Rattle.s38_memory.proofs.Meaning.{IsWritten-written}
 use Rattle.std.proofs.lemmas.List.{length-set, nil_from_length}
 use Rattle.std.proofs.lemmas.List.Elements.{All-set}
 use Rattle.std.proofs.lemmas.Bool.Decides.{nat_tests}
+use Rattle.s38_memory.specs.declared.cell.Cell.{Cell}
 use Rattle.s38_memory.specs.Cell.{IsCell}
 use Rattle.s38_memory.specs.Tagged.{written}
 use Rattle.s38_memory.proofs.Writing.{written-nil, written-more}
@@ -20,8 +22,16 @@ loop-rest-preserved c =
           c.loop-rest.invariant.offset place some c.min.ensures c.split_at.ensures.front c.split_at.ensures.back c.overlaid.ensures.cell ∙ c.loop-rest.invariant.to_come;
     }
 
+-- the whole piece was written
+all_written : (at : ℕ) (piece : List ℕ) (cells : List Cell) (m : ℕ) (rest : List ℕ) (now : List Cell) → length rest ≡ 0 → written m rest now ≡ written at piece cells
+    → now ≡ written at piece cells
+all_written at piece cells m rest now none same =
+    sym (ap (λ p. written m p now) (nil_from_length rest none) ∙ written-nil m now) ∙ same
+
 pub returns-clause-written : goal.returns-clause-written
-returns-clause-written c =
-    let none : length c.loop-rest.rest.now ≡ 0 = grind (arith, nat_tests) in
-    sym (ap (λ p. written (16 * c.loop-rest.place + c.loop-rest.offset) p c.loop-rest.cells) (nil_from_length c.loop-rest.rest.now none) ∙ written-nil _ c.loop-rest.cells)
-    ∙ c.loop-rest.invariant.to_come
+returns-clause-written c = all_written c.args.at c.args.piece.now c.args.cells.now _ c.loop-rest.rest.now c.loop-rest.cells (grind (arith, nat_tests)) c.loop-rest.invariant.to_come
+
+pub returns-clause-meaning : goal.returns-clause-meaning
+returns-clause-meaning c =
+    IsWritten-written c.args.at c.args.piece.now c.args.cells.now c.loop-rest.cells c.requires.cells c.requires.room
+    (all_written c.args.at c.args.piece.now c.args.cells.now _ c.loop-rest.rest.now c.loop-rest.cells (grind (arith, nat_tests)) c.loop-rest.invariant.to_come)
