@@ -33,7 +33,7 @@ impl Model for Tagged {
 }
 
 impl Tagged {
-    /// Storage of that many bytes, all zero.
+    /// Storage of that many bytes, all zero. `NoMemory` where memory was refused.
     pub fn new(alloc: Global, len: u32) -> Result<Tagged, MemoryFault>
         requires whole { len % 16 ≡ 0 }
         requires some { 16 ≤ len }
@@ -73,7 +73,8 @@ impl Tagged {
         &self.cells
     }
 
-    /// Reads the bytes from a place on; a pointer reads as its image.
+    /// Reads the bytes from a place on; a pointer reads as its image. `Bounds` exactly where the piece leaves
+    /// the storage.
     pub fn read(&self, at: u32, into: &mut [u8]) -> Result<(), MemoryFault>
         ensures answer { result ≡ answer (piece_fault at (length into.old) self.now) }
         ensures ok { OnOk result (into.new ≡ take (length into.old) (drop at (bytes_in self.now))) }
@@ -84,7 +85,8 @@ impl Tagged {
         Ok(())
     }
 
-    /// Writes a piece of bytes from a place on. Each cell that it touches holds bytes afterwards.
+    /// Writes a piece of bytes from a place on. Each cell that it touches holds bytes afterwards, those that
+    /// it leaves being the bytes of the pointer's image. `Bounds` exactly where the piece leaves the storage.
     pub fn write(&mut self, at: u32, from: &[u8]) -> Result<(), MemoryFault>
         ensures answer { result ≡ answer (piece_fault at (length from.now) self.old) }
         ensures ok { OnOk result (self.new ≡ written at from.now self.old) }
@@ -96,14 +98,15 @@ impl Tagged {
         Ok(())
     }
 
-    /// The pointer at a place; `NoPointer` exactly where the cell there holds bytes.
+    /// The pointer at a place. `Bounds` exactly where its sixteen bytes leave the storage, then `Alignment`
+    /// exactly where the place is no multiple of 16, then `NoPointer` exactly where the cell holds bytes.
     pub fn get_pointer(&self, at: u32) -> Result<Pointer, MemoryFault>
         ensures { result ≡ pointer_at at self.now }
     {
         pointer_at(&self.cells, at)
     }
 
-    /// Puts a pointer into the cell at a place.
+    /// Puts a pointer into the cell at a place. `Bounds`, then `Alignment`, as for `get_pointer`.
     pub fn set_pointer(&mut self, at: u32, pointer: Pointer) -> Result<(), MemoryFault>
         requires { IsStorable pointer }
         ensures answer { result ≡ answer (cells_fault at 16 self.old) }
@@ -115,7 +118,8 @@ impl Tagged {
         Ok(())
     }
 
-    /// Copies cells with their pointers from one place to another; the two may overlap.
+    /// Copies cells with their pointers from one place to another; the two may overlap. `Bounds` exactly where
+    /// one of the pieces leaves the storage, then `Alignment` exactly where one begins within a cell.
     pub fn copy_with_pointers(&mut self, to: u32, from: u32, len: u32) -> Result<(), MemoryFault>
         requires { len % 16 ≡ 0 }
         ensures answer { result ≡ answer (copy_fault to self.old from self.old len) }
@@ -132,7 +136,7 @@ impl Tagged {
         Ok(())
     }
 
-    /// Copies cells with their pointers from another storage.
+    /// Copies cells with their pointers from another storage, refused as `copy_with_pointers` is.
     pub fn copy_from(
         &mut self,
         to: u32,
@@ -153,7 +157,8 @@ impl Tagged {
         Ok(())
     }
 
-    /// Cuts the storage, or fills it up with zero bytes.
+    /// Cuts the storage, or fills it up with zero bytes. `NoMemory` where memory was refused, and nothing
+    /// changed.
     pub fn resize(&mut self, len: u32) -> Result<(), MemoryFault>
         requires whole { len % 16 ≡ 0 }
         requires some { 16 ≤ len }
