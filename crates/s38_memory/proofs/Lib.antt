@@ -1,0 +1,5 @@
+mod Cells
+mod Images
+pub mod Meaning
+mod Reading
+mod Writing
