@@ -63,7 +63,7 @@ end_keeps : (s : State) (p : ℕ) (x : Option Standing) → length (end_at s p x
 end_keeps s p None = refl
 end_keeps s p (Some x) = simp length-set
 
-act_keeps : (s : State) (p depth : ℕ) (op : Op) (ops : List Operand) → (effect s p depth op ops).state.processes ≡ s.processes
+pub act_keeps : (s : State) (p depth : ℕ) (op : Op) (ops : List Operand) → (effect s p depth op ops).state.processes ≡ s.processes
 unfolding effect rslvsp_effect enq_effect deq_effect
 act_keeps s p depth Rslvsp ops = refl
 act_keeps s p depth Enq ops = refl

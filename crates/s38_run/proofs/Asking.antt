@@ -1,0 +1,173 @@
+-- What a process can ask, and how its reply brings it nearer to its end.
+use Rattle.std.proofs.Common.{◌≡◌, ◌≢◌, ℕ, ◌+◌, ◌-◌, ◌<◌, ◌≤◌, ◌⊎◌, Bool, true, false, cond, List, [], ◌∷◌, ◌++◌, inl, inr, refl, sym, ◌∙◌, ap, subst, arith, nat_le, append_assoc}
+use Rattle.std.proofs.lemmas.Bool.Decides.{nat_tests}
+use Rattle.std.specs.Prelude.{Option, Some, None, slice_get}
+use Rattle.s38_code.specs.declared.event.EndCause.{EndCause}
+use Rattle.s38_code.specs.declared.event.EndCause.TheVariants as causes
+use Rattle.s38_code.specs.declared.event.Event.{Event}
+use Rattle.s38_code.specs.declared.event.Event.TheVariants.{Start, Act, Finish}
+use Rattle.s38_code.specs.declared.event.Request.{Request}
+use Rattle.s38_code.specs.declared.entry.Entry.{Entry}
+use Rattle.s38_code.specs.declared.program.Instruction.{Instruction}
+use Rattle.s38_code.specs.declared.reply.Reply.{Reply}
+use Rattle.s38_code.specs.declared.reply.Reply.TheVariants.{Done, Signal, MustWait}
+use Rattle.s38_rules.specs.declared.process.Status.{Status}
+use Rattle.s38_rules.specs.declared.process.Status.TheVariants.{Fresh, Running, Ending, Ended}
+use Rattle.s38_rules.specs.Process.{Doing, RanFrom, absorbed, acts, after_act, after_asked, after_end, after_event, after_start, asks, behind, ends_by_finish, event_of, is_finish, is_return, request_of, returns, runs}
+use Rattle.s38_run.specs.Running.{left, left_by}
+
+-- a fresh process asks to start
+abbrev pub Starts : Doing → Event → Type 0
+Starts d e = (d.status ≡ Fresh) × (e ≡ Start)
+
+-- or a process asks for its end
+abbrev pub Ends : Doing → Event → Type 0
+Ends d e = (0 < left d) × ((c : EndCause) × (e ≡ Finish c))
+
+-- or a running one asks for an instruction
+abbrev pub Acts : Doing → Event → Type 0
+Acts d e = (d.status ≡ Running) × (d.done < d.budget) × ((q : Request) × (e ≡ Act 1 q))
+
+abbrev pub Asks : Doing → Event → Type 0
+Asks d e = Starts d e ⊎ (Ends d e ⊎ Acts d e)
+
+left_running : (d : Doing) → d.status ≡ Running → left d ≡ d.budget - d.done + 2
+left_running d h = ap (left_by d) h
+
+of_act : (d : Doing) (b : Bool) (i : Instruction) (e : Event) → d.status ≡ Running → d.done < d.budget → cond b (returns d) (Act 1 (request_of d.program.rows d.values i)) ≡ e → Asks d e
+of_act d true i e running room h = inr (inl (rw (left_running d running) (omega arith), (_, sym h)))
+of_act d false i e running room h = inr (inr (running, room, (_, sym h)))
+
+of_next : (d : Doing) (i : Option Instruction) (e : Event) → d.status ≡ Running → d.done < d.budget → acts d i ≡ e → Asks d e
+of_next d None e running room h = inr (inl (rw (left_running d running) (omega arith), (_, sym h)))
+of_next d (Some i) e running room h = of_act d (is_return i.op) i e running room h
+
+of_runs : (d : Doing) (b : Bool) (e : Event) → nat_le d.budget d.done ≡ b → d.status ≡ Running → cond b (Finish causes.Budget) (acts d (slice_get d.program.code d.at)) ≡ e → Asks d e
+of_runs d true e test running h = inr (inl (rw (left_running d running) (omega arith), (causes.Budget, sym h)))
+of_runs d false e test running h = of_next d _ e running (grind (arith, nat_tests)) h
+
+some_is : {A : Type 0} (a b : A) → Some a ≡ Some b → a ≡ b
+some_is a b h = cc
+
+of_status : (d : Doing) (s : Status) (e : Event) → d.status ≡ s → asks d s ≡ Some e → Asks d e
+of_status d Fresh e is h = inl (is, sym (some_is _ _ h))
+of_status d Running e is h = of_runs d (nat_le d.budget d.done) e refl is (some_is _ _ h)
+of_status d (Ending c) e is h =
+    let n : left d ≡ 1 = ap (left_by d) is in
+    inr (inl (rw n (omega arith), (c, sym (some_is _ _ h))))
+of_status d Ended e is h = cc
+
+-- what a process asks
+pub asking : (d : Doing) (e : Event) → event_of d ≡ Some e → Asks d e
+unfolding event_of
+asking d e h = of_status d d.status e refl h
+
+-- how it goes on is by what it asked
+pub absorbed_by : (d : Doing) (e : Event) (r : Reply) → event_of d ≡ Some e → absorbed d r ≡ after_event d e r
+unfolding absorbed
+absorbed_by d e r h = ap (λ o. after_asked d o r) h
+
+left_at : (d : Doing) (s : Status) → d.status ≡ s → left d ≡ left_by d s
+left_at d s h = ap (left_by d) h
+
+end_falls : (d : Doing) (r : Reply) → r ≢ MustWait → 0 < left d → left (after_end d r) < left d
+end_falls d (Done vs) w h = h
+end_falls d (Signal x) w h = h
+end_falls d MustWait w h = absurd (w refl)
+
+act_falls : (d : Doing) (r : Reply) → r ≢ MustWait → d.status ≡ Running → d.done < d.budget → left (after_act d r) < left d
+act_falls d (Done vs) w running room = rw running (omega arith)
+act_falls d (Signal x) w running room = rw (left_running d running) (omega arith)
+act_falls d MustWait w running room = absurd (w refl)
+
+start_falls : (d : Doing) (r : Reply) → r ≢ MustWait → d.status ≡ Fresh → left (after_start d r) < left d
+start_falls d (Done vs) w is = let n : left d ≡ d.budget + 3 = left_at d Fresh is in rw n (omega arith)
+start_falls d (Signal x) w is = let n : left d ≡ d.budget + 3 = left_at d Fresh is in rw n (omega arith)
+start_falls d MustWait w is = absurd (w refl)
+
+falls_by : (d : Doing) (e : Event) (r : Reply) → r ≢ MustWait → Asks d e → left (after_event d e r) < left d
+falls_by d e r w asks = elim asks as (λ _. left (after_event d e r) < left d) [
+    inl h ↦ subst (λ (x : Event). left (after_event d x r) < left d) (sym h.1) (start_falls d r w h.0)
+  | inr more ↦ elim more as (λ _. left (after_event d e r) < left d) [
+        inl h ↦ subst (λ (x : Event). left (after_event d x r) < left d) (sym h.1.1) (end_falls d r w h.0)
+      | inr h ↦ subst (λ (x : Event). left (after_event d x r) < left d) (sym h.2.1) (act_falls d r w h.0 h.1) ] ]
+
+-- each reply but MustWait brings a process nearer to its end
+pub falls : (d : Doing) (e : Event) (r : Reply) → event_of d ≡ Some e → r ≢ MustWait → left (absorbed d r) < left d
+falls d e r h w = subst (λ (x : Doing). left x < left d) (sym (absorbed_by d e r h)) (falls_by d e r w (asking d e h))
+
+-- no process is fresh again
+start_leaves : (d : Doing) (r : Reply) → r ≢ MustWait → (after_start d r).status ≢ Fresh
+start_leaves d (Done vs) w = λ h. cc
+start_leaves d (Signal x) w = λ h. cc
+start_leaves d MustWait w = absurd (w refl)
+
+end_leaves : (d : Doing) (r : Reply) → r ≢ MustWait → (after_end d r).status ≢ Fresh
+end_leaves d (Done vs) w = λ h. cc
+end_leaves d (Signal x) w = λ h. cc
+end_leaves d MustWait w = absurd (w refl)
+
+act_leaves : (d : Doing) (r : Reply) → r ≢ MustWait → d.status ≡ Running → (after_act d r).status ≢ Fresh
+act_leaves d (Done vs) w running = λ h. cc
+act_leaves d (Signal x) w running = λ h. cc
+act_leaves d MustWait w running = absurd (w refl)
+
+leaves_by : (d : Doing) (e : Event) (r : Reply) → r ≢ MustWait → Asks d e → (after_event d e r).status ≢ Fresh
+leaves_by d e r w asks = elim asks as (λ _. (after_event d e r).status ≢ Fresh) [
+    inl h ↦ subst (λ (x : Event). (after_event d x r).status ≢ Fresh) (sym h.1) (start_leaves d r w)
+  | inr more ↦ elim more as (λ _. (after_event d e r).status ≢ Fresh) [
+        inl h ↦ subst (λ (x : Event). (after_event d x r).status ≢ Fresh) (sym h.1.1) (end_leaves d r w)
+      | inr h ↦ subst (λ (x : Event). (after_event d x r).status ≢ Fresh) (sym h.2.1) (act_leaves d r w h.0) ] ]
+
+pub leaves : (d : Doing) (e : Event) (r : Reply) → event_of d ≡ Some e → r ≢ MustWait → (absorbed d r).status ≢ Fresh
+leaves d e r h w = subst (λ (x : Doing). x.status ≢ Fresh) (sym (absorbed_by d e r h)) (leaves_by d e r w (asking d e h))
+
+-- a process ends only by asking for its end
+start_goes : (d : Doing) (r : Reply) → d.status ≡ Fresh → (after_start d r).status ≢ Ended
+start_goes d (Done vs) is = λ h. cc
+start_goes d (Signal x) is = λ h. cc
+start_goes d MustWait is = λ h. cc
+
+act_goes : (d : Doing) (r : Reply) → d.status ≡ Running → (after_act d r).status ≢ Ended
+act_goes d (Done vs) is = λ h. cc
+act_goes d (Signal x) is = λ h. cc
+act_goes d MustWait is = λ h. cc
+
+ended_by : (d : Doing) (e : Event) (r : Reply) → Asks d e → (after_event d e r).status ≡ Ended → is_finish e ≡ true
+ended_by d e r asks = elim asks as (λ _. (after_event d e r).status ≡ Ended → is_finish e ≡ true) [
+    inl h ↦ subst (λ (x : Event). (after_event d x r).status ≡ Ended → is_finish x ≡ true) (sym h.1) (λ g. absurd (start_goes d r h.0 g))
+  | inr more ↦ elim more as (λ _. (after_event d e r).status ≡ Ended → is_finish e ≡ true) [
+        inl h ↦ subst (λ (x : Event). (after_event d x r).status ≡ Ended → is_finish x ≡ true) (sym h.1.1) (λ g. refl)
+      | inr h ↦ subst (λ (x : Event). (after_event d x r).status ≡ Ended → is_finish x ≡ true) (sym h.2.1) (λ g. absurd (act_goes d r h.0 g)) ] ]
+
+pub ends_asking : (d : Doing) (e : Event) (r : Reply) → event_of d ≡ Some e → (absorbed d r).status ≡ Ended → is_finish e ≡ true
+ends_asking d e r h g = ended_by d e r (asking d e h) (subst (λ (x : Doing). x.status ≡ Ended) (absorbed_by d e r h) g)
+
+start_asked : (d : Doing) (e : Event) → e ≡ Start → Asks d e → d.status ≡ Fresh
+start_asked d e s asks = elim asks as (λ _. d.status ≡ Fresh) [
+    inl h ↦ h.0
+  | inr more ↦ elim more as (λ _. d.status ≡ Fresh) [ inl h ↦ absurd (no_end h.1.0 (sym s ∙ h.1.1)) | inr h ↦ absurd (no_act h.2.0 (sym s ∙ h.2.1)) ] ]
+  where
+    no_end : (c : EndCause) → Start ≡ Finish c → ⊥
+    no_end c g = cc
+    no_act : (q : Request) → Start ≡ Act 1 q → ⊥
+    no_act q g = cc
+
+-- only a fresh process asks to start
+pub starts_fresh : (d : Doing) → event_of d ≡ Some Start → d.status ≡ Fresh
+starts_fresh d h = start_asked d Start refl (asking d Start h)
+
+-- ---- entries of one process
+
+pub ran_more : (d : Doing) (es : List Entry) (e : Entry) → RanFrom d es → event_of (behind d es) ≡ Some e.event → RanFrom d (es ++ e ∷ [])
+ran_more d [] e h g = (g, tt)
+ran_more d (x ∷ es) e h g = (h.0, ran_more (absorbed d x.reply) es e h.1 g)
+
+pub behind_more : (d : Doing) (es : List Entry) (e : Entry) → behind d (es ++ e ∷ []) ≡ absorbed (behind d es) e.reply
+behind_more d [] e = refl
+behind_more d (x ∷ es) e = behind_more (absorbed d x.reply) es e
+
+pub ends_more : (es : List Entry) (e : Entry) → ends_by_finish (es ++ e ∷ []) ≡ is_finish e.event
+ends_more [] e = refl
+ends_more (x ∷ []) e = refl
+ends_more (x ∷ y ∷ es) e = ends_more (y ∷ es) e

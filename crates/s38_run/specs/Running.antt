@@ -1,0 +1,66 @@
+-- How far a process has come, while it is run.
+use Rattle.std.specs.Prelude.{◌≡◌, ◌≢◌, ℕ, ◌+◌, ◌-◌, ◌<◌, Bool, true, false, IsTrue, MatchBool, List, [], ◌∷◌, ◌++◌, length, slice_get, slice_index_or, Option, Some, None}
+use Rattle.s38_code.specs.declared.deck.Job.{Job}
+use Rattle.s38_code.specs.declared.entry.Entry.{Entry}
+use Rattle.s38_code.specs.declared.event.Event.{Event}
+use Rattle.s38_code.specs.declared.program.Program.{Program}
+use Rattle.s38_code.specs.History.{entries_of}
+use Rattle.s38_rules.specs.declared.process.Standing.{Standing}
+use Rattle.s38_rules.specs.declared.process.Status.{Status}
+use Rattle.s38_rules.specs.declared.process.Status.TheVariants.{Fresh, Running, Ending, Ended}
+use Rattle.s38_rules.specs.State.{State, ready}
+use Rattle.s38_rules.specs.Step.{step}
+use Rattle.s38_rules.specs.Legal.{Run, IsSound, after}
+use Rattle.s38_rules.specs.Process.{Doing, RanFrom, absorbed, behind, ends_by_finish, event_of}
+use Rattle.s38_run.specs.Whole.{RanWhole}
+
+-- how many events a process asks at most before its end
+abbrev pub left_by : Doing → Status → ℕ
+left_by d Fresh = d.budget + 3
+left_by d Running = d.budget - d.done + 2
+left_by d (Ending cause) = 1
+left_by d Ended = 0
+
+abbrev pub left : Doing → ℕ
+left d = left_by d d.status
+
+-- the other processes stand as they stood
+pub record OthersStay (xs ys : List Standing) (at : ℕ) : Type 0 where
+  pub count : length ys ≡ length xs
+  pub same : (k : ℕ) (d : Standing) → k ≢ at → slice_index_or ys k d ≡ slice_index_or xs k d
+
+-- the process at a place has ended
+pub record HasEnded (xs : List Standing) (at : ℕ) : Type 0 where
+  pub is : (d : Standing) → (slice_index_or xs at d).ended ≡ true
+
+-- one process has run from one machine to another, and no other
+pub record RanOn (number : ℕ) (m0 : Run) (d0 : Doing) (m : Run) (d : Doing) : Type 0 where
+  pub sound : IsSound m
+  pub origin : m.origin ≡ m0.origin
+  pub awake : m.state.waiting ≡ []
+  pub stay : OthersStay m0.state.processes m.state.processes (number - 1)
+  pub others : (q : ℕ) → q ≢ number → entries_of q m.history ≡ entries_of q m0.history
+  pub own : List Entry
+  pub added : entries_of number m.history ≡ entries_of number m0.history ++ own
+  pub asked : RanFrom d0 own
+  pub stands : behind d0 own ≡ d
+  pub ready : d.status ≡ Fresh → ready m.state number ≡ true
+  pub ended : d.status ≡ Ended → HasEnded m.state.processes (number - 1) × (ends_by_finish own ≡ true)
+
+-- of each process either the whole run is in the history, or nothing
+pub record EachWholeOrNone (programs : List Program) (jobs : List Job) (m : Run) : Type 0 where
+  pub each : (k : ℕ) (x : Standing) (job : Job) (program : Program) → slice_get m.state.processes k ≡ Some x → slice_get jobs k ≡ Some job → slice_get programs k ≡ Some program
+    → MatchBool x.ended (RanWhole program job.budget (entries_of (k + 1) m.history)) (entries_of (k + 1) m.history ≡ [])
+
+-- one event was asked and answered
+pub record Turned (number : ℕ) (m : Run) (d : Doing) (m' : Run) (d' : Doing) : Type 0 where
+  pub event : Event
+  pub asks : event_of d ≡ Some event
+  pub machine : m' ≡ after m number event
+  pub process : d' ≡ absorbed d (step m.state number event).reply
+
+-- or the process has ended before, and nothing was asked
+pub record Rested (m : Run) (d : Doing) (m' : Run) (d' : Doing) : Type 0 where
+  pub none : event_of d ≡ None
+  pub machine : m' ≡ m
+  pub process : d' ≡ d
