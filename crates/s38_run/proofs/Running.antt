@@ -135,3 +135,6 @@ rested_whole n m0 d0 m d m' d' ran rest = (rested_on n m0 d0 m d m' d' ran rest,
 -- a process of a job is within the machine's
 pub may_within : (m : Run) (n : ℕ) → IsSound m → MayAsk m.origin n → n - 1 < length m.state.processes
 may_within m n sound may = omega (arith, sound.kept, may.first, may.last)
+
+pub ran_within : (n : ℕ) (m0 : Run) (d0 : Doing) (m : Run) (d : Doing) → RanOn n m0 d0 m d → MayAsk m0.origin n → n - 1 < length m.state.processes
+ran_within n m0 d0 m d ran may = may_within m n ran.sound (subst (λ (o : State). MayAsk o n) (sym ran.origin) may)

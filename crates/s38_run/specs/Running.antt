@@ -1,5 +1,5 @@
 -- How far a process has come, while it is run.
-use Rattle.std.specs.Prelude.{◌≡◌, ◌≢◌, ℕ, ◌+◌, ◌-◌, ◌<◌, Bool, true, false, IsTrue, MatchBool, List, [], ◌∷◌, ◌++◌, length, slice_get, slice_index_or, Option, Some, None}
+use Rattle.std.specs.Prelude.{◌≡◌, ◌≢◌, ℕ, ◌+◌, ◌-◌, ◌<◌, Bool, true, false, IsTrue, MatchBool, List, [], ◌∷◌, ◌++◌, length, slice_get, slice_index_or, Option, Some, None, if◌then◌else◌}
 use Rattle.s38_code.specs.declared.deck.Job.{Job}
 use Rattle.s38_code.specs.declared.entry.Entry.{Entry}
 use Rattle.s38_code.specs.declared.event.Event.{Event}
@@ -11,7 +11,8 @@ use Rattle.s38_rules.specs.declared.process.Status.TheVariants.{Fresh, Running, 
 use Rattle.s38_rules.specs.State.{State, ready}
 use Rattle.s38_rules.specs.Step.{step}
 use Rattle.s38_rules.specs.Legal.{Run, IsSound, after}
-use Rattle.s38_rules.specs.Process.{Doing, RanFrom, absorbed, behind, ends_by_finish, event_of}
+use Rattle.s38_rules.specs.Process.{Doing, RanFrom, absorbed, behind, ends_by_finish, event_of, fresh}
+use Rattle.s38_rules.specs.Opening.{opened}
 use Rattle.s38_run.specs.Whole.{RanWhole}
 
 -- how many events a process asks at most before its end
@@ -64,3 +65,21 @@ pub record Rested (m : Run) (d : Doing) (m' : Run) (d' : Doing) : Type 0 where
   pub none : event_of d ≡ None
   pub machine : m' ≡ m
   pub process : d' ≡ d
+
+-- the process of a job has run from its start to its end
+pub record JobRan (number : ℕ) (program : Program) (budget : ℕ) (m m' : Run) : Type 0 where
+  pub doing : Doing
+  pub ran : RanOn number m (fresh program budget) m' doing
+  pub ended : doing.status ≡ Ended
+
+-- between two jobs
+pub record IsBetween (programs : List Program) (jobs : List Job) (m : Run) : Type 0 where
+  pub sound : IsSound m
+  pub origin : m.origin ≡ opened jobs
+  pub awake : m.state.waiting ≡ []
+  pub each : EachWholeOrNone programs jobs m
+
+-- how many processes have not ended
+abbrev pub unended : List Standing → ℕ
+unended [] = 0
+unended (x ∷ xs) = (if x.ended then 0 else 1) + unended xs
