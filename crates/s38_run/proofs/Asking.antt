@@ -1,5 +1,5 @@
 -- What a process can ask, and how its reply brings it nearer to its end.
-use Rattle.std.proofs.Common.{◌≡◌, ◌≢◌, ℕ, ◌+◌, ◌-◌, ◌<◌, ◌≤◌, ◌⊎◌, Bool, true, false, cond, List, [], ◌∷◌, ◌++◌, inl, inr, refl, sym, ◌∙◌, ap, subst, arith, nat_le, append_assoc}
+use Rattle.std.proofs.Common.{◌≡◌, ◌≢◌, ◌+◌, ◌-◌, ◌<◌, ◌⊎◌, Bool, true, false, cond, List, [], ◌∷◌, ◌++◌, inl, inr, refl, sym, ◌∙◌, ap, subst, arith, nat_le}
 use Rattle.std.proofs.lemmas.Bool.Decides.{nat_tests}
 use Rattle.std.specs.Prelude.{Option, Some, None, slice_get}
 use Rattle.s38_code.specs.declared.event.EndCause.{EndCause}
@@ -13,7 +13,7 @@ use Rattle.s38_code.specs.declared.reply.Reply.{Reply}
 use Rattle.s38_code.specs.declared.reply.Reply.TheVariants.{Done, Signal, MustWait}
 use Rattle.s38_rules.specs.declared.process.Status.{Status}
 use Rattle.s38_rules.specs.declared.process.Status.TheVariants.{Fresh, Running, Ending, Ended}
-use Rattle.s38_rules.specs.Process.{Doing, RanFrom, absorbed, acts, after_act, after_asked, after_end, after_event, after_start, asks, behind, ends_by_finish, event_of, is_finish, is_return, request_of, returns, runs}
+use Rattle.s38_rules.specs.Process.{Doing, RanFrom, absorbed, acts, after_act, after_asked, after_end, after_event, after_start, asks, behind, ends_by_finish, event_of, is_finish, is_return, request_of, returns}
 use Rattle.s38_run.specs.Running.{left, left_by}
 
 -- a fresh process asks to start
@@ -87,10 +87,12 @@ start_falls d MustWait w is = absurd (w refl)
 
 falls_by : (d : Doing) (e : Event) (r : Reply) → r ≢ MustWait → Asks d e → left (after_event d e r) < left d
 falls_by d e r w asks = elim asks as (λ _. left (after_event d e r) < left d) [
-    inl h ↦ subst (λ (x : Event). left (after_event d x r) < left d) (sym h.1) (start_falls d r w h.0)
+  | inl h ↦ subst (λ (x : Event). left (after_event d x r) < left d) (sym h.1) (start_falls d r w h.0)
   | inr more ↦ elim more as (λ _. left (after_event d e r) < left d) [
-        inl h ↦ subst (λ (x : Event). left (after_event d x r) < left d) (sym h.1.1) (end_falls d r w h.0)
-      | inr h ↦ subst (λ (x : Event). left (after_event d x r) < left d) (sym h.2.1) (act_falls d r w h.0 h.1) ] ]
+    | inl h ↦ subst (λ (x : Event). left (after_event d x r) < left d) (sym h.1.1) (end_falls d r w h.0)
+    | inr h ↦ subst (λ (x : Event). left (after_event d x r) < left d) (sym h.2.1) (act_falls d r w h.0 h.1)
+  ]
+]
 
 -- each reply but MustWait brings a process nearer to its end
 pub falls : (d : Doing) (e : Event) (r : Reply) → event_of d ≡ Some e → r ≢ MustWait → left (absorbed d r) < left d
@@ -114,10 +116,12 @@ act_leaves d MustWait w running = absurd (w refl)
 
 leaves_by : (d : Doing) (e : Event) (r : Reply) → r ≢ MustWait → Asks d e → (after_event d e r).status ≢ Fresh
 leaves_by d e r w asks = elim asks as (λ _. (after_event d e r).status ≢ Fresh) [
-    inl h ↦ subst (λ (x : Event). (after_event d x r).status ≢ Fresh) (sym h.1) (start_leaves d r w)
+  | inl h ↦ subst (λ (x : Event). (after_event d x r).status ≢ Fresh) (sym h.1) (start_leaves d r w)
   | inr more ↦ elim more as (λ _. (after_event d e r).status ≢ Fresh) [
-        inl h ↦ subst (λ (x : Event). (after_event d x r).status ≢ Fresh) (sym h.1.1) (end_leaves d r w)
-      | inr h ↦ subst (λ (x : Event). (after_event d x r).status ≢ Fresh) (sym h.2.1) (act_leaves d r w h.0) ] ]
+    | inl h ↦ subst (λ (x : Event). (after_event d x r).status ≢ Fresh) (sym h.1.1) (end_leaves d r w)
+    | inr h ↦ subst (λ (x : Event). (after_event d x r).status ≢ Fresh) (sym h.2.1) (act_leaves d r w h.0)
+  ]
+]
 
 pub leaves : (d : Doing) (e : Event) (r : Reply) → event_of d ≡ Some e → r ≢ MustWait → (absorbed d r).status ≢ Fresh
 leaves d e r h w = subst (λ (x : Doing). x.status ≢ Fresh) (sym (absorbed_by d e r h)) (leaves_by d e r w (asking d e h))
@@ -135,21 +139,25 @@ act_goes d MustWait is = λ h. cc
 
 ended_by : (d : Doing) (e : Event) (r : Reply) → Asks d e → (after_event d e r).status ≡ Ended → is_finish e ≡ true
 ended_by d e r asks = elim asks as (λ _. (after_event d e r).status ≡ Ended → is_finish e ≡ true) [
-    inl h ↦ subst (λ (x : Event). (after_event d x r).status ≡ Ended → is_finish x ≡ true) (sym h.1) (λ g. absurd (start_goes d r h.0 g))
+  | inl h ↦ subst (λ (x : Event). (after_event d x r).status ≡ Ended → is_finish x ≡ true) (sym h.1) (λ g. absurd (start_goes d r h.0 g))
   | inr more ↦ elim more as (λ _. (after_event d e r).status ≡ Ended → is_finish e ≡ true) [
-        inl h ↦ subst (λ (x : Event). (after_event d x r).status ≡ Ended → is_finish x ≡ true) (sym h.1.1) (λ g. refl)
-      | inr h ↦ subst (λ (x : Event). (after_event d x r).status ≡ Ended → is_finish x ≡ true) (sym h.2.1) (λ g. absurd (act_goes d r h.0 g)) ] ]
+    | inl h ↦ subst (λ (x : Event). (after_event d x r).status ≡ Ended → is_finish x ≡ true) (sym h.1.1) (λ g. refl)
+    | inr h ↦ subst (λ (x : Event). (after_event d x r).status ≡ Ended → is_finish x ≡ true) (sym h.2.1) (λ g. absurd (act_goes d r h.0 g))
+  ]
+]
 
 pub ends_asking : (d : Doing) (e : Event) (r : Reply) → event_of d ≡ Some e → (absorbed d r).status ≡ Ended → is_finish e ≡ true
 ends_asking d e r h g = ended_by d e r (asking d e h) (subst (λ (x : Doing). x.status ≡ Ended) (absorbed_by d e r h) g)
 
 start_asked : (d : Doing) (e : Event) → e ≡ Start → Asks d e → d.status ≡ Fresh
 start_asked d e s asks = elim asks as (λ _. d.status ≡ Fresh) [
-    inl h ↦ h.0
-  | inr more ↦ elim more as (λ _. d.status ≡ Fresh) [ inl h ↦ absurd (no_end h.1.0 (sym s ∙ h.1.1)) | inr h ↦ absurd (no_act h.2.0 (sym s ∙ h.2.1)) ] ]
+  | inl h ↦ h.0
+  | inr more ↦ elim more as (λ _. d.status ≡ Fresh) [ inl h ↦ absurd (no_end h.1.0 (sym s ∙ h.1.1)) | inr h ↦ absurd (no_act h.2.0 (sym s ∙ h.2.1)) ]
+]
   where
     no_end : (c : EndCause) → Start ≡ Finish c → ⊥
     no_end c g = cc
+
     no_act : (q : Request) → Start ≡ Act 1 q → ⊥
     no_act q g = cc
 

@@ -1,4 +1,4 @@
 pub mod Asking
-pub mod Jobs
+pub mod JobLaws
 pub mod Running
 pub mod Stepping

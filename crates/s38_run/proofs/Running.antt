@@ -1,26 +1,24 @@
 -- One process is run, step by step.
-use Rattle.std.proofs.Common.{◌≡◌, ◌≢◌, ℕ, ◌+◌, ◌-◌, ◌<◌, ◌≤◌, ◌==◌, Bool, true, false, cond, IsTrue, List, [], ◌∷◌, ◌++◌, length, get_or, refl, sym, ◌∙◌, ap, subst, arith, append_assoc}
+use Rattle.std.proofs.Common.{◌≡◌, ◌≢◌, ℕ, ◌-◌, ◌<◌, ◌==◌, true, false, cond, List, [], ◌∷◌, ◌++◌, length, refl, sym, ◌∙◌, ap, subst, arith, append_assoc}
 use Rattle.std.proofs.lemmas.List.{append-nil}
 use Rattle.std.proofs.lemmas.List.Elements.{filter-append}
 use Rattle.std.proofs.lemmas.Bool.Decides.{nat_tests}
-use Rattle.std.specs.Prelude.{Option, Some, None, filter, slice_get, slice_index_or}
+use Rattle.std.specs.Prelude.{Some, None}
 use Rattle.s38_code.specs.declared.entry.Entry.{Entry}
 use Rattle.s38_code.specs.declared.event.Event.{Event}
-use Rattle.s38_code.specs.declared.event.Event.TheVariants.{Start, Act, Finish}
-use Rattle.s38_code.specs.declared.reply.Reply.{Reply}
-use Rattle.s38_code.specs.declared.reply.Reply.TheVariants.{MustWait}
+use Rattle.s38_code.specs.declared.event.Event.TheVariants.{Start}
 use Rattle.s38_code.specs.History.{entries_of, entry_after, is_of}
 use Rattle.s38_rules.specs.declared.process.Standing.{Standing}
 use Rattle.s38_rules.specs.declared.process.Status.{Status}
 use Rattle.s38_rules.specs.declared.process.Status.TheVariants.{Fresh, Running, Ending, Ended}
 use Rattle.s38_rules.specs.State.{State, ready}
-use Rattle.s38_rules.specs.Step.{Stepped, step}
-use Rattle.s38_rules.specs.Legal.{IsSound, MayAsk, Run, after, after_by, history_after}
-use Rattle.s38_rules.specs.Process.{Doing, RanFrom, absorbed, asks, behind, ends_by_finish, event_of, is_finish}
+use Rattle.s38_rules.specs.Step.{step}
+use Rattle.s38_rules.specs.Legal.{IsSound, MayAsk, Run, after}
+use Rattle.s38_rules.specs.Process.{Doing, absorbed, asks, event_of}
 use Rattle.s38_rules.proofs.Laws.{sound_after}
-use Rattle.s38_run.specs.Running.{HasEnded, OthersStay, RanOn, Rested, Turned, left}
+use Rattle.s38_run.specs.Running.{OthersStay, RanOn, Rested, Turned, left}
 use Rattle.s38_run.proofs.Asking.{behind_more, ends_asking, ends_more, falls, leaves, ran_more, starts_fresh}
-use Rattle.s38_run.proofs.Stepping.{GoesTo, goes}
+use Rattle.s38_run.proofs.Stepping.{goes}
 
 stays_on : (xs ys zs : List Standing) (at : ℕ) → OthersStay xs ys at → OthersStay ys zs at → OthersStay xs zs at
 stays_on xs ys zs at a b = record { count = b.count ∙ a.count; same = λ k d h. b.same k d h ∙ a.same k d h }
@@ -83,18 +81,18 @@ ran_on_more n m0 d0 m d e within ran asks =
 -- a process that is about to run
 pub ran_on_none : (n : ℕ) (m : Run) (d : Doing) → IsSound m → m.state.waiting ≡ [] → d.status ≡ Fresh → ready m.state n ≡ true → RanOn n m d m d
 ran_on_none n m d sound awake fresh r = record {
-    sound = sound;
-    origin = refl;
-    awake = awake;
-    stay = stays m.state.processes (n - 1);
-    others = λ q h. refl;
-    own = [];
-    added = sym (append-nil (entries_of n m.history));
-    asked = tt;
-    stands = refl;
-    ready = λ h. r;
-    ended = λ h. absurd (fresh_ended d fresh h);
-  }
+  sound = sound;
+  origin = refl;
+  awake = awake;
+  stay = stays m.state.processes (n - 1);
+  others = λ q h. refl;
+  own = [];
+  added = sym (append-nil (entries_of n m.history));
+  asked = tt;
+  stands = refl;
+  ready = λ h. r;
+  ended = λ h. absurd (fresh_ended d fresh h);
+}
   where
     fresh_ended : (d : Doing) → d.status ≡ Fresh → d.status ≡ Ended → ⊥
     fresh_ended d a b = two (sym a ∙ b) where

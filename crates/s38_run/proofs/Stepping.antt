@@ -1,22 +1,20 @@
 -- What a step does where nobody waits: it is answered and entered, and it moves no other process.
-use Rattle.std.proofs.Common.{◌≡◌, ◌≢◌, ℕ, ◌+◌, ◌-◌, ◌<◌, ◌≤◌, Bool, true, false, cond, ◌==◌, List, [], ◌∷◌, ◌++◌, length, get_or, refl, sym, ◌∙◌, ap, subst, inl, inr, not, ◌&&◌, arith, length-set, get_or-set_other, get_or-set_same}
+use Rattle.std.proofs.Common.{◌≡◌, ◌≢◌, ℕ, ◌-◌, ◌<◌, Bool, true, false, ◌==◌, List, [], length, refl, sym, ◌∙◌, ap, subst, inl, inr, not, ◌&&◌, arith, length-set, get_or-set_other, get_or-set_same}
 use Rattle.std.proofs.lemmas.Option.{slice_get_cases}
-use Rattle.std.specs.Prelude.{Option, Some, None, slice_get, slice_set, slice_index_or}
+use Rattle.std.specs.Prelude.{Option, Some, None, slice_get, slice_set}
 use Rattle.std.specs.List.{list_any}
 use Rattle.s38_base.specs.declared.exception.Exception.{Exception}
-use Rattle.s38_base.specs.declared.op.Op.{Op}
 use Rattle.s38_code.specs.declared.event.Event.{Event}
 use Rattle.s38_code.specs.declared.event.Event.TheVariants.{Start, Act, Finish}
 use Rattle.s38_code.specs.declared.reply.Reply.TheVariants.{MustWait}
 use Rattle.s38_rules.specs.declared.process.Standing.{Standing}
-use Rattle.s38_rules.specs.declared.verdict.Verdict.{Verdict}
-use Rattle.s38_rules.specs.declared.verdict.Verdict.TheVariants.{Permit, Wait, Refuse}
+use Rattle.s38_rules.specs.declared.verdict.Verdict.TheVariants.{Permit, Refuse}
 use Rattle.s38_rules.specs.State.{State, is_early, ready, ready_in, standing, waits}
 use Rattle.s38_rules.specs.Verdict.{of_failure, refusal, start_failure, start_verdict, verdict_of}
 use Rattle.s38_rules.specs.Effect.{effect_of, end_at, start_at}
 use Rattle.s38_rules.specs.Step.{Stepped, by_verdict, by_waiting, step}
 use Rattle.s38_rules.specs.Process.{is_finish}
-use Rattle.s38_rules.proofs.Laws.{act_keeps, step_keeps}
+use Rattle.s38_rules.proofs.Laws.{act_keeps}
 use Rattle.s38_run.specs.Running.{HasEnded, OthersStay}
 
 -- what we want of an outcome
@@ -58,8 +56,9 @@ effect_stays s p (Finish cause) = end_stays s p (standing s p)
 
 end_ends : (s : State) (p : ℕ) (o : Option Standing) → slice_get s.processes (p - 1) ≡ o → p - 1 < length s.processes → HasEnded (end_at s p o).processes (p - 1)
 end_ends s p None h within = elim (slice_get_cases s.processes (p - 1)).1 as (λ _. HasEnded s.processes (p - 1)) [
-    inl w ↦ absurd (none_some w.0 (sym h ∙ w.2))
-  | inr w ↦ absurd (omega (arith, w.0, within)) ]
+  | inl w ↦ absurd (none_some w.0 (sym h ∙ w.2))
+  | inr w ↦ absurd (omega (arith, w.0, within))
+]
   where
     none_some : (x : Standing) → None ≡ Some x → ⊥
     none_some x g = cc

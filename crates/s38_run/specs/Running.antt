@@ -1,5 +1,5 @@
 -- How far a process has come, while it is run.
-use Rattle.std.specs.Prelude.{◌≡◌, ◌≢◌, ℕ, ◌+◌, ◌-◌, ◌<◌, Bool, true, false, IsTrue, MatchBool, List, [], ◌∷◌, ◌++◌, length, slice_get, slice_index_or, Option, Some, None, if◌then◌else◌}
+use Rattle.std.specs.Prelude.{◌≡◌, ◌≢◌, ℕ, ◌+◌, ◌-◌, true, MatchBool, List, [], ◌∷◌, ◌++◌, length, slice_get, slice_index_or, Some, None, if◌then◌else◌}
 use Rattle.s38_code.specs.declared.deck.Job.{Job}
 use Rattle.s38_code.specs.declared.entry.Entry.{Entry}
 use Rattle.s38_code.specs.declared.event.Event.{Event}
@@ -8,7 +8,7 @@ use Rattle.s38_code.specs.History.{entries_of}
 use Rattle.s38_rules.specs.declared.process.Standing.{Standing}
 use Rattle.s38_rules.specs.declared.process.Status.{Status}
 use Rattle.s38_rules.specs.declared.process.Status.TheVariants.{Fresh, Running, Ending, Ended}
-use Rattle.s38_rules.specs.State.{State, ready}
+use Rattle.s38_rules.specs.State.{ready}
 use Rattle.s38_rules.specs.Step.{step}
 use Rattle.s38_rules.specs.Legal.{Run, IsSound, after}
 use Rattle.s38_rules.specs.Process.{Doing, RanFrom, absorbed, behind, ends_by_finish, event_of, fresh}
@@ -51,7 +51,7 @@ pub record RanOn (number : ℕ) (m0 : Run) (d0 : Doing) (m : Run) (d : Doing) : 
 -- of each process either the whole run is in the history, or nothing
 pub record EachWholeOrNone (programs : List Program) (jobs : List Job) (m : Run) : Type 0 where
   pub each : (k : ℕ) (x : Standing) (job : Job) (program : Program) → slice_get m.state.processes k ≡ Some x → slice_get jobs k ≡ Some job → slice_get programs k ≡ Some program
-    → MatchBool x.ended (RanWhole program job.budget (entries_of (k + 1) m.history)) (entries_of (k + 1) m.history ≡ [])
+      → MatchBool x.ended (RanWhole program job.budget (entries_of (k + 1) m.history)) (entries_of (k + 1) m.history ≡ [])
 
 -- one event was asked and answered
 pub record Turned (number : ℕ) (m : Run) (d : Doing) (m' : Run) (d' : Doing) : Type 0 where

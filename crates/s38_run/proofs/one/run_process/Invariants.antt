@@ -1,4 +1,3 @@
-use Rattle.s38_rules.specs.Legal.{MayAsk}
 use Rattle.s38_run.specs.Running.{RanOn, left}
 use Rattle.s38_run.proofs.one.run_process.Given as goal
 

@@ -1,9 +1,9 @@
 -- One job after another, until none is ready.
-use Rattle.std.proofs.Common.{◌≡◌, ◌≢◌, ℕ, zero, suc, ◌+◌, ◌-◌, ◌<◌, ◌≤◌, ◌==◌, ◌⊎◌, ◌&&◌, ◌||◌, not, Bool, true, false, cond, IsTrue, List, [], ◌∷◌, ◌++◌, length, get_or, inl, inr, refl, sym, ◌∙◌, ap, subst, arith, map}
+use Rattle.std.proofs.Common.{◌≡◌, ◌≢◌, ℕ, zero, suc, ◌+◌, ◌-◌, ◌<◌, ◌==◌, ◌⊎◌, ◌&&◌, ◌||◌, not, Bool, true, false, List, [], ◌∷◌, ◌++◌, length, get_or, inl, inr, refl, sym, ◌∙◌, ap, subst, arith}
 use Rattle.std.proofs.lemmas.List.{length-map}
 use Rattle.std.proofs.lemmas.Bool.Decides.{nat_tests}
 use Rattle.std.proofs.lemmas.Option.{slice_get_cases, slice_get_within, slice_get-get_or, get_or_from_slice_get}
-use Rattle.std.specs.Prelude.{MatchBool, Option, Some, None, nat_lt, slice_get, slice_index_or}
+use Rattle.std.specs.Prelude.{MatchBool, Option, Some, nat_lt, slice_get, slice_index_or}
 use Rattle.std.specs.List.{list_any}
 use Rattle.s38_code.specs.declared.deck.Job.{Job}
 use Rattle.s38_code.specs.declared.entry.Entry.{Entry}
@@ -11,7 +11,7 @@ use Rattle.s38_code.specs.declared.program.Program.{Program}
 use Rattle.s38_code.specs.History.{entries_of}
 use Rattle.s38_rules.specs.declared.process.Standing.{Standing}
 use Rattle.s38_rules.specs.State.{State, is_early, ready, ready_in, runs_before, standing, waits}
-use Rattle.s38_rules.specs.Legal.{IsSound, MayAsk, Run, begun}
+use Rattle.s38_rules.specs.Legal.{MayAsk, Run, begun}
 use Rattle.s38_rules.specs.Opening as opening
 use Rattle.s38_rules.specs.Process.{Doing, RanFrom, ends_by_finish, fresh}
 use Rattle.s38_rules.proofs.Laws.{sound_begun}
@@ -40,7 +40,7 @@ fewer_unended (x ∷ xs) (y ∷ ys) zero lt stay opened done =
 fewer_unended (x ∷ xs) (y ∷ ys) (suc at) lt stay opened done =
     let first : y ≡ x = stay.same 0 x (omega arith) in
     let rest = fewer_unended xs ys at (omega arith)
-        (record { count = omega (arith, stay.count); same = λ k d h. stay.same (suc k) d (omega arith) }) opened (record { is = done.is }) in
+    (record { count = omega (arith, stay.count); same = λ k d h. stay.same (suc k) d (omega arith) }) opened (record { is = done.is }) in
     rw first (omega (arith, rest))
 
 -- ---- where none is ready, all have ended
@@ -196,8 +196,9 @@ pub between_more : (programs : List Program) (jobs : List Job) (m m' : Run) (at 
     → slice_get jobs at ≡ Some job → slice_get programs at ≡ Some program → IsBetween programs jobs m'
 between_more programs jobs m m' at job program between ran lt r job_at program_at =
     elim (slice_get_cases m.state.processes at).1 as (λ _. IsBetween programs jobs m') [
-      inl w ↦ between_at programs jobs m m' at w.0 job program between ran w.2 r job_at program_at
-    | inr w ↦ absurd (omega (arith, w.0, lt)) ]
+      | inl w ↦ between_at programs jobs m m' at w.0 job program between ran w.2 r job_at program_at
+      | inr w ↦ absurd (omega (arith, w.0, lt))
+    ]
 
 open_at : (s : State) (at : ℕ) → at < length s.processes → ready s (at + 1) ≡ true → (d : Standing) → (slice_index_or s.processes at d).ended ≡ false
 open_at s at lt r d = ready_open s at (get_or s.processes at d) (slice_get-get_or s.processes at d lt) r
@@ -225,11 +226,11 @@ open_is false A B e h = h
 
 pub between_begun : (programs : List Program) (jobs : List Job) → IsBetween programs jobs (begun (opening.opened jobs))
 between_begun programs jobs = record {
-    sound = sound_begun (opening.opened jobs);
-    origin = refl;
-    awake = refl;
-    each = record { each = λ k x job program at job_at program_at. open_is x.ended _ _ (fresh_open jobs k x at) refl };
-  }
+  sound = sound_begun (opening.opened jobs);
+  origin = refl;
+  awake = refl;
+  each = record { each = λ k x job program at job_at program_at. open_is x.ended _ _ (fresh_open jobs k x at) refl };
+}
 
 closed_is : (b : Bool) (A B : Type 0) → b ≡ true → MatchBool b A B → A
 closed_is true A B e h = h
@@ -248,12 +249,12 @@ there_is (x ∷ xs) (suc k) h = there_is xs k (omega arith)
 pub between_none : (programs : List Program) (jobs : List Job) (m : Run) → IsBetween programs jobs m → ((k : ℕ) → k < length jobs → ready m.state (k + 1) ≡ false) → AllRan programs jobs m.history
 unfolding NoneReady
 between_none programs jobs m between none = record {
-    each = λ k job program job_at program_at.
+  each = λ k job program job_at program_at.
       let count = places programs jobs m between in
       let x = there_is m.state.processes k (omega (arith, count, slice_get_within jobs k job job_at)) in
       let ended = all_ended m.state between.awake (λ i lt. none i (omega (arith, count))) k x.0 x.1 in
       closed_is x.0.ended _ _ ended (between.each.each k x.0 job program x.1 job_at program_at);
-  }
+}
 
 pub may_run : (programs : List Program) (jobs : List Job) (m : Run) (at n : ℕ) → n ≡ at + 1 → IsBetween programs jobs m → at < length jobs → MayAsk m.origin n
 may_run programs jobs m at n e between lt =

@@ -1,0 +1,73 @@
+ghost use Rattle.std.specs.Prelude.{◌≡◌, ◌+◌, ◌-◌, ◌<◌, ◌^◌, [], ℕ, true, false, IfOk, MatchOption, OnOk, length};
+ghost use Rattle.s38_rules.specs.State.{ready};
+ghost use Rattle.s38_rules.specs.Legal.{IsSound, MayAsk, begun};
+ghost use Rattle.s38_rules.specs.Opening.{opened};
+ghost use Rattle.s38_run.specs.Running.{IsBetween, JobRan};
+ghost use Rattle.s38_run.specs.Whole.{AllRan};
+
+use crate::one::run_process;
+use s38_base::{NoMemory, Twin};
+use s38_code::{Code, Job};
+use s38_machine::Machine;
+use s38_process::Process;
+use std::alloc::Global;
+
+/// The place of the first job whose process is ready.
+fn first_ready(machine: &Machine, jobs: usize) -> Option<usize>
+    requires { jobs < 2 ^ 32 - 1 }
+    ensures { MatchOption result
+        ((k : ℕ) → k < jobs → ready machine.now.state (k + 1) ≡ false)
+        (λ at. (at < jobs) × (ready machine.now.state (at + 1) ≡ true)) }
+{
+    for at in 0..jobs {
+        if machine.ready(at as u32 + 1) {
+            return Some(at);
+        }
+    }
+    None
+}
+
+/// Runs a job whose process is ready, from its start to its end.
+fn run_job(
+    alloc: Global,
+    machine: &mut Machine,
+    job: &Job,
+    program: &Code,
+    number: u32,
+) -> Result<(), NoMemory>
+    requires sound { IsSound machine.old }
+    requires awake { machine.old.state.waiting ≡ [] }
+    requires ready { ready machine.old.state number ≡ true }
+    requires may { MayAsk machine.old.origin number }
+    ensures { OnOk result (JobRan number program.now job.now.budget machine.old machine.new) }
+{
+    let code = program.twin(alloc)?;
+    match Process::begin(alloc, job, code) {
+        Err(fault) => Err(fault),
+        Ok(mut process) => run_process(machine, &mut process, number),
+    }
+}
+
+/// Runs the jobs, each by the program at its place: the first that is ready each time, until none is.
+pub fn serial(
+    alloc: Global,
+    machine: Machine,
+    jobs: &[Job],
+    programs: &[Code],
+) -> Result<Machine, NoMemory>
+    requires begun { machine ≡ begun (opened jobs.now) }
+    requires programs { length programs.now ≡ length jobs.now }
+    requires few { length jobs.now < 2 ^ 32 - 1 }
+    ensures sound { IfOk result IsSound }
+    ensures origin { IfOk result (λ machine. machine.origin ≡ opened jobs.now) }
+    ensures ran { IfOk result (λ machine. AllRan programs.now jobs.now machine.history) }
+{
+    let mut machine = machine;
+    while let Some(at) = first_ready(&machine, jobs.len()) {
+        match run_job(alloc, &mut machine, &jobs[at], &programs[at], at as u32 + 1) {
+            Ok(()) => {}
+            Err(fault) => return Err(fault),
+        }
+    }
+    Ok(machine)
+}
