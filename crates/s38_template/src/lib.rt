@@ -6,11 +6,13 @@ mod fault;
 mod job_line;
 mod line;
 mod place;
+mod places;
 mod read;
 mod reader;
 mod seen;
 mod step;
 
 pub use fault::DeckFault;
+pub use places::{each_job_has_its_template, template_places};
 pub use read::{one_deck, read_deck};
 pub use s38_code::Deck;
