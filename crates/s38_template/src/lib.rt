@@ -11,6 +11,8 @@ mod read;
 mod reader;
 mod seen;
 mod step;
+#[cfg(test)]
+mod tests;
 
 pub use fault::DeckFault;
 pub use places::{each_job_has_its_template, template_places};

@@ -20,7 +20,10 @@ fn good_decks(rt: HostRuntime) {
         ("", (0, 0)),
         ("\n* any text\n", (0, 0)),
         ("PROGRAM P\nEND\n", (1, 0)),
-        ("PROGRAM P\n ~\n\n* PROGRAM\nRTX\nEND\n\nPROGRAM Q9\nEND\n", (2, 0)),
+        (
+            "PROGRAM P\n ~\n\n* PROGRAM\nRTX\nEND\n\nPROGRAM Q9\nEND\n",
+            (2, 0),
+        ),
         ("PROGRAM P\nPROGRAM\nJOB\nSTAGE X\nEND \nEND\n", (1, 0)),
         ("PROGRAM ABCDEFGHIJKLMNOPQRSTUVWXYZ0123\nEND\n", (1, 0)),
         ("PROGRAM P\nEND\nSTAGE\nJOB P USER 9 RUN P\n", (1, 1)),
@@ -87,12 +90,24 @@ fn bad_jobs(rt: HostRuntime) -> Result<(), Fail> {
         let deck = format!(in rt.alloc(); "PROGRAM P\nEND\nSTAGE\n{text}")?;
         assert_eq!(rt; counts(rt.alloc(), deck.as_bytes()), None, "{text}");
     }
-    assert_eq!(rt; counts(rt.alloc(), b"PROGRAM P\nEND\nJOB A USER U RUN P\n".as_slice()), None);
+    assert_eq!(rt;
+        counts(
+            rt.alloc(),
+            b"PROGRAM P\nEND\nJOB A USER U RUN P\n".as_slice()
+        ),
+        None
+    );
     Ok(())
 }
 
 /// A text that holds a byte so many times between head and tail.
-fn filled(alloc: Global, head: &[u8], byte: u8, count: u32, tail: &[u8]) -> Result<Vec<u8>, AllocError> {
+fn filled(
+    alloc: Global,
+    head: &[u8],
+    byte: u8,
+    count: u32,
+    tail: &[u8],
+) -> Result<Vec<u8>, AllocError> {
     let mut text = Vec::from_slice(alloc, head)?;
     for _ in 0..count {
         text.push(byte)?;
@@ -116,7 +131,13 @@ fn longest_line_and_deck(rt: HostRuntime) -> Result<(), Fail> {
 }
 
 /// Behind a head so many rows, each a number of four digits between two texts.
-fn rows(alloc: Global, head: &[u8], count: u32, before: &[u8], behind: &[u8]) -> Result<Vec<u8>, AllocError> {
+fn rows(
+    alloc: Global,
+    head: &[u8],
+    count: u32,
+    before: &[u8],
+    behind: &[u8],
+) -> Result<Vec<u8>, AllocError> {
     let mut text = Vec::from_slice(alloc, head)?;
     for row in 0..count {
         text.extend_from_slice(before)?;
@@ -136,7 +157,13 @@ fn most_templates_and_jobs(rt: HostRuntime) -> Result<(), Fail> {
         assert_eq!(rt; counts(alloc, text.as_slice()), want, "{count}");
     }
     for (count, want) in [(256, Some((1, 256))), (257, None)] {
-        let text = rows(alloc, b"PROGRAM P\nEND\nSTAGE\n", count, b"JOB J", b" USER U RUN P\n")?;
+        let text = rows(
+            alloc,
+            b"PROGRAM P\nEND\nSTAGE\n",
+            count,
+            b"JOB J",
+            b" USER U RUN P\n",
+        )?;
         assert_eq!(rt; counts(alloc, text.as_slice()), want, "{count}");
     }
     Ok(())
@@ -145,14 +172,18 @@ fn most_templates_and_jobs(rt: HostRuntime) -> Result<(), Fail> {
 #[test]
 fn what_is_read(rt: HostRuntime) -> Result<(), Fail> {
     let alloc = rt.alloc();
-    let text = "PROGRAM P\nEND\nPROGRAM Q\n*\nRTX\nEND\nSTAGE\nJOB A USER U RUN P\nSTAGE\nJOB B USER V RUN Q CONTEXTS C D\n";
+    let text =
+        "PROGRAM P\nEND\nPROGRAM Q\n*\nRTX\nEND\nSTAGE\nJOB A USER U RUN P\nSTAGE\nJOB B USER V RUN Q CONTEXTS C D\n";
     let deck = read_deck(alloc, text.as_bytes())?;
     let template = deck.templates.as_slice().get(1).ok_or("template")?;
     assert_eq!(rt; template.lines().len(), 3);
     let job = deck.jobs.as_slice().get(1).ok_or("job")?;
     assert_eq!(rt; job.name.as_bytes(), b"B".as_slice());
     assert_eq!(rt; job.user.as_bytes(), b"V".as_slice());
-    assert_eq!(rt; (job.stage, job.budget, job.contexts.len()), (2, 1_000_000, 2));
+    assert_eq!(rt;
+        (job.stage, job.budget, job.contexts.len()),
+        (2, 1_000_000, 2)
+    );
     let places = template_places(alloc, &deck)?;
     assert_eq!(rt; places.get(&job.template).copied(), Some(1));
     assert_eq!(rt; places.get(&Name::parse(b"R")?).copied(), None);
