@@ -4,5 +4,6 @@ pub mod JobText
 pub mod Options
 pub mod Sets
 pub mod Sound
+pub mod Standing
 pub mod Texts
 pub mod Words

@@ -277,8 +277,8 @@ end_good : (s : State) → Good Inside s → Good Between (after_end s [])
 end_good s g = record { later = tt; few_templates = omega (arith, g.few_templates, length_push s.templates (s.draft ++ end_line ∷ [])); few = g.few }
 
 -- a stage begins, wherever it may
-stage_told : (s t : State) (line : List ℕ) (lines : List (List ℕ)) (deck : Deck) → bytes_eq line stage_line ≡ true → (j : Job) (jobs : List Job) → ToldJob (after_stage s) lines deck j jobs → ToldJobs s (line ∷ lines) deck (j ∷ jobs)
-stage_told s t line lines deck y j jobs h =
+stage_told : (s : State) (line : List ℕ) (lines : List (List ℕ)) (deck : Deck) → bytes_eq line stage_line ≡ true → (j : Job) (jobs : List Job) → ToldJob (after_stage s) lines deck j jobs → ToldJobs s (line ∷ lines) deck (j ∷ jobs)
+stage_told s line lines deck y j jobs h =
     let P : List ℕ → Type 0 = λ l. ToldJobs s (l ∷ lines) deck (j ∷ jobs) in
     subst P (sym ((bytes_eq-Decides line stage_line).0 y)) (told_stage s lines deck j jobs h)
 
@@ -295,7 +295,7 @@ told Between (line ∷ lines) s deck e g h =
       | inl y ↦
           let is : after_stage s ≡ t = stage_began s t (rw y at k2) in
           let r = told Begun lines (after_stage s) deck refl (stage_good Between s g) (subst E (sym is) rest) in
-          ([], (r.0 ∷ r.1.0, told_alone s (line ∷ lines) deck (r.0 ∷ r.1.0) (stage_told s t line lines deck y r.0 r.1.0 r.1.1) (omega (arith, g.few_templates))))
+          ([], (r.0 ∷ r.1.0, told_alone s (line ∷ lines) deck (r.0 ∷ r.1.0) (stage_told s line lines deck y r.0 r.1.0 r.1.1) (omega (arith, g.few_templates))))
       | inr n ↦
           let o = head_opened s t line (rw n at k2) in
           let r = told Inside lines t deck (ap (λ (u : State). u.place) (sym o.1.is)) (opened_good s t line o.0 g.few o.1) rest in
@@ -327,7 +327,7 @@ told Staged (line ∷ lines) s deck e g h =
       | inl y ↦
           let is : after_stage s ≡ t = stage_began s t (rw y at k2) in
           let r = told Begun lines (after_stage s) deck refl (stage_good Staged s g) (subst E (sym is) rest) in
-          (r.0 ∷ r.1.0, stage_told s t line lines deck y r.0 r.1.0 r.1.1)
+          (r.0 ∷ r.1.0, stage_told s line lines deck y r.0 r.1.0 r.1.1)
       | inr n ↦
           let j = job_joined s t line (rw n at k2) in
           let r = told Staged lines t deck (ap (λ (u : State). u.place) (sym j.1.is)) (joined_good s t line j.0 g.later (omega (arith, g.few_templates)) j.1) rest in
@@ -343,9 +343,9 @@ read_lines : (s : State) (o : Option (List (List ℕ))) (deck : Deck) → option
 read_lines s None deck e = absurd cc
 read_lines s (Some lines) deck e = (lines, (refl, e))
 
-spelled : (text : List ℕ) (deck : Deck) (lines ls : List (List ℕ)) (ts : List (List (List ℕ))) (jobs : List Job) (s : State) → s ≡ first_state → lines_of text ≡ Some lines → length text ≤ 4194304 → list_all is_plain lines ≡ true → ToldAll first_state (filter is_kept lines) deck ts jobs → Spells text deck
+spelled : (text : List ℕ) (deck : Deck) (lines : List (List ℕ)) (ts : List (List (List ℕ))) (jobs : List Job) → lines_of text ≡ Some lines → length text ≤ 4194304 → list_all is_plain lines ≡ true → ToldAll first_state (filter is_kept lines) deck ts jobs → Spells text deck
 unfolding first_state
-spelled text deck lines ls ts jobs s is read small plain all =
+spelled text deck lines ts jobs read small plain all =
     let these : deck.templates ≡ ts = all.templates_are in
     let those : deck.jobs ≡ jobs = all.jobs_are in
     let T : List (List (List ℕ)) → Type 0 = λ l. AllByRecursion IsTemplate l in
@@ -374,6 +374,6 @@ sound text deck e =
           let plain : list_all is_plain r.0 ≡ true = then_some deck_at (turns first_state r.0) deck r.1.1 (λ t eq _. plain_turns r.0 first_state t eq) in
           let good : Good Between first_state = record { later = tt; few_templates = omega arith; few = omega arith } in
           let all = told Between (filter is_kept r.0) first_state deck refl good (sym (passes_over r.0 first_state plain) ∙ r.1.1) in
-          spelled text deck r.0 [] all.0 all.1.0 first_state refl r.1.0 (leb-true (length text) 4194304 y) plain all.1.1
+          spelled text deck r.0 all.0 all.1.0 r.1.0 (leb-true (length text) 4194304 y) plain all.1.1
       | inr n ↦ absurd (let h = rw n at e in cc)
     ]

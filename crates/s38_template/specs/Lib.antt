@@ -1,5 +1,6 @@
 pub mod Cut
 pub mod Grammar
 pub mod Known
+pub mod Places
 pub mod Reading
 pub mod Views

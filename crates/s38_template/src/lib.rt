@@ -6,11 +6,23 @@ mod fault;
 mod job_line;
 mod line;
 mod place;
+mod places;
 mod read;
 mod reader;
 mod seen;
 mod step;
+#[cfg(test)]
+mod tests;
 
 pub use fault::DeckFault;
+pub use places::{each_job_has_its_template, template_places};
 pub use read::{one_deck, read_deck};
 pub use s38_code::Deck;
+
+/// What is sent between threads.
+fn sends<T: Send + Sync>() {}
+
+/// Each value of this crate may be sent and shared.
+pub fn all_may_be_sent() {
+    sends::<DeckFault>();
+}

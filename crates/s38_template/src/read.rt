@@ -69,6 +69,7 @@ fn deck_of(alloc: Global, text: &[u8]) -> Result<Deck, DeckFault>
 /// The deck that a text spells. `Bad` exactly where it spells none.
 pub fn read_deck(alloc: Global, text: &[u8]) -> Result<Deck, DeckFault>
     ensures found { IfOk result (λ deck. Spells text.now deck) }
+    ensures only { IfOk result (λ deck. (other : Deck) → Spells text.now other → other ≡ deck) }
     ensures bad { IsErrOf result DeckFault.Bad → (deck : Deck) → Spells text.now deck → ⊥ }
 {
     deck_of(alloc, text)

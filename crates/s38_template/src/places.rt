@@ -1,0 +1,85 @@
+ghost use Rattle.std.specs.Prelude.{◌≡◌, ℕ, List, IfOk, Some, drop, length};
+ghost use Rattle.std.specs.BTreeMap.{get};
+ghost use Rattle.std.specs.Cmp.Lexicographic.{slice_cmp};
+ghost use Rattle.std.specs.List.{slice_get};
+ghost use Rattle.std.specs.Ordering.{nat_cmp};
+ghost use Rattle.s38_code.specs.declared.deck.Deck.{Deck};
+ghost use Rattle.s38_code.specs.declared.deck.Job.{Job};
+ghost use Rattle.s38_template.specs.Grammar.{Spells, name_of, program_word, template_names};
+ghost use Rattle.s38_template.specs.Places.{HasTemplate, held, place_of, placed};
+ghost use Rattle.s38_template.specs.Reading.{name_in};
+
+use crate::job_line::name_in;
+use crate::line::PROGRAM;
+use s38_base::{Name, NoMemory};
+use s38_code::{Deck, Template};
+use std::alloc::Global;
+use std::collections::BTreeMap;
+
+/// The name in the head of a template; None where it has none.
+fn name_of(template: &Template) -> Option<Name>
+    ensures { result ≡ name_in (name_of template.now) }
+{
+    match template.lines().first() {
+        Some(head) => name_behind(head.as_slice()),
+        None => None,
+    }
+}
+
+fn name_behind(head: &[u8]) -> Option<Name>
+    ensures { result ≡ name_in (drop (length program_word) head.now) }
+{
+    if head.len() < PROGRAM.len() {
+        return None;
+    }
+    name_in(&head[PROGRAM.len()..])
+}
+
+/// These places and that of one more name, unless it has a place already.
+fn with_name(
+    places: BTreeMap<Name, usize>,
+    at: usize,
+    name: Name,
+) -> Result<BTreeMap<Name, usize>, NoMemory>
+    ensures { IfOk result (λ more. (q : List ℕ) → get (slice_cmp nat_cmp) more q ≡ held (get (slice_cmp nat_cmp) places q) at name q) }
+{
+    let mut places = places;
+    if places.contains_key(&name) {
+        return Ok(places);
+    }
+    match places.insert(name, at) {
+        Ok(_) => Ok(places),
+        Err(_) => Err(NoMemory),
+    }
+}
+
+/// These places and that of one more template, unless its name has a place already.
+fn with_place(
+    places: BTreeMap<Name, usize>,
+    at: usize,
+    template: &Template,
+) -> Result<BTreeMap<Name, usize>, NoMemory>
+    ensures { IfOk result (λ more. (q : List ℕ) → get (slice_cmp nat_cmp) more q ≡ placed (get (slice_cmp nat_cmp) places q) at (name_of template.now) q) }
+{
+    match name_of(template) {
+        Some(name) => with_name(places, at, name),
+        None => Ok(places),
+    }
+}
+
+/// Where the templates of a deck stand, by their names: the run finds a job's template by it without a
+/// search over all. Where two have one name, which no deck that was read has, it tells the first.
+pub fn template_places(alloc: Global, deck: &Deck) -> Result<BTreeMap<Name, usize>, NoMemory>
+    ensures { IfOk result (λ places. (q : List ℕ) → get (slice_cmp nat_cmp) places q ≡ place_of (template_names deck.now.templates) q) }
+{
+    let mut places = BTreeMap::new(alloc);
+    for (at, template) in deck.templates.as_slice().iter().enumerate() {
+        places = with_place(places, at, template)?;
+    }
+    Ok(places)
+}
+
+/// In a deck that a text spells each job's template has a place, and stands there.
+pub fn each_job_has_its_template()
+    ensures { (text : List ℕ) (deck : Deck) → Spells text deck → (k : ℕ) (job : Job) → slice_get deck.jobs k ≡ Some job → HasTemplate deck job }
+{}
