@@ -1,4 +1,6 @@
 -- Operands that creation makes fit their classes.
+use Rattle.s38_create.proofs.Parts.{if-some, and_then-some, map-some}
+use Rattle.s38_create.proofs.RowLemmas.{rows_from-fits}
 use Rattle.s38_create.proofs.PlaceLemmas.{with_row-is}
 use Rattle.std.proofs.lemmas.Bool.{leb-true}
 use Rattle.std.proofs.Common.{length-take, length-drop, ◌-◌, ◌&&◌, take, drop, ◌≡◌, ◌≤◌, ◌+◌, ℕ, zero, suc, Bool, true, false, cond, List, [], ◌∷◌, ◌++◌, length, length-append, append_assoc, append-nil, Option, Some, None, refl, sym, ◌∙◌, ap, subst, arith}
@@ -26,7 +28,7 @@ use Rattle.s38_create.specs.Instruction.{args_from, checked, with_operands, op_o
 use Rattle.s38_code.specs.declared.program.Program.{Program}
 use Rattle.s38_create.specs.Declaration.{row_of, row_added, with_row, rows_from}
 use Rattle.s38_create.specs.Created.{created, created_inner, declaration_count, inner, is_framed, is_small, program, program_from}
-use Rattle.s38_create.specs.WellFormed.{suits_place, IsPlaced, InstructionFits, WellFormed}
+use Rattle.s38_create.specs.WellFormed.{suits_place, IsPlaced, InstructionFits, RowFits, WellFormed}
 
 -- the operand, if it is an item, is one for the class
 abbrev OperandFits : List Row → Class → Arg → Type 0
@@ -190,20 +192,6 @@ code_from-fits rows code [] out h fits =
 code_from-fits rows code (line ∷ lines) out h fits =
     code_from-step rows code line lines out (λ code h fits. code_from-fits rows code lines out h fits) (instruction_of rows line) refl h fits
 
--- ---- what is Some, from its parts
-
-if-some : {A : Type 0} (b : Bool) (o : Option A) (x : A) → cond b o None ≡ Some x → (b ≡ true) × (o ≡ Some x)
-if-some true o x h = (refl, h)
-if-some false o x h = absurd (let e : None ≡ Some x = h in cc)
-
-and_then-some : {A B : Type 0} (f : A → Option B) (o : Option A) (x : B) → option_and_then f o ≡ Some x → (y : A) × (o ≡ Some y) × (f y ≡ Some x)
-and_then-some f None x h = absurd (let e : None ≡ Some x = h in cc)
-and_then-some f (Some y) x h = (y, refl, h)
-
-map-some : {A B : Type 0} (f : A → B) (o : Option A) (x : B) → option_map f o ≡ Some x → (y : A) × (o ≡ Some y) × (f y ≡ x)
-map-some f None x h = absurd (let e : None ≡ Some x = h in cc)
-map-some f (Some y) x h = (y, refl, cc)
-
 with_row-count : (rows more : List Row) (row : Row) → with_row rows row ≡ Some more → length more ≡ length rows + 1
 with_row-count rows more row h = ap length (with_row-is rows more row h) ∙ omega (arith, length-append {A = Row})
 
@@ -229,7 +217,7 @@ program_from-fits lines declared instructions made few_rows few_instructions h =
     let fits = code_from-fits rows.0 [] instructions code.0 code.1 (All-nil (InstructionFits rows.0)) in
     let sized : length code.0 ≡ 0 + length instructions = fits.1 in
     let P : Program → Type 0 = λ p. WellFormed p in
-    subst P code.2 (record { few_rows = omega arith; few_instructions = omega arith; fits = fits.0 })
+    subst P code.2 (record { few_rows = omega arith; variables = rows_from-fits [] declared rows.0 (All-nil RowFits) rows.1; few_instructions = omega arith; fits = fits.0 })
 
 both-small : (n len : ℕ) → (nat_le n 1024 && nat_le (len - n) 16384) ≡ true → (n ≤ 1024) × (len - n ≤ 16384)
 both-small n len h =

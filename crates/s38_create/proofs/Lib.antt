@@ -1,2 +1,4 @@
 pub mod FitLemmas
+pub mod Parts
 pub mod PlaceLemmas
+pub mod RowLemmas
