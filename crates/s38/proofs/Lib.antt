@@ -1,0 +1,2 @@
+pub mod DeckLaws
+pub mod TopLaws

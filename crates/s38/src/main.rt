@@ -1,0 +1,7 @@
+#![tactic(auto)]
+
+mod programs;
+
+fn main(rt: HostRuntime) {
+    let _ = rt;
+}
