@@ -1,5 +1,5 @@
 -- Decks whose templates all make programs, and whole runs of their jobs.
-use Rattle.std.specs.Prelude.{◌≡◌, ℕ, ◌+◌, IsTrue, List, [], ◌∷◌, Option, Some, None, is_some, slice_get}
+use Rattle.std.specs.Prelude.{◌≡◌, ◌<◌, ℕ, ◌+◌, IsTrue, List, [], ◌∷◌, Option, Some, None, is_some, length, slice_get}
 use Rattle.std.specs.Option.{option_map, option_and_then}
 use Rattle.s38_code.specs.declared.deck.Deck.{Deck}
 use Rattle.s38_code.specs.declared.deck.Job.{Job}
@@ -39,3 +39,10 @@ pub record IsRunOf (deck : Deck) (history : List Entry) : Type 0 where
   pub state : State
   pub legal : Leads (opened deck.jobs) [] history state
   pub each : (k : ℕ) (job : Job) → slice_get deck.jobs k ≡ Some job → IsRunOfJob deck job (entries_of (k + 1) history)
+
+-- at this place stands the program of a job
+pub record JobAt (deck : Deck) (job : Job) (ps : List Program) (at : ℕ) : Type 0 where
+  pub within : at < length ps
+  pub program : Program
+  pub there : slice_get ps at ≡ Some program
+  pub made : program_of deck job ≡ Some program
