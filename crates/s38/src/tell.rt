@@ -1,0 +1,75 @@
+ghost use Rattle.std.specs.Prelude.{◌≡◌, ◌⊎◌, IfOk, MatchBool};
+ghost use Rattle.std.specs.Io.KnownBytes.{Appends};
+ghost use Rattle.s38_base.specs.Faults.{Rose};
+ghost use Rattle.s38_io.specs.Sink.{AppendsFront};
+ghost use Rattle.s38.specs.Outcome.{run_text, text_of};
+
+use crate::outcome::{Outcome, Whole};
+use s38_base::NoMemory;
+use s38_code::{Deck, Entry};
+use s38_io::Sink;
+use s38_joblog::{last_line, log_text};
+use std::alloc::Global;
+
+/// An outcome, and whether its text was written whole.
+#[derive(Drop)]
+pub struct Told {
+    pub outcome: Outcome,
+    pub written: bool,
+}
+
+/// The log of a run, and its last line.
+fn run_text(alloc: Global, deck: &Deck, history: &[Entry]) -> Result<Vec<u8>, NoMemory>
+    ensures { IfOk result (λ text. text.items ≡ run_text deck.now history.now) }
+{
+    let mut text = log_text(alloc, history, deck.jobs.as_slice())?;
+    let last = last_line(alloc, history.len() as u64)?;
+    text.extend_from_slice(last.as_slice())?;
+    Ok(text)
+}
+
+fn put<O: Sink>(out: &mut O, text: &[u8]) -> bool
+    ensures { MatchBool result (Appends (O.written out.old) (O.written out.new) text.now)
+        (Rose (O.faults out.old) (O.faults out.new) × AppendsFront (O.written out.old) (O.written out.new) text.now) }
+{
+    match out.put(text) {
+        Ok(()) => true,
+        Err(_) => false,
+    }
+}
+
+fn tell_text<O: Sink>(outcome: Outcome, text: &[u8], out: &mut O) -> Told
+    requires { text.now ≡ text_of outcome }
+    ensures outcome { result.outcome ≡ outcome }
+    ensures told { MatchBool result.written (Appends (O.written out.old) (O.written out.new) (text_of result.outcome))
+        (Rose (O.faults out.old) (O.faults out.new) × AppendsFront (O.written out.old) (O.written out.new) (text_of result.outcome)) }
+{
+    let written = put(out, text);
+    Told { outcome, written }
+}
+
+fn tell_run<O: Sink>(alloc: Global, whole: Whole, out: &mut O) -> Told
+    ensures outcome { (result.outcome ≡ Outcome.Complete whole) ⊎ (result.outcome ≡ Outcome.NoMemory) }
+    ensures told { MatchBool result.written (Appends (O.written out.old) (O.written out.new) (text_of result.outcome))
+        (Rose (O.faults out.old) (O.faults out.new) × AppendsFront (O.written out.old) (O.written out.new) (text_of result.outcome)) }
+{
+    match run_text(alloc, &whole.deck, whole.history.as_slice()) {
+        Err(_) => tell_text(Outcome::NoMemory, b"NO MEMORY\n", out),
+        Ok(text) => tell_text(Outcome::Complete(whole), text.as_slice(), out),
+    }
+}
+
+/// Writes the text of an outcome in one piece. Where memory is wanted for it, the outcome is that.
+pub fn tell<O: Sink>(alloc: Global, outcome: Outcome, out: &mut O) -> Told
+    ensures outcome { (result.outcome ≡ outcome) ⊎ (result.outcome ≡ Outcome.NoMemory) }
+    ensures told { MatchBool result.written (Appends (O.written out.old) (O.written out.new) (text_of result.outcome))
+        (Rose (O.faults out.old) (O.faults out.new) × AppendsFront (O.written out.old) (O.written out.new) (text_of result.outcome)) }
+{
+    match outcome {
+        Outcome::BadWords => tell_text(Outcome::BadWords, b"BAD WORDS\n", out),
+        Outcome::BadDeck => tell_text(Outcome::BadDeck, b"BAD DECK 0 2\n", out),
+        Outcome::DeckFault => tell_text(Outcome::DeckFault, b"DECK FAULT\n", out),
+        Outcome::NoMemory => tell_text(Outcome::NoMemory, b"NO MEMORY\n", out),
+        Outcome::Complete(whole) => tell_run(alloc, whole, out),
+    }
+}
