@@ -1,0 +1,3 @@
+pub mod Attributes
+pub mod Powers
+pub mod Spelling
