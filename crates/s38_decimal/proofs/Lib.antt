@@ -1,3 +1,4 @@
 pub mod Attributes
+pub mod DigitAt
 pub mod Powers
 pub mod Spelling

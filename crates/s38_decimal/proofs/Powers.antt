@@ -1,5 +1,5 @@
 -- Powers of ten as bounds.
-use Rattle.std.proofs.Common.{◌≡◌, ℕ, suc, ◌+◌, ◌*◌, ◌^◌, ◌<◌, ◌≤◌, arith, add-one}
+use Rattle.std.proofs.Common.{◌≡◌, ℕ, suc, ◌+◌, ◌-◌, ◌*◌, ◌/◌, ◌^◌, ◌<◌, ◌≤◌, arith, add-one}
 use Rattle.std.proofs.Math.Nat.{pow-le-pow_right, pow-suc}
 use Rattle.std.proofs.lemmas.Grind.{pow_more}
 
@@ -18,3 +18,7 @@ room_for_digit n k number digit small below d = omega (arith, digit_more k numbe
 -- numbers of up to 38 digits are far from what 127 bits hold
 pub below_half : (n digits : ℕ) → n < 10 ^ digits → digits ≤ 38 → n < 2 ^ 127
 below_half n digits small few = omega (arith, tens_le digits 38 few)
+
+-- a packed number's bytes have room for its digits
+pub packed_room : (n digits len : ℕ) → n < 10 ^ digits → len ≡ digits / 2 + 1 → n < 10 ^ (2 * len - 1)
+packed_room n digits len small is = omega (arith, tens_le digits (2 * len - 1) (omega arith))

@@ -25,7 +25,7 @@ product_need a b to = whole_digits a + whole_digits b + max (fraction_of a + fra
 abbrev pub quotient_need : Attr → Attr → Attr → ℕ
 quotient_need a b to =
     max (digits_of a + (fraction_of to + fraction_of b - fraction_of a))
-        (digits_of b + (fraction_of a - (fraction_of to + fraction_of b)))
+    (digits_of b + (fraction_of a - (fraction_of to + fraction_of b)))
 
 abbrev pub remainder_need : Attr → Attr → Attr → ℕ
 remainder_need a b to = longer_whole a b + max (longer_fraction a b) (fraction_of to)

@@ -65,7 +65,9 @@ pub fn need(op: Op, a: Attr, b: Attr, to: Attr, power: i8) -> u8
     match op {
         Op::Addn => longer_whole(a, b) + 1 + longer_fraction(a, b).max(to.fraction()),
         Op::Subn => longer_whole(a, b) + 1 + longer_fraction(a, b).max(to.fraction()),
-        Op::Mult => whole_digits(a) + whole_digits(b) + (a.fraction() + b.fraction()).max(to.fraction()),
+        Op::Mult => whole_digits(a)
+            + whole_digits(b)
+            + (a.fraction() + b.fraction()).max(to.fraction()),
         Op::Div => quotient_need(a, b, to),
         Op::Rem => longer_whole(a, b) + longer_fraction(a, b).max(to.fraction()),
         Op::Neg => whole_digits(a) + longer_fraction(a, to),

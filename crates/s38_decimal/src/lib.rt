@@ -8,7 +8,9 @@ mod digits;
 mod read;
 mod tens;
 mod units;
+mod write;
 
 pub use dec::{Dec, DecimalFault, Target};
 pub use digits::need;
 pub use read::read_scalar;
+pub use write::write_scalar;
