@@ -63,8 +63,10 @@ scaled_by x (negsuc below) = record { top = x.top; bottom = x.bottom * 10 ^ (bel
 abbrev pub order_of : Exact → Exact → Ordering
 order_of x y = int_cmp (x.top *ℤ pos y.bottom) (y.top *ℤ pos x.bottom)
 
--- what a receiver answers to a value: its units, or that they don't fit
+-- a receiver takes units, or they don't fit
+abbrev pub held : Target → ℤ → Result ℤ DecimalFault
+held to units = if fits to.attr units then Ok units else Err Size
+
+-- what a receiver answers to a value
 abbrev pub answer : Target → Exact → Result ℤ DecimalFault
-answer to e =
-    let units = units_at to.round (fraction_of to.attr) e in
-    if fits to.attr units then Ok units else Err Size
+answer to e = held to (units_at to.round (fraction_of to.attr) e)

@@ -6,6 +6,7 @@
 mod dec;
 mod digits;
 mod read;
+mod results;
 mod tens;
 mod units;
 mod write;
@@ -14,3 +15,4 @@ pub use dec::{Dec, DecimalFault, Target};
 pub use digits::need;
 pub use read::read_scalar;
 pub use write::write_scalar;
+pub use results::answer;
