@@ -5,8 +5,10 @@
 
 mod dec;
 mod digits;
+mod products;
 mod read;
 mod results;
+mod signed;
 mod tens;
 mod units;
 mod write;
@@ -15,4 +17,4 @@ pub use dec::{Dec, DecimalFault, Target};
 pub use digits::need;
 pub use read::read_scalar;
 pub use write::write_scalar;
-pub use results::answer;
+pub use products::{mult, scale};

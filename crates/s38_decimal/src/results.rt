@@ -68,7 +68,8 @@ fn whole(round: bool, n: u128, m: u128, up: u8, down: u8) -> u128
 
 /// The receiver takes the units, or they don't fit.
 fn held(to: Target, units: i128) -> Result<i128, DecimalFault>
-    ensures { result ≡ held to units }
+    ensures value { result ≡ held to units }
+    ensures fits { IfOk result (λ units. IsTrue (fits to.attr units)) }
 {
     if fits(to.attr, units) { Ok(units) } else { Err(DecimalFault::Size) }
 }
@@ -82,6 +83,7 @@ pub fn answer(to: Target, top: i128, bottom: u128, up: u8, down: u8) -> Result<i
     requires bottom_room { bottom * 10 ^ (down - up) ≤ 10 ^ 38 }
     ensures exact { result ≡ held to
         (with_sign top (cut_or_rounded to.round (unsigned_abs top * 10 ^ up) (bottom * 10 ^ down))) }
+    ensures fits { IfOk result (λ units. IsTrue (fits to.attr units)) }
 {
     let units = whole(to.round, top.unsigned_abs(), bottom, up, down);
     held(to, with_sign(top, units))

@@ -1,4 +1,4 @@
-ghost use Rattle.std.specs.Prelude.{◌≡◌, ◌<◌, ◌*◌, ◌^◌};
+ghost use Rattle.std.specs.Prelude.{◌≡◌, ◌<◌, ◌≤◌, ◌^◌};
 
 /// The powers of ten that 38 digits need.
 static TENS: [u128; 39] = [
@@ -46,7 +46,8 @@ static TENS: [u128; 39] = [
 /// 10 to the power k.
 pub fn ten(k: u8) -> u128
     requires { k < 39 }
-    ensures { result ≡ 10 ^ k }
+    ensures value { result ≡ 10 ^ k }
+    ensures bound { result ≤ 10 ^ 38 }
 {
     TENS[k as usize]
 }
