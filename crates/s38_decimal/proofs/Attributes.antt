@@ -1,12 +1,12 @@
 -- What the bounds of a numeric attribute give.
-use Rattle.std.proofs.Common.{◌≡◌, ℕ, ◌^◌, ◌<◌, ◌≤◌, Bool, true, ℤ, pos, negsuc, ◌⊎◌, inl, inr, ⊎_elim, subst, sym, rules, arith, tests}
+use Rattle.std.proofs.Common.{◌≡◌, ℕ, ◌^◌, ◌<◌, ◌≤◌, Bool, true, ℤ, pos, negsuc, neg_ℤ, zero, suc, refl, ap, ◌∙◌, ◌⊎◌, inl, inr, ⊎_elim, subst, sym, rules, arith, tests}
 use Rattle.std.specs.Prelude.{IsTrue, unsigned_abs}
 use Rattle.std.proofs.lemmas.Bool.Decides.{nat_tests}
 use Rattle.std.proofs.lemmas.Bool.{cases_eq}
 use Rattle.s38_base.specs.declared.attr.Attr.{Attr}
 use Rattle.s38_base.specs.declared.attr.Attr.TheVariants.{Packed, Zoned, Binary, Chars, Pointer}
 use Rattle.s38_base.specs.Scalar.{digits_of, fraction_of, fits, fits_bytes, is_numeric}
-use Rattle.s38_decimal.specs.Forms.{is_decimal}
+use Rattle.s38_decimal.specs.Forms.{IsOf, is_decimal}
 use Rattle.s38_decimal.proofs.Powers.{tens_le}
 use Rattle.s38_decimal.proofs.Rooms.{same}
 use Rattle.std.specs.Int.{w128, cast_signed, cast_unsigned}
@@ -68,3 +68,22 @@ fraction_le Pointer h = search rules
 -- a number that fits goes through a machine word unchanged
 pub fits_same : (attr : Attr) (z : ℤ) → IsTrue (fits attr z) → cast_signed w128 (cast_unsigned w128 z) ≡ z
 fits_same attr z h = same z (omega (arith, fits_below attr z h, tens_le (digits_of attr) 38 (omega (arith, digits_few attr (fits_numeric attr z h)))))
+
+pub IsOf-small : (attr : Attr) (z : ℤ) → IsOf attr z → unsigned_abs z ≤ 10 ^ 38
+IsOf-small attr z h = omega (arith, h.digits, tens_le (digits_of attr) 38 (omega (arith, digits_few attr h.numeric)))
+
+-- a number as it reaches a call
+pub IsOf-word : (attr : Attr) (top z : ℤ) → top ≡ z → IsOf attr z → IsOf attr (cast_signed w128 (cast_unsigned w128 top))
+IsOf-word attr top z is h =
+    subst (IsOf attr) (sym (ap (λ t. cast_signed w128 (cast_unsigned w128 t)) is ∙ same z (IsOf-small attr z h))) h
+
+pub IsOf-fits : (attr : Attr) (z : ℤ) → IsTrue (fits attr z) → IsOf attr z
+IsOf-fits attr z h = record { numeric = fits_numeric attr z h; digits = fits_below attr z h }
+
+pub IsOf-negative : (attr : Attr) (z : ℤ) → IsOf attr z → IsOf attr (neg_ℤ z)
+IsOf-negative attr z h = record { numeric = h.numeric; digits = omega (arith, h.digits, abs_negative z) }
+  where
+    abs_negative : (y : ℤ) → unsigned_abs (neg_ℤ y) ≡ unsigned_abs y
+    abs_negative (pos zero) = refl
+    abs_negative (pos (suc n)) = refl
+    abs_negative (negsuc n) = refl

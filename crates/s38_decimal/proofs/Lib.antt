@@ -1,7 +1,9 @@
 pub mod Attributes
 pub mod DigitAt
 pub mod Fractions
+pub mod Integers
 pub mod Powers
 pub mod ProductLaws
 pub mod Rooms
 pub mod Spelling
+pub mod SumLaws

@@ -1,5 +1,5 @@
 -- 38 digits are enough, and 127 bits for them.
-use Rattle.std.proofs.Common.{◌≡◌, ℕ, ◌+◌, ◌-◌, ◌*◌, ◌^◌, ◌<◌, ◌≤◌, ℤ, pos, negsuc, ◌*ℤ◌, ap, sym, ◌∙◌, arith}
+use Rattle.std.proofs.Common.{◌≡◌, ℕ, ◌+◌, ◌-◌, ◌*◌, ◌^◌, ◌<◌, ◌≤◌, ℤ, pos, negsuc, ◌*ℤ◌, ◌+ℤ◌, ap, sym, ◌∙◌, arith}
 use Rattle.std.specs.Prelude.{unsigned_abs}
 use Rattle.std.specs.Int.{w128, cast_signed, cast_unsigned}
 use Rattle.std.specs.Int.RustNames.{FitsSigned}
@@ -43,3 +43,15 @@ bottom_room k few = omega (arith, tens_le k 38 few)
 -- a product of numbers of i and j digits has i + j
 pub product_below : (x y : ℤ) (i j : ℕ) → unsigned_abs x < 10 ^ i → unsigned_abs y < 10 ^ j → unsigned_abs (x *ℤ y) < 10 ^ (i + j)
 product_below x y i j first second = omega (arith, unsigned_abs-mul x y, mul-lt (unsigned_abs x) (unsigned_abs y) (10 ^ i) (10 ^ j) first second, pow-add 10 i j)
+
+pub same_word : (top z : ℤ) → top ≡ z → unsigned_abs z ≤ 10 ^ 38 → cast_signed w128 (cast_unsigned w128 top) ≡ z
+same_word top z is small = ap (λ t. cast_signed w128 (cast_unsigned w128 t)) is ∙ same z small
+
+-- the sum of two words
+pub sum_is : (t u v x y : ℤ) → t ≡ cast_signed w128 (cast_unsigned w128 u) +ℤ cast_signed w128 (cast_unsigned w128 v) → u ≡ x → v ≡ y → unsigned_abs x ≤ 10 ^ 38 → unsigned_abs y ≤ 10 ^ 38 → t ≡ x +ℤ y
+sum_is t u v x y is u_is v_is x_small y_small =
+    is ∙ ap (λ z. z +ℤ cast_signed w128 (cast_unsigned w128 v)) (same_word u x u_is x_small) ∙ ap (λ z. x +ℤ z) (same_word v y v_is y_small)
+
+pub sum_room : (u v x y : ℤ) → u ≡ x → v ≡ y → unsigned_abs x ≤ 10 ^ 37 → unsigned_abs y ≤ 10 ^ 37 → unsigned_abs (cast_signed w128 (cast_unsigned w128 u)) + unsigned_abs (cast_signed w128 (cast_unsigned w128 v)) ≤ 10 ^ 38
+sum_room u v x y u_is v_is x_small y_small =
+    omega (arith, ap unsigned_abs (same_word u x u_is (omega arith)), ap unsigned_abs (same_word v y v_is (omega arith)))

@@ -19,7 +19,8 @@ fn longer_whole(a: Attr, b: Attr) -> u8
     whole_digits(a).max(whole_digits(b))
 }
 
-fn longer_fraction(a: Attr, b: Attr) -> u8
+/// How many digits stand behind the point of the one that has more.
+pub fn longer_fraction(a: Attr, b: Attr) -> u8
     ensures { result ≡ longer_fraction a b }
 {
     a.fraction().max(b.fraction())

@@ -3,12 +3,14 @@
 //! takes memory.
 #![tactic(auto)]
 
+mod common;
 mod dec;
 mod digits;
 mod products;
 mod read;
 mod results;
 mod signed;
+mod sums;
 mod tens;
 mod units;
 mod write;
@@ -16,5 +18,6 @@ mod write;
 pub use dec::{Dec, DecimalFault, Target};
 pub use digits::need;
 pub use read::read_scalar;
+pub use sums::{add, sub};
 pub use write::write_scalar;
 pub use products::{mult, scale};

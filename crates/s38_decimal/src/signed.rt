@@ -1,4 +1,4 @@
-ghost use Rattle.std.specs.Prelude.{◌≡◌, ◌≤◌, ◌*◌, ◌^◌, ◌*ℤ◌, ◌+ℤ◌, neg_ℤ, pos, unsigned_abs};
+ghost use Rattle.std.specs.Prelude.{◌≡◌, ◌≤◌, ◌+◌, ◌*◌, ◌^◌, ◌*ℤ◌, ◌+ℤ◌, neg_ℤ, pos, unsigned_abs};
 
 use crate::tens::ten;
 
@@ -17,4 +17,20 @@ pub fn raised(units: i128, k: u8) -> i128
     ensures { result ≡ units *ℤ pos (10 ^ k) }
 {
     product(units, ten(k) as i128)
+}
+
+/// a + b.
+pub fn sum(a: i128, b: i128) -> i128
+    requires { unsigned_abs a + unsigned_abs b ≤ 10 ^ 38 }
+    ensures { result ≡ a +ℤ b }
+{
+    a + b
+}
+
+/// -a.
+pub fn negative(a: i128) -> i128
+    requires { unsigned_abs a ≤ 10 ^ 38 }
+    ensures { result ≡ neg_ℤ a }
+{
+    -a
 }
