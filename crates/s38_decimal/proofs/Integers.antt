@@ -1,6 +1,7 @@
 -- Laws of signed products with a factor that is not negative.
 use Rattle.std.proofs.Common.{◌≡◌, ℕ, zero, suc, ◌+◌, ◌*◌, ℤ, pos, negsuc, ◌+ℤ◌, ◌*ℤ◌, neg_ℤ, refl, ap, sym, ◌∙◌, arith}
-use Rattle.std.proofs.Math.IntN.{suc_ℤ-*ℤ, *ℤ_comm, *ℤ-zero}
+use Rattle.std.proofs.Math.IntN.{suc_ℤ-*ℤ, *ℤ_comm, *ℤ-zero, *ℤ-negsuc}
+use Rattle.std.proofs.Math.Nat.{mul_comm}
 use Rattle.std.proofs.lemmas.Int.{ints}
 
 pub times_suc : (z : ℤ) (p : ℕ) → z *ℤ pos (suc p) ≡ z *ℤ pos p +ℤ z
@@ -36,3 +37,13 @@ negative_times (negsuc n) p = sym (neg_neg (suc n * p))
 pub times_times : (z : ℤ) (p q : ℕ) → z *ℤ pos p *ℤ pos q ≡ z *ℤ pos (p * q)
 times_times (pos a) p q = ap pos (omega arith)
 times_times (negsuc a) p q = neg_times (suc a * p) q ∙ ap (λ n. neg_ℤ (pos n)) (omega arith)
+
+-- the order of two factors is free
+swap_pos : (z : ℤ) (m p : ℕ) → z *ℤ pos p *ℤ pos m ≡ z *ℤ pos m *ℤ pos p
+swap_pos z m p = times_times z p m ∙ ap (λ n. z *ℤ pos n) (mul_comm p m) ∙ sym (times_times z m p)
+
+pub swap_factors : (z s : ℤ) (p : ℕ) → z *ℤ pos p *ℤ s ≡ z *ℤ s *ℤ pos p
+swap_factors z (pos m) p = swap_pos z m p
+swap_factors z (negsuc m) p =
+    *ℤ-negsuc (z *ℤ pos p) m ∙ ap neg_ℤ (swap_pos z (suc m) p)
+    ∙ sym (negative_times (z *ℤ pos (suc m)) p) ∙ ap (λ y. y *ℤ pos p) (sym (*ℤ-negsuc z m))

@@ -4,6 +4,7 @@ pub mod Fractions
 pub mod Integers
 pub mod Powers
 pub mod ProductLaws
+pub mod QuotientLaws
 pub mod Rooms
 pub mod Spelling
 pub mod SumLaws

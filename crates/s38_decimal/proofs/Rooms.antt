@@ -55,3 +55,9 @@ sum_is t u v x y is u_is v_is x_small y_small =
 pub sum_room : (u v x y : ℤ) → u ≡ x → v ≡ y → unsigned_abs x ≤ 10 ^ 37 → unsigned_abs y ≤ 10 ^ 37 → unsigned_abs (cast_signed w128 (cast_unsigned w128 u)) + unsigned_abs (cast_signed w128 (cast_unsigned w128 v)) ≤ 10 ^ 38
 sum_room u v x y u_is v_is x_small y_small =
     omega (arith, ap unsigned_abs (same_word u x u_is (omega arith)), ap unsigned_abs (same_word v y v_is (omega arith)))
+
+pub bottom_is : (n m up down u d : ℕ) → n ≡ m → up ≡ u → down ≡ d → m * 10 ^ (d - u) ≤ 10 ^ 38 → n * 10 ^ (down - up) ≤ 10 ^ 38
+bottom_is n m up down u d is up_is down_is small =
+    let e : n * 10 ^ (down - up) ≡ m * 10 ^ (d - u) =
+        ap (λ k. k * 10 ^ (down - up)) is ∙ ap (λ k. m * 10 ^ (down - k)) up_is ∙ ap (λ k. m * 10 ^ (k - u)) down_is in
+    omega (arith, e)

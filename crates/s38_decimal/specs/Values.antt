@@ -1,5 +1,5 @@
 -- Results as exact fractions, and how a receiver takes them.
-use Rattle.std.specs.Prelude.{ℕ, ◌+◌, ◌*◌, ◌/◌, ◌^◌, Bool, false, ℤ, pos, negsuc, neg_ℤ, ◌+ℤ◌, ◌-ℤ◌, ◌*ℤ◌, unsigned_abs, Result, Ok, Err, if◌then◌else◌}
+use Rattle.std.specs.Prelude.{ℕ, ◌+◌, ◌*◌, ◌/◌, ◌^◌, ◌==◌, Bool, false, ℤ, pos, negsuc, neg_ℤ, ◌+ℤ◌, ◌-ℤ◌, ◌*ℤ◌, unsigned_abs, Result, Ok, Err, if◌then◌else◌}
 use Rattle.std.specs.Int.{int_signum}
 use Rattle.std.specs.Ordering.{int_cmp}
 use Rattle.std.specs.declared.cmp.Ordering.{Ordering}
@@ -7,7 +7,7 @@ use Rattle.s38_base.specs.Scalar.{fits, fraction_of}
 use Rattle.s38_decimal.specs.declared.dec.Dec.{Dec}
 use Rattle.s38_decimal.specs.declared.dec.Target.{Target}
 use Rattle.s38_decimal.specs.declared.dec.DecimalFault.{DecimalFault}
-use Rattle.s38_decimal.specs.declared.dec.DecimalFault.TheVariants.{Size}
+use Rattle.s38_decimal.specs.declared.dec.DecimalFault.TheVariants.{Size, ZeroDivide}
 
 -- a fraction whose bottom is above 0
 pub record Exact : Type 0 where
@@ -70,3 +70,13 @@ held to units = if fits to.attr units then Ok units else Err Size
 -- what a receiver answers to a value
 abbrev pub answer : Target → Exact → Result ℤ DecimalFault
 answer to e = held to (units_at to.round (fraction_of to.attr) e)
+
+abbrev pub is_zero : Exact → Bool
+is_zero x = unsigned_abs x.top == 0
+
+-- what a receiver answers to a quotient, and to a remainder
+abbrev pub quotient_answer : Target → Exact → Exact → Result ℤ DecimalFault
+quotient_answer to x y = if is_zero y then Err ZeroDivide else answer to (quotient_of x y)
+
+abbrev pub remainder_answer : Target → Exact → Exact → Result ℤ DecimalFault
+remainder_answer to x y = if is_zero y then Err ZeroDivide else answer to (remainder_of x y)
