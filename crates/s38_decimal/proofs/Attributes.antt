@@ -87,3 +87,11 @@ IsOf-negative attr z h = record { numeric = h.numeric; digits = omega (arith, h.
     abs_negative (pos zero) = refl
     abs_negative (pos (suc n)) = refl
     abs_negative (negsuc n) = refl
+
+-- what is compared: 31 digits at most, and no more behind the point
+pub fits_magnitude : (attr : Attr) (z : ℤ) (n : ℕ) → IsTrue (fits attr z) → n ≡ unsigned_abs (cast_signed w128 (cast_unsigned w128 z)) → n < 10 ^ 31
+fits_magnitude attr z n h is =
+    omega (arith, is, ap unsigned_abs (fits_same attr z h), fits_below attr z h, tens_le (digits_of attr) 31 (digits_few attr (fits_numeric attr z h)))
+
+pub fits_fraction : (attr : Attr) (z : ℤ) (n : ℕ) → IsTrue (fits attr z) → n ≡ fraction_of attr → n ≤ 31
+fits_fraction attr z n h is = omega (arith, is, fraction_le attr (fits_numeric attr z h), digits_few attr (fits_numeric attr z h))

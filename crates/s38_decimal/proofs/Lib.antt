@@ -2,6 +2,7 @@ pub mod Attributes
 pub mod DigitAt
 pub mod Fractions
 pub mod Integers
+pub mod OrderLaws
 pub mod Powers
 pub mod ProductLaws
 pub mod QuotientLaws

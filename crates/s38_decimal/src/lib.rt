@@ -6,6 +6,7 @@
 mod common;
 mod dec;
 mod digits;
+mod order;
 mod products;
 mod quotients;
 mod read;
@@ -22,4 +23,5 @@ pub use read::read_scalar;
 pub use quotients::div;
 pub use sums::{add, sub};
 pub use write::write_scalar;
+pub use order::compare;
 pub use products::{mult, scale};
