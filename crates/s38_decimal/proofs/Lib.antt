@@ -6,6 +6,7 @@ pub mod OrderLaws
 pub mod Powers
 pub mod ProductLaws
 pub mod QuotientLaws
+pub mod RemainderLaws
 pub mod Rooms
 pub mod Spelling
 pub mod SumLaws
