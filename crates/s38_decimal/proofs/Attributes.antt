@@ -27,7 +27,7 @@ fits_decimal (Binary size) z numeric h small = search rules
 fits_decimal (Chars len) z numeric h small = search rules
 fits_decimal Pointer z numeric h small = search rules
 
-two_or_four : (size : ℕ) → IsTrue (is_numeric (Binary size)) → (size ≡ 2) ⊎ (size ≡ 4)
+pub two_or_four : (size : ℕ) → IsTrue (is_numeric (Binary size)) → (size ≡ 2) ⊎ (size ≡ 4)
 two_or_four size h = ⊎_elim (λ e. inl e) (λ ne. inr (grind (arith, nat_tests))) (cases_eq size 2)
 
 -- 16 bits are less than five digits, and 32 less than ten

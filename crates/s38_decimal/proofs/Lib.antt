@@ -1,6 +1,7 @@
 pub mod Attributes
 pub mod DigitAt
 pub mod Fractions
+pub mod ImageLaws
 pub mod Integers
 pub mod OrderLaws
 pub mod Powers

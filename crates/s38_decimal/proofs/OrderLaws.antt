@@ -23,32 +23,32 @@ greater a b h = sym (nat_cmp_is a b Greater h)
 pub nat_cmp-common : (a b p : ℕ) → 0 < p → nat_cmp (a * p) (b * p) ≡ nat_cmp a b
 nat_cmp-common a b p above =
     ⊎_elim
-        (λ h. less (a * p) (b * p) (omega (arith, mul-le-mul_right {m = a + 1} {n = b} p (omega arith))) ∙ sym (less a b h))
-        (λ h. ⊎_elim
-            (λ e. equal (a * p) (b * p) (ap (λ n. n * p) e) ∙ sym (equal a b e))
-            (λ ne. greater (a * p) (b * p) (omega (arith, mul-le-mul_right {m = b + 1} {n = a} p (omega arith))) ∙ sym (greater a b (omega arith)))
-            (cases_eq a b))
-        (cases_lt a b)
+    (λ h. less (a * p) (b * p) (omega (arith, mul-le-mul_right {m = a + 1} {n = b} p (omega arith))) ∙ sym (less a b h))
+    (λ h. ⊎_elim
+    (λ e. equal (a * p) (b * p) (ap (λ n. n * p) e) ∙ sym (equal a b e))
+    (λ ne. greater (a * p) (b * p) (omega (arith, mul-le-mul_right {m = b + 1} {n = a} p (omega arith))) ∙ sym (greater a b (omega arith)))
+    (cases_eq a b))
+    (cases_lt a b)
 
 -- the whole parts decide where they differ
 pub by_whole : (q s r t p : ℕ) → s < p → t < p → q ≢ r → nat_cmp q r ≡ nat_cmp (q * p + s) (r * p + t)
 by_whole q s r t p s_below t_below ne =
     ⊎_elim
-        (λ h. less q r h ∙ sym (less (q * p + s) (r * p + t) (omega (arith, mul-le-mul_right {m = q + 1} {n = r} p (omega arith)))))
-        (λ h. greater q r (omega arith) ∙ sym (greater (q * p + s) (r * p + t) (omega (arith, mul-le-mul_right {m = r + 1} {n = q} p (omega arith)))))
-        (cases_lt q r)
+    (λ h. less q r h ∙ sym (less (q * p + s) (r * p + t) (omega (arith, mul-le-mul_right {m = q + 1} {n = r} p (omega arith)))))
+    (λ h. greater q r (omega arith) ∙ sym (greater (q * p + s) (r * p + t) (omega (arith, mul-le-mul_right {m = r + 1} {n = q} p (omega arith)))))
+    (cases_lt q r)
 
 -- and the rests where they don't
 pub by_rest : (q s r t p : ℕ) → q ≡ r → nat_cmp s t ≡ nat_cmp (q * p + s) (r * p + t)
 by_rest q s r t p e =
     let same = ap (λ n. n * p) e in
     ⊎_elim
-        (λ h. less s t h ∙ sym (less (q * p + s) (r * p + t) (omega arith)))
-        (λ h. ⊎_elim
-            (λ e'. equal s t e' ∙ sym (equal (q * p + s) (r * p + t) (omega arith)))
-            (λ ne. greater s t (omega arith) ∙ sym (greater (q * p + s) (r * p + t) (omega arith)))
-            (cases_eq s t))
-        (cases_lt s t)
+    (λ h. less s t h ∙ sym (less (q * p + s) (r * p + t) (omega arith)))
+    (λ h. ⊎_elim
+    (λ e'. equal s t e' ∙ sym (equal (q * p + s) (r * p + t) (omega arith)))
+    (λ ne. greater s t (omega arith) ∙ sym (greater (q * p + s) (r * p + t) (omega arith)))
+    (cases_eq s t))
+    (cases_lt s t)
 
 parts_of : (n q p r power most : ℕ) → n ≡ q * p + r → most ≡ p * power → n * power ≡ q * most + r * power
 parts_of n q p r power most is e =

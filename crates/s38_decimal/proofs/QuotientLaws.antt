@@ -27,8 +27,8 @@ quotient_units round r f g a b =
     let t = a *ℤ int_signum b in
     let top : t *ℤ pos (10 ^ g) ≡ a *ℤ pos (10 ^ g) *ℤ int_signum b = sym (swap_factors a (int_signum b) (10 ^ g)) in
     let n : unsigned_abs t * 10 ^ (r + g) ≡ unsigned_abs (t *ℤ pos (10 ^ g)) * 10 ^ r =
-        ap (λ p. unsigned_abs t * p) (pow-add 10 r g ∙ mul_comm (10 ^ r) (10 ^ g)) ∙ sym (mul_assoc (unsigned_abs t) (10 ^ g) (10 ^ r))
-        ∙ ap (λ k. k * 10 ^ r) (sym (unsigned_abs-mul t (pos (10 ^ g)))) in
+    ap (λ p. unsigned_abs t * p) (pow-add 10 r g ∙ mul_comm (10 ^ r) (10 ^ g)) ∙ sym (mul_assoc (unsigned_abs t) (10 ^ g) (10 ^ r))
+    ∙ ap (λ k. k * 10 ^ r) (sym (unsigned_abs-mul t (pos (10 ^ g)))) in
     ap (λ k. with_sign t (cut_or_rounded round k (unsigned_abs b * 10 ^ f))) n
     ∙ sym (with_sign-scale t (10 ^ g) _ (one-le-pow g 10 (omega arith)))
     ∙ ap (λ z. with_sign z (cut_or_rounded round (unsigned_abs z * 10 ^ r) (unsigned_abs b * 10 ^ f))) top
@@ -36,8 +36,11 @@ quotient_units round r f g a b =
 
 pub quotient_top : (a b to : Attr) (x y : ℤ) → IsTrue (fits a x) → 0 < unsigned_abs y → quotient_need a b to ≤ 38 → unsigned_abs (x *ℤ int_signum y) * 10 ^ (fraction_of to + fraction_of b - fraction_of a) ≤ 10 ^ 38
 quotient_top a b to x y h divisor need =
-    omega (arith, ap (λ n. n * 10 ^ (fraction_of to + fraction_of b - fraction_of a)) (turned_abs x y divisor),
-        raised_le (unsigned_abs x) (digits_of a) (fraction_of to + fraction_of b - fraction_of a) 38 (fits_below a x h) (omega arith))
+    omega (
+      arith,
+      ap (λ n. n * 10 ^ (fraction_of to + fraction_of b - fraction_of a)) (turned_abs x y divisor),
+      raised_le (unsigned_abs x) (digits_of a) (fraction_of to + fraction_of b - fraction_of a) 38 (fits_below a x h) (omega arith),
+    )
 
 pub quotient_bottom : (a b to : Attr) (y : ℤ) → IsTrue (fits b y) → quotient_need a b to ≤ 38 → unsigned_abs y * 10 ^ (fraction_of a - (fraction_of to + fraction_of b)) ≤ 10 ^ 38
 quotient_bottom a b to y h need =

@@ -159,7 +159,7 @@ rest_room x y q t small =
 pub remainder_room : (a b to : Attr) (x y : ℤ) → IsOf a x → remainder_need a b to ≤ 38 → unsigned_abs (rest_of (brought (fraction_of a) (fraction_of b) x) y) * 10 ^ (fraction_of to - longer_fraction a b) ≤ 10 ^ 38
 remainder_room a b to x y h need =
     rest_room (brought (fraction_of a) (fraction_of b) x) y (10 ^ (fraction_of to - longer_fraction a b)) (10 ^ 38)
-        (raised_on x (digits_of a) (longer_fraction a b - fraction_of a) (fraction_of to - longer_fraction a b) 38 h.digits (omega (arith, fraction_le a h.numeric)))
+    (raised_on x (digits_of a) (longer_fraction a b - fraction_of a) (fraction_of to - longer_fraction a b) 38 h.digits (omega (arith, fraction_le a h.numeric)))
 
 -- a divisor stays one
 pub brought_above : (f g : ℕ) (y : ℤ) → 0 < unsigned_abs y → 0 < unsigned_abs (brought f g y)

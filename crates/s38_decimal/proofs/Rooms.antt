@@ -32,8 +32,8 @@ same_top top z k is small = ap (λ t. cast_signed w128 (cast_unsigned w128 t)) i
 pub top_room : (top z : ℤ) (up down u d : ℕ) → top ≡ z → up ≡ u → down ≡ d → unsigned_abs z * 10 ^ (u - d) ≤ 10 ^ 38 → unsigned_abs (cast_signed w128 (cast_unsigned w128 top)) * 10 ^ (up - down) ≤ 10 ^ 38
 top_room top z up down u d is up_is down_is small =
     let e : unsigned_abs (cast_signed w128 (cast_unsigned w128 top)) * 10 ^ (up - down) ≡ unsigned_abs z * 10 ^ (u - d) =
-        ap (λ t. unsigned_abs t * 10 ^ (up - down)) (same_top top z (u - d) is small)
-        ∙ ap (λ n. unsigned_abs z * 10 ^ (n - down)) up_is ∙ ap (λ n. unsigned_abs z * 10 ^ (u - n)) down_is in
+    ap (λ t. unsigned_abs t * 10 ^ (up - down)) (same_top top z (u - d) is small)
+    ∙ ap (λ n. unsigned_abs z * 10 ^ (n - down)) up_is ∙ ap (λ n. unsigned_abs z * 10 ^ (u - n)) down_is in
     omega (arith, e)
 
 -- room for the bottom
@@ -59,5 +59,5 @@ sum_room u v x y u_is v_is x_small y_small =
 pub bottom_is : (n m up down u d : ℕ) → n ≡ m → up ≡ u → down ≡ d → m * 10 ^ (d - u) ≤ 10 ^ 38 → n * 10 ^ (down - up) ≤ 10 ^ 38
 bottom_is n m up down u d is up_is down_is small =
     let e : n * 10 ^ (down - up) ≡ m * 10 ^ (d - u) =
-        ap (λ k. k * 10 ^ (down - up)) is ∙ ap (λ k. m * 10 ^ (down - k)) up_is ∙ ap (λ k. m * 10 ^ (k - u)) down_is in
+    ap (λ k. k * 10 ^ (down - up)) is ∙ ap (λ k. m * 10 ^ (down - k)) up_is ∙ ap (λ k. m * 10 ^ (k - u)) down_is in
     omega (arith, e)

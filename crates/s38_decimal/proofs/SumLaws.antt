@@ -65,7 +65,7 @@ few_turned own other to x h need = omega (arith, fraction_le own h.numeric)
 pub raised_on : (x : ℤ) (d i j t : ℕ) → unsigned_abs x < 10 ^ d → d + (i + j) ≤ t → unsigned_abs (x *ℤ pos (10 ^ i)) * 10 ^ j ≤ 10 ^ t
 raised_on x d i j t small few =
     let e : unsigned_abs (x *ℤ pos (10 ^ i)) * 10 ^ j ≡ unsigned_abs x * 10 ^ (i + j) =
-        ap (λ n. n * 10 ^ j) (unsigned_abs-mul x (pos (10 ^ i))) ∙ mul_assoc (unsigned_abs x) (10 ^ i) (10 ^ j) ∙ ap (λ p. unsigned_abs x * p) (sym (pow-add 10 i j)) in
+    ap (λ n. n * 10 ^ j) (unsigned_abs-mul x (pos (10 ^ i))) ∙ mul_assoc (unsigned_abs x) (10 ^ i) (10 ^ j) ∙ ap (λ p. unsigned_abs x * p) (sym (pow-add 10 i j)) in
     omega (arith, e, raised_le (unsigned_abs x) d (i + j) t small few)
 
 abs_apart : (m n : ℕ) → unsigned_abs (sub_ℕ m (suc n)) ≤ m + suc n
@@ -83,8 +83,8 @@ sum_on x y q first second = omega (arith, mul-le-mul_right q (abs_sum x y))
 pub common_room : (a b to : Attr) (x y : ℤ) → IsOf a x → IsOf b y → sum_need a b to ≤ 38 → unsigned_abs (common_sum (fraction_of a) (fraction_of b) x y) * 10 ^ (fraction_of to - longer_fraction a b) ≤ 10 ^ 38
 common_room a b to x y first second need =
     sum_on (brought (fraction_of a) (fraction_of b) x) (brought (fraction_of b) (fraction_of a) y) (10 ^ (fraction_of to - longer_fraction a b))
-        (raised_on x (digits_of a) (longer_fraction a b - fraction_of a) (fraction_of to - longer_fraction a b) 37 first.digits (few a b to x first need))
-        (raised_on y (digits_of b) (longer_fraction b a - fraction_of b) (fraction_of to - longer_fraction a b) 37 second.digits (few_turned b a to y second need))
+    (raised_on x (digits_of a) (longer_fraction a b - fraction_of a) (fraction_of to - longer_fraction a b) 37 first.digits (few a b to x first need))
+    (raised_on y (digits_of b) (longer_fraction b a - fraction_of b) (fraction_of to - longer_fraction a b) 37 second.digits (few_turned b a to y second need))
 
 -- a number that is brought to the longer fraction
 pub brought_small : (own other : Attr) (x : ℤ) (t : ℕ) → IsOf own x → digits_of own + (longer_fraction own other - fraction_of own) ≤ t → unsigned_abs (brought (fraction_of own) (fraction_of other) x) ≤ 10 ^ t

@@ -6,6 +6,7 @@
 mod common;
 mod dec;
 mod digits;
+mod laws;
 mod order;
 mod products;
 mod quotients;
@@ -20,10 +21,14 @@ mod write;
 
 pub use dec::{Dec, DecimalFault, Target};
 pub use digits::need;
-pub use read::read_scalar;
+pub use laws::written_is_read;
+pub use order::compare;
+pub use products::{mult, scale};
 pub use quotients::div;
+pub use read::read_scalar;
 pub use remainders::rem;
 pub use sums::{add, sub};
 pub use write::write_scalar;
-pub use order::compare;
-pub use products::{mult, scale};
+
+#[cfg(test)]
+mod tests;

@@ -46,7 +46,11 @@ pub fn compare(a: Dec, b: Dec) -> Ordering
     let x = a.units.unsigned_abs();
     let y = b.units.unsigned_abs();
     if a.units < 0 {
-        if b.units < 0 { magnitudes(y, g, x, f) } else { Ordering::Less }
+        if b.units < 0 {
+            magnitudes(y, g, x, f)
+        } else {
+            Ordering::Less
+        }
     } else if b.units < 0 {
         Ordering::Greater
     } else {

@@ -29,7 +29,11 @@ fn rounded(n: u128, m: u128) -> u128
     ensures bound { result ≤ n }
 {
     let (quotient, rest) = divided(n, m);
-    if m - rest <= rest { quotient + 1 } else { quotient }
+    if m - rest <= rest {
+        quotient + 1
+    } else {
+        quotient
+    }
 }
 
 /// n / m, cut, or rounded with halves up.
@@ -38,7 +42,11 @@ fn cut_or_rounded(round: bool, n: u128, m: u128) -> u128
     ensures value { result ≡ cut_or_rounded round n m }
     ensures bound { result ≤ n }
 {
-    if round { rounded(n, m) } else { divided(n, m).0 }
+    if round {
+        rounded(n, m)
+    } else {
+        divided(n, m).0
+    }
 }
 
 /// n, with the sign of z.
@@ -71,7 +79,11 @@ fn held(to: Target, units: i128) -> Result<i128, DecimalFault>
     ensures value { result ≡ held to units }
     ensures fits { IfOk result (λ units. IsTrue (fits to.attr units)) }
 {
-    if fits(to.attr, units) { Ok(units) } else { Err(DecimalFault::Size) }
+    if fits(to.attr, units) {
+        Ok(units)
+    } else {
+        Err(DecimalFault::Size)
+    }
 }
 
 /// What the receiver answers to top * 10 ^ up / (bottom * 10 ^ down).

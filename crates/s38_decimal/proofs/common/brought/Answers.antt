@@ -21,4 +21,4 @@ pub returns : goal.returns
 returns c =
     to_z-of_z w128 c.raised.result (record { sfits = c.raised.type_inv })
     ∙ raised_is c.raised.result c.args.x c.longer_fraction-most.result c.fraction-behind.result (longer_fraction c.args.own c.args.other) (fraction_of c.args.own) c.raised.ensures
-        (IsOf-small c.args.own c.args.x c.requires.number) c.longer_fraction-most.ensures c.fraction-behind.ensures
+    (IsOf-small c.args.own c.args.x c.requires.number) c.longer_fraction-most.ensures c.fraction-behind.ensures

@@ -33,13 +33,13 @@ returns-else-b-lt0 c =
     let a = c.args.a in
     let b = c.args.b in
     order_less a.units b.units (10 ^ fraction_of b.attr) (10 ^ fraction_of a.attr) (one-le-pow (fraction_of b.attr) 10 (omega arith))
-        (ap (λ z. int_lt z (pos 0)) (sym (fits_same a.attr a.units a.fits)) ∙ c.if-a-lt0.true)
-        (ap (λ z. int_lt z (pos 0)) (sym (fits_same b.attr b.units b.fits)) ∙ c.if-b-lt0.false)
+    (ap (λ z. int_lt z (pos 0)) (sym (fits_same a.attr a.units a.fits)) ∙ c.if-a-lt0.true)
+    (ap (λ z. int_lt z (pos 0)) (sym (fits_same b.attr b.units b.fits)) ∙ c.if-b-lt0.false)
 
 pub returns-then-b-lt0-2 : goal.returns-then-b-lt0-2
 returns-then-b-lt0-2 c =
     let a = c.args.a in
     let b = c.args.b in
     order_greater a.units b.units (10 ^ fraction_of b.attr) (10 ^ fraction_of a.attr) (one-le-pow (fraction_of a.attr) 10 (omega arith))
-        (ap (λ z. int_lt z (pos 0)) (sym (fits_same a.attr a.units a.fits)) ∙ c.if-a-lt0.false)
-        (ap (λ z. int_lt z (pos 0)) (sym (fits_same b.attr b.units b.fits)) ∙ c.if-b-lt0-2.true)
+    (ap (λ z. int_lt z (pos 0)) (sym (fits_same a.attr a.units a.fits)) ∙ c.if-a-lt0.false)
+    (ap (λ z. int_lt z (pos 0)) (sym (fits_same b.attr b.units b.fits)) ∙ c.if-b-lt0-2.true)

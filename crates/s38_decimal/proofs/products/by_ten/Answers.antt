@@ -11,7 +11,7 @@ pub answer-requires-clause-top_room : goal.answer-requires-clause-top_room
 answer-requires-clause-top_room c =
     let a = c.args.a in
     top_room a.units a.units c.fraction-at.result (c.fraction-behind.result + c.args.zeros) (fraction_of c.args.to.attr) (fraction_of a.attr + c.args.zeros) refl c.fraction-at.ensures (ap (λ n. n + c.args.zeros) c.fraction-behind.ensures)
-        (lowered_top a.attr c.args.to.attr a.units c.args.zeros c.requires.some a.fits c.requires.need)
+    (lowered_top a.attr c.args.to.attr a.units c.args.zeros c.requires.some a.fits c.requires.need)
 
 pub answer-requires-clause-bottom_room : goal.answer-requires-clause-bottom_room
 answer-requires-clause-bottom_room c =

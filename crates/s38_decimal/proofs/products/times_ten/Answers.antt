@@ -11,7 +11,7 @@ pub answer-requires-clause-top_room : goal.answer-requires-clause-top_room
 answer-requires-clause-top_room c =
     let a = c.args.a in
     top_room a.units a.units (c.fraction-at.result + c.args.zeros) c.fraction-behind.result (fraction_of c.args.to.attr + c.args.zeros) (fraction_of a.attr) refl (ap (λ n. n + c.args.zeros) c.fraction-at.ensures) c.fraction-behind.ensures
-        (raised_top a.attr c.args.to.attr a.units c.args.zeros a.fits c.requires)
+    (raised_top a.attr c.args.to.attr a.units c.args.zeros a.fits c.requires)
 
 pub answer-requires-clause-bottom_room : goal.answer-requires-clause-bottom_room
 answer-requires-clause-bottom_room c =

@@ -30,7 +30,7 @@ answer-requires-clause-top_room c =
     let is : c.turned-top.result ≡ a.units *ℤ int_signum b.units = cc in
     let up : c.fraction-at.result + c.fraction-second.result ≡ fraction_of to + fraction_of b.attr = omega (arith, c.fraction-at.ensures, c.fraction-second.ensures) in
     top_room c.turned-top.result (a.units *ℤ int_signum b.units) (c.fraction-at.result + c.fraction-second.result) c.fraction-first.result (fraction_of to + fraction_of b.attr) (fraction_of a.attr) is up c.fraction-first.ensures
-        (quotient_top a.attr b.attr to a.units b.units a.fits c.requires.divisor c.requires.need)
+    (quotient_top a.attr b.attr to a.units b.units a.fits c.requires.divisor c.requires.need)
 
 pub answer-requires-clause-bottom_room : goal.answer-requires-clause-bottom_room
 answer-requires-clause-bottom_room c =
@@ -40,7 +40,7 @@ answer-requires-clause-bottom_room c =
     let is : c.unsigned_abs-bottom.result ≡ unsigned_abs b.units = c.unsigned_abs-bottom.ensures.value ∙ ap unsigned_abs (fits_same b.attr b.units b.fits) in
     let up : c.fraction-at.result + c.fraction-second.result ≡ fraction_of to + fraction_of b.attr = omega (arith, c.fraction-at.ensures, c.fraction-second.ensures) in
     bottom_is c.unsigned_abs-bottom.result (unsigned_abs b.units) (c.fraction-at.result + c.fraction-second.result) c.fraction-first.result (fraction_of to + fraction_of b.attr) (fraction_of a.attr) is up c.fraction-first.ensures
-        (quotient_bottom a.attr b.attr to b.units b.fits c.requires.need)
+    (quotient_bottom a.attr b.attr to b.units b.fits c.requires.need)
 
 pub returns-clause-exact : goal.returns-clause-exact
 returns-clause-exact c =

@@ -61,7 +61,7 @@ answer-requires-clause-top_room c =
     let y_same = same_word c.brought-y.result y y_is y_small in
     let is : c.rest-top.result ≡ rest_of x y = cc in
     top_room c.rest-top.result (rest_of x y) c.fraction-at.result c.longer_fraction-behind.result (fraction_of to) (longer_fraction a.attr b.attr) is c.fraction-at.ensures c.longer_fraction-behind.ensures
-        (remainder_room a.attr b.attr to a.units y (IsOf-fits a.attr a.units a.fits) c.requires.need)
+    (remainder_room a.attr b.attr to a.units y (IsOf-fits a.attr a.units a.fits) c.requires.need)
 
 pub answer-requires-clause-bottom_room : goal.answer-requires-clause-bottom_room
 answer-requires-clause-bottom_room c = bottom_room _ (omega (arith, c.longer_fraction-behind.ensures, c.requires.need))

@@ -18,8 +18,8 @@ sum-requires c =
     let x_is : c.brought-one.result ≡ x = c.brought-one.ensures ∙ ap (brought (fraction_of first) (fraction_of second)) (to_z-of_z w128 c.args.x c.ranges.x) in
     let y_is : c.brought-other.result ≡ y = c.brought-other.ensures ∙ ap (brought (fraction_of second) (fraction_of first)) (to_z-of_z w128 c.args.y c.ranges.y) in
     sum_room c.brought-one.result c.brought-other.result x y x_is y_is
-        (brought_small first second c.args.x 37 c.requires.first (omega (arith, fraction_le first c.requires.first.numeric, c.requires.need)))
-        (brought_small second first c.args.y 37 c.requires.second (omega (arith, fraction_le second c.requires.second.numeric, c.requires.need)))
+    (brought_small first second c.args.x 37 c.requires.first (omega (arith, fraction_le first c.requires.first.numeric, c.requires.need)))
+    (brought_small second first c.args.y 37 c.requires.second (omega (arith, fraction_le second c.requires.second.numeric, c.requires.need)))
 
 pub returns : goal.returns
 returns c =
@@ -31,5 +31,5 @@ returns c =
     let y_is : c.brought-other.result ≡ y = c.brought-other.ensures ∙ ap (brought (fraction_of second) (fraction_of first)) (to_z-of_z w128 c.args.y c.ranges.y) in
     to_z-of_z w128 c.sum.result (record { sfits = c.sum.type_inv })
     ∙ sum_is c.sum.result c.brought-one.result c.brought-other.result x y c.sum.ensures x_is y_is
-        (brought_small first second c.args.x 38 c.requires.first (omega (arith, fraction_le first c.requires.first.numeric, c.requires.need)))
-        (brought_small second first c.args.y 38 c.requires.second (omega (arith, fraction_le second c.requires.second.numeric, c.requires.need)))
+    (brought_small first second c.args.x 38 c.requires.first (omega (arith, fraction_le first c.requires.first.numeric, c.requires.need)))
+    (brought_small second first c.args.y 38 c.requires.second (omega (arith, fraction_le second c.requires.second.numeric, c.requires.need)))

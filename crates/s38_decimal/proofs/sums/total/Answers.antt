@@ -18,7 +18,7 @@ answer-requires-clause-top_room c =
     let y = to_z-of_z w128 c.args.y c.ranges.y in
     let is : c.common_sum-top.result ≡ z = cc in
     top_room c.common_sum-top.result z c.fraction-at.result c.longer_fraction-behind.result (fraction_of c.args.to.attr) (longer_fraction first second) is c.fraction-at.ensures c.longer_fraction-behind.ensures
-        (common_room first second c.args.to.attr c.args.x c.args.y c.requires.first c.requires.second c.requires.need)
+    (common_room first second c.args.to.attr c.args.x c.args.y c.requires.first c.requires.second c.requires.need)
 
 pub answer-requires-clause-bottom_room : goal.answer-requires-clause-bottom_room
 answer-requires-clause-bottom_room c =
