@@ -1,5 +1,5 @@
 -- What the bounds of a numeric attribute give.
-use Rattle.std.proofs.Common.{◌≡◌, ℕ, ◌^◌, ◌<◌, ◌≤◌, Bool, true, ℤ, pos, negsuc, neg_ℤ, zero, suc, refl, ap, ◌∙◌, ◌⊎◌, inl, inr, ⊎_elim, subst, sym, rules, arith, tests}
+use Rattle.std.proofs.Common.{◌≡◌, ℕ, ◌^◌, ◌<◌, ◌≤◌, ℤ, pos, negsuc, neg_ℤ, zero, suc, refl, ap, ◌∙◌, ◌⊎◌, inl, inr, ⊎_elim, subst, sym, rules, arith, tests}
 use Rattle.std.specs.Prelude.{IsTrue, unsigned_abs}
 use Rattle.std.proofs.lemmas.Bool.Decides.{nat_tests}
 use Rattle.std.proofs.lemmas.Bool.{cases_eq}

@@ -1,8 +1,7 @@
 -- Fractions under a common factor, cut and rounded.
-use Rattle.std.proofs.Common.{◌≡◌, ℕ, suc, ◌+◌, ◌-◌, ◌*◌, ◌/◌, ◌%◌, ◌^◌, ◌<◌, ◌≤◌, Bool, true, false, cond, refl, ap, sym, ◌∙◌, ⊎_elim, arith}
+use Rattle.std.proofs.Common.{◌≡◌, ℕ, ◌+◌, ◌-◌, ◌*◌, ◌/◌, ◌%◌, ◌^◌, ◌<◌, ◌≤◌, Bool, true, false, ap, sym, ◌∙◌, arith}
 use Rattle.std.proofs.Math.Nat.{div-eq_of_lt-le, mul-div-mul_right, div-add-mod', mod-lt, one-le-pow, mul-le-mul}
 use Rattle.std.proofs.lemmas.Nat.{pow-add}
-use Rattle.std.proofs.lemmas.Bool.{cases_lt}
 use Rattle.s38_decimal.specs.Values.{cut_or_rounded}
 
 double_plus : (n m q r : ℕ) → n ≡ q * m + r → 2 * n + m ≡ q * (2 * m) + (2 * r + m)

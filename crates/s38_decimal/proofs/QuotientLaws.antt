@@ -1,5 +1,5 @@
 -- Quotients of whole numbers with a scale.
-use Rattle.std.proofs.Common.{◌≡◌, ℕ, zero, suc, ◌+◌, ◌-◌, ◌*◌, ◌^◌, ◌<◌, ◌≤◌, max, min, Bool, ℤ, pos, negsuc, ◌+ℤ◌, ◌*ℤ◌, neg_ℤ, refl, ap, sym, ◌∙◌, arith}
+use Rattle.std.proofs.Common.{◌≡◌, ℕ, ◌+◌, ◌-◌, ◌*◌, ◌^◌, ◌<◌, ◌≤◌, Bool, ℤ, pos, negsuc, ◌*ℤ◌, refl, ap, sym, ◌∙◌, arith}
 use Rattle.std.specs.Prelude.{IsTrue, unsigned_abs}
 use Rattle.std.specs.Int.{int_signum}
 use Rattle.std.proofs.lemmas.Int.{unsigned_abs-mul}
@@ -9,7 +9,7 @@ use Rattle.s38_base.specs.declared.attr.Attr.{Attr}
 use Rattle.s38_base.specs.Scalar.{digits_of, fraction_of, fits}
 use Rattle.s38_decimal.specs.Need.{quotient_need}
 use Rattle.s38_decimal.specs.Values.{cut_or_rounded, exact, quotient_of, units_at, with_sign}
-use Rattle.s38_decimal.proofs.Attributes.{fits_below, fits_numeric, fraction_le}
+use Rattle.s38_decimal.proofs.Attributes.{fits_below}
 use Rattle.s38_decimal.proofs.Integers.{swap_factors}
 use Rattle.s38_decimal.proofs.ProductLaws.{with_sign-scale}
 use Rattle.s38_decimal.proofs.Rooms.{raised_le}

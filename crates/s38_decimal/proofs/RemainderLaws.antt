@@ -1,6 +1,6 @@
 -- Remainders of whole numbers with a scale.
-use Rattle.std.proofs.Common.{◌≡◌, ℕ, zero, suc, ◌+◌, ◌-◌, ◌*◌, ◌/◌, ◌%◌, ◌^◌, ◌<◌, ◌≤◌, max, min, Bool, true, false, ℤ, pos, negsuc, ◌+ℤ◌, ◌*ℤ◌, neg_ℤ, refl, ap, sym, ◌∙◌, arith}
-use Rattle.std.specs.Prelude.{IsTrue, unsigned_abs, ◌-ℤ◌}
+use Rattle.std.proofs.Common.{◌≡◌, ℕ, zero, suc, ◌+◌, ◌-◌, ◌*◌, ◌/◌, ◌%◌, ◌^◌, ◌<◌, ◌≤◌, max, min, Bool, false, ℤ, pos, negsuc, ◌*ℤ◌, neg_ℤ, refl, ap, sym, ◌∙◌, arith}
+use Rattle.std.specs.Prelude.{unsigned_abs, ◌-ℤ◌}
 use Rattle.std.specs.Int.{int_signum}
 use Rattle.std.proofs.lemmas.Int.{unsigned_abs-mul, ints}
 use Rattle.std.proofs.Math.IntN.{*ℤ_comm, *ℤ-negsuc}
@@ -12,7 +12,7 @@ use Rattle.s38_decimal.specs.Forms.{IsOf}
 use Rattle.s38_decimal.specs.Need.{longer_fraction, remainder_need}
 use Rattle.s38_decimal.specs.Common.{brought, rest_of}
 use Rattle.s38_decimal.specs.Values.{cut_or_rounded, exact, quotient_of, remainder_of, units_at, with_sign}
-use Rattle.s38_decimal.proofs.Integers.{neg_times, negative_times, swap_factors, times_times}
+use Rattle.s38_decimal.proofs.Integers.{neg_times, swap_factors, times_times}
 use Rattle.s38_decimal.proofs.ProductLaws.{with_sign-scale}
 use Rattle.s38_decimal.proofs.QuotientLaws.{turned_abs}
 use Rattle.s38_decimal.proofs.SumLaws.{raised_on, both_powers, first_power, second_power, units_common}

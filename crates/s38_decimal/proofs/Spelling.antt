@@ -1,6 +1,5 @@
 -- Digits that are read one after the other.
-use Rattle.std.proofs.Common.{◌≡◌, ℕ, zero, suc, ◌+◌, ◌<◌, ◌≤◌, ◌&&◌, Bool, true, false, nat_lt, refl, ap, sym, ◌∙◌, subst, arith}
-use Rattle.std.proofs.lemmas.Bool.{cases_eq}
+use Rattle.std.proofs.Common.{◌≡◌, ℕ, zero, suc, ◌<◌, ◌&&◌, Bool, true, false, nat_lt, refl, arith}
 use Rattle.s38_base.specs.Scalar.{are_decimal}
 
 and_false : (b : Bool) → (b && false) ≡ false

@@ -1,11 +1,11 @@
 -- Sums of numbers that are brought to the longer fraction.
-use Rattle.std.proofs.Common.{◌≡◌, ℕ, suc, ◌+◌, ◌-◌, ◌*◌, ◌^◌, ◌<◌, ◌≤◌, max, min, Bool, ℤ, pos, negsuc, ◌+ℤ◌, ◌*ℤ◌, neg_ℤ, true, false, ltb, cond, refl, ap, sym, ◌∙◌, arith}
-use Rattle.std.specs.Prelude.{IsTrue, unsigned_abs, ◌-ℤ◌}
-use Rattle.std.proofs.lemmas.Int.{unsigned_abs-mul, ints}
+use Rattle.std.proofs.Common.{◌≡◌, ℕ, suc, ◌+◌, ◌-◌, ◌*◌, ◌^◌, ◌<◌, ◌≤◌, max, min, Bool, ℤ, pos, negsuc, ◌+ℤ◌, ◌*ℤ◌, neg_ℤ, true, false, ltb, cond, ap, sym, ◌∙◌, arith}
+use Rattle.std.specs.Prelude.{unsigned_abs}
+use Rattle.std.proofs.lemmas.Int.{unsigned_abs-mul}
 use Rattle.std.proofs.lemmas.Nat.{pow-add}
 use Rattle.std.proofs.Math.Nat.{one-le-pow, mul_assoc, mul-le-mul_right}
 use Rattle.s38_base.specs.declared.attr.Attr.{Attr}
-use Rattle.s38_base.specs.Scalar.{digits_of, fraction_of, fits, is_numeric}
+use Rattle.s38_base.specs.Scalar.{digits_of, fraction_of}
 use Rattle.std.proofs.Math.IntN.{sub_ℕ}
 use Rattle.s38_decimal.specs.Forms.{IsOf}
 use Rattle.s38_decimal.specs.Need.{longer_fraction, sum_need}

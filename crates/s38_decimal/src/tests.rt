@@ -181,97 +181,119 @@ fn each_sign_and_zone_is_read(rt: HostRuntime) {
     assert_eq!(rt; value(read_scalar(packed(1, 0), &[0x0D])), Some(0));
 }
 
+/// Whole numbers of three digits.
+const WHOLE: Attr = Attr::Packed {
+    digits: 3,
+    fraction: 0,
+};
+
+const TWO_BEHIND: Attr = Attr::Packed {
+    digits: 7,
+    fraction: 2,
+};
+
+const LONG: Attr = Attr::Packed {
+    digits: 31,
+    fraction: 0,
+};
+
+const SHORT: Attr = Attr::Binary { size: 2 };
+
 #[test]
 fn quotients_and_remainders_are_as_worked(rt: HostRuntime) {
-    let (seven, two) = ((packed(3, 0), 7), (packed(3, 0), 2));
-    let less = (packed(3, 0), -7);
-    let to = packed(3, 0);
-    assert_eq!(rt; result_of(Op::Div, seven, two, rounded(to)), Some(Ok(4)));
-    assert_eq!(rt; result_of(Op::Div, less, two, rounded(to)), Some(Ok(-4)));
-    assert_eq!(rt; result_of(Op::Div, seven, two, cut(to)), Some(Ok(3)));
-    assert_eq!(rt; result_of(Op::Div, less, two, cut(to)), Some(Ok(-3)));
-    assert_eq!(rt;
-        result_of(Op::Div, seven, less, cut(packed(5, 2))),
-        Some(Ok(-100))
-    );
-    assert_eq!(rt;
-        result_of(Op::Div, seven, (to, 0), cut(to)),
-        Some(Err(DecimalFault::ZeroDivide))
-    );
-    assert_eq!(rt;
-        result_of(Op::Rem, seven, (to, 0), cut(to)),
-        Some(Err(DecimalFault::ZeroDivide))
-    );
-    assert_eq!(rt; result_of(Op::Rem, less, two, cut(to)), Some(Ok(-1)));
-    assert_eq!(rt;
-        result_of(Op::Rem, (packed(3, 1), 75), two, cut(packed(3, 2))),
-        Some(Ok(150))
-    );
-    assert_eq!(rt;
-        result_of(Op::Rem, (packed(3, 1), 75), two, rounded(to)),
-        Some(Ok(2))
-    );
-    assert_eq!(rt;
-        result_of(
-            Op::Div,
-            (packed(31, 0), LONGEST),
-            (packed(1, 1), 3),
-            cut(packed(31, 0))
-        ),
-        Some(Err(DecimalFault::Size))
-    );
+    let cases = [
+        (Op::Div, 7, 2, true, Ok(4)),
+        (Op::Div, -7, 2, true, Ok(-4)),
+        (Op::Div, 7, 2, false, Ok(3)),
+        (Op::Div, -7, 2, false, Ok(-3)),
+        (Op::Div, 7, -7, false, Ok(-1)),
+        (Op::Div, 7, 0, false, Err(DecimalFault::ZeroDivide)),
+        (Op::Rem, 7, 0, false, Err(DecimalFault::ZeroDivide)),
+        (Op::Rem, -7, 2, false, Ok(-1)),
+        (Op::Rem, 7, -2, true, Ok(1)),
+    ];
+    for (op, a, b, round, want) in cases {
+        let to = Target { attr: WHOLE, round };
+        assert_eq!(rt; result_of(op, (WHOLE, a), (WHOLE, b), to), Some(want));
+    }
 }
 
 #[test]
-fn sums_and_products_are_as_worked(rt: HostRuntime) {
-    let (a, b) = ((packed(5, 2), 12345), (zoned(4, 3), -1005));
-    assert_eq!(rt;
-        result_of(Op::Addn, a, b, cut(packed(7, 3))),
-        Some(Ok(122445))
+fn results_are_brought_to_the_receivers_fraction(rt: HostRuntime) {
+    let a = (
+        Attr::Packed {
+            digits: 5,
+            fraction: 2,
+        },
+        12345,
     );
-    assert_eq!(rt;
-        result_of(Op::Subn, a, b, cut(packed(7, 2))),
-        Some(Ok(12445))
+    let b = (
+        Attr::Zoned {
+            digits: 4,
+            fraction: 3,
+        },
+        -1005,
     );
-    assert_eq!(rt;
-        result_of(Op::Subn, a, b, rounded(packed(7, 2))),
-        Some(Ok(12446))
-    );
-    assert_eq!(rt;
-        result_of(Op::Mult, a, b, cut(packed(7, 2))),
-        Some(Ok(-12406))
-    );
-    assert_eq!(rt;
-        result_of(Op::Mult, a, b, rounded(packed(7, 2))),
-        Some(Ok(-12407))
-    );
-    assert_eq!(rt;
-        result_of(Op::Addn, a, b, cut(packed(2, 0))),
-        Some(Err(DecimalFault::Size))
-    );
-    let long = (packed(31, 0), LONGEST);
-    assert_eq!(rt;
-        result_of(Op::Addn, long, long, cut(packed(31, 6))),
-        Some(Err(DecimalFault::Size))
-    );
-    assert_eq!(rt;
-        result_of(Op::Subn, long, long, cut(packed(31, 6))),
-        Some(Ok(0))
-    );
-    assert_eq!(rt; result_of(Op::Addn, long, long, cut(packed(31, 7))), None);
-    assert_eq!(rt;
-        result_of(Op::Mult, long, (packed(7, 0), 1), cut(packed(31, 0))),
-        Some(Ok(LONGEST))
-    );
-    assert_eq!(rt;
-        result_of(
-            Op::Subn,
-            (binary(2), 0),
-            (binary(2), -32768),
-            cut(binary(2))
+    let cases = [
+        (Op::Addn, false, 12244),
+        (Op::Subn, false, 12445),
+        (Op::Subn, true, 12446),
+        (Op::Mult, false, -12406),
+        (Op::Mult, true, -12407),
+        (Op::Div, true, -12284),
+        (Op::Rem, false, 84),
+    ];
+    for (op, round, want) in cases {
+        let to = Target {
+            attr: TWO_BEHIND,
+            round,
+        };
+        assert_eq!(rt; result_of(op, a, b, to), Some(Ok(want)));
+    }
+}
+
+#[test]
+fn the_longest_numbers_are_computed(rt: HostRuntime) {
+    let six = Attr::Packed {
+        digits: 31,
+        fraction: 6,
+    };
+    let cases = [
+        (
+            Op::Addn,
+            (LONG, LONGEST),
+            (LONG, LONGEST),
+            six,
+            Some(Err(DecimalFault::Size)),
         ),
-        Some(Err(DecimalFault::Size))
-    );
+        (Op::Subn, (LONG, LONGEST), (LONG, LONGEST), six, Some(Ok(0))),
+        (Op::Addn, (LONG, LONGEST), (six, 0), LONG, Some(Ok(LONGEST))),
+        (
+            Op::Mult,
+            (LONG, LONGEST),
+            (TWO_BEHIND, 100),
+            LONG,
+            Some(Ok(LONGEST)),
+        ),
+        (Op::Mult, (LONG, LONGEST), (LONG, 1), LONG, None),
+        (
+            Op::Div,
+            (LONG, LONGEST),
+            (six, 3),
+            LONG,
+            Some(Err(DecimalFault::Size)),
+        ),
+        (
+            Op::Subn,
+            (SHORT, 0),
+            (SHORT, -32768),
+            SHORT,
+            Some(Err(DecimalFault::Size)),
+        ),
+    ];
+    for (op, a, b, attr, want) in cases {
+        assert_eq!(rt; result_of(op, a, b, Target { attr, round: false }), want);
+    }
 }
 
 /// The number times a power of ten; None where it needs more than 38 digits.
@@ -292,35 +314,32 @@ fn scaled(attr: Attr, units: i128, power: i8, to: Target) -> Option<Result<i128,
 
 #[test]
 fn numbers_are_scaled(rt: HostRuntime) {
-    assert_eq!(rt;
-        scaled(packed(3, 0), -15, -1, rounded(packed(3, 0))),
-        Some(Ok(-2))
-    );
-    assert_eq!(rt;
-        scaled(packed(3, 0), -15, -1, cut(packed(3, 0))),
-        Some(Ok(-1))
-    );
-    assert_eq!(rt;
-        scaled(packed(3, 0), 15, 0, cut(packed(5, 2))),
-        Some(Ok(1500))
-    );
-    assert_eq!(rt;
-        scaled(packed(7, 0), 1, 31, cut(packed(31, 0))),
-        Some(Err(DecimalFault::Size))
-    );
-    assert_eq!(rt;
-        scaled(packed(31, 31), LONGEST, 31, cut(packed(31, 0))),
-        None
-    );
-    assert_eq!(rt;
-        scaled(packed(7, 7), 9_999_999, 31, cut(packed(31, 0))),
-        Some(Ok(9_999_999_000_000_000_000_000_000_000_000))
-    );
-    assert_eq!(rt;
-        scaled(packed(7, 0), 9_999_999, -31, cut(packed(31, 31))),
-        Some(Ok(9_999_999))
-    );
-    assert_eq!(rt; scaled(packed(8, 0), 1, 31, cut(packed(31, 0))), None);
+    let seven = Attr::Packed {
+        digits: 7,
+        fraction: 7,
+    };
+    let all_behind = Attr::Packed {
+        digits: 31,
+        fraction: 31,
+    };
+    let cases = [
+        (WHOLE, -15, -1, rounded(WHOLE), Some(Ok(-2))),
+        (WHOLE, -15, -1, cut(WHOLE), Some(Ok(-1))),
+        (WHOLE, 15, 0, cut(TWO_BEHIND), Some(Ok(1500))),
+        (WHOLE, 1, 31, cut(LONG), Some(Err(DecimalFault::Size))),
+        (
+            seven,
+            9_999_999,
+            31,
+            cut(LONG),
+            Some(Ok(9_999_999_000_000_000_000_000_000_000_000)),
+        ),
+        (WHOLE, 999, -31, cut(all_behind), Some(Ok(999))),
+        (all_behind, LONGEST, 31, cut(LONG), None),
+    ];
+    for (attr, units, power, to, want) in cases {
+        assert_eq!(rt; scaled(attr, units, power, to), want);
+    }
 }
 
 fn order(a: (Attr, i128), b: (Attr, i128)) -> Option<Ordering> {

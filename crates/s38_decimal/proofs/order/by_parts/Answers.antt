@@ -1,4 +1,4 @@
-use Rattle.std.proofs.Common.{◌≡◌, ◌<◌, ◌≤◌, ◌≢◌, ◌*◌, ◌/◌, ◌%◌, ◌+◌, ◌-◌, ◌^◌, max, ap, sym, ◌∙◌, arith}
+use Rattle.std.proofs.Common.{◌≡◌, ◌*◌, ◌/◌, ◌%◌, ◌-◌, ◌^◌, max, ap, sym, ◌∙◌, arith}
 use Rattle.std.proofs.Math.Nat.{one-le-pow}
 use Rattle.s38_decimal.proofs.OrderLaws.{rest_below, rest_decides, whole_decides}
 use Rattle.s38_decimal.proofs.Powers.{tens_le}

@@ -1,4 +1,4 @@
-use Rattle.std.proofs.Common.{◌≡◌, ◌<◌, ◌≤◌, ◌*◌, ◌+◌, ◌-◌, ◌^◌, max, ap, sym, ◌∙◌, arith}
+use Rattle.std.proofs.Common.{◌*◌, ◌-◌, ap, arith}
 use Rattle.s38_decimal.proofs.OrderLaws.{crossed}
 use Rattle.s38_decimal.proofs.Rooms.{raised_le}
 use Rattle.s38_decimal.proofs.order.magnitudes.Goals as goal

@@ -1,11 +1,8 @@
-use Rattle.std.proofs.Common.{◌≡◌, ◌<◌, ◌*ℤ◌, ◌+◌, ◌-◌, ap, sym, ◌∙◌, pos, refl, arith, rules}
+use Rattle.std.proofs.Common.{ap, sym, ◌∙◌, pos}
 use Rattle.std.specs.Prelude.{unsigned_abs}
-use Rattle.s38_base.specs.Scalar.{digits_of, fraction_of}
 use Rattle.s38_decimal.specs.Need.{scale_need}
-use Rattle.s38_decimal.proofs.Attributes.{digits_few, fits_below, fits_numeric, fits_same, fraction_le}
-use Rattle.s38_decimal.proofs.ProductLaws.{lowered_top, lowered_units, power_down, power_up, raised_top, raised_units}
-use Rattle.s38_decimal.proofs.Rooms.{bottom_room, same_top, top_room}
-use Rattle.std.specs.Prelude.{int_le, ℤ, negsuc, ◌≤◌}
+use Rattle.s38_decimal.proofs.ProductLaws.{power_down, power_up}
+use Rattle.std.specs.Prelude.{int_le, ℤ, ◌≤◌}
 use Rattle.std.specs.Int.{w8}
 use Rattle.std.proofs.Common.{subst}
 use Rattle.std.proofs.lemmas.Int.{to_z-of_z}

@@ -1,10 +1,8 @@
-use Rattle.std.proofs.Common.{◌≡◌, ◌<◌, ◌*ℤ◌, ◌+◌, ◌-◌, ap, sym, ◌∙◌, pos, refl, arith, rules}
-use Rattle.std.specs.Prelude.{unsigned_abs}
-use Rattle.s38_base.specs.Scalar.{digits_of, fraction_of}
-use Rattle.s38_decimal.specs.Need.{scale_need}
-use Rattle.s38_decimal.proofs.Attributes.{digits_few, fits_below, fits_numeric, fits_same, fraction_le}
-use Rattle.s38_decimal.proofs.ProductLaws.{lowered_top, lowered_units, power_down, power_up, raised_top, raised_units}
-use Rattle.s38_decimal.proofs.Rooms.{bottom_room, same_top, top_room}
+use Rattle.std.proofs.Common.{◌≡◌, ◌+◌, ap, refl, arith}
+use Rattle.s38_base.specs.Scalar.{fraction_of}
+use Rattle.s38_decimal.proofs.Attributes.{digits_few, fits_numeric, fits_same, fraction_le}
+use Rattle.s38_decimal.proofs.ProductLaws.{raised_top, raised_units}
+use Rattle.s38_decimal.proofs.Rooms.{bottom_room, top_room}
 use Rattle.s38_decimal.proofs.products.times_ten.Goals as goal
 
 pub answer-requires-clause-top_room : goal.answer-requires-clause-top_room

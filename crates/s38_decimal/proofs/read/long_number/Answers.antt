@@ -1,4 +1,4 @@
-use Rattle.std.proofs.Common.{◌^◌, ◌*◌, ◌+◌, ◌<◌, false, nat_lt, rules, arith, refl}
+use Rattle.std.proofs.Common.{arith}
 use Rattle.std.proofs.lemmas.Bool.Decides.{nat_tests}
 use Rattle.s38_base.specs.Scalar.{digit_in}
 use Rattle.s38_decimal.proofs.Powers.{room_for_digit, tens_le}

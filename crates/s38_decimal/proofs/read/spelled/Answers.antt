@@ -1,4 +1,4 @@
-use Rattle.std.proofs.Common.{◌≤◌, true, rules, arith}
+use Rattle.std.proofs.Common.{arith}
 use Rattle.s38_base.specs.Scalar.{digits_of}
 use Rattle.s38_decimal.proofs.Powers.{below_half}
 use Rattle.s38_decimal.proofs.Attributes.{digits_few}

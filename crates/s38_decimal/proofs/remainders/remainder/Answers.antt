@@ -1,9 +1,9 @@
-use Rattle.std.proofs.Common.{◌≡◌, ◌<◌, ◌≤◌, ◌*ℤ◌, ◌*◌, ◌+◌, ◌-◌, ◌^◌, ap, sym, ◌∙◌, pos, refl, arith}
+use Rattle.std.proofs.Common.{◌≡◌, ap, refl, arith}
 use Rattle.std.specs.Prelude.{unsigned_abs}
-use Rattle.s38_base.specs.Scalar.{digits_of, fraction_of}
+use Rattle.s38_base.specs.Scalar.{fraction_of}
 use Rattle.s38_decimal.specs.Common.{brought, rest_of}
 use Rattle.s38_decimal.specs.Need.{longer_fraction}
-use Rattle.s38_decimal.proofs.Attributes.{IsOf-fits, IsOf-word, digits_few, fits_numeric, fits_same, fraction_le}
+use Rattle.s38_decimal.proofs.Attributes.{IsOf-fits, IsOf-word, fits_numeric, fits_same, fraction_le}
 use Rattle.s38_decimal.proofs.RemainderLaws.{brought_above, remainder_room, remainder_units}
 use Rattle.s38_decimal.proofs.Rooms.{bottom_room, same_top, same_word, top_room}
 use Rattle.s38_decimal.proofs.SumLaws.{brought_small}

@@ -1,6 +1,5 @@
-use Rattle.std.proofs.Common.{◌-◌, ◌*◌, ◌^◌, ap, sym, ◌∙◌, rules, arith}
+use Rattle.std.proofs.Common.{◌-◌, ◌*◌, ap, arith}
 use Rattle.s38_decimal.proofs.Fractions.{bottom_pos, cut_or_rounded-less, cut_or_rounded-more}
-use Rattle.s38_decimal.specs.Values.{cut_or_rounded}
 use Rattle.s38_decimal.proofs.results.whole.Goals as goal
 
 pub cut_or_rounded-requires-else-down-up : goal.cut_or_rounded-requires-else-down-up

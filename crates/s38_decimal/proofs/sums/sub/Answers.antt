@@ -1,4 +1,4 @@
-use Rattle.std.proofs.Common.{◌≡◌, neg_ℤ, refl, ap, ◌∙◌, sym, arith}
+use Rattle.std.proofs.Common.{neg_ℤ, refl, ap, ◌∙◌, arith}
 use Rattle.std.specs.Prelude.{unsigned_abs}
 use Rattle.s38_base.specs.Scalar.{fraction_of}
 use Rattle.s38_decimal.proofs.Attributes.{IsOf-fits, IsOf-negative, IsOf-small, IsOf-word, fits_same}

@@ -1,4 +1,4 @@
-use Rattle.std.proofs.Common.{◌<◌, get_or, length, rules, arith}
+use Rattle.std.proofs.Common.{arith}
 use Rattle.std.proofs.lemmas.List.{places}
 use Rattle.s38_base.specs.Scalar.{digit_at}
 use Rattle.s38_decimal.proofs.DigitAt.{written_digit}

@@ -1,4 +1,4 @@
-use Rattle.std.proofs.Common.{get_or, rules, arith}
+use Rattle.std.proofs.Common.{rules, arith}
 use Rattle.std.proofs.lemmas.Grind.{common_steps}
 use Rattle.std.proofs.lemmas.List.FromFn.{fill_by_all}
 use Rattle.s38_base.specs.Scalar.{digit_at}

@@ -1,4 +1,4 @@
-use Rattle.std.proofs.Common.{◌<◌, length, rules, arith}
+use Rattle.std.proofs.Common.{rules}
 use Rattle.s38_base.specs.Scalar.{digits_of, fits, image_of}
 use Rattle.s38_decimal.proofs.Powers.{packed_room}
 use Rattle.s38_decimal.proofs.write.write.Goals as goal

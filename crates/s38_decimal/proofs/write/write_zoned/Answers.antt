@@ -1,4 +1,4 @@
-use Rattle.std.proofs.Common.{◌-◌, length, get_or, rules, arith}
+use Rattle.std.proofs.Common.{length, rules}
 use Rattle.std.proofs.lemmas.List.FromFn.{fill_by_all}
 use Rattle.s38_decimal.specs.Images.{zoned_with}
 use Rattle.s38_decimal.proofs.write.write_zoned.Goals as goal
