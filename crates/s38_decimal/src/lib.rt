@@ -1,13 +1,34 @@
-// A library with one function.
+//! Whole numbers with a scale: packed, zoned and binary scalars are read and written, added, multiplied,
+//! divided, scaled and compared. Results are exact fractions, cut or rounded at the receiver. No call
+//! takes memory.
 #![tactic(auto)]
 
-ghost use Rattle.std.specs.Prelude.{◌≡◌};
-ghost use Rattle.s38_decimal.specs.Echo.{echo_of};
+mod common;
+mod dec;
+mod digits;
+mod laws;
+mod order;
+mod products;
+mod quotients;
+mod read;
+mod remainders;
+mod results;
+mod signed;
+mod sums;
+mod tens;
+mod units;
+mod write;
 
-// The `ensures` clause is the contract: what `echo` returns is `echo_of` of its argument, a definition
-// in `specs/Echo.antt`, which a caller's clause can cite too.
-pub fn echo(x: usize) -> usize
-    ensures { result ≡ echo_of x }
-{
-    x
-}
+pub use dec::{Dec, DecimalFault, Target};
+pub use digits::need;
+pub use laws::written_is_read;
+pub use order::compare;
+pub use products::{mult, scale};
+pub use quotients::div;
+pub use read::read_scalar;
+pub use remainders::rem;
+pub use sums::{add, sub};
+pub use write::write_scalar;
+
+#[cfg(test)]
+mod tests;

@@ -1,0 +1,13 @@
+pub mod Attributes
+pub mod DigitAt
+pub mod Fractions
+pub mod ImageLaws
+pub mod Integers
+pub mod OrderLaws
+pub mod Powers
+pub mod ProductLaws
+pub mod QuotientLaws
+pub mod RemainderLaws
+pub mod Rooms
+pub mod Spelling
+pub mod SumLaws

@@ -1,0 +1,172 @@
+ghost use Rattle.std.specs.Prelude.{◌≡◌, ◌<◌, ◌≤◌, ◌*◌, ◌&&◌, ◌==◌, ◌^◌, ℕ, unsigned_abs, IsTrue, IfOk, IfSome, MatchResult, ◌||◌, Some, None, length, if◌then◌else◌, slice_index, ℤ};
+ghost use Rattle.s38_decimal.specs.Forms.{is_decimal};
+ghost use Rattle.s38_base.specs.Scalar.{are_decimal, begins_right, digit_in, digits_of, fits, fits_bytes, half_byte, is_numeric, is_minus, is_sign, length_of, meaning_of, number_from, sign_in, spelled, twos_complement, value_of, with_minus};
+
+use crate::dec::{Dec, DecimalFault};
+use crate::units::signed;
+use s38_base::Attr;
+
+/// Half byte k, counted from the left.
+fn half_byte(bytes: &[u8], k: usize) -> u8
+    requires { k < 2 * length bytes.now }
+    ensures { result ≡ half_byte bytes.now k }
+{
+    let byte = bytes[k / 2];
+    if k % 2 == 0 { byte / 16 } else { byte % 16 }
+}
+
+/// Digit k, counted from the left.
+fn digit_in(attr: Attr, bytes: &[u8], k: usize) -> u8
+    requires long { length bytes.now ≡ length_of attr }
+    requires inside { k < digits_of attr }
+    requires decimal { IsTrue (is_decimal attr) }
+    ensures { result ≡ digit_in attr bytes.now k }
+{
+    match attr {
+        Attr::Packed { digits, .. } => half_byte(bytes, 1 - digits as usize % 2 + k),
+        Attr::Zoned { .. } => bytes[k] % 16,
+        _ => unreachable!(),
+    }
+}
+
+/// The number that the first n digits spell, up to 18 of them; None where one is no decimal digit.
+fn short_number(attr: Attr, bytes: &[u8], n: u8) -> Option<u64>
+    requires long { length bytes.now ≡ length_of attr }
+    requires inside { n ≤ digits_of attr }
+    requires short { n ≤ 18 }
+    requires decimal { IsTrue (is_decimal attr) }
+    ensures value { result ≡ (if are_decimal (digit_in attr bytes.now) n
+        then Some (number_from 10 (digit_in attr bytes.now) n) else None) }
+    ensures bound { IfSome result (λ number. number < 10 ^ n) }
+{
+    let mut number = 0;
+    for k in 0..n {
+        let digit = digit_in(attr, bytes, k as usize);
+        if digit > 9 {
+            return None;
+        }
+        number = number * 10 + digit as u64;
+    }
+    Some(number)
+}
+
+/// The same for up to 31 digits.
+fn long_number(attr: Attr, bytes: &[u8], n: u8) -> Option<u128>
+    requires long { length bytes.now ≡ length_of attr }
+    requires inside { n ≤ digits_of attr }
+    requires short { n ≤ 31 }
+    requires decimal { IsTrue (is_decimal attr) }
+    ensures value { result ≡ (if are_decimal (digit_in attr bytes.now) n
+        then Some (number_from 10 (digit_in attr bytes.now) n) else None) }
+    ensures bound { IfSome result (λ number. number < 10 ^ n) }
+{
+    let mut number = 0;
+    for k in 0..n {
+        let digit = digit_in(attr, bytes, k as usize);
+        if digit > 9 {
+            return None;
+        }
+        number = number * 10 + digit as u128;
+    }
+    Some(number)
+}
+
+/// The number that all digits spell.
+fn number(attr: Attr, bytes: &[u8]) -> Option<u128>
+    requires long { length bytes.now ≡ length_of attr }
+    requires numeric { IsTrue (is_numeric attr) }
+    requires decimal { IsTrue (is_decimal attr) }
+    ensures value { result ≡ (if are_decimal (digit_in attr bytes.now) (digits_of attr)
+        then Some (number_from 10 (digit_in attr bytes.now) (digits_of attr)) else None) }
+    ensures bound { IfSome result (λ number. number < 10 ^ digits_of attr) }
+{
+    let n = attr.digits();
+    if n <= 18 {
+        short_number(attr, bytes, n).map(|number| number as u128)
+    } else {
+        long_number(attr, bytes, n)
+    }
+}
+
+/// The sign: the last half byte, or the zone of the last byte.
+fn sign_in(attr: Attr, bytes: &[u8]) -> u8
+    requires long { length bytes.now ≡ length_of attr }
+    requires numeric { IsTrue (is_numeric attr) }
+    requires decimal { IsTrue (is_decimal attr) }
+    ensures { result ≡ sign_in attr bytes.now }
+{
+    match attr {
+        Attr::Packed { digits, .. } => bytes[digits as usize / 2] % 16,
+        Attr::Zoned { digits, .. } => bytes[digits as usize - 1] / 16,
+        _ => unreachable!(),
+    }
+}
+
+/// Where a packed number has an even count of digits, its first half byte is 0.
+fn begins_right(attr: Attr, bytes: &[u8]) -> bool
+    requires { length bytes.now ≡ length_of attr }
+    ensures { result ≡ begins_right attr bytes.now }
+{
+    match attr {
+        Attr::Packed { digits, .. } => digits % 2 == 1 || bytes[0] / 16 == 0,
+        _ => true,
+    }
+}
+
+/// A packed or zoned number.
+fn spelled(attr: Attr, bytes: &[u8]) -> Option<i128>
+    requires long { length bytes.now ≡ length_of attr }
+    requires numeric { IsTrue (is_numeric attr) }
+    requires decimal { IsTrue (is_decimal attr) }
+    ensures value { result ≡ spelled attr bytes.now }
+    ensures bound { IfSome result (λ units. unsigned_abs units < 10 ^ digits_of attr) }
+{
+    let sign = sign_in(attr, bytes);
+    if !begins_right(attr, bytes) || sign < 10 {
+        return None;
+    }
+    let number = number(attr, bytes)?;
+    Some(signed(sign == 11 || sign == 13, number))
+}
+
+/// A number of so many bytes, read as two's complement.
+fn binary(bytes: &[u8], size: u8) -> i128
+    requires long { length bytes.now ≡ size }
+    requires size { IsTrue ((size == 2) || (size == 4)) }
+    ensures value { result ≡ twos_complement size (number_from 256 (slice_index bytes.now) size) }
+    ensures fits { IsTrue (fits_bytes size result) }
+{
+    if size == 2 {
+        i128::from(i16::from_be_bytes([bytes[0], bytes[1]]))
+    } else {
+        i128::from(i32::from_be_bytes([bytes[0], bytes[1], bytes[2], bytes[3]]))
+    }
+}
+
+/// The number that stands in the bytes, if one does.
+#[tactic(auto, unfolding(s38_base::specs::Scalar::value_of, s38_base::specs::Scalar::fits))]
+fn value(attr: Attr, bytes: &[u8]) -> Option<i128>
+    ensures value { result ≡ value_of attr bytes.now }
+    ensures fits { IfSome result (λ units. IsTrue (fits attr units)) }
+{
+    if !attr.is_numeric() || bytes.len() != attr.length() as usize {
+        return None;
+    }
+    match attr {
+        Attr::Binary { size } => Some(binary(bytes, size)),
+        _ => spelled(attr, bytes),
+    }
+}
+
+/// The number that stands in the bytes. `DecimalData` exactly where they have no value.
+pub fn read_scalar(attr: Attr, bytes: &[u8]) -> Result<Dec, DecimalFault>
+    ensures value { MatchResult result
+        (λ number. value_of attr bytes.now ≡ Some number.units)
+        (λ fault. (fault ≡ DecimalFault.DecimalData) × (value_of attr bytes.now ≡ None)) }
+    ensures attr { IfOk result (λ number. number.attr ≡ attr) }
+{
+    match value(attr, bytes) {
+        Some(units) => Ok(Dec { units, attr }),
+        None => Err(DecimalFault::DecimalData),
+    }
+}

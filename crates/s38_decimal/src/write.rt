@@ -1,0 +1,133 @@
+ghost use Rattle.std.specs.Prelude.{◌≡◌, ◌<◌, ◌≤◌, ◌+◌, ◌-◌, ◌*◌, ◌^◌, ◌==◌, ◌||◌, ℕ, Ok, Err, IsTrue, length, map, slice_index, unsigned_abs, if◌then◌else◌};
+ghost use Rattle.std.specs.List.{range_with_len};
+ghost use Rattle.s38_base.specs.Scalar.{bits_of, digit_at, fits, fits_bytes, image_of, is_numeric, length_of, sign_of};
+ghost use Rattle.s38_decimal.specs.Images.{packed_with, zoned_with};
+
+use crate::dec::DecimalFault;
+use crate::units::fits;
+use s38_base::Attr;
+
+/// The last digits of a number, the last of them first.
+fn spread(number: u64, into: &mut [u8])
+    ensures { into.new ≡ map (digit_at 10 number) (range_with_len 0 (length into.old)) }
+{
+    let mut rest = number;
+    for k in 0..into.len() {
+        into[k] = (rest % 10) as u8;
+        rest /= 10;
+    }
+}
+
+/// The same for a number of more than 64 bits.
+fn spread_long(number: u128, into: &mut [u8])
+    requires some { 16 ≤ length into.old }
+    requires few { length into.old ≤ 32 }
+    requires all { number < 10 ^ length into.old }
+    ensures { into.new ≡ map (digit_at 10 number) (range_with_len 0 (length into.old)) }
+{
+    let (low, high) = into.split_at_mut(16);
+    spread((number % 10_000_000_000_000_000) as u64, low);
+    spread((number / 10_000_000_000_000_000) as u64, high);
+}
+
+/// The digits of a number of up to 31, the last of them first.
+fn digits(number: u128, count: usize) -> [u8; 32]
+    requires few { count ≤ 31 }
+    requires all { number < 10 ^ count }
+    ensures { (k : ℕ) → k < count → slice_index result k ≡ digit_at 10 number k }
+{
+    let mut digits = [0; 32];
+    if count <= 18 {
+        spread(number as u64, &mut digits[..count]);
+    } else {
+        spread_long(number, &mut digits[..count]);
+    }
+    digits
+}
+
+/// F is plus and D minus.
+fn sign_of(units: i128) -> u8
+    ensures value { result ≡ sign_of units }
+    ensures half { result < 16 }
+{
+    if units < 0 { 13 } else { 15 }
+}
+
+/// Writes two digits a byte, and the sign in the last half byte.
+fn write_packed(number: u128, sign: u8, into: &mut [u8])
+    requires some { 0 < length into.old }
+    requires few { length into.old ≤ 16 }
+    requires all { number < 10 ^ (2 * length into.old - 1) }
+    requires sign { sign < 16 }
+    ensures { into.new ≡ map (packed_with (length into.old - 1) number sign) (range_with_len 0 (length into.old)) }
+{
+    let last = into.len() - 1;
+    let digits = digits(number, 2 * last + 1);
+    for k in 0..into.len() {
+        let low = if k == last {
+            sign
+        } else {
+            digits[2 * (last - k) - 1]
+        };
+        into[k] = digits[2 * (last - k)] * 16 + low;
+    }
+}
+
+/// Writes a digit a byte, and the sign in the zone of the last byte; the other zones are F.
+fn write_zoned(number: u128, sign: u8, into: &mut [u8])
+    requires few { length into.old ≤ 31 }
+    requires all { number < 10 ^ length into.old }
+    requires sign { sign < 16 }
+    ensures { into.new ≡ map (zoned_with (length into.old) number sign) (range_with_len 0 (length into.old)) }
+{
+    let len = into.len();
+    let digits = digits(number, len);
+    for k in 0..len {
+        let zone = if k + 1 == len { sign } else { 15 };
+        into[k] = zone * 16 + digits[len - 1 - k];
+    }
+}
+
+/// Writes two's complement, high byte first.
+fn write_binary(units: i128, into: &mut [u8])
+    requires size { IsTrue ((length into.old == 2) || (length into.old == 4)) }
+    requires fits { IsTrue (fits_bytes (length into.old) units) }
+    ensures { into.new ≡ map
+        (λ k. digit_at 256 (bits_of (length into.old) units) (length into.old - 1 - k))
+        (range_with_len 0 (length into.old)) }
+{
+    if into.len() == 2 {
+        into.copy_from_slice(&(units as i16).to_be_bytes());
+    } else {
+        into.copy_from_slice(&(units as i32).to_be_bytes());
+    }
+}
+
+#[tactic(auto, unfolding(s38_base::specs::Scalar::fits, s38_base::specs::Scalar::image_of))]
+fn write(attr: Attr, units: i128, into: &mut [u8])
+    requires long { length into.old ≡ length_of attr }
+    requires fits { IsTrue (fits attr units) }
+    ensures { into.new ≡ image_of attr units }
+{
+    let number = units.unsigned_abs();
+    let sign = sign_of(units);
+    match attr {
+        Attr::Packed { .. } => write_packed(number, sign, into),
+        Attr::Zoned { .. } => write_zoned(number, sign, into),
+        _ => write_binary(units, into),
+    }
+}
+
+/// Writes a number. `Size` exactly where the attribute doesn't hold it; nothing is written then.
+pub fn write_scalar(attr: Attr, units: i128, into: &mut [u8]) -> Result<(), DecimalFault>
+    requires numeric { IsTrue (is_numeric attr) }
+    requires long { length into.old ≡ length_of attr }
+    ensures answer { result ≡ (if fits attr units then Ok tt else Err DecimalFault.Size) }
+    ensures bytes { into.new ≡ (if fits attr units then image_of attr units else into.old) }
+{
+    if !fits(attr, units) {
+        return Err(DecimalFault::Size);
+    }
+    write(attr, units, into);
+    Ok(())
+}
