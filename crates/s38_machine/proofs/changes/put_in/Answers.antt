@@ -19,5 +19,5 @@ pub returns-in-Some-clause-ok : goal.returns-in-Some-clause-ok
 returns-in-Some-clause-ok c =
     on_ok_weaker c.put_at.result
     (changed-place c.args.objects.now c.put_at.new.objects c.args.number.0 c.in-Some.at
-        (with_queue (λ q. with_message q (message c.args.key.now c.args.text.now))) c.in-Some.ensures.some)
+    (with_queue (λ q. with_message q (message c.args.key.now c.args.text.now))) c.in-Some.ensures.some)
     c.put_at.ensures.ok
