@@ -1,6 +1,6 @@
-use Rattle.std.proofs.Common.{◌≡◌, ℕ, List, None, sym}
+use Rattle.std.proofs.Common.{◌≡◌, None, sym}
 use Rattle.std.proofs.lemmas.Result.{on_ok_weaker}
-use Rattle.s38_queues.specs.MessageQueue.{MessageQueue, message, with_message}
+use Rattle.s38_queues.specs.MessageQueue.{message, with_message}
 use Rattle.s38_rules.specs.State.{with_queue}
 use Rattle.s38_rules.specs.Verdict.{put_failure}
 use Rattle.s38_machine.proofs.PlaceLaws.{change_in-none, changed-place, queue-place}
