@@ -38,3 +38,6 @@ pub fn all_may_be_sent() {
     sends::<Deck>();
     sends::<StepFault>();
 }
+
+#[cfg(test)]
+mod tests;

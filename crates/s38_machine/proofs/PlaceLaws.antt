@@ -1,7 +1,7 @@
 -- The words that change objects, at the place of the object.
-use Rattle.std.proofs.Common.{◌≡◌, ℕ, zero, suc, ◌<◌, ◌≤◌, Bool, true, false, List, [], ◌∷◌, length, get_or, cond, refl, sym, ◌∙◌, ap, subst, inl, inr, arith}
+use Rattle.std.proofs.Common.{◌≡◌, ℕ, zero, suc, true, false, List, [], ◌∷◌, refl, sym, ◌∙◌, ap, subst, inl, inr, arith}
 use Rattle.std.proofs.Math.ListN.{set}
-use Rattle.std.specs.Prelude.{Option, Some, find, slice_get, slice_set}
+use Rattle.std.specs.Prelude.{Option, Some, slice_get, slice_set}
 use Rattle.std.proofs.lemmas.Option.{slice_get_cases}
 use Rattle.s38_queues.specs.MessageQueue.{MessageQueue}
 use Rattle.s38_rules.specs.declared.object.Object.{Object}
@@ -13,7 +13,7 @@ tail_first x os n i o h = record {
   within = omega (arith, h.within);
   there = h.there;
   numbered = h.numbered;
-  before = λ k d lt. h.before (suc k) d (omega arith)
+  before = λ k d lt. h.before (suc k) d (omega arith);
 }
 
 pub change_in-first : (os : List Object) (n i : ℕ) (o : Object) (f : Object → Object) → IsFirst os n i o → change_in os n f ≡ set os i (f o)
@@ -50,5 +50,6 @@ queue-place os n i P h p o e =
 pub changed-place : (os new : List Object) (n i : ℕ) (f : Object → Object) → IsPlace os n i → ((o : Object) → slice_get os i ≡ Some o → new ≡ slice_set os i (f o)) → new ≡ change_in os n f
 changed-place os new n i f h g =
     elim (slice_get_cases os i).1 as (λ _. new ≡ change_in os n f) [
-      inl w ↦ g w.0 w.2 ∙ sym (change_in-first os n i w.0 f (h.first w.0 w.2))
-    | inr w ↦ absurd (omega (arith, w.0, h.within)) ]
+      | inl w ↦ g w.0 w.2 ∙ sym (change_in-first os n i w.0 f (h.first w.0 w.2))
+      | inr w ↦ absurd (omega (arith, w.0, h.within))
+    ]

@@ -48,13 +48,7 @@ fn brought(special: Option<u8>, row: u8) -> u8
 {
     match special {
         None => 0,
-        Some(special) => {
-            if special & 128 == 128 {
-                255
-            } else {
-                row
-            }
-        }
+        Some(special) => { if special & 128 == 128 { 255 } else { row } }
     }
 }
 

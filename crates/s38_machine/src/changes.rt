@@ -45,12 +45,7 @@ fn place_of(objects: &[Object], number: ObjNum) -> Option<usize>
     None
 }
 
-fn put_at(
-    objects: &mut [Object],
-    at: usize,
-    key: &[u8],
-    text: &[u8],
-) -> Result<(), NoMemory>
+fn put_at(objects: &mut [Object], at: usize, key: &[u8], text: &[u8]) -> Result<(), NoMemory>
     requires within { at < length objects.old }
     requires fits { (o : Object) → slice_get objects.old at ≡ Some o → put_failure (queue_of o.body) key.now text.now ≡ None }
     ensures ok { OnOk result ((o : Object) → slice_get objects.old at ≡ Some o → objects.new ≡ slice_set objects.old at (with_queue (λ q. with_message q (message key.now text.now)) o)) }

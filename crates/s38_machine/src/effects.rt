@@ -143,12 +143,7 @@ fn take_effect(
 
 /// A permitted event takes effect, and nobody waits any more; where memory is refused nothing changes.
 #[tactic(auto, using(s38_rules::proofs::Laws::effect_keeps))]
-pub fn apply(
-    alloc: Global,
-    world: &mut World,
-    process: u32,
-    event: &Event,
-) -> Result<(), NoMemory>
+pub fn apply(alloc: Global, world: &mut World, process: u32, event: &Event) -> Result<(), NoMemory>
     requires { verdict_of world.old process event.now ≡ Verdict.Permit }
     ensures ok { OnOk result (world.new ≡ awake (effect_of world.old process event.now).state) }
     ensures err { OnErr result (world.new ≡ world.old) }

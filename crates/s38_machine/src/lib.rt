@@ -16,9 +16,8 @@ mod values;
 mod verdicts;
 mod world;
 
-pub use machine::Machine;
-
 use log::Log;
+pub use machine::Machine;
 use world::World;
 
 /// What is sent between threads.
@@ -29,3 +28,6 @@ pub fn all_may_be_sent() {
     sends::<World>();
     sends::<Log>();
 }
+
+#[cfg(test)]
+mod tests;

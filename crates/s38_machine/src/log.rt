@@ -21,8 +21,12 @@ impl Model for Log {
 
     ghost Value = { Logged };
 
-    ghost view = { λ l. record { history = l.entries.items; marks = l.marks.items; processes = vec_len l.counts;
-        spare = min (vec_capacity l.entries - vec_len l.entries) (vec_capacity l.marks - vec_len l.marks) } };
+    ghost view = { λ l. record {
+      history = l.entries.items;
+      marks = l.marks.items;
+      processes = vec_len l.counts;
+      spare = min (vec_capacity l.entries - vec_len l.entries) (vec_capacity l.marks - vec_len l.marks);
+    } };
 
     ghost invariant = { λ l. (k : ℕ) → k < vec_len l.counts → slice_index l.counts.items k ≡ count_of (k + 1) l.entries.items };
 }

@@ -147,7 +147,12 @@ impl Machine {
     }
 
     /// An event that is not permitted is entered with its reply.
-    fn refuse(&mut self, process: u32, event: &Event, exception: Exception) -> Result<Reply, NoMemory>
+    fn refuse(
+        &mut self,
+        process: u32,
+        event: &Event,
+        exception: Exception,
+    ) -> Result<Reply, NoMemory>
         requires first { 0 < process }
         requires last { process ≤ length self.old.state.processes }
         ensures ok { IfOk result (λ r. (r ≡ (by_verdict self.old.state process event.now (Verdict.Refuse exception)).reply)

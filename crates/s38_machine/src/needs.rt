@@ -84,16 +84,14 @@ fn may_search(world: &World, users: &[UserNum], context: ObjNum) -> bool
     ensures { result ≡ may_search world.now (map (λ u. u.0) users.now) context.0 }
 {
     is_context_in(object(world, context))
-        && has_rights(Rights::RETRIEVE, available(world, users, context, Rights(0)))
+        && has_rights(
+            Rights::RETRIEVE,
+            available(world, users, context, Rights(0)),
+        )
 }
 
 #[tactic(auto, unfolding(s38_rules::specs::Needs::search_in))]
-fn search_in(
-    world: &World,
-    users: &[UserNum],
-    contexts: &[ObjNum],
-    id: &Id,
-) -> Option<Located>
+fn search_in(world: &World, users: &[UserNum], contexts: &[ObjNum], id: &Id) -> Option<Located>
     ensures { result ≡ search_in world.now (map (λ u. u.0) users.now) contexts.now id.now }
 {
     match contexts {
@@ -128,12 +126,7 @@ fn listed_by(world: &World, process: u32, depth: u16, id: Option<&Id>) -> Option
 }
 
 /// The object that operands 2 and 3 of RSLVSP stand for.
-pub fn resolved(
-    world: &World,
-    process: u32,
-    depth: u16,
-    operands: &[Operand],
-) -> Option<Located>
+pub fn resolved(world: &World, process: u32, depth: u16, operands: &[Operand]) -> Option<Located>
     ensures { result ≡ resolved world.now process depth operands.now }
 {
     if is_list(operands, 2) {
@@ -181,13 +174,7 @@ fn queue_need(place: u8, rights: Rights) -> Needs
 
 /// What an instruction needs of its operands, in their order.
 #[tactic(auto, unfolding(s38_rules::specs::Needs::needs, s38_rules::specs::Needs::enq_needs, s38_rules::specs::Needs::deq_needs))]
-pub fn needs_of(
-    world: &World,
-    process: u32,
-    depth: u16,
-    op: Op,
-    operands: &[Operand],
-) -> Needs
+pub fn needs_of(world: &World, process: u32, depth: u16, op: Op, operands: &[Operand]) -> Needs
     ensures { result ≡ needs world.now process depth op operands.now }
 {
     match op {

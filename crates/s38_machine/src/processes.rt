@@ -77,9 +77,7 @@ pub fn waits(world: &World, process: u32) -> bool
 fn is_early_in(standings: &[Standing], stage: u16) -> bool
     ensures { result ≡ is_early standings.now stage }
 {
-    standings
-        .iter()
-        .any(|x| !x.ended && x.job.stage < stage)
+    standings.iter().any(|x| !x.ended && x.job.stage < stage)
 }
 
 /// Whether some process of an earlier stage has not ended.

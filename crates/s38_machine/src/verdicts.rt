@@ -125,12 +125,7 @@ fn address_rule(world: &World, operands: &[Operand], need: &Need) -> Option<Exce
     }
 }
 
-fn available_to(
-    world: &World,
-    users: &[UserNum],
-    operands: &[Operand],
-    need: &Need,
-) -> Rights
+fn available_to(world: &World, users: &[UserNum], operands: &[Operand], need: &Need) -> Rights
     ensures { result.0 ≡ available_to world.now (map (λ u. u.0) users.now) operands.now need.now need.now.named }
 {
     match need.named {

@@ -14,3 +14,6 @@ fn sends<T: Send + Sync>() {}
 pub fn all_may_be_sent() {
     sends::<Process>();
 }
+
+#[cfg(test)]
+mod tests;

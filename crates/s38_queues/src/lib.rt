@@ -16,3 +16,6 @@ pub fn all_may_be_sent() {
     sends::<Message>();
     sends::<QueueFault>();
 }
+
+#[cfg(test)]
+mod tests;

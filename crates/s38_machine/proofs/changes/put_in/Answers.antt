@@ -1,6 +1,6 @@
-use Rattle.std.proofs.Common.{◌≡◌, ℕ, List, None, sym}
+use Rattle.std.proofs.Common.{◌≡◌, None, sym}
 use Rattle.std.proofs.lemmas.Result.{on_ok_weaker}
-use Rattle.s38_queues.specs.MessageQueue.{MessageQueue, message, with_message}
+use Rattle.s38_queues.specs.MessageQueue.{message, with_message}
 use Rattle.s38_rules.specs.State.{with_queue}
 use Rattle.s38_rules.specs.Verdict.{put_failure}
 use Rattle.s38_machine.proofs.PlaceLaws.{change_in-none, changed-place, queue-place}
@@ -19,5 +19,5 @@ pub returns-in-Some-clause-ok : goal.returns-in-Some-clause-ok
 returns-in-Some-clause-ok c =
     on_ok_weaker c.put_at.result
     (changed-place c.args.objects.now c.put_at.new.objects c.args.number.0 c.in-Some.at
-        (with_queue (λ q. with_message q (message c.args.key.now c.args.text.now))) c.in-Some.ensures.some)
+    (with_queue (λ q. with_message q (message c.args.key.now c.args.text.now))) c.in-Some.ensures.some)
     c.put_at.ensures.ok

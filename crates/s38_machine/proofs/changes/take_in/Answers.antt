@@ -1,5 +1,5 @@
-use Rattle.std.proofs.Common.{◌≡◌, ◌<◌, length, sym, arith}
-use Rattle.s38_queues.specs.MessageQueue.{MessageQueue, without_message}
+use Rattle.std.proofs.Common.{◌<◌, length, sym}
+use Rattle.s38_queues.specs.MessageQueue.{without_message}
 use Rattle.s38_rules.specs.State.{with_queue}
 use Rattle.s38_machine.proofs.PlaceLaws.{change_in-none, changed-place, queue-place}
 use Rattle.s38_machine.proofs.changes.take_in.Goals as goal

@@ -1,4 +1,4 @@
-use Rattle.std.proofs.Common.{◌≡◌, subst, sym}
+use Rattle.std.proofs.Common.{subst, sym}
 use Rattle.s38_rules.specs.Legal.{IsSound, Run}
 use Rattle.s38_rules.proofs.Laws.{sound_after}
 use Rattle.s38_machine.proofs.machine.Machine.step.Goals as goal
