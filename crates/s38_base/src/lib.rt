@@ -44,3 +44,6 @@ pub fn all_may_be_sent() {
     sends::<NoMemory>();
     sends::<Failed>();
 }
+
+#[cfg(test)]
+mod tests;
