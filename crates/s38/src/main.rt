@@ -10,11 +10,10 @@ mod top;
 
 use s38_io::{Sink, StdSink, StdSource};
 use std::alloc::{AllocError, Global};
-use std::env;
 use std::env::Env;
-use std::io;
 use std::io::ErrorKind;
 use std::process::ExitCode;
+use std::{env, io};
 use top::plain_top;
 
 /// The words of the command line behind the program's own.

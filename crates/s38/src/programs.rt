@@ -101,11 +101,7 @@ fn code_of_job(
 }
 
 /// The program of each job, in the order of the jobs.
-pub fn codes_of_jobs(
-    alloc: Global,
-    deck: &Deck,
-    programs: &[Code],
-) -> Result<Vec<Code>, NoMemory>
+pub fn codes_of_jobs(alloc: Global, deck: &Deck, programs: &[Code]) -> Result<Vec<Code>, NoMemory>
     requires has { (k : ℕ) (job : Job) → slice_get deck.now.jobs k ≡ Some job → HasTemplate deck.now job }
     requires made { all_made deck.now.templates ≡ Some programs.now }
     ensures len { IfOk result (λ codes. length codes.items ≡ length deck.now.jobs) }

@@ -5,9 +5,9 @@ ghost use Rattle.s38_template.specs.Places.{HasTemplate};
 ghost use Rattle.s38.specs.Decks.{IsRunOf, all_made};
 ghost use Rattle.s38.specs.Outcome.{Holds, OfText};
 
+use crate::command::is_serial;
 use crate::outcome::{Outcome, Whole};
 use crate::programs::{codes_of_jobs, programs};
-use crate::command::is_serial;
 use s38_base::NoMemory;
 use s38_code::{Code, Deck};
 use s38_io::{ReadFault, Source, read_to_end};

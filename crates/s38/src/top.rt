@@ -23,35 +23,11 @@ fn status(told: &Told) -> u8
 {
     let written = told.written;
     match &told.outcome {
-        Outcome::BadWords => {
-            if written {
-                1
-            } else {
-                6
-            }
-        }
-        Outcome::BadDeck => {
-            if written {
-                2
-            } else {
-                6
-            }
-        }
-        Outcome::DeckFault => {
-            if written {
-                5
-            } else {
-                6
-            }
-        }
+        Outcome::BadWords => { if written { 1 } else { 6 } }
+        Outcome::BadDeck => { if written { 2 } else { 6 } }
+        Outcome::DeckFault => { if written { 5 } else { 6 } }
         Outcome::NoMemory => 7,
-        Outcome::Complete(_) => {
-            if written {
-                0
-            } else {
-                6
-            }
-        }
+        Outcome::Complete(_) => { if written { 0 } else { 6 } }
     }
 }
 

@@ -1,5 +1,5 @@
 -- Laws of the definitions that the crates above rest on.
-use Rattle.std.proofs.Common.{◌≡◌, ℕ, ◌+◌, Bool, true, false, cond, IsTrue, List, [], ◌∷◌, ◌++◌, length, refl, sym, ◌∙◌, ap, subst, inl, inr, append_assoc, length-append, length-set, arith}
+use Rattle.std.proofs.Common.{◌≡◌, ℕ, ◌+◌, Bool, true, false, List, [], ◌∷◌, ◌++◌, length, refl, sym, ◌∙◌, ap, subst, inl, inr, append_assoc, length-append, length-set}
 use Rattle.std.proofs.lemmas.List.{append-nil}
 use Rattle.std.specs.Prelude.{Option, Some, None}
 use Rattle.s38_base.specs.declared.op.Op.{Op}
@@ -9,24 +9,26 @@ use Rattle.s38_code.specs.declared.event.Event.{Event}
 use Rattle.s38_code.specs.declared.event.Event.TheVariants.{Start, Act, Finish}
 use Rattle.s38_code.specs.declared.operand.Operand.{Operand}
 use Rattle.s38_code.specs.declared.reply.Reply.TheVariants.{MustWait}
-use Rattle.s38_code.specs.History.{IsAnswered, count_of, entry_after}
+use Rattle.s38_code.specs.History.{IsAnswered, entry_after}
 use Rattle.s38_rules.specs.declared.process.Standing.{Standing}
 use Rattle.s38_rules.specs.State.{State, standing, waits}
 use Rattle.s38_rules.specs.Effect.{effect, effect_of, start_at, end_at, rslvsp_effect, enq_effect, deq_effect}
 use Rattle.s38_rules.specs.declared.verdict.Verdict.{Verdict}
 use Rattle.s38_rules.specs.declared.verdict.Verdict.TheVariants.{Permit, Wait, Refuse}
 use Rattle.s38_rules.specs.Verdict.{verdict_of}
-use Rattle.s38_rules.specs.Step.{Stepped, step, by_verdict, by_waiting}
-use Rattle.s38_rules.specs.Legal.{IsEntry, Leads, Run, IsSound, after, after_by, history_after, marks_after, begun}
+use Rattle.s38_rules.specs.Step.{step, by_verdict, by_waiting}
+use Rattle.s38_rules.specs.Legal.{IsEntry, Leads, Run, IsSound, after, after_by, history_after, begun}
 
 -- entries that lead somewhere, and one more from there
 pub leads_more : (s : State) (before es : List Entry) (t : State) (e : Entry) → Leads s before es t → IsEntry t (before ++ es) e → Leads s before (es ++ e ∷ []) (step t e.process e.event).state
 leads_more s before [] t e h one =
     let here : IsEntry t before e = subst (λ (b : List Entry). IsEntry t b e) (append-nil before) one in
     subst (λ (u : State). IsEntry u before e × ((step u e.process e.event).state ≡ (step t e.process e.event).state)) (sym h) (here, refl)
-leads_more s before (x ∷ es) t e h one =
-    (h.0, leads_more (step s x.process x.event).state (before ++ x ∷ []) es t e h.1
-        (subst (λ (b : List Entry). IsEntry t b e) (sym (append_assoc before (x ∷ []) es)) one))
+leads_more s before (x ∷ es) t e h one = (
+  h.0,
+  leads_more (step s x.process x.event).state (before ++ x ∷ []) es t e h.1
+      (subst (λ (b : List Entry). IsEntry t b e) (sym (append_assoc before (x ∷ []) es)) one),
+)
 
 by_verdict_silent : (s : State) (p : ℕ) (e : Event) (v : Verdict) → (by_verdict s p e v).enters ≡ false → (by_verdict s p e v).state ≡ s
 by_verdict_silent s p e Permit h = cc
@@ -94,17 +96,17 @@ step_keeps s p e = waiting_keeps (waits s p) s p e
 sound_by : (m : Run) (p : ℕ) (e : Event) (b : Bool) → (step m.state p e).enters ≡ b → IsSound m → IsSound (after_by m p e (step m.state p e))
 sound_by m p e true h sound =
     let one : IsEntry m.state ([] ++ m.history) (entry_after m.history p e (step m.state p e).reply) =
-        record { entered = h; reply = refl; seq = refl } in
+    record { entered = h; reply = refl; seq = refl } in
     record {
       legal = rw h (leads_more m.origin [] m.history m.state _ sound.legal one);
       marked = rw h (simp length-append (ap (λ n. n + 1) sound.marked));
-      kept = step_keeps m.state p e ∙ sound.kept
+      kept = step_keeps m.state p e ∙ sound.kept;
     }
 sound_by m p e false h sound =
     record {
       legal = rw h (subst (λ t. Leads m.origin [] m.history t) (sym (silent m.state p e h)) sound.legal);
       marked = rw h sound.marked;
-      kept = step_keeps m.state p e ∙ sound.kept
+      kept = step_keeps m.state p e ∙ sound.kept;
     }
 
 -- a step keeps a machine sound
