@@ -6,6 +6,8 @@ mod outcome;
 mod programs;
 mod run;
 mod tell;
+#[cfg(test)]
+mod tests;
 mod top;
 
 use s38_io::{Sink, StdSink, StdSource};
