@@ -1,5 +1,5 @@
 ghost use Rattle.std.specs.Prelude.{◌≡◌, ◌⊎◌, ◌≤◌, Some, None, length, map, if◌then◌else◌};
-ghost use Rattle.s38.specs.Outcome.{Ends, IsComplete, IsGood, faulted, history_of, status_of};
+ghost use Rattle.s38.specs.Outcome.{Ends, IsComplete, IsGood, faulted, history_of, marks_of, status_of};
 
 use crate::outcome::{Outcome, Whole};
 use crate::run::decide;
@@ -33,7 +33,8 @@ fn status(told: &Told) -> u8
 
 /// The history and the marks of an outcome.
 fn entries(alloc: Global, outcome: Outcome) -> (Vec<Entry>, Vec<u64>)
-    ensures { result.0.items ≡ history_of outcome }
+    ensures history { result.0.items ≡ history_of outcome }
+    ensures marks { result.1.items ≡ marks_of outcome }
 {
     match outcome {
         Outcome::Complete(whole) => {
@@ -61,6 +62,7 @@ fn disk_after<D: Drop>(outcome: &Outcome, disk: D) -> Option<D>
 fn report_of<D: Drop>(alloc: Global, told: Told, disk: D) -> Report<D>
     ensures status { result.status ≡ (if told.written then status_of told.outcome else faulted told.outcome) }
     ensures history { result.history.items ≡ history_of told.outcome }
+    ensures marks { result.marks.items ≡ marks_of told.outcome }
     ensures disk { (result.status ≡ 7) ⊎ (result.disk ≡ Some disk) }
 {
     let status = status(&told);
@@ -85,7 +87,7 @@ pub fn plain_top<D: Drop, I: Source, O: Sink>(
 ) -> Report<D>
     // Each status has its cause, and its text is written.
     ensures ends { Ends (map (λ w. w.now) words.now) (I.left deck.old) (I.left deck.new) (I.faults deck.old) (I.faults deck.new)
-        (O.written out.old) (O.written out.new) (O.faults out.old) (O.faults out.new) result.status result.history.items }
+        (O.written out.old) (O.written out.new) (O.faults out.old) (O.faults out.new) result.status result.history.items result.marks.items }
 
     // The disk is wanting only for want of memory.
     ensures disk { (result.status ≡ 7) ⊎ (result.disk ≡ Some disk) }
