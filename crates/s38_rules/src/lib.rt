@@ -10,10 +10,11 @@ mod process;
 mod verdict;
 
 pub use exceptions::{
-    LENGTH_INVALID, LIMIT_EXCEEDED, NO_MESSAGE, OBJECT_DESTROYED, OBJECT_NOT_FOUND,
-    OBJECT_TYPE_INVALID, POINTER_MISSING, POINTER_TYPE_INVALID, UNAUTHORIZED,
+    BOUNDARY_ALIGNMENT, DECIMAL_DATA, DUPLICATE_IDENTIFICATION, LENGTH_INVALID, LIMIT_EXCEEDED,
+    NO_MESSAGE, OBJECT_DESTROYED, OBJECT_NOT_FOUND, OBJECT_TYPE_INVALID, PAGES_EXCEEDED,
+    POINTER_MISSING, POINTER_TYPE_INVALID, SPACE_ADDRESSING, UNAUTHORIZED,
 };
-pub use need::{Located, Named, Need, PointerKind};
+pub use need::{Located, Named, Need, PointerKind, Sought};
 pub use object::{Body, Object, PrivateRow, RowList};
 pub use process::{Standing, Started, Status};
 pub use verdict::Verdict;
