@@ -1,5 +1,5 @@
 //! The calls of the storage, over its cells.
-ghost use Rattle.std.specs.Prelude.{◌≡◌, ◌+◌, ◌*◌, ◌≤◌, All, length, take, drop};
+ghost use Rattle.std.specs.Prelude.{◌≡◌, ◌+◌, ◌*◌, ◌≤◌, true, All, length, take, drop};
 ghost use Rattle.s38_memory.specs.Cell.{IsCell};
 ghost use Rattle.s38_memory.specs.Tagged.{IsWritten, answer, bytes_in, cells_fault, copy_fault, is_aligned, is_within, piece_fault, pointer_at, written};
 
@@ -19,6 +19,19 @@ fn is_aligned(at: u32) -> bool
     ensures { result ≡ is_aligned at }
 {
     at % 16 == 0
+}
+
+/// Whether a piece of bytes lies within the cells; so many bytes are then read there.
+pub fn has_piece(cells: &[Cell], at: u64, len: usize) -> bool
+    requires few { length cells.now ≤ 1048576 }
+    requires whole { All IsCell cells.now }
+    ensures within { result ≡ is_within at len cells.now }
+    ensures near { result ≡ true → at + len ≤ 16777216 }
+    ensures long { result ≡ true → length (take len (drop at (bytes_in cells.now))) ≡ len }
+{
+    let size = (CELL * cells.len()) as u64;
+    let len = len as u64;
+    len <= size && at <= size - len
 }
 
 /// `Bounds` exactly where a piece of bytes leaves the cells.

@@ -1,12 +1,12 @@
-ghost use Rattle.std.specs.Prelude.{◌≡◌, ◌+◌, ◌*◌, ◌/◌, ◌%◌, ◌<◌, ◌≤◌, [], All, IfOk, IsOkUnless, OnErr, OnOk, drop, length, slice_set, take};
+ghost use Rattle.std.specs.Prelude.{◌≡◌, ◌+◌, ◌*◌, ◌/◌, ◌%◌, ◌<◌, ◌≤◌, true, [], All, IfOk, IsOkUnless, OnErr, OnOk, drop, length, slice_set, take};
 ghost use Rattle.s38_memory.specs.declared.cell.Cell.TheVariants.{Tagged as Pointing};
 ghost use Rattle.s38_memory.specs.Cell.{IsCell};
 ghost use Rattle.s38_memory.specs.Image.{IsStorable};
-ghost use Rattle.s38_memory.specs.Tagged.{IsStorage, IsWritten, answer, bytes_in, cells_fault, cells_in, copy_fault, overlaid, piece_fault, pointer_at, resized, written};
+ghost use Rattle.s38_memory.specs.Tagged.{IsStorage, IsWritten, answer, bytes_in, cells_fault, cells_in, copy_fault, is_within, overlaid, piece_fault, pointer_at, resized, written};
 
 use crate::cell::{CELL, Cell};
 use crate::fault::MemoryFault;
-use crate::storage::{check_cells, check_copy, check_piece, pointer_at, read, write};
+use crate::storage::{check_cells, check_copy, check_piece, has_piece, pointer_at, read, write};
 use s38_base::Pointer;
 use std::alloc::Global;
 use std::marker::Model;
@@ -63,6 +63,15 @@ impl Tagged {
         ensures most { result ≤ 16777216 }
     {
         (CELL * self.cells.len()) as u32
+    }
+
+    /// Whether a piece of bytes lies within the storage; so many bytes are then read there.
+    pub fn has_piece(&self, at: u64, len: usize) -> bool
+        ensures within { result ≡ is_within at len self.now }
+        ensures near { result ≡ true → at + len ≤ 16777216 }
+        ensures long { result ≡ true → length (take len (drop at (bytes_in self.now))) ≡ len }
+    {
+        has_piece(&self.cells, at, len)
     }
 
     /// The cells.
@@ -154,6 +163,19 @@ impl Tagged {
         let first = from as usize / CELL;
         let piece = &source[first..first + len as usize / CELL];
         copy_in(&mut self.cells, to as usize / CELL, piece);
+        Ok(())
+    }
+
+    /// Puts cells, with their pointers, over those that begin at a place. `Bounds` exactly where they leave the
+    /// storage, then `Alignment` exactly where the place is no multiple of 16.
+    pub fn put_cells(&mut self, at: u32, piece: &[Cell]) -> Result<(), MemoryFault>
+        requires { All IsCell piece.now }
+        ensures answer { result ≡ answer (cells_fault at (16 * length piece.now) self.old) }
+        ensures ok { OnOk result (self.new ≡ overlaid (at / 16) piece.now self.old) }
+        ensures err { OnErr result (self.new ≡ self.old) }
+    {
+        check_cells(&self.cells, at, CELL * piece.len())?;
+        copy_in(&mut self.cells, at as usize / CELL, piece);
         Ok(())
     }
 
