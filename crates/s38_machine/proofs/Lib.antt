@@ -1,3 +1,2 @@
 pub mod LogLaws
-pub mod PlaceLaws
 pub mod VerdictLaws

@@ -13,9 +13,8 @@ fn special_of(body: &Body) -> Option<u8>
     ensures { result ≡ special_of body.now }
 {
     match body {
-        Body::Context => None,
         Body::Profile { special, .. } => Some(special.0),
-        Body::Queue(_) => None,
+        _ => None,
     }
 }
 

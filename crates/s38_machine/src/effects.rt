@@ -1,63 +1,49 @@
-ghost use Rattle.std.specs.Prelude.{◌≡◌, ◌<◌, true, None, Some, IfOk, OnOk, OnErr, length, slice_get, slice_set};
+//! A permitted event takes effect.
+ghost use Rattle.std.specs.Prelude.{◌≡◌, ◌<◌, true, Some, IfOk, OnOk, OnErr, length, slice_get, slice_set};
 ghost use Rattle.std.specs.Option.{option_map};
-ghost use Rattle.s38_queues.specs.MessageQueue.{message, with_message, without_message};
+ghost use Rattle.s38_code.specs.declared.reply.Val.{Val};
 ghost use Rattle.s38_rules.specs.declared.process.Standing.{Standing};
 ghost use Rattle.s38_rules.specs.declared.verdict.Verdict.{Verdict};
-ghost use Rattle.s38_rules.specs.State.{on_queue, queue_at, standing};
-ghost use Rattle.s38_rules.specs.Operands.{bytes_at, target};
-ghost use Rattle.s38_rules.specs.Effect.{effect, effect_of, end_at, start_at, started_as};
+ghost use Rattle.s38_rules.specs.State.{State, standing};
+ghost use Rattle.s38_rules.specs.Operands.{delivered};
+ghost use Rattle.s38_rules.specs.Effect.{effect, effect_of, end_at, start_at, started_as, value_of};
 ghost use Rattle.s38_rules.specs.Step.{awake};
-ghost use Rattle.s38_rules.specs.Verdict.{conditions, put_failure, verdict_of};
+ghost use Rattle.s38_rules.specs.Verdict.{conditions, verdict_of};
+ghost use Rattle.s38_machine.specs.Events.{receiver_of, value_of_event};
 
-use crate::changes::{put_in, take_in};
-use crate::operands::{bytes_at, target};
+use crate::changes::change;
+use crate::deliveries::put;
+use crate::operands::place;
 use crate::processes::standing;
-use crate::values::started_as;
+use crate::starts::started_as;
 use crate::world::World;
 use s38_base::{NoMemory, Op};
-use s38_code::{Event, Operand, Request};
+use s38_code::{Event, Operand, Val};
 use s38_rules::{Standing, Started};
 use std::alloc::Global;
 
-fn enq(world: &mut World, operands: &[Operand]) -> Result<(), NoMemory>
-    requires { put_failure (queue_at world.old (target world.old operands.now 1)) (bytes_at world.old operands.now 2) (bytes_at world.old operands.now 3) ≡ None }
-    ensures ok { OnOk result (world.new ≡ on_queue world.old (target world.old operands.now 1) (λ q. with_message q (message (bytes_at world.old operands.now 2) (bytes_at world.old operands.now 3)))) }
-    ensures err { OnErr result (world.new ≡ world.old) }
-{
-    let number = target(world, operands, 1);
-    let key = bytes_at(world, operands, 2);
-    let text = bytes_at(world, operands, 3);
-    put_in(&mut world.objects, number, key, text)
-}
-
-fn deq(world: &mut World, operands: &[Operand])
-    requires { 0 < length (queue_at world.old (target world.old operands.now 2)).messages }
-    ensures { world.new ≡ on_queue world.old (target world.old operands.now 2) (λ q. without_message q 0) }
-{
-    let number = target(world, operands, 2);
-    take_in(&mut world.objects, number);
-}
-
-/// What a permitted instruction changes; where memory is refused nothing changes.
-#[tactic(auto, using(crate::proofs::VerdictLaws::deq_full), unfolding(s38_rules::specs::Verdict::conditions, s38_rules::specs::Verdict::enq_conditions, s38_rules::specs::Effect::effect, s38_rules::specs::Effect::rslvsp_effect, s38_rules::specs::Effect::enq_effect, s38_rules::specs::Effect::deq_effect))]
+/// An instruction changes what it changes, and then its value goes into the space of its receiver.
+#[tactic(auto, unfolding(s38_rules::specs::Effect::effect))]
 fn act(
+    alloc: Global,
     world: &mut World,
     process: u32,
     depth: u16,
     op: Op,
     operands: &[Operand],
+    value: Option<Val>,
 ) -> Result<(), NoMemory>
-    requires { conditions world.old process depth op operands.now ≡ None }
+    requires conditions { conditions world.old process depth op operands.now ≡ None }
+    requires value { (s : State) → (delivered s (Rattle.s38_rules.specs.Operands.place operands.now 1) value).state ≡ (delivered s (Rattle.s38_rules.specs.Operands.place operands.now 1) (value_of world.old process depth op operands.now)).state }
     ensures ok { OnOk result (world.new ≡ (effect world.old process depth op operands.now).state) }
     ensures err { OnErr result (world.new ≡ world.old) }
 {
-    match op {
-        Op::Enq => enq(world, operands),
-        Op::Deq => {
-            deq(world, operands);
+    match change(alloc, world, process, depth, op, operands) {
+        Ok(()) => {
+            put(world, place(operands, 1), value);
             Ok(())
         }
-        _ => Ok(()),
+        Err(fault) => Err(fault),
     }
 }
 
@@ -120,19 +106,23 @@ fn take_effect(
     world: &mut World,
     process: u32,
     event: &Event,
+    value: Option<Val>,
 ) -> Result<(), NoMemory>
-    requires { verdict_of world.old process event.now ≡ Verdict.Permit }
+    requires permit { verdict_of world.old process event.now ≡ Verdict.Permit }
+    requires value { (s : State) → (delivered s (receiver_of event.now) value).state ≡ (delivered s (receiver_of event.now) (value_of_event world.old process event.now)).state }
     ensures ok { OnOk result (world.new ≡ (effect_of world.old process event.now).state) }
     ensures err { OnErr result (world.new ≡ world.old) }
 {
     match event {
         Event::Start => start(alloc, world, process),
         Event::Act { depth, request } => act(
+            alloc,
             world,
             process,
             *depth,
             request.op,
             request.operands.as_slice(),
+            value,
         ),
         Event::Finish { .. } => {
             end(world, process);
@@ -141,15 +131,23 @@ fn take_effect(
     }
 }
 
-/// A permitted event takes effect, and nobody waits any more; where memory is refused nothing changes.
+/// A permitted event takes effect, with the value that goes into the space of its receiver, and nobody waits any
+/// more; where memory is refused nothing changes.
 #[tactic(auto, using(s38_rules::proofs::Laws::effect_keeps))]
-pub fn apply(alloc: Global, world: &mut World, process: u32, event: &Event) -> Result<(), NoMemory>
-    requires { verdict_of world.old process event.now ≡ Verdict.Permit }
+pub fn apply(
+    alloc: Global,
+    world: &mut World,
+    process: u32,
+    event: &Event,
+    value: Option<Val>,
+) -> Result<(), NoMemory>
+    requires permit { verdict_of world.old process event.now ≡ Verdict.Permit }
+    requires value { (s : State) → (delivered s (receiver_of event.now) value).state ≡ (delivered s (receiver_of event.now) (value_of_event world.old process event.now)).state }
     ensures ok { OnOk result (world.new ≡ awake (effect_of world.old process event.now).state) }
     ensures err { OnErr result (world.new ≡ world.old) }
     ensures kept { length world.new.processes ≡ length world.old.processes }
 {
-    match take_effect(alloc, world, process, event) {
+    match take_effect(alloc, world, process, event, value) {
         Err(fault) => Err(fault),
         Ok(()) => {
             world.waiting.clear();

@@ -1,17 +1,28 @@
 //! The machine: it answers the events of processes one by one, and keeps their history.
 #![tactic(auto)]
 
+mod addresses;
 mod authority;
 mod changes;
+mod conditions;
+mod creation;
+mod deliveries;
 mod effects;
+mod failures;
 mod log;
 mod machine;
 mod needs;
+mod numbers;
 mod objects;
 mod opening;
 mod operands;
+mod pointers;
 mod processes;
 mod queues;
+mod reads;
+mod rights;
+mod starts;
+mod storage;
 mod values;
 mod verdicts;
 mod world;

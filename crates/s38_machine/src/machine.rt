@@ -1,6 +1,9 @@
 ghost use Rattle.std.specs.Prelude.{◌≡◌, ◌<◌, ◌≤◌, IfOk, IsErrOf, OnErr, length};
 ghost use Rattle.s38_code.specs.declared.event.Event.{Event};
-ghost use Rattle.s38_rules.specs.State.{ready};
+ghost use Rattle.std.specs.Option.{option_copied};
+ghost use Rattle.s38_rules.specs.State.{State, ready};
+ghost use Rattle.s38_rules.specs.Operands.{delivered};
+ghost use Rattle.s38_machine.specs.Events.{receiver_of, value_of_event};
 ghost use Rattle.s38_rules.specs.Verdict.{verdict_of};
 ghost use Rattle.s38_rules.specs.Effect.{effect_of};
 ghost use Rattle.s38_rules.specs.declared.verdict.Verdict.{Verdict};
@@ -8,15 +11,17 @@ ghost use Rattle.s38_rules.specs.Step.{by_verdict, step};
 ghost use Rattle.s38_rules.specs.Legal.{IsSound, MayAsk, after, after_by, begun};
 ghost use Rattle.s38_rules.specs.Opening.{opened};
 
+use crate::deliveries::parted;
 use crate::effects::apply;
 use crate::log::Log;
 use crate::opening::opened;
+use crate::operands::place;
 use crate::processes::{ready, waits};
-use crate::values::values_of;
+use crate::values::value_of;
 use crate::verdicts::verdict_of;
 use crate::world::World;
 use s38_base::{Exception, NoMemory, Seq, Twin};
-use s38_code::{Entry, Event, Job, Reply, StepFault, Stepper, Vals};
+use s38_code::{Entry, Event, Job, Operand, Reply, StepFault, Stepper, Val, Vals};
 use s38_rules::Verdict;
 use std::alloc::Global;
 use std::marker::Model;
@@ -43,19 +48,17 @@ impl Model for Machine {
     ghost invariant = { λ m. m.log.processes ≡ length m.world.processes };
 }
 
-/// The values that a permitted event gives.
-#[tactic(auto, unfolding(s38_rules::specs::Effect::effect_of))]
-fn values_of_event(
+/// The value that a permitted event gives.
+fn value_of_event(
     alloc: Global,
     world: &World,
     process: u32,
     event: &Event,
-) -> Result<Vals, NoMemory>
-    ensures { IfOk result (λ made. made ≡ (effect_of world.now process event.now).values) }
+) -> Result<Option<Val>, NoMemory>
+    ensures { IfOk result (λ made. made ≡ value_of_event world.now process event.now) }
 {
     match event {
-        Event::Start => Ok(Seq::new(alloc)),
-        Event::Act { depth, request } => values_of(
+        Event::Act { depth, request } => value_of(
             alloc,
             world,
             process,
@@ -63,8 +66,33 @@ fn values_of_event(
             request.op,
             request.operands.as_slice(),
         ),
-        Event::Finish { .. } => Ok(Seq::new(alloc)),
+        _ => Ok(None),
     }
+}
+
+/// The operand to which it goes.
+fn receiver_of(event: &Event) -> Option<&Operand>
+    ensures { option_copied result ≡ receiver_of event.now }
+{
+    match event {
+        Event::Act { request, .. } => place(request.operands.as_slice(), 1),
+        _ => None,
+    }
+}
+
+/// The values of the reply to a permitted event, and what goes into the space of its receiver.
+#[tactic(auto, unfolding(s38_rules::specs::Effect::effect_of, s38_rules::specs::Effect::effect))]
+fn parted_values(
+    alloc: Global,
+    world: &World,
+    process: u32,
+    event: &Event,
+) -> Result<(Vals, Option<Val>), NoMemory>
+    ensures values { IfOk result (λ parts. parts.0 ≡ (effect_of world.now process event.now).values) }
+    ensures kept { IfOk result (λ parts. (s : State) → (delivered s (receiver_of event.now) parts.1).state ≡ (delivered s (receiver_of event.now) (value_of_event world.now process event.now)).state) }
+{
+    let value = value_of_event(alloc, world, process, event)?;
+    parted(alloc, receiver_of(event), value)
 }
 
 impl Machine {
@@ -133,12 +161,12 @@ impl Machine {
             × (self.new ≡ after_by self.old process event.now (by_verdict self.old.state process event.now Verdict.Permit))) }
         ensures err { OnErr result (self.new ≡ self.old) }
     {
-        let values = values_of_event(self.alloc, &self.world, process, event)?;
+        let (values, value) = parted_values(self.alloc, &self.world, process, event)?;
         let reply = Reply::Done(values);
         let entered = reply.twin(self.alloc)?;
         let asked = event.twin(self.alloc)?;
         self.log.reserve()?;
-        match apply(self.alloc, &mut self.world, process, event) {
+        match apply(self.alloc, &mut self.world, process, event, value) {
             Ok(()) => {}
             Err(fault) => return Err(fault),
         }

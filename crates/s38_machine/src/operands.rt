@@ -1,11 +1,10 @@
+//! What stands at an operand, as far as that asks nothing of the machine.
 ghost use Rattle.std.specs.Prelude.{◌≡◌};
 ghost use Rattle.std.specs.Option.{option_copied};
 ghost use Rattle.s38_base.specs.Scalar.{length_of};
-ghost use Rattle.s38_rules.specs.Verdict.{carried_in};
-ghost use Rattle.s38_rules.specs.Operands.{bytes_at, bytes_of, carried_by, id_at, id_of, is_given, is_given_in, is_list, is_list_in, object_of, place, pointer_at, pointer_of, rights_at, room_at, room_of, target, target_of, word_at, word_of};
+ghost use Rattle.s38_rules.specs.Operands.{attr_at, attr_of, id_at, id_of, is_given, is_given_in, is_in_space, is_list, is_list_in, is_machine, is_machine_in, place, rights_at, room_at, room_of, scalar_attr, whole_at, whole_of, word_at, word_of};
 
-use crate::world::World;
-use s38_base::{Attr, Id, ObjNum, Pointer, Rights};
+use s38_base::{Attr, Id};
 use s38_code::Operand;
 
 /// What stands at an operand, from 1 on.
@@ -13,40 +12,6 @@ pub fn place(operands: &[Operand], k: usize) -> Option<&Operand>
     ensures { option_copied result ≡ place operands.now k }
 {
     operands.get(k.saturating_sub(1))
-}
-
-fn pointer_of(world: &World, operand: Option<&Operand>) -> Option<Pointer>
-    ensures { result ≡ pointer_of world.now (option_copied operand.entry) }
-{
-    let _ = world;
-    match operand {
-        Some(Operand::Ptr(pointer)) => *pointer,
-        _ => None,
-    }
-}
-
-/// The pointer that is used.
-pub fn pointer_at(world: &World, operands: &[Operand], k: usize) -> Option<Pointer>
-    ensures { result ≡ pointer_at world.now operands.now k }
-{
-    pointer_of(world, place(operands, k))
-}
-
-fn bytes_of<'a>(world: &World, operand: Option<&'a Operand>) -> &'a [u8]
-    ensures { result.now ≡ bytes_of world.now (option_copied operand.entry) }
-{
-    let _ = world;
-    match operand {
-        Some(Operand::Value { bytes, .. }) => bytes.as_slice(),
-        _ => &[],
-    }
-}
-
-/// The bytes that are read.
-pub fn bytes_at<'a>(world: &World, operands: &'a [Operand], k: usize) -> &'a [u8]
-    ensures { result.now ≡ bytes_at world.now operands.now k }
-{
-    bytes_of(world, place(operands, k))
 }
 
 fn is_given_in(operand: Option<&Operand>) -> bool
@@ -121,23 +86,12 @@ pub fn id_at(operands: &[Operand], k: usize) -> Option<&Id>
     id_of(place(operands, k))
 }
 
-fn length_of(attr: Attr) -> u16
-    ensures { result ≡ length_of attr }
-{
-    match attr {
-        Attr::Packed { digits, .. } => digits as u16 / 2 + 1,
-        Attr::Zoned { digits, .. } => digits as u16,
-        Attr::Binary { size } => size as u16,
-        Attr::Chars { len } => len,
-        Attr::Pointer => 16,
-    }
-}
-
 fn room_of(operand: Option<&Operand>) -> u16
     ensures { result ≡ room_of (option_copied operand.entry) }
 {
     match operand {
-        Some(Operand::Receiver { attr }) => length_of(*attr),
+        Some(Operand::Receiver { attr }) => attr.length(),
+        Some(Operand::InSpace { attr, .. }) => attr.length(),
         _ => 0,
     }
 }
@@ -149,49 +103,68 @@ pub fn room_at(operands: &[Operand], k: usize) -> u16
     room_of(place(operands, k))
 }
 
-/// The object that a pointer names.
-pub fn object_of(pointer: Pointer) -> ObjNum
-    ensures { result.0 ≡ object_of pointer }
+/// Whether an operand lies in a space.
+pub fn is_in_space(operand: Option<&Operand>) -> bool
+    ensures { result ≡ is_in_space (option_copied operand.entry) }
 {
-    match pointer {
-        Pointer::System { object, .. } => object,
-        Pointer::Space { object, .. } => object,
-        Pointer::Item { object, .. } => object,
+    matches!(operand, Some(Operand::InSpace { .. }))
+}
+
+fn is_machine_in(operand: Option<&Operand>) -> bool
+    ensures { result ≡ is_machine_in (option_copied operand.entry) }
+{
+    matches!(operand, Some(Operand::MachineContext))
+}
+
+/// Whether `*MACHINE` stands there.
+pub fn is_machine(operands: &[Operand], k: usize) -> bool
+    ensures { result ≡ is_machine operands.now k }
+{
+    is_machine_in(place(operands, k))
+}
+
+fn whole_of(operand: Option<&Operand>) -> u64
+    ensures { result ≡ whole_of (option_copied operand.entry) }
+{
+    match operand {
+        Some(Operand::Whole(number)) => (*number).max(0) as u64,
+        _ => 0,
     }
 }
 
-fn carried_by(pointer: Pointer) -> Rights
-    ensures { result.0 ≡ carried_by pointer }
+/// A whole number that is written, 0 for another operand.
+pub fn whole_at(operands: &[Operand], k: usize) -> u64
+    ensures { result ≡ whole_at operands.now k }
 {
-    match pointer {
-        Pointer::System { rights, .. } => rights,
-        Pointer::Space { .. } => Rights(0),
-        Pointer::Item { .. } => Rights(0),
+    whole_of(place(operands, k))
+}
+
+fn attr_of(operand: Option<&Operand>) -> Attr
+    ensures { result ≡ attr_of (option_copied operand.entry) }
+{
+    match operand {
+        Some(Operand::Attrs(attrs)) => match attrs.as_slice() {
+            [attr] => *attr,
+            _ => Attr::Chars { len: 0 },
+        },
+        _ => Attr::Chars { len: 0 },
     }
 }
 
-/// The rights that a pointer carries, none without one.
-pub fn carried_in(pointer: Option<Pointer>) -> Rights
-    ensures { result.0 ≡ carried_in pointer }
+/// The attribute of a list of one.
+pub fn attr_at(operands: &[Operand], k: usize) -> Attr
+    ensures { result ≡ attr_at operands.now k }
 {
-    match pointer {
-        None => Rights(0),
-        Some(pointer) => carried_by(pointer),
-    }
+    attr_of(place(operands, k))
 }
 
-fn target_of(pointer: Option<Pointer>) -> ObjNum
-    ensures { result.0 ≡ target_of pointer }
+/// The attribute of a scalar that is read.
+pub fn scalar_attr(operand: Option<&Operand>) -> Attr
+    ensures { result ≡ scalar_attr (option_copied operand.entry) }
 {
-    match pointer {
-        None => ObjNum(0),
-        Some(pointer) => object_of(pointer),
+    match operand {
+        Some(Operand::Value { attr, .. }) => *attr,
+        Some(Operand::InSpace { attr, .. }) => *attr,
+        _ => Attr::Chars { len: 0 },
     }
-}
-
-/// The number of the object that the used pointer names, 0 for none.
-pub fn target(world: &World, operands: &[Operand], k: usize) -> ObjNum
-    ensures { result.0 ≡ target world.now operands.now k }
-{
-    target_of(pointer_at(world, operands, k))
 }

@@ -55,9 +55,8 @@ fn facts_of_body(body: &Body) -> QueueFacts
     ensures count { result.count ≡ length (queue_of body.now).messages }
 {
     match body {
-        Body::Context => no_facts(),
-        Body::Profile { .. } => no_facts(),
         Body::Queue(queue) => facts_of_queue(queue),
+        _ => no_facts(),
     }
 }
 
@@ -88,9 +87,8 @@ fn oldest_of_body(body: &Body) -> &[u8]
     ensures { result.now ≡ oldest (queue_of body.now).messages }
 {
     match body {
-        Body::Context => &[],
-        Body::Profile { .. } => &[],
         Body::Queue(queue) => oldest_of_queue(queue),
+        _ => &[],
     }
 }
 

@@ -1,18 +1,19 @@
-ghost use Rattle.std.specs.Prelude.{◌≡◌, ◌∷◌, [], IfOk, map};
+//! The value that a permitted instruction gives to its receiver.
+ghost use Rattle.std.specs.Prelude.{◌≡◌, IfOk};
+ghost use Rattle.s38_rules.specs.Effect.{cpybwp_value, creation_value, deq_value, fitted, pointer_made, pointer_to, rslvsp_value, setdp_value, setspfp_value, setsppfp_value, value_of};
 ghost use Rattle.std.specs.Option.{option_copied};
-ghost use Rattle.s38_rules.specs.Effect.{deq_effect, effect, enq_effect, fitted, number_in, numbers_of, oldest, pointer_to, rslvsp_effect, started_as};
-ghost use Rattle.s38_rules.specs.State.{found};
-ghost use Rattle.s38_rules.specs.Verdict.{context_id};
 
 use crate::needs::resolved;
 use crate::objects::object;
-use crate::operands::{rights_word, room_at, target};
+use crate::operands::{attr_at, id_at, is_in_space, place, rights_word, room_at};
+use crate::pointers::{object_of, offset_of};
 use crate::queues::oldest_of;
-use crate::verdicts::{context_id, found_in_machine, profile_id};
+use crate::reads::{pointer_at, source_cells, target};
+use crate::storage::first_pointer;
 use crate::world::World;
-use s38_base::{Bytes, Name, NoMemory, ObjNum, Op, Pointer, Rights, Seq};
-use s38_code::{Job, Operand, Val, Vals};
-use s38_rules::{Located, Object, Started};
+use s38_base::{Bytes, Id, NoMemory, ObjNum, Op, Pointer, Rights, Seq};
+use s38_code::{Operand, Val};
+use s38_rules::Located;
 use std::alloc::Global;
 
 /// Bytes cut to a length, or filled to it on the right.
@@ -22,14 +23,6 @@ fn fitted(alloc: Global, len: u16, fill: u8, bytes: &[u8]) -> Result<Bytes, NoMe
     let mut made = Vec::from_slice(alloc, bytes)?;
     made.resize(len as usize, fill)?;
     Ok(Seq::from_vec(made))
-}
-
-fn one(alloc: Global, value: Val) -> Result<Vals, NoMemory>
-    ensures { IfOk result (λ made. made ≡ value ∷ []) }
-{
-    let mut made = Seq::new(alloc);
-    made.push(value)?;
-    Ok(made)
 }
 
 fn pointer_to(rights: u8, located: Option<Located>) -> Option<Pointer>
@@ -44,94 +37,124 @@ fn pointer_to(rights: u8, located: Option<Located>) -> Option<Pointer>
     }
 }
 
-#[tactic(auto, unfolding(s38_rules::specs::Effect::rslvsp_effect))]
-fn rslvsp_values(
-    alloc: Global,
-    world: &World,
-    process: u32,
-    depth: u16,
-    operands: &[Operand],
-) -> Result<Vals, NoMemory>
-    ensures { IfOk result (λ made. made ≡ (rslvsp_effect world.now process depth operands.now).values) }
+#[tactic(auto, unfolding(s38_rules::specs::Effect::rslvsp_value))]
+fn rslvsp_value(world: &World, process: u32, depth: u16, operands: &[Operand]) -> Val
+    ensures { result ≡ rslvsp_value world.now process depth operands.now }
 {
     let located = resolved(world, process, depth, operands);
-    one(
-        alloc,
-        Val::Ptr(pointer_to(rights_word(operands, 4), located)),
-    )
+    Val::Ptr(pointer_to(rights_word(operands, 4), located))
 }
 
-#[tactic(auto, unfolding(s38_rules::specs::Effect::deq_effect))]
-fn deq_values(alloc: Global, world: &World, operands: &[Operand]) -> Result<Vals, NoMemory>
-    ensures { IfOk result (λ made. made ≡ (deq_effect world.now operands.now).values) }
+/// A pointer to the first byte of the space.
+#[tactic(auto, unfolding(s38_rules::specs::Effect::setsppfp_value))]
+fn setsppfp_value(world: &World, operands: &[Operand]) -> Val
+    ensures { result ≡ setsppfp_value world.now operands.now }
+{
+    match pointer_at(world, operands, 2) {
+        None => Val::Ptr(None),
+        Some(pointer) => Val::Ptr(Some(Pointer::Space {
+            object: object_of(pointer),
+            offset: 0,
+        })),
+    }
+}
+
+/// A pointer to the object, without rights.
+#[tactic(auto, unfolding(s38_rules::specs::Effect::setspfp_value))]
+fn setspfp_value(world: &World, operands: &[Operand]) -> Val
+    ensures { result ≡ setspfp_value world.now operands.now }
+{
+    match pointer_at(world, operands, 2) {
+        None => Val::Ptr(None),
+        Some(pointer) => Val::Ptr(Some(Pointer::System {
+            object: object_of(pointer),
+            rights: Rights(0),
+        })),
+    }
+}
+
+/// A pointer to an item of the attribute.
+#[tactic(auto, unfolding(s38_rules::specs::Effect::setdp_value))]
+fn setdp_value(world: &World, operands: &[Operand]) -> Val
+    ensures { result ≡ setdp_value world.now operands.now }
+{
+    match pointer_at(world, operands, 2) {
+        None => Val::Ptr(None),
+        Some(pointer) => Val::Ptr(Some(Pointer::Item {
+            object: object_of(pointer),
+            offset: offset_of(pointer),
+            attr: attr_at(operands, 3),
+        })),
+    }
+}
+
+/// A variable gets the pointer of the cell.
+#[tactic(auto, unfolding(s38_rules::specs::Effect::cpybwp_value))]
+fn cpybwp_value(
+    alloc: Global,
+    world: &World,
+    operands: &[Operand],
+) -> Result<Option<Val>, NoMemory>
+    ensures { IfOk result (λ made. made ≡ cpybwp_value world.now operands.now) }
+{
+    if is_in_space(place(operands, 1)) {
+        return Ok(None);
+    }
+    let cells = source_cells(alloc, world, operands, 2)?;
+    Ok(Some(Val::Ptr(first_pointer(cells.as_slice()))))
+}
+
+fn pointer_made(world: &World, id: Option<&Id>) -> Option<Pointer>
+    ensures { result ≡ pointer_made world.now (option_copied id.entry) }
+{
+    match id {
+        None => None,
+        Some(_) => Some(Pointer::System {
+            object: ObjNum(world.objects.next_number()),
+            rights: Rights(0),
+        }),
+    }
+}
+
+/// A system pointer to the new object, without rights.
+#[tactic(auto, unfolding(s38_rules::specs::Effect::creation_value))]
+fn creation_value(world: &World, operands: &[Operand]) -> Val
+    ensures { result ≡ creation_value world.now operands.now }
+{
+    Val::Ptr(pointer_made(world, id_at(operands, 3)))
+}
+
+/// The oldest message, cut or filled with blanks.
+#[tactic(auto, unfolding(s38_rules::specs::Effect::deq_value))]
+fn deq_value(alloc: Global, world: &World, operands: &[Operand]) -> Result<Val, NoMemory>
+    ensures { IfOk result (λ made. made ≡ deq_value world.now operands.now) }
 {
     let text = oldest_of(object(world, target(world, operands, 2)));
     let bytes = fitted(alloc, room_at(operands, 1), 64, text)?;
-    one(alloc, Val::Bytes(bytes))
+    Ok(Val::Bytes(bytes))
 }
 
-/// The values that a permitted instruction gives, in the order of its receivers.
-#[tactic(auto, unfolding(s38_rules::specs::Effect::effect, s38_rules::specs::Effect::enq_effect))]
-pub fn values_of(
+/// The value that a permitted instruction gives; None where it has no receiver.
+#[tactic(auto, unfolding(s38_rules::specs::Effect::value_of))]
+pub fn value_of(
     alloc: Global,
     world: &World,
     process: u32,
     depth: u16,
     op: Op,
     operands: &[Operand],
-) -> Result<Vals, NoMemory>
-    ensures { IfOk result (λ made. made ≡ (effect world.now process depth op operands.now).values) }
+) -> Result<Option<Val>, NoMemory>
+    ensures { IfOk result (λ made. made ≡ value_of world.now process depth op operands.now) }
 {
     match op {
-        Op::Rslvsp => rslvsp_values(alloc, world, process, depth, operands),
-        Op::Deq => deq_values(alloc, world, operands),
-        _ => Ok(Seq::new(alloc)),
+        Op::Rslvsp => Ok(Some(rslvsp_value(world, process, depth, operands))),
+        Op::Setsppfp => Ok(Some(setsppfp_value(world, operands))),
+        Op::Setspfp => Ok(Some(setspfp_value(world, operands))),
+        Op::Setdp => Ok(Some(setdp_value(world, operands))),
+        Op::Cpybwp => cpybwp_value(alloc, world, operands),
+        Op::Crtq => Ok(Some(creation_value(world, operands))),
+        Op::Crts => Ok(Some(creation_value(world, operands))),
+        Op::Deq => Ok(Some(deq_value(alloc, world, operands)?)),
+        _ => Ok(None),
     }
-}
-
-fn number_in(object_found: Option<&Object>) -> ObjNum
-    ensures { result ≡ number_in (option_copied object_found.entry) }
-{
-    match object_found {
-        None => ObjNum(0),
-        Some(object_found) => object_found.number,
-    }
-}
-
-fn number_of_context(world: &World, name: &Name) -> ObjNum
-    ensures { result ≡ number_in (found world.now 1 (context_id name.now)) }
-{
-    number_in(found_in_machine(world, &context_id(name)))
-}
-
-fn numbers_of(alloc: Global, world: &World, names: &[Name]) -> Result<Seq<ObjNum>, NoMemory>
-    ensures { IfOk result (λ made. made ≡ numbers_of world.now names.now) }
-{
-    let mut made = Seq::new(alloc);
-    for name in names {
-        made.push(number_of_context(world, name))?;
-    }
-    Ok(made)
-}
-
-fn own_template(alloc: Global) -> Result<Seq<ObjNum>, NoMemory>
-    ensures { IfOk result (λ made. made ≡ record { 0 = 0 } ∷ []) }
-{
-    let mut made = Seq::new(alloc);
-    made.push(ObjNum(0))?;
-    Ok(made)
-}
-
-/// What a process knows from its start.
-pub fn started_as(alloc: Global, world: &World, job: &Job) -> Result<Started, NoMemory>
-    ensures { IfOk result (λ made. made ≡ started_as world.now job.now) }
-{
-    let user = number_in(found_in_machine(world, &profile_id(&job.user)));
-    let contexts = numbers_of(alloc, world, job.contexts.as_slice())?;
-    let stack = own_template(alloc)?;
-    Ok(Started {
-        user,
-        contexts,
-        stack,
-    })
 }

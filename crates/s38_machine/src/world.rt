@@ -1,11 +1,11 @@
-use s38_rules::{Object, Standing};
+use s38_objects::Objects;
+use s38_rules::Standing;
 use std::marker::Model;
 
 /// The objects and the processes. Contracts see it as the machine's state.
 #[derive(Drop)]
 pub struct World {
-    pub objects: Vec<Object>,
-    pub next: u64,
+    pub objects: Objects,
     pub processes: Vec<Standing>,
     pub waiting: Vec<u32>,
 }
@@ -15,5 +15,11 @@ impl Model for World {
 
     ghost Value = { State };
 
-    ghost view = { λ w. record { objects = w.objects.items; next = w.next; processes = w.processes.items; waiting = w.waiting.items } };
+    ghost view = { λ w. record {
+      objects = w.objects.objects;
+      next = w.objects.next;
+      ceiling = w.objects.ceiling;
+      processes = w.processes.items;
+      waiting = w.waiting.items;
+    } };
 }

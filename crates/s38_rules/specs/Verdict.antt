@@ -130,7 +130,7 @@ unfoldable pub address_rule : State → List Operand → Need → Option Excepti
 address_rule s ops need = named_rule s ops need need.named
 
 -- ---- the address rules of all operands: those of each operand in order, and then those of objects that no
--- operand names
+-- operand names; an operand's number ends at 255
 
 abbrev pub stands_at : ℕ → Need → Bool
 stands_at k need = need.place == k
@@ -141,7 +141,8 @@ needs_rule s ops wanted k = first_of (address_rule s ops) (filter (stands_at k) 
 abbrev pub address_rules_from : State → List Operand → List Need → ℕ → List Operand → Option Exception
 address_rules_from s ops wanted k [] = needs_rule s ops wanted 0
 address_rules_from s ops wanted k (operand ∷ more) =
-    first (item_rule s k operand) (first (needs_rule s ops wanted k) (address_rules_from s ops wanted (k + 1) more))
+    first (item_rule s (min k 255) operand)
+    (first (needs_rule s ops wanted (min k 255)) (address_rules_from s ops wanted (k + 1) more))
 
 unfoldable pub address_rules : State → List Operand → List Need → Option Exception
 address_rules s ops wanted = address_rules_from s ops wanted 1 ops

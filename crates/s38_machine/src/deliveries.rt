@@ -1,0 +1,66 @@
+//! How the value of an instruction comes to its receiver: to a variable with the reply, into a space at once.
+ghost use Rattle.std.specs.Prelude.{◌≡◌, ◌∷◌, [], IfOk};
+ghost use Rattle.std.specs.Option.{option_copied};
+ghost use Rattle.s38_rules.specs.State.{State};
+ghost use Rattle.s38_rules.specs.Operands.{delivered, put_value};
+
+use crate::operands::is_in_space;
+use crate::pointers::{start_of, target_of};
+use crate::world::World;
+use s38_base::{NoMemory, ObjNum, Seq};
+use s38_code::{Operand, Val, Vals};
+use std::alloc::Global;
+
+fn one(alloc: Global, value: Val) -> Result<Vals, NoMemory>
+    ensures { IfOk result (λ made. made ≡ value ∷ []) }
+{
+    let mut made = Seq::new(alloc);
+    made.push(value)?;
+    Ok(made)
+}
+
+/// The values of the reply, and what is left to be put into a space.
+pub fn parted(
+    alloc: Global,
+    receiver: Option<&Operand>,
+    value: Option<Val>,
+) -> Result<(Vals, Option<Val>), NoMemory>
+    ensures values { IfOk result (λ parts. (s : State) → parts.0 ≡ (delivered s (option_copied receiver.entry) value).values) }
+    ensures kept { IfOk result (λ parts. (s : State) → (delivered s (option_copied receiver.entry) parts.1).state ≡ (delivered s (option_copied receiver.entry) value).state) }
+{
+    match value {
+        None => Ok((Seq::new(alloc), None)),
+        Some(value) => {
+            if is_in_space(receiver) {
+                return Ok((Seq::new(alloc), Some(value)));
+            }
+            Ok((one(alloc, value)?, None))
+        }
+    }
+}
+
+fn put_value(world: &mut World, number: ObjNum, at: u64, value: &Val)
+    ensures { world.new ≡ put_value world.old number.0 at value.now }
+{
+    match value {
+        Val::Bytes(bytes) => world.objects.write(number, at, bytes.as_slice()),
+        Val::Ptr(pointer) => world.objects.set_pointer(number, at, *pointer),
+        _ => {}
+    }
+}
+
+/// A value goes into the space of its receiver; it takes no memory.
+pub fn put(world: &mut World, receiver: Option<&Operand>, value: Option<Val>)
+    ensures { world.new ≡ (delivered world.old (option_copied receiver.entry) value).state }
+{
+    match value {
+        None => {}
+        Some(value) => match receiver {
+            Some(Operand::InSpace { base, offset, .. }) => {
+                let at = start_of(*base, *offset);
+                put_value(world, target_of(*base), at, &value);
+            }
+            _ => {}
+        },
+    }
+}

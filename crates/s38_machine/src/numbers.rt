@@ -1,0 +1,99 @@
+//! Numbers that an instruction reads; no memory is taken.
+ghost use Rattle.std.specs.Prelude.{◌≡◌, ◌≤◌, ◌^◌, IfSome, IsTrue};
+ghost use Rattle.std.specs.Option.{option_copied, option_map};
+ghost use Rattle.s38_base.specs.Scalar.{fraction_of, is_numeric, length_of, value_of};
+ghost use Rattle.s38_rules.specs.Operands.{bytes_of, count_at, count_of, number_at, scalar_attr};
+ghost use Rattle.s38_rules.specs.Spaces.{bytes_there};
+ghost use Rattle.s38_machine.specs.Stored.{cells_or};
+
+use crate::objects::space_at;
+use crate::operands::{place, scalar_attr};
+use crate::pointers::{start_of, target_of};
+use crate::world::World;
+use s38_base::Attr;
+use s38_code::Operand;
+use s38_decimal::{Dec, read_scalar};
+use s38_memory::Tagged;
+
+/// The most bytes that a number has.
+const LONGEST: usize = 31;
+
+fn read_in(space: &Tagged, at: u64, attr: Attr) -> Option<Dec>
+    requires { IsTrue (is_numeric attr) }
+    ensures units { option_map (λ d. d.units) result ≡ value_of attr (bytes_there space.now at (length_of attr)) }
+    ensures attr { IfSome result (λ d. d.attr ≡ attr) }
+{
+    let len = attr.length() as usize;
+    if !space.has_piece(at, len) {
+        return None;
+    }
+    let mut buffer = [0; LONGEST];
+    let into = &mut buffer[..len];
+    match space.read(at as u32, into) {
+        Ok(()) => read_scalar(attr, into).ok(),
+        Err(_) => None,
+    }
+}
+
+/// The number in a space.
+fn number_in(space: Option<&Tagged>, at: u64, attr: Attr) -> Option<Dec>
+    ensures units { option_map (λ d. d.units) result ≡ value_of attr (bytes_there (cells_or (option_copied space.entry)) at (length_of attr)) }
+    ensures attr { IfSome result (λ d. d.attr ≡ attr) }
+{
+    if !attr.is_numeric() {
+        return None;
+    }
+    match space {
+        None => None,
+        Some(space) => read_in(space, at, attr),
+    }
+}
+
+fn number_of(world: &World, operand: Option<&Operand>) -> Option<Dec>
+    ensures units { option_map (λ d. d.units) result ≡ value_of (scalar_attr (option_copied operand.entry)) (bytes_of world.now (option_copied operand.entry)) }
+    ensures attr { IfSome result (λ d. d.attr ≡ scalar_attr (option_copied operand.entry)) }
+{
+    match operand {
+        Some(Operand::Value { attr, bytes }) => read_scalar(*attr, bytes.as_slice()).ok(),
+        Some(Operand::InSpace { base, offset, attr }) => number_in(
+            space_at(world, target_of(*base)),
+            start_of(*base, *offset),
+            *attr,
+        ),
+        _ => None,
+    }
+}
+
+/// The number that is read; None where its bytes have no value.
+pub fn number_at(world: &World, operands: &[Operand], k: usize) -> Option<Dec>
+    ensures units { option_map (λ d. d.units) result ≡ number_at world.now operands.now k }
+    ensures attr { IfSome result (λ d. d.attr ≡ scalar_attr (Rattle.s38_rules.specs.Operands.place operands.now k)) }
+{
+    number_of(world, place(operands, k))
+}
+
+/// The count that so many units are: 0 where that is no whole number above 0.
+fn count_of(number: Dec) -> u128
+    ensures { result ≡ count_of (fraction_of number.attr) (Some number.units) }
+{
+    if number.units < 0 {
+        return 0;
+    }
+    let units = number.units.unsigned_abs();
+    let unit = 10u128.pow(u32::from(number.attr.fraction()));
+    if units % unit == 0 {
+        units / unit
+    } else {
+        0
+    }
+}
+
+/// The count that a number is; 0 where it is none.
+pub fn count_at(world: &World, operands: &[Operand], k: usize) -> u128
+    ensures { result ≡ count_at world.now operands.now k }
+{
+    match number_at(world, operands, k) {
+        None => 0,
+        Some(number) => count_of(number),
+    }
+}
