@@ -15,8 +15,8 @@ use s38_base::{Attr, Exception, Kind, Pointer};
 use s38_code::Operand;
 use s38_memory::Tagged;
 use s38_rules::{
-    BOUNDARY_ALIGNMENT, Named, Need, OBJECT_DESTROYED, OBJECT_TYPE_INVALID, Object, POINTER_MISSING,
-    POINTER_TYPE_INVALID, PointerKind, SPACE_ADDRESSING, Sought,
+    BOUNDARY_ALIGNMENT, Named, Need, OBJECT_DESTROYED, OBJECT_TYPE_INVALID, Object,
+    POINTER_MISSING, POINTER_TYPE_INVALID, PointerKind, SPACE_ADDRESSING, Sought,
 };
 
 fn is_base(pointer: Pointer, offset: u32, attr: Attr) -> bool

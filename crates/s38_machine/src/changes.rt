@@ -1,8 +1,10 @@
 //! What a permitted instruction changes. Memory is taken before anything changes.
-ghost use Rattle.std.specs.Prelude.{◌≡◌, ◌<◌, ◌≤◌, ◌^◌, false, true, None, IfOk, OnOk, OnErr, length};
+ghost use Rattle.std.specs.Prelude.{◌≡◌, ◌<◌, ◌≤◌, ◌^◌, [], All, false, true, None, IfOk, OnOk, OnErr, length};
 ghost use Rattle.std.specs.Option.{option_copied};
 ghost use Rattle.s38_queues.specs.MessageQueue.{message, with_message, without_message};
-ghost use Rattle.s38_rules.specs.State.{on_queue, on_space, queue_at};
+ghost use Rattle.s38_base.specs.declared.id.Kind.{Kind};
+ghost use Rattle.s38_memory.specs.Tagged.{resized};
+ghost use Rattle.s38_rules.specs.State.{ceiling_for, found, on_queue, queue_at, with_object};
 ghost use Rattle.s38_rules.specs.Operands.{bytes_at, count_at, delivered, id_at, put_value, size_at, target};
 ghost use Rattle.s38_rules.specs.Effect.{cells_put, change_of, cpybwp_change, created, crtq_change, crts_change, deq_change, destruction_change, enq_change, longest_at, made_object, maker_rows, mods_change};
 ghost use Rattle.s38_rules.specs.Verdict.{conditions, is_space_length, is_taken, put_failure};
@@ -15,7 +17,7 @@ use crate::processes::user_of;
 use crate::reads::{bytes_at, source_cells, target};
 use crate::world::World;
 use s38_base::{Id, Kind, NoMemory, ObjNum, Op, Rights, Seq, UserNum};
-use s38_code::{Operand, Val};
+use s38_code::Operand;
 use s38_memory::{Cell, Tagged};
 use s38_queues::{Order, Queue};
 use s38_rules::{Body, Object, PrivateRow, RowList};
@@ -136,14 +138,26 @@ fn longest_at(operands: &[Operand]) -> u16
     whole_at(operands, 7).min(4096).max(1) as u16
 }
 
-fn crtq(alloc: Global, world: &mut World, process: u32, operands: &[Operand]) -> Result<(), NoMemory>
+fn crtq(
+    alloc: Global,
+    world: &mut World,
+    process: u32,
+    operands: &[Operand],
+) -> Result<(), NoMemory>
     requires small { world.old.next ≤ 2 ^ 62 }
     requires free { is_taken world.old (target world.old operands.now 2) Kind.Queue (id_at operands.now 3) ≡ false }
     ensures ok { OnOk result (world.new ≡ crtq_change world.old process operands.now) }
     ensures err { OnErr result (world.new ≡ world.old) }
 {
     let queue = Queue::new(alloc, Order::Fifo, 0, longest_at(operands));
-    create(alloc, world, process, operands, Kind::Queue, Body::Queue(queue))
+    create(
+        alloc,
+        world,
+        process,
+        operands,
+        Kind::Queue,
+        Body::Queue(queue),
+    )
 }
 
 /// Storage of zero bytes.
@@ -157,7 +171,12 @@ fn zero_space(alloc: Global, len: u32) -> Result<Tagged, NoMemory>
     }
 }
 
-fn crts(alloc: Global, world: &mut World, process: u32, operands: &[Operand]) -> Result<(), NoMemory>
+fn crts(
+    alloc: Global,
+    world: &mut World,
+    process: u32,
+    operands: &[Operand],
+) -> Result<(), NoMemory>
     requires small { world.old.next ≤ 2 ^ 62 }
     requires free { is_taken world.old (target world.old operands.now 2) Kind.Space (id_at operands.now 3) ≡ false }
     requires length { is_space_length (count_at world.old operands.now 5) ≡ true }
@@ -166,7 +185,14 @@ fn crts(alloc: Global, world: &mut World, process: u32, operands: &[Operand]) ->
 {
     let len = space_length(world, operands, 5);
     match zero_space(alloc, len) {
-        Ok(space) => create(alloc, world, process, operands, Kind::Space, Body::Space(space)),
+        Ok(space) => create(
+            alloc,
+            world,
+            process,
+            operands,
+            Kind::Space,
+            Body::Space(space),
+        ),
         Err(fault) => Err(fault),
     }
 }

@@ -165,7 +165,11 @@ pub fn crts_conditions(world: &World, process: u32, operands: &[Operand]) -> Opt
     if let Some(failure) = length_rule(world, operands, 5) {
         return Some(failure);
     }
-    creation_limits(world, process, pages_for_length(space_length(world, operands, 5)))
+    creation_limits(
+        world,
+        process,
+        pages_for_length(space_length(world, operands, 5)),
+    )
 }
 
 /// The owner of the space pays for its new length.
@@ -179,5 +183,9 @@ pub fn mods_conditions(world: &World, operands: &[Operand]) -> Option<Exception>
     let space = target(world, operands, 1);
     let pages = pages_for_length(space_length(world, operands, 2));
     let others = world.objects.charge_beside(space);
-    pages_rule(world, owner_in(object(world, space)), others + u128::from(pages))
+    pages_rule(
+        world,
+        owner_in(object(world, space)),
+        others + u128::from(pages),
+    )
 }

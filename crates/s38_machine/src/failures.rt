@@ -39,4 +39,3 @@ pub fn missing(operand: u8, needed: Rights, there: Rights) -> Option<Exception>
         },
     })
 }
-

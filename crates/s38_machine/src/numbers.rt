@@ -81,11 +81,7 @@ fn count_of(number: Dec) -> u128
     }
     let units = number.units.unsigned_abs();
     let unit = 10u128.pow(u32::from(number.attr.fraction()));
-    if units % unit == 0 {
-        units / unit
-    } else {
-        0
-    }
+    if units % unit == 0 { units / unit } else { 0 }
 }
 
 /// The count that a number is; 0 where it is none.

@@ -1,10 +1,13 @@
-ghost use Rattle.std.specs.Prelude.{◌≡◌, IsTrue, IfOk};
+ghost use Rattle.std.specs.Prelude.{◌≡◌, ◌<◌, ◌≤◌, ◌^◌, None, IsTrue, IfOk, OnOk};
+ghost use Rattle.s38_objects.specs.Held.{with_added};
+ghost use Rattle.s38_rules.specs.State.{found_in};
 ghost use Rattle.s38_base.specs.NameText.{is_name};
 ghost use Rattle.s38_rules.specs.Opening.{general_context, locked_queue, machine_context, named, officer, officer_rows, opened, opening, owned, plain_user, standings};
 
 use crate::world::World;
 use s38_base::{Id, Kind, Name, NoMemory, ObjNum, Rights, Seq, Special, Twin};
 use s38_code::Job;
+use s38_objects::Objects;
 use s38_queues::{Order, Queue};
 use s38_rules::{Body, Object, PrivateRow, RowList, Standing};
 use std::alloc::Global;
@@ -96,17 +99,30 @@ fn locked_queue(alloc: Global) -> Result<Object, NoMemory>
     owned(alloc, 5, &id, 3, Rights(8), body)
 }
 
-/// The objects that the machine begins with.
-#[tactic(auto, unfolding(s38_rules::specs::Opening::opening))]
-fn opening(alloc: Global) -> Result<Vec<Object>, NoMemory>
-    ensures { IfOk result (λ objects. objects.items ≡ opening) }
+fn add(objects: &mut Objects, object: Object) -> Result<(), NoMemory>
+    requires unused { objects.old.next ≤ object.number.0 }
+    requires small { object.number.0 < 2 ^ 63 }
+    requires unnamed { found_in objects.old.objects object.context.0 object.id ≡ None }
+    ensures { OnOk result (objects.new ≡ with_added objects.old object) }
 {
-    let mut objects = Vec::new(alloc);
-    objects.push(machine_context(alloc)?)?;
-    objects.push(officer(alloc)?)?;
-    objects.push(general_context(alloc)?)?;
-    objects.push(plain_user(alloc)?)?;
-    objects.push(locked_queue(alloc)?)?;
+    match objects.add(object) {
+        Ok(_) => Ok(()),
+        Err(_) => Err(NoMemory),
+    }
+}
+
+/// The objects that the machine begins with.
+#[tactic(auto, unfolding(s38_rules::specs::Opening::opening, s38_base::specs::Ids::same_id))]
+fn opening(alloc: Global) -> Result<Objects, NoMemory>
+    ensures { IfOk result (λ objects. objects ≡ record { objects = opening; next = 6; ceiling = 5 }) }
+{
+    let mut objects = Objects::new(alloc);
+    add(&mut objects, machine_context(alloc)?)?;
+    add(&mut objects, officer(alloc)?)?;
+    add(&mut objects, general_context(alloc)?)?;
+    add(&mut objects, plain_user(alloc)?)?;
+    add(&mut objects, locked_queue(alloc)?)?;
+    objects.raise(6, 5);
     Ok(objects)
 }
 
@@ -134,7 +150,6 @@ pub fn opened(alloc: Global, jobs: &[Job]) -> Result<World, NoMemory>
     let processes = standings(alloc, jobs)?;
     Ok(World {
         objects,
-        next: 6,
         processes,
         waiting: Vec::new(alloc),
     })

@@ -79,12 +79,20 @@ pub fn same_attr(a: Attr, b: Attr) -> bool
     ensures { result ≡ same_attr a b }
 {
     match (a, b) {
-        (Attr::Packed { digits, fraction }, Attr::Packed { digits: others, fraction: behind }) => {
-            digits == others && fraction == behind
-        }
-        (Attr::Zoned { digits, fraction }, Attr::Zoned { digits: others, fraction: behind }) => {
-            digits == others && fraction == behind
-        }
+        (
+            Attr::Packed { digits, fraction },
+            Attr::Packed {
+                digits: others,
+                fraction: behind,
+            },
+        ) => { digits == others && fraction == behind }
+        (
+            Attr::Zoned { digits, fraction },
+            Attr::Zoned {
+                digits: others,
+                fraction: behind,
+            },
+        ) => { digits == others && fraction == behind }
         (Attr::Binary { size }, Attr::Binary { size: other }) => size == other,
         (Attr::Chars { len }, Attr::Chars { len: other }) => len == other,
         (Attr::Pointer, Attr::Pointer) => true,

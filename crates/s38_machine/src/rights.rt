@@ -62,4 +62,3 @@ pub fn rights_failure(
         },
     }
 }
-

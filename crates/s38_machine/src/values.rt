@@ -90,11 +90,7 @@ fn setdp_value(world: &World, operands: &[Operand]) -> Val
 
 /// A variable gets the pointer of the cell.
 #[tactic(auto, unfolding(s38_rules::specs::Effect::cpybwp_value))]
-fn cpybwp_value(
-    alloc: Global,
-    world: &World,
-    operands: &[Operand],
-) -> Result<Option<Val>, NoMemory>
+fn cpybwp_value(alloc: Global, world: &World, operands: &[Operand]) -> Result<Option<Val>, NoMemory>
     ensures { IfOk result (λ made. made ≡ cpybwp_value world.now operands.now) }
 {
     if is_in_space(place(operands, 1)) {

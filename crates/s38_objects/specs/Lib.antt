@@ -1,0 +1,4 @@
+pub mod Held
+pub mod NameOrder
+pub mod Changes
+pub mod Indexed

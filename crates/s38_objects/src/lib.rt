@@ -1,0 +1,20 @@
+//! The object map: the machine's objects by number and by name, the numbers that were given, and what each
+//! user pays for.
+#![tactic(auto)]
+
+mod body;
+mod charges;
+mod name_key;
+mod names;
+mod numbered;
+mod objects;
+
+pub use objects::Objects;
+
+/// What is sent between threads.
+fn sends<T: Send + Sync>() {}
+
+/// Each value of this crate may be sent and shared.
+pub fn all_may_be_sent() {
+    sends::<Objects>();
+}

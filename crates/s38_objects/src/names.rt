@@ -1,0 +1,36 @@
+ghost use Rattle.std.specs.Prelude.{◌≡◌, ℕ, None, Some, OnOk, OnErr, if◌then◌else◌};
+ghost use Rattle.std.specs.Option.{option_map};
+ghost use Rattle.std.specs.BTreeMap.{IsUnchanged, get};
+ghost use Rattle.s38_base.specs.declared.id.Id.{Id};
+ghost use Rattle.s38_rules.specs.State.{is_named};
+ghost use Rattle.s38_objects.specs.NameOrder.{key, name_cmp};
+
+use crate::name_key::{NameKey, key};
+use s38_base::NoMemory;
+use s38_rules::Object;
+use std::collections::BTreeMap;
+
+/// Enters the name of an object that is in a context.
+pub fn enter(names: &mut BTreeMap<NameKey, u64>, object: &Object) -> Result<(), NoMemory>
+    ensures ok { OnOk result ((context : ℕ) (id : Id) → get name_cmp names.new (key context id)
+        ≡ (if is_named context id object.now then Some object.now.number.0 else get name_cmp names.old (key context id))) }
+    ensures err { OnErr result (IsUnchanged names.old names.new) }
+{
+    if object.context.0 == 0 {
+        return Ok(());
+    }
+    match names.insert(key(object.context.0, &object.id), object.number.0) {
+        Ok(_) => Ok(()),
+        Err(_) => Err(NoMemory),
+    }
+}
+
+/// Takes the name of an object out.
+pub fn leave(names: &mut BTreeMap<NameKey, u64>, object: &Object)
+    ensures { (context : ℕ) (id : Id) → get name_cmp names.new (key context id)
+        ≡ (if is_named context id object.now then None else get name_cmp names.old (key context id)) }
+{
+    if object.context.0 != 0 {
+        names.remove(&key(object.context.0, &object.id));
+    }
+}
