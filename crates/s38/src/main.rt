@@ -4,6 +4,8 @@
 mod command;
 mod outcome;
 mod programs;
+#[cfg(test)]
+mod rows;
 mod run;
 mod tell;
 #[cfg(test)]

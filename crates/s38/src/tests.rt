@@ -14,15 +14,15 @@ const TWO_LOGS: &str =
 
 /// What a run answers: its status, and whether this text was written and this many entries made.
 #[derive(Drop)]
-struct Answer {
-    status: u8,
-    same_text: bool,
+pub struct Answer {
+    pub status: u8,
+    pub same_text: bool,
     entries: usize,
     disk: Option<u8>,
 }
 
 /// Runs a text with these words, where the listed takes and puts fail.
-fn run(
+pub fn run(
     alloc: Global,
     words: &[&str],
     text: &str,

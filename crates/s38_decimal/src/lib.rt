@@ -28,6 +28,7 @@ pub use quotients::div;
 pub use read::read_scalar;
 pub use remainders::rem;
 pub use sums::{add, sub};
+pub use tens::ten;
 pub use write::write_scalar;
 
 #[cfg(test)]

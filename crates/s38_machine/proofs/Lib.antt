@@ -1,2 +1,4 @@
+pub mod EventLaws
 pub mod LogLaws
+pub mod NumberLaws
 pub mod VerdictLaws

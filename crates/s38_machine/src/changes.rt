@@ -138,6 +138,7 @@ fn longest_at(operands: &[Operand]) -> u16
     whole_at(operands, 7).min(4096).max(1) as u16
 }
 
+#[tactic(auto, unfolding(s38_rules::specs::Effect::crtq_change))]
 fn crtq(
     alloc: Global,
     world: &mut World,
@@ -171,6 +172,7 @@ fn zero_space(alloc: Global, len: u32) -> Result<Tagged, NoMemory>
     }
 }
 
+#[tactic(auto, unfolding(s38_rules::specs::Effect::crts_change))]
 fn crts(
     alloc: Global,
     world: &mut World,
@@ -198,6 +200,7 @@ fn crts(
 }
 
 /// The space is cut, or lengthened by zero bytes.
+#[tactic(auto, unfolding(s38_rules::specs::Effect::mods_change))]
 fn mods(world: &mut World, operands: &[Operand]) -> Result<(), NoMemory>
     requires { is_space_length (count_at world.old operands.now 2) ≡ true }
     ensures ok { OnOk result (world.new ≡ mods_change world.old operands.now) }
@@ -205,10 +208,14 @@ fn mods(world: &mut World, operands: &[Operand]) -> Result<(), NoMemory>
 {
     let len = space_length(world, operands, 2);
     let space = target(world, operands, 1);
-    world.objects.resize(space, len)
+    if let Err(fault) = world.objects.resize(space, len) {
+        return Err(fault);
+    }
+    Ok(())
 }
 
 /// The object is there no more.
+#[tactic(auto, unfolding(s38_rules::specs::Effect::destruction_change))]
 fn destroy(world: &mut World, operands: &[Operand])
     ensures { world.new ≡ destruction_change world.old operands.now }
 {
@@ -230,6 +237,7 @@ fn put_cells(world: &mut World, receiver: Option<&Operand>, cells: &[Cell])
 }
 
 /// Cells go with their tags into the space.
+#[tactic(auto, unfolding(s38_rules::specs::Effect::cpybwp_change))]
 fn cpybwp(alloc: Global, world: &mut World, operands: &[Operand]) -> Result<(), NoMemory>
     ensures ok { OnOk result (world.new ≡ cpybwp_change world.old operands.now) }
     ensures err { OnErr result (world.new ≡ world.old) }
@@ -248,10 +256,14 @@ fn put_message(world: &mut World, number: ObjNum, key: &[u8], text: &[u8]) -> Re
     ensures ok { OnOk result (world.new ≡ on_queue world.old number.0 (λ q. with_message q (message key.now text.now))) }
     ensures err { OnErr result (world.new ≡ world.old) }
 {
-    world.objects.put_message(number, key, text)
+    if let Err(fault) = world.objects.put_message(number, key, text) {
+        return Err(fault);
+    }
+    Ok(())
 }
 
 /// The message stands last in the queue.
+#[tactic(auto, unfolding(s38_rules::specs::Effect::enq_change))]
 fn enq(alloc: Global, world: &mut World, operands: &[Operand]) -> Result<(), NoMemory>
     requires { put_failure (queue_at world.old (target world.old operands.now 1)) (size_at world.old operands.now 2) (size_at world.old operands.now 3) ≡ None }
     ensures ok { OnOk result (world.new ≡ enq_change world.old operands.now) }
@@ -268,6 +280,7 @@ fn enq(alloc: Global, world: &mut World, operands: &[Operand]) -> Result<(), NoM
 }
 
 /// The oldest message leaves the queue.
+#[tactic(auto, unfolding(s38_rules::specs::Effect::deq_change))]
 fn deq(world: &mut World, operands: &[Operand])
     requires { 0 < length (queue_at world.old (target world.old operands.now 2)).messages }
     ensures { world.new ≡ deq_change world.old operands.now }

@@ -1,6 +1,6 @@
 //! Creation and the lengths of spaces: the identification is new in its context, the owner may pay for the
 //! object, and a number is left.
-ghost use Rattle.std.specs.Prelude.{◌≡◌, ◌^◌, ◌*◌, ◌<◌, true};
+ghost use Rattle.std.specs.Prelude.{◌≡◌, ◌+◌, nat_lt, true};
 ghost use Rattle.std.specs.Option.{option_copied};
 ghost use Rattle.s38_rules.specs.Operands.{count_at};
 ghost use Rattle.s38_rules.specs.Verdict.{creation_limits, crtq_conditions, crts_conditions, is_space_length, is_taken, length_rule, limit_in, limit_of, mods_conditions, name_rule, number_rule, of_kind, pages_for_length, pages_rule};
@@ -75,12 +75,20 @@ fn limit_in(profile: Option<&Object>) -> u32
     }
 }
 
-/// A user would own more pages than its profile allows.
-fn pages_rule(world: &World, user: UserNum, pages: u128) -> Option<Exception>
-    ensures { result ≡ pages_rule world.now user.0 pages }
+/// Whether so many pages beside a charge pass a limit.
+fn passes(limit: u32, charge: u128, pages: u64) -> bool
+    ensures { result ≡ nat_lt limit (charge + pages) }
+{
+    let limit = u128::from(limit);
+    limit < charge || limit - charge < u128::from(pages)
+}
+
+/// A user would own more pages than its profile allows: those of a charge, and so many more.
+fn pages_rule(world: &World, user: UserNum, charge: u128, pages: u64) -> Option<Exception>
+    ensures { result ≡ pages_rule world.now user.0 (charge + pages) }
 {
     fails(
-        u128::from(limit_in(object(world, user))) < pages,
+        passes(limit_in(object(world, user)), charge, pages),
         PAGES_EXCEEDED,
         0,
     )
@@ -103,7 +111,7 @@ fn creation_limits(world: &World, process: u32, pages: u64) -> Option<Exception>
 {
     let user = user_of(world, process);
     let charge = world.objects.charge(user);
-    if let Some(failure) = pages_rule(world, user, charge + u128::from(pages)) {
+    if let Some(failure) = pages_rule(world, user, charge, pages) {
         return Some(failure);
     }
     number_rule(world)
@@ -183,9 +191,5 @@ pub fn mods_conditions(world: &World, operands: &[Operand]) -> Option<Exception>
     let space = target(world, operands, 1);
     let pages = pages_for_length(space_length(world, operands, 2));
     let others = world.objects.charge_beside(space);
-    pages_rule(
-        world,
-        owner_in(object(world, space)),
-        others + u128::from(pages),
-    )
+    pages_rule(world, owner_in(object(world, space)), others, pages)
 }

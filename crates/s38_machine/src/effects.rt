@@ -100,7 +100,7 @@ fn end(world: &mut World, process: u32)
     }
 }
 
-#[tactic(auto, using(crate::proofs::VerdictLaws::permitted_conditions), unfolding(s38_rules::specs::Effect::effect_of))]
+#[tactic(auto, using(crate::proofs::VerdictLaws::permitted_conditions, crate::proofs::EventLaws::of_act), unfolding(s38_rules::specs::Effect::effect_of))]
 fn take_effect(
     alloc: Global,
     world: &mut World,

@@ -1,11 +1,10 @@
 ghost use Rattle.std.specs.Prelude.{◌≡◌, ◌<◌, ◌≤◌, IfOk, IsErrOf, OnErr, length};
 ghost use Rattle.s38_code.specs.declared.event.Event.{Event};
-ghost use Rattle.std.specs.Option.{option_copied};
 ghost use Rattle.s38_rules.specs.State.{State, ready};
-ghost use Rattle.s38_rules.specs.Operands.{delivered};
+ghost use Rattle.s38_rules.specs.Operands.{delivered, place};
 ghost use Rattle.s38_machine.specs.Events.{receiver_of, value_of_event};
 ghost use Rattle.s38_rules.specs.Verdict.{verdict_of};
-ghost use Rattle.s38_rules.specs.Effect.{effect_of};
+ghost use Rattle.s38_rules.specs.Effect.{effect, effect_of, value_of};
 ghost use Rattle.s38_rules.specs.declared.verdict.Verdict.{Verdict};
 ghost use Rattle.s38_rules.specs.Step.{by_verdict, step};
 ghost use Rattle.s38_rules.specs.Legal.{IsSound, MayAsk, after, after_by, begun};
@@ -21,7 +20,7 @@ use crate::values::value_of;
 use crate::verdicts::verdict_of;
 use crate::world::World;
 use s38_base::{Exception, NoMemory, Seq, Twin};
-use s38_code::{Entry, Event, Job, Operand, Reply, StepFault, Stepper, Val, Vals};
+use s38_code::{Entry, Event, Job, Reply, Request, StepFault, Stepper, Val, Vals};
 use s38_rules::Verdict;
 use std::alloc::Global;
 use std::marker::Model;
@@ -48,40 +47,26 @@ impl Model for Machine {
     ghost invariant = { λ m. m.log.processes ≡ length m.world.processes };
 }
 
-/// The value that a permitted event gives.
-fn value_of_event(
+/// The values of the reply to an instruction, and what goes into the space of its receiver.
+#[tactic(auto, unfolding(s38_rules::specs::Effect::effect))]
+fn act_values(
     alloc: Global,
     world: &World,
     process: u32,
-    event: &Event,
-) -> Result<Option<Val>, NoMemory>
-    ensures { IfOk result (λ made. made ≡ value_of_event world.now process event.now) }
+    depth: u16,
+    request: &Request,
+) -> Result<(Vals, Option<Val>), NoMemory>
+    ensures values { IfOk result (λ parts. parts.0 ≡ (effect world.now process depth request.now.op request.now.operands).values) }
+    ensures kept { IfOk result (λ parts. (s : State) → (delivered s (place request.now.operands 1) parts.1).state
+        ≡ (delivered s (place request.now.operands 1) (value_of world.now process depth request.now.op request.now.operands)).state) }
 {
-    match event {
-        Event::Act { depth, request } => value_of(
-            alloc,
-            world,
-            process,
-            *depth,
-            request.op,
-            request.operands.as_slice(),
-        ),
-        _ => Ok(None),
-    }
-}
-
-/// The operand to which it goes.
-fn receiver_of(event: &Event) -> Option<&Operand>
-    ensures { option_copied result ≡ receiver_of event.now }
-{
-    match event {
-        Event::Act { request, .. } => place(request.operands.as_slice(), 1),
-        _ => None,
-    }
+    let operands = request.operands.as_slice();
+    let value = value_of(alloc, world, process, depth, request.op, operands)?;
+    parted(alloc, place(operands, 1), value)
 }
 
 /// The values of the reply to a permitted event, and what goes into the space of its receiver.
-#[tactic(auto, unfolding(s38_rules::specs::Effect::effect_of, s38_rules::specs::Effect::effect))]
+#[tactic(auto, unfolding(s38_rules::specs::Effect::effect_of))]
 fn parted_values(
     alloc: Global,
     world: &World,
@@ -89,10 +74,13 @@ fn parted_values(
     event: &Event,
 ) -> Result<(Vals, Option<Val>), NoMemory>
     ensures values { IfOk result (λ parts. parts.0 ≡ (effect_of world.now process event.now).values) }
-    ensures kept { IfOk result (λ parts. (s : State) → (delivered s (receiver_of event.now) parts.1).state ≡ (delivered s (receiver_of event.now) (value_of_event world.now process event.now)).state) }
+    ensures kept { IfOk result (λ parts. (s : State) → (delivered s (receiver_of event.now) parts.1).state
+        ≡ (delivered s (receiver_of event.now) (value_of_event world.now process event.now)).state) }
 {
-    let value = value_of_event(alloc, world, process, event)?;
-    parted(alloc, receiver_of(event), value)
+    match event {
+        Event::Act { depth, request } => act_values(alloc, world, process, *depth, request),
+        _ => Ok((Seq::new(alloc), None)),
+    }
 }
 
 impl Machine {

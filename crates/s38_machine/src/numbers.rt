@@ -12,12 +12,13 @@ use crate::pointers::{start_of, target_of};
 use crate::world::World;
 use s38_base::Attr;
 use s38_code::Operand;
-use s38_decimal::{Dec, read_scalar};
+use s38_decimal::{Dec, read_scalar, ten};
 use s38_memory::Tagged;
 
 /// The most bytes that a number has.
 const LONGEST: usize = 31;
 
+#[tactic(auto, using(crate::proofs::NumberLaws::numeric_length, crate::proofs::NumberLaws::no_value))]
 fn read_in(space: &Tagged, at: u64, attr: Attr) -> Option<Dec>
     requires { IsTrue (is_numeric attr) }
     ensures units { option_map (λ d. d.units) result ≡ value_of attr (bytes_there space.now at (length_of attr)) }
@@ -36,6 +37,7 @@ fn read_in(space: &Tagged, at: u64, attr: Attr) -> Option<Dec>
 }
 
 /// The number in a space.
+#[tactic(auto, using(crate::proofs::NumberLaws::no_value, crate::proofs::NumberLaws::no_number))]
 fn number_in(space: Option<&Tagged>, at: u64, attr: Attr) -> Option<Dec>
     ensures units { option_map (λ d. d.units) result ≡ value_of attr (bytes_there (cells_or (option_copied space.entry)) at (length_of attr)) }
     ensures attr { IfSome result (λ d. d.attr ≡ attr) }
@@ -49,6 +51,7 @@ fn number_in(space: Option<&Tagged>, at: u64, attr: Attr) -> Option<Dec>
     }
 }
 
+#[tactic(auto, using(crate::proofs::NumberLaws::no_value))]
 fn number_of(world: &World, operand: Option<&Operand>) -> Option<Dec>
     ensures units { option_map (λ d. d.units) result ≡ value_of (scalar_attr (option_copied operand.entry)) (bytes_of world.now (option_copied operand.entry)) }
     ensures attr { IfSome result (λ d. d.attr ≡ scalar_attr (option_copied operand.entry)) }
@@ -73,6 +76,7 @@ pub fn number_at(world: &World, operands: &[Operand], k: usize) -> Option<Dec>
 }
 
 /// The count that so many units are: 0 where that is no whole number above 0.
+#[tactic(auto, using(crate::proofs::NumberLaws::fraction_small, crate::proofs::NumberLaws::power_some))]
 fn count_of(number: Dec) -> u128
     ensures { result ≡ count_of (fraction_of number.attr) (Some number.units) }
 {
@@ -80,7 +84,7 @@ fn count_of(number: Dec) -> u128
         return 0;
     }
     let units = number.units.unsigned_abs();
-    let unit = 10u128.pow(u32::from(number.attr.fraction()));
+    let unit = ten(number.attr.fraction());
     if units % unit == 0 { units / unit } else { 0 }
 }
 

@@ -1,0 +1,20 @@
+-- What holds of the value of an event holds of that of its instruction.
+use Rattle.std.proofs.Common.{◌≡◌, ℕ, List, subst}
+use Rattle.std.specs.Prelude.{Option}
+use Rattle.s38_code.specs.declared.event.Event.{Event}
+use Rattle.s38_code.specs.declared.event.Event.TheVariants.{Act}
+use Rattle.s38_code.specs.declared.event.Request.{Request}
+use Rattle.s38_code.specs.declared.reply.Val.{Val}
+use Rattle.s38_rules.specs.State.{State}
+use Rattle.s38_rules.specs.Operands.{delivered, place}
+use Rattle.s38_rules.specs.Effect.{value_of}
+use Rattle.s38_machine.specs.Events.{receiver_of, value_of_event}
+
+-- the kept part of an event's value
+abbrev pub Keeps : State → ℕ → Event → Option Val → Type 0
+Keeps w p event value = (s : State) → (delivered s (receiver_of event) value).state ≡ (delivered s (receiver_of event) (value_of_event w p event)).state
+
+pub of_act : (w : State) (p depth : ℕ) (request : Request) (event : Event) (value : Option Val)
+    → event ≡ Act depth request → Keeps w p event value
+    → (s : State) → (delivered s (place request.operands 1) value).state ≡ (delivered s (place request.operands 1) (value_of w p depth request.op request.operands)).state
+of_act w p depth request event value same keeps = subst (λ (e : Event). Keeps w p e value) same keeps
