@@ -5,6 +5,7 @@
 mod body;
 mod charges;
 mod name_key;
+mod lent;
 mod names;
 mod numbered;
 mod objects;

@@ -5,12 +5,18 @@ ghost use Rattle.s38_rules.specs.Spaces.{with_bytes};
 ghost use Rattle.s38_rules.specs.State.{charge_beside, charge_in, found_in, object_in, with_space};
 ghost use Rattle.s38_objects.specs.Held.{contents_in, nothing, number_of, with_added, with_changed, with_removed};
 
+ghost use Rattle.std.specs.Borrow.{sem};
+ghost use Rattle.std.specs.Option.{option_copied_mut, option_and_then};
+ghost use Rattle.s38_objects.specs.Lending.{LendsQueue, queue_there};
+
 use crate::body::pages;
 use crate::charges::{charge_of, make_room, set_charge};
 use crate::name_key::{NameKey, key};
 use crate::{names, numbered};
 use s38_base::{Id, NoMemory, ObjNum, UserNum};
+use s38_queues::Queue;
 use s38_rules::Object;
+use crate::lent::queue_in_body;
 use std::alloc::{AllocFailed, Global};
 use std::collections::BTreeMap;
 use std::marker::Model;
@@ -176,6 +182,16 @@ impl Objects {
                 set_charge(&mut self.charges, object.owner.0, charge);
                 Some(object)
             }
+            None => None,
+        }
+    }
+
+    /// The queue of a number, to be written.
+    pub fn queue_mut(&mut self, number: ObjNum) -> Option<&mut Queue>
+        ensures* writes_back { sem 𝓛 (LendsQueue self.entry number.0 result) }
+    {
+        match self.by_number.get_mut(&number.0) {
+            Some(object) => queue_in_body(&mut object.body),
             None => None,
         }
     }

@@ -1,0 +1,4 @@
+pub mod NumberLaws
+pub mod NameLaws
+pub mod ChargeLaws
+pub mod IndexLaws
