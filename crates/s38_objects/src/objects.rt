@@ -1,7 +1,8 @@
-ghost use Rattle.std.specs.Prelude.{◌≡◌, ◌≤◌, ◌<◌, ◌%◌, ◌^◌, length, None, IfOk, IfErr, OnOk, OnErr};
+ghost use Rattle.std.specs.Prelude.{◌≡◌, ◌≤◌, ◌<◌, ◌%◌, ◌^◌, length, None, All, IfOk, IfErr, OnOk, OnErr};
 ghost use Rattle.std.specs.Option.{option_copied, option_map};
+ghost use Rattle.s38_memory.specs.Cell.{IsCell};
 ghost use Rattle.s38_memory.specs.Tagged.{resized};
-ghost use Rattle.s38_rules.specs.Spaces.{with_bytes};
+ghost use Rattle.s38_rules.specs.Spaces.{with_bytes, with_cells, with_pointer};
 ghost use Rattle.s38_rules.specs.State.{charge_beside, charge_in, found_in, object_in, with_space};
 ghost use Rattle.s38_objects.specs.Held.{contents_in, nothing, number_of, with_added, with_changed, with_removed};
 
@@ -13,7 +14,8 @@ use crate::body::pages;
 use crate::charges::{charge_of, make_room, set_charge};
 use crate::name_key::{NameKey, key};
 use crate::{names, numbered};
-use s38_base::{Id, NoMemory, ObjNum, UserNum};
+use s38_base::{Id, NoMemory, ObjNum, Pointer, UserNum};
+use s38_memory::Cell;
 use s38_queues::Queue;
 use s38_rules::Object;
 use crate::lent::queue_in_body;
@@ -211,6 +213,24 @@ impl Objects {
         ensures { self.new ≡ with_changed self.old number.0 (with_space (with_bytes at bytes.now)) }
     {
         numbered::write(&mut self.by_number, number.0, at, bytes);
+    }
+
+    /// Puts a pointer into the cell of the space of a number that begins at a byte; no pointer is sixteen zero
+    /// bytes. Nothing changes where there is no such space or cell, or the pointer is one to an item that is a
+    /// pointer.
+    pub fn set_pointer(&mut self, number: ObjNum, at: u32, pointer: Option<Pointer>)
+        ensures { self.new ≡ with_changed self.old number.0 (with_space (with_pointer at pointer)) }
+    {
+        numbered::set_pointer(&mut self.by_number, number.0, at, pointer);
+    }
+
+    /// Copies cells with their tags over those of the space of a number that begin at a byte. Nothing changes
+    /// where there is no such space, the cells leave it, or no cell begins there.
+    pub fn copy_in(&mut self, number: ObjNum, at: u32, piece: Vec<Cell>)
+        requires { All IsCell piece.items }
+        ensures { self.new ≡ with_changed self.old number.0 (with_space (with_cells at piece.items)) }
+    {
+        numbered::copy_in(&mut self.by_number, number.0, at, piece);
     }
 
     /// Cuts the space of a number, or fills it up with zero bytes. `NoMemory` where memory was refused, and
