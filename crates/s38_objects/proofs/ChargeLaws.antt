@@ -3,11 +3,13 @@ use Rattle.std.proofs.Common.{◌≡◌, ℕ, ◌+◌, ◌*◌, ◌-◌, ◌<◌
 use Rattle.std.proofs.lemmas.Bool.Decides.{nat_tests}
 use Rattle.std.proofs.lemmas.List.Sums.{sum_by-cons, sum_by-append}
 use Rattle.std.proofs.lemmas.Map.Keys.{sorted_head, sorted_tail}
-use Rattle.std.specs.Prelude.{Option, Some, None, sum_by}
+use Rattle.std.specs.Prelude.{Option, Some, None, IsSome, sum_by}
 use Rattle.std.specs.declared.cmp.Ordering.TheVariants.{Less}
 use Rattle.std.specs.List.{AllByRecursion}
 use Rattle.std.specs.List.Sorted.{IsStrictlySortedBy}
 use Rattle.std.specs.Ordering.{nat_cmp}
+use Rattle.std.specs.Prelude.{Result, Ok, Err, OnOk}
+use Rattle.std.specs.Result.{is_err}
 use Rattle.std.specs.Option.{option_map, unwrap_or}
 use Rattle.std.specs.Map.{keys_of, values_of, lookup, remove_entry, set_value}
 use Rattle.std.specs.BTreeMap.{is_at}
@@ -78,7 +80,7 @@ own_pages o = let self : (o.owner.0 == o.owner.0) ≡ true = grind (arith, nat_t
 pub other_pages : (user : ℕ) (o : Object) → (user == o.owner.0) ≡ false → pages_for user o ≡ 0
 other_pages user o h = let other : (o.owner.0 == user) ≡ false = grind (arith, nat_tests) in rw other refl
 
-some_page : (b : Body) → 1 ≤ pages_of b
+pub some_page : (b : Body) → 1 ≤ pages_of b
 some_page (bodies.Space cells) = omega arith
 some_page (bodies.Context) = omega arith
 some_page (bodies.Program code) = omega arith
@@ -129,3 +131,13 @@ charge_same user n f es same =
       | None ↦ λ q. ap (λ (fs : List (ℕ × Object)). charge_in (values_of fs) user) (body_absent n f es q)
       | Some o ↦ λ q. omega (arith, charge_changed user n f o es q, ap (λ (m : ℕ). cond (o.owner.0 == user) m 0) (same o.body))
     ] refl
+
+-- ---- entries
+
+pub has_charge : (r : Option ℕ) → 1 ≤ unwrap_or r 0 → IsSome r
+has_charge None h = absurd (omega arith)
+has_charge (Some n) h = refl
+
+pub from_ok : {T E P : Type 0} (r : Result T E) → is_err r ≡ false → OnOk r P → P
+from_ok (Ok x) h p = p
+from_ok (Err e) h p = absurd (cc)

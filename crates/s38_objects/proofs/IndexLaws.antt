@@ -16,9 +16,9 @@ use Rattle.s38_objects.specs.Changes.{body_changed, with_body}
 use Rattle.s38_objects.specs.Held.{number_of}
 use Rattle.s38_objects.specs.Indexed.{AreApart, AreCharges, AreNames, AreNumbered, IsIndexed}
 use Rattle.s38_objects.specs.NameOrder.{key, name_cmp}
-use Rattle.s38_objects.proofs.NumberLaws.{found_by_number, insert_last, keys_changed, lookup_bodied, numbered_changed, numbered_last, numbered_raised, numbered_without, values_changed, values_last}
+use Rattle.s38_objects.proofs.NumberLaws.{body_absent, found_by_number, insert_last, keys_changed, lookup_bodied, numbered_changed, numbered_last, numbered_raised, numbered_without, values_changed, values_last}
 use Rattle.s38_objects.proofs.NameLaws.{apart_changed, apart_last, apart_without, found_like, names_changed, names_last, names_without}
-use Rattle.s38_objects.proofs.ChargeLaws.{beside_found, charge_changed, charge_last, charge_none, charge_same, charge_without, own_pages, other_pages}
+use Rattle.s38_objects.proofs.ChargeLaws.{beside_found, charge_changed, charge_last, charge_none, charge_same, charge_without, own_pages, other_pages, some_page}
 
 pub indexed_none : (m : BTreeMap ℕ Object) (names : BTreeMap NameKey ℕ) (charges : BTreeMap ℕ ℕ) (next : ℕ) → m.entries ≡ [] → names.entries ≡ [] → charges.entries ≡ [] → IsOrdered nat_cmp m → IsIndexed m names charges next
 indexed_none m names charges next e f g sorted = record {
@@ -41,6 +41,10 @@ indexed_raised m names charges next more h high = record {
 was_some : {A B : Type 0} (g : A → B) (r : Option A) (x : B) → option_map g r ≡ Some x → (o : A) × (r ≡ Some o) × (g o ≡ x)
 was_some g None x h = absurd (cc)
 was_some g (Some o) x h = (o, refl, cc)
+
+was_none : {A B : Type 0} (g : A → B) (r : Option A) → option_map g r ≡ None → r ≡ None
+was_none g None h = refl
+was_none g (Some o) h = absurd (cc)
 
 -- what is found by name is found by the number to which the name leads
 pub found_by_name : (m : BTreeMap ℕ Object) (names : BTreeMap NameKey ℕ) (charges : BTreeMap ℕ ℕ) (next number context : ℕ) (id : Id) → IsIndexed m names charges next → Some number ≡ get name_cmp names (key context id) →
@@ -78,8 +82,10 @@ indexed_added m n names more charges now next o h high fresh small e sorted ente
       ordered = sorted;
       numbered = rw (e, insert_last next (number_of o) o m.entries h.numbered high) (numbered_last next (number_of o) o m.entries h.numbered high refl small);
       apart = rw vs (apart_last o (values m) h.apart fresh);
-      named = record { lead = λ context id.
-        rw vs (enter context id ∙ ap (λ (r : Option ℕ). cond (is_named context id o) (Some (number_of o)) r) (h.named.lead context id) ∙ sym (names_last o (values m) context id fresh)) };
+      named = record {
+        lead = λ context id.
+            rw vs (enter context id ∙ ap (λ (r : Option ℕ). cond (is_named context id o) (Some (number_of o)) r) (h.named.lead context id) ∙ sym (names_last o (values m) context id fresh));
+      };
       charged = record { kept = λ user. rw vs (pays user ∙ charges_added user o (values m) ∙ sym (charge_last user o (values m))) };
     }
 
@@ -90,8 +96,8 @@ pub names_taken_back : (m : BTreeMap ℕ Object) (names more back : BTreeMap Nam
     AreNames back (values m)
 names_taken_back m names more back o h fresh enter leave = record {
   lead = λ context id.
-    leave context id
-    ∙ elim (is_named context id o) as (λ b. is_named context id o ≡ b → cond b None (get name_cmp more (key context id)) ≡ option_map number_of (found_in (values m) context id)) [
+      leave context id
+      ∙ elim (is_named context id o) as (λ b. is_named context id o ≡ b → cond b None (get name_cmp more (key context id)) ≡ option_map number_of (found_in (values m) context id)) [
         | true ↦ λ q. sym (ap (option_map number_of) (found_like o context id (values m) q ∙ fresh))
         | false ↦ λ q. enter context id ∙ rw q (h.lead context id)
       ] refl;
@@ -103,7 +109,7 @@ charges_removed : (user : ℕ) (o : Object) (old new : ℕ → ℕ) → ((u : �
 charges_removed user o old new h =
     elim (user == o.owner.0) as (λ b. (user == o.owner.0) ≡ b → cond b (old o.owner.0 - pages_of o.body) (old user) ≡ new user) [
       | true ↦ λ q. let same : o.owner.0 ≡ user = nat_same_back user o.owner.0 q in
-        let here : old o.owner.0 - pages_of o.body ≡ new o.owner.0 = omega (arith, h o.owner.0, own_pages o) in here ∙ ap new same
+          let here : old o.owner.0 - pages_of o.body ≡ new o.owner.0 = omega (arith, h o.owner.0, own_pages o) in here ∙ ap new same
       | false ↦ λ q. omega (arith, h user, other_pages user o q)
     ] refl
 
@@ -118,10 +124,14 @@ indexed_removed m n names more charges now next number o h there e sorted leave 
       ordered = sorted;
       numbered = rw e (numbered_without next test m.entries h.numbered);
       apart = rw e (apart_without test m.entries h.apart);
-      named = record { lead = λ context id.
-        rw e (leave context id ∙ ap (λ (r : Option ℕ). cond (is_named context id o) None r) (h.named.lead context id) ∙ sym (names_without test o context id m.entries h.apart there)) };
-      charged = record { kept = λ user.
-        rw e (pays user ∙ charges_removed user o (charge_in (values m)) (charge_in (values_of (remove_entry test m.entries))) (λ u. charge_without u test o m.entries there)) };
+      named = record {
+        lead = λ context id.
+            rw e (leave context id ∙ ap (λ (r : Option ℕ). cond (is_named context id o) None r) (h.named.lead context id) ∙ sym (names_without test o context id m.entries h.apart there));
+      };
+      charged = record {
+        kept = λ user.
+            rw e (pays user ∙ charges_removed user o (charge_in (values m)) (charge_in (values_of (remove_entry test m.entries))) (λ u. charge_without u test o m.entries there));
+      };
     }
 
 -- ---- another body
@@ -157,7 +167,7 @@ charges_resized : (user now : ℕ) (o : Object) (f : Body → Body) (old new : �
 charges_resized user now o f old new paid h =
     elim (user == o.owner.0) as (λ b. (user == o.owner.0) ≡ b → cond b now (old user) ≡ new user) [
       | true ↦ λ q. let same : o.owner.0 ≡ user = nat_same_back user o.owner.0 q in
-        let here : now ≡ new o.owner.0 = omega (arith, h o.owner.0, own_pages o, own_pages (with_body f o)) in here ∙ ap new same
+          let here : now ≡ new o.owner.0 = omega (arith, h o.owner.0, own_pages o, own_pages (with_body f o)) in here ∙ ap new same
       | false ↦ λ q. omega (arith, h user, other_pages user o q, other_pages user (with_body f o) q)
     ] refl
 
@@ -171,7 +181,51 @@ indexed_resized m n names charges now next number f x h small e there pays =
     let o = was.0 in
     let beside = beside_found next number o m.entries h.numbered h.ordered was.1 in
     bodied m n names charges now next number f h small e
-    (record { kept = λ user.
-      rw e (pays user ∙ subst (λ (y : Object). cond (user == y.owner.0) (charge_beside (values m) number + pages_of y.body) (charge_in (values m) user) ≡ charge_in (values_of (body_changed m.entries number f)) user) was.2
-        (charges_resized user (charge_beside (values m) number + pages_of (f o.body)) o f (charge_in (values m)) (charge_in (values_of (body_changed m.entries number f))) (omega (arith, beside)) (λ u. charge_changed u number f o m.entries was.1))
-        ) })
+    (record {
+      kept = λ user.
+          rw e (pays user ∙ subst (λ (y : Object). cond (user == y.owner.0) (charge_beside (values m) number + pages_of y.body) (charge_in (values m) user) ≡ charge_in (values_of (body_changed m.entries number f)) user) was.2
+          (charges_resized user (charge_beside (values m) number + pages_of (f o.body)) o f (charge_in (values m)) (charge_in (values_of (body_changed m.entries number f))) (omega (arith, beside)) (λ u. charge_changed u number f o m.entries was.1))
+          );
+    })
+
+pub indexed_same : (m n : BTreeMap ℕ Object) (names : BTreeMap NameKey ℕ) (charges : BTreeMap ℕ ℕ) (next : ℕ) → IsIndexed m names charges next → n.entries ≡ m.entries → IsIndexed n names charges next
+indexed_same m n names charges next h e = record {
+  ordered = rw e h.ordered;
+  numbered = rw e h.numbered;
+  apart = rw e h.apart;
+  named = record { lead = λ context id. rw e (h.named.lead context id) };
+  charged = record { kept = λ user. rw e (h.charged.kept user) };
+}
+
+-- ---- an object that was not added
+
+pub indexed_refused : (m n : BTreeMap ℕ Object) (names more back : BTreeMap NameKey ℕ) (charges now : BTreeMap ℕ ℕ) (next : ℕ) (o x : Object) → IsIndexed m names charges next →
+    found_in (values m) o.context.0 o.id ≡ None → n.entries ≡ m.entries → x ≡ o →
+    ((context : ℕ) (id : Id) → get name_cmp more (key context id) ≡ cond (is_named context id o) (Some (number_of o)) (get name_cmp names (key context id))) →
+    ((context : ℕ) (id : Id) → get name_cmp back (key context id) ≡ cond (is_named context id x) None (get name_cmp more (key context id))) →
+    ((user : ℕ) → unwrap_or (get nat_cmp now user) 0 ≡ unwrap_or (get nat_cmp charges user) 0) →
+    IsIndexed n back now next
+indexed_refused m n names more back charges now next o x h fresh e same enter leave pays =
+    let left = subst (λ (y : Object). (context : ℕ) (id : Id) → get name_cmp back (key context id) ≡ cond (is_named context id y) None (get name_cmp more (key context id))) same leave in
+    let all = names_taken_back m names more back o h.named fresh enter left in
+    record {
+      ordered = rw e h.ordered;
+      numbered = rw e h.numbered;
+      apart = rw e h.apart;
+      named = record { lead = λ context id. rw e (all.lead context id) };
+      charged = record { kept = λ user. rw e (pays user ∙ h.charged.kept user) };
+    }
+
+-- ---- an object whose body was changed
+
+-- the owner pays for more than the other objects
+pub beside_pays : (m n : BTreeMap ℕ Object) (names : BTreeMap NameKey ℕ) (charges : BTreeMap ℕ ℕ) (next number : ℕ) (f : Body → Body) (x : Object) → IsIndexed m names charges next →
+    n.entries ≡ body_changed m.entries number f → lookup (is_at (nat_cmp number)) n.entries ≡ Some x → charge_beside (values m) number + 1 ≤ charge_in (values m) x.owner.0
+beside_pays m n names charges next number f x h e there =
+    let was = was_some (with_body f) (lookup (is_at (nat_cmp number)) m.entries) x (sym (lookup_bodied number f m.entries) ∙ (ap (lookup (is_at (nat_cmp number))) (sym e) ∙ there)) in
+    let beside = beside_found next number was.0 m.entries h.numbered h.ordered was.1 in
+    subst (λ (y : Object). charge_beside (values m) number + 1 ≤ charge_in (values m) y.owner.0) was.2 (omega (arith, beside, some_page was.0.body))
+
+pub body_not_there : (m n : BTreeMap ℕ Object) (number : ℕ) (f : Body → Body) → n.entries ≡ body_changed m.entries number f → lookup (is_at (nat_cmp number)) n.entries ≡ None → n.entries ≡ m.entries
+body_not_there m n number f e none =
+    e ∙ body_absent number f m.entries (was_none (with_body f) (lookup (is_at (nat_cmp number)) m.entries) (sym (lookup_bodied number f m.entries) ∙ (ap (lookup (is_at (nat_cmp number))) (sym e) ∙ none)))

@@ -152,8 +152,7 @@ not_named_other_way o x false e h = refl
 pub apart_last : (o : Object) (os : List Object) → AreApart os → found_in os o.context.0 o.id ≡ None → AreApart (os ++ o ∷ [])
 apart_last o [] apart h = (refl, tt)
 apart_last o (x ∷ os) apart h =
-    let other : is_named x.context.0 x.id o ≡ false = not_named_other_way o x _ refl (none_first (is_named o.context.0 o.id x) x _ h) in
-    (
+    let other : is_named x.context.0 x.id o ≡ false = not_named_other_way o x _ refl (none_first (is_named o.context.0 o.id x) x _ h) in (
       find-append (is_named x.context.0 x.id) os (o ∷ []) ∙ rw (apart.0, other) refl,
       apart_last o os apart.1 (none_rest (is_named o.context.0 o.id x) x _ h),
     )
@@ -201,10 +200,10 @@ named_gone test o context id [] apart h named = refl
 named_gone test o context id (e ∷ es) apart h named =
     elim (test e.0) as (λ b. cond b (Some e.1) (lookup test es) ≡ Some o → found_in (values_of (cond b es (e ∷ remove_entry test es))) context id ≡ None) [
       | true ↦ λ (q : Some e.1 ≡ Some o). let same : o ≡ e.1 = cc in
-        let here : is_named context id e.1 ≡ true = subst (λ (x : Object). is_named context id x ≡ true) same named in
-        found_like e.1 context id (values_of es) here ∙ apart.0
+          let here : is_named context id e.1 ≡ true = subst (λ (x : Object). is_named context id x ≡ true) same named in
+          found_like e.1 context id (values_of es) here ∙ apart.0
       | false ↦ λ q. let other : is_named context id e.1 ≡ false = not_both e.1 o context id _ refl named (not_named_at test o e.1.context.0 e.1.id es q apart.0) in
-        rw other (named_gone test o context id es apart.1 q named)
+          rw other (named_gone test o context id es apart.1 q named)
     ] h
 
 named_kept : (test : ℕ → Bool) (o : Object) (context : ℕ) (id : Id) (es : List (ℕ × Object)) → lookup test es ≡ Some o → is_named context id o ≡ false →
@@ -213,7 +212,7 @@ named_kept test o context id [] h named = refl
 named_kept test o context id (e ∷ es) h named =
     elim (test e.0) as (λ b. cond b (Some e.1) (lookup test es) ≡ Some o → found_in (values_of (cond b es (e ∷ remove_entry test es))) context id ≡ cond (is_named context id e.1) (Some e.1) (found_in (values_of es) context id)) [
       | true ↦ λ (q : Some e.1 ≡ Some o). let same : o ≡ e.1 = cc in
-        let here : is_named context id e.1 ≡ false = subst (λ (x : Object). is_named context id x ≡ false) same named in rw here refl
+          let here : is_named context id e.1 ≡ false = subst (λ (x : Object). is_named context id x ≡ false) same named in rw here refl
       | false ↦ λ q. ap (λ (r : Option Object). cond (is_named context id e.1) (Some e.1) r) (named_kept test o context id es q named)
     ] h
 

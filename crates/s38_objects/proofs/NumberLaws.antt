@@ -185,7 +185,7 @@ found_above next low p o (e ∷ es) h above found =
     let rest = found_above next low p o es h.3 above.1 in
     elim (p e.1) as (λ b. cond b (Some e.1) (find p (values_of es)) ≡ Some o → nat_cmp low (number_of o) ≡ Less) [
       | true ↦ λ (q : Some e.1 ≡ Some o). let same : e.1 ≡ o = cc in
-        let here : nat_cmp low (number_of e.1) ≡ Less = rw h.0 above.0 in subst (λ (x : Object). nat_cmp low (number_of x) ≡ Less) same here
+          let here : nat_cmp low (number_of e.1) ≡ Less = rw h.0 above.0 in subst (λ (x : Object). nat_cmp low (number_of x) ≡ Less) same here
       | false ↦ rest
     ] found
 
@@ -201,9 +201,9 @@ found_by_number next p o [] h sorted found = cc
 found_by_number next p o (e ∷ es) h sorted found =
     elim (p e.1) as (λ b. cond b (Some e.1) (find p (values_of es)) ≡ Some o → cond (is_at (nat_cmp (number_of o)) e.0) (Some e.1) (lookup (is_at (nat_cmp (number_of o))) es) ≡ Some o) [
       | true ↦ λ (q : Some e.1 ≡ Some o). let same : number_of o ≡ e.0 = ap (λ (x : Object). number_of x) (some_same e.1 o q) ∙ h.0 in
-        let here : is_at (nat_cmp (number_of o)) e.0 ≡ true = at_key (number_of o) e.0 ∙ rw same (at_itself e.0) in rw here q
+          let here : is_at (nat_cmp (number_of o)) e.0 ≡ true = at_key (number_of o) e.0 ∙ rw same (at_itself e.0) in rw here q
       | false ↦ λ q.
-        let above = found_above next e.0 p o es h.3 (sorted_head nat_cmp e.0 (keys_of es) sorted) q in
-        let other : is_at (nat_cmp (number_of o)) e.0 ≡ false = at_key (number_of o) e.0 ∙ less_apart e.0 (number_of o) above in
-        rw other (found_by_number next p o es h.3 (sorted_tail nat_cmp e.0 (keys_of es) sorted) q)
+          let above = found_above next e.0 p o es h.3 (sorted_head nat_cmp e.0 (keys_of es) sorted) q in
+          let other : is_at (nat_cmp (number_of o)) e.0 ≡ false = at_key (number_of o) e.0 ∙ less_apart e.0 (number_of o) above in
+          rw other (found_by_number next p o es h.3 (sorted_tail nat_cmp e.0 (keys_of es) sorted) q)
     ] found

@@ -1,18 +1,13 @@
 -- What a body is, and what the object map holds, after something is written through what was lent.
-use Rattle.std.specs.Prelude.{ℕ, Option, None, Some}
+use Rattle.std.specs.Prelude.{ℕ, Option}
 use Rattle.std.specs.Borrow.{LendsIf, MutBor, Fml}
 use Rattle.s38_queues.specs.MessageQueue.{MessageQueue}
 use Rattle.s38_queues.specs.contracts.queue.Queue.{the_row as queue_row}
 use Rattle.s38_rules.specs.declared.object.Body.{Body}
-use Rattle.s38_rules.specs.declared.object.Body.TheVariants as bodies
 use Rattle.s38_rules.specs.contracts.object.Body.{the_row as body_row}
 use Rattle.s38_rules.specs.State.{queue_body, with_queue}
 use Rattle.s38_objects.specs.contracts.objects.Objects.{the_row as objects_row}
 use Rattle.s38_objects.specs.Held.{Held, with_changed}
-
-abbrev pub queue_there : Body → Option MessageQueue
-queue_there (bodies.Queue q) = Some q
-queue_there _ = None
 
 -- the body has the queue that is left behind r
 abbrev pub LendsBody : MutBor Body → Option (MutBor MessageQueue) → Fml

@@ -4,8 +4,8 @@
 
 mod body;
 mod charges;
-mod name_key;
 mod lent;
+mod name_key;
 mod names;
 mod numbered;
 mod objects;

@@ -5,20 +5,20 @@ ghost use Rattle.s38_memory.specs.Tagged.{resized};
 ghost use Rattle.s38_rules.specs.Spaces.{with_bytes, with_cells, with_pointer};
 ghost use Rattle.s38_rules.specs.State.{charge_beside, charge_in, found_in, object_in, with_space};
 ghost use Rattle.s38_objects.specs.Held.{contents_in, nothing, number_of, with_added, with_changed, with_removed};
-
 ghost use Rattle.std.specs.Borrow.{sem};
-ghost use Rattle.std.specs.Option.{option_copied_mut, option_and_then};
-ghost use Rattle.s38_objects.specs.Lending.{LendsQueue, queue_there};
+ghost use Rattle.std.specs.Option.{option_copied_mut};
+ghost use Rattle.s38_objects.specs.Held.{queue_held};
+ghost use Rattle.s38_objects.specs.Lending.{LendsQueue};
 
 use crate::body::pages;
 use crate::charges::{charge_of, make_room, set_charge};
+use crate::lent::queue_in_body;
 use crate::name_key::{NameKey, key};
 use crate::{names, numbered};
 use s38_base::{Id, NoMemory, ObjNum, Pointer, UserNum};
 use s38_memory::Cell;
 use s38_queues::Queue;
 use s38_rules::Object;
-use crate::lent::queue_in_body;
 use std::alloc::{AllocFailed, Global};
 use std::collections::BTreeMap;
 use std::marker::Model;
@@ -161,10 +161,12 @@ impl Objects {
             return Err(AllocFailed { value: object });
         }
         let charge = charge_of(&self.charges, owner.0) + pages(&object.body) as u128;
-        if let Err(refused) = self.by_number.insert(number.0, object) {
-            let (_number, object) = refused.value;
-            names::leave(&mut self.by_name, &object);
-            return Err(AllocFailed { value: object });
+        match numbered::add(&mut self.by_number, object) {
+            Ok(()) => {}
+            Err(refused) => {
+                names::leave(&mut self.by_name, &refused.value);
+                return Err(refused);
+            }
         }
         set_charge(&mut self.charges, owner.0, charge);
         self.next = number.0 + 1;
@@ -188,9 +190,11 @@ impl Objects {
         }
     }
 
-    /// The queue of a number, to be written.
+    /// The queue of a number, to be written, in logarithmic time; None exactly where there is no such object or
+    /// it is no queue.
     pub fn queue_mut(&mut self, number: ObjNum) -> Option<&mut Queue>
         ensures* writes_back { sem 𝓛 (LendsQueue self.entry number.0 result) }
+        ensures value { option_copied_mut result ≡ queue_held (object_in self.old.objects number.0) }
     {
         match self.by_number.get_mut(&number.0) {
             Some(object) => queue_in_body(&mut object.body),
