@@ -1,6 +1,9 @@
 -- What the object map holds, and how its calls change it.
-use Rattle.std.specs.Prelude.{ℕ, ◌+◌, List, [], ◌∷◌, ◌++◌, filter, map}
+use Rattle.std.specs.Prelude.{ℕ, ◌+◌, List, [], ◌∷◌, ◌++◌, filter, map, Option, Some, None}
 use Rattle.s38_base.specs.declared.id.Id.{Id}
+use Rattle.s38_queues.specs.MessageQueue.{MessageQueue}
+use Rattle.s38_rules.specs.declared.object.Body.{Body}
+use Rattle.s38_rules.specs.declared.object.Body.TheVariants as bodies
 use Rattle.s38_rules.specs.declared.object.Object.{Object}
 use Rattle.s38_rules.specs.State.{change_in, is_in_context, without_in}
 
@@ -39,3 +42,13 @@ id_of o = o.id
 -- the identifications of the objects in a context, in rising order of number
 abbrev pub contents_in : List Object → ℕ → List Id
 contents_in os context = map id_of (filter (is_in_context context) os)
+
+-- the queue of a body, or none
+abbrev pub queue_of_body : Body → Option MessageQueue
+queue_of_body (bodies.Queue q) = Some q
+queue_of_body _ = None
+
+-- the queue of an object, or none
+abbrev pub queue_held : Option Object → Option MessageQueue
+queue_held None = None
+queue_held (Some o) = queue_of_body o.body

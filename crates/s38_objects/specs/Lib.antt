@@ -2,3 +2,4 @@ pub mod Held
 pub mod NameOrder
 pub mod Changes
 pub mod Indexed
+pub mod Lending

@@ -1,10 +1,10 @@
-ghost use Rattle.std.specs.Prelude.{◌≡◌, ◌<◌, ◌≤◌, ◌%◌, ◌^◌, All, OnOk, OnErr};
+ghost use Rattle.std.specs.Prelude.{◌≡◌, ◌<◌, ◌≤◌, ◌%◌, ◌^◌, All, OnOk, OnErr, Some};
 ghost use Rattle.s38_memory.specs.Cell.{IsCell};
 ghost use Rattle.s38_memory.specs.Tagged.{resized};
-ghost use Rattle.s38_rules.specs.Spaces.{with_bytes, with_cells, with_pointer};
+ghost use Rattle.s38_rules.specs.Spaces.{is_pointer_attr, is_storable, with_bytes, with_cells, with_pointer};
 ghost use Rattle.s38_rules.specs.State.{pages_of, space_body};
 
-use s38_base::{NoMemory, Pointer};
+use s38_base::{Attr, NoMemory, Pointer};
 use s38_memory::{Cell, Tagged};
 use s38_rules::Body;
 
@@ -30,6 +30,73 @@ pub fn write(body: &mut Body, at: u32, bytes: &[u8])
 {
     if let Body::Space(cells) = body {
         write_cells(cells, at, bytes);
+    }
+}
+
+/// Whether a cell may hold the pointer: any but one to an item that is a pointer.
+fn is_storable(pointer: Pointer) -> bool
+    ensures { result ≡ is_storable pointer }
+{
+    match pointer {
+        Pointer::Item { attr, .. } => !is_pointer(attr),
+        _ => true,
+    }
+}
+
+fn is_pointer(attr: Attr) -> bool
+    ensures { result ≡ is_pointer_attr attr }
+{
+    match attr {
+        Attr::Pointer => true,
+        _ => false,
+    }
+}
+
+fn put_in_cells(cells: &mut Tagged, at: u32, pointer: Pointer)
+    ensures { cells.new ≡ with_pointer at (Some pointer) cells.old }
+{
+    if is_storable(pointer) {
+        let _result = cells.set_pointer(at, pointer);
+    }
+}
+
+fn set_cells(cells: &mut Tagged, at: u32, pointer: Option<Pointer>)
+    ensures { cells.new ≡ with_pointer at pointer cells.old }
+{
+    match pointer {
+        Some(pointer) => put_in_cells(cells, at, pointer),
+        None => write_cells(cells, at, &[0; 16]),
+    }
+}
+
+/// A pointer, or sixteen zero bytes, into a cell of a space.
+pub fn set_pointer(body: &mut Body, at: u32, pointer: Option<Pointer>)
+    ensures { body.new ≡ space_body (with_pointer at pointer) body.old }
+{
+    if let Body::Space(cells) = body {
+        set_cells(cells, at, pointer);
+    }
+}
+
+fn copy_cells(cells: &mut Tagged, at: u32, piece: Vec<Cell>)
+    requires { All IsCell piece.items }
+    ensures { cells.new ≡ with_cells at piece.items cells.old }
+{
+    if piece.is_empty() || piece.len() > cells.cells().len() {
+        return;
+    }
+    let len = 16 * piece.len() as u32;
+    let source = Tagged::from_cells(piece);
+    let _result = cells.copy_from(at, &source, 0, len);
+}
+
+/// Cells with their tags over those of a space.
+pub fn copy_in(body: &mut Body, at: u32, piece: Vec<Cell>)
+    requires { All IsCell piece.items }
+    ensures { body.new ≡ space_body (with_cells at piece.items) body.old }
+{
+    if let Body::Space(cells) = body {
+        copy_cells(cells, at, piece);
     }
 }
 

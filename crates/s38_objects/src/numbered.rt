@@ -1,15 +1,33 @@
-ghost use Rattle.std.specs.Prelude.{◌≡◌, ◌≤◌, ◌%◌, OnOk, OnErr};
+ghost use Rattle.std.specs.Prelude.{◌≡◌, ◌≤◌, ◌%◌, All, IfErr, OnOk, OnErr};
 ghost use Rattle.std.specs.Ordering.{nat_cmp};
-ghost use Rattle.std.specs.BTreeMap.{IsOrdered};
+ghost use Rattle.std.specs.BTreeMap.{IsOrdered, insert_entry};
+ghost use Rattle.s38_memory.specs.Cell.{IsCell};
 ghost use Rattle.s38_memory.specs.Tagged.{resized};
-ghost use Rattle.s38_rules.specs.Spaces.{with_bytes};
+ghost use Rattle.s38_rules.specs.Spaces.{with_bytes, with_cells, with_pointer};
 ghost use Rattle.s38_rules.specs.State.{space_body};
 ghost use Rattle.s38_objects.specs.Changes.{body_changed};
 
 use crate::body;
-use s38_base::NoMemory;
+use s38_base::{NoMemory, Pointer};
+use s38_memory::Cell;
 use s38_rules::Object;
+use std::alloc::AllocFailed;
 use std::collections::BTreeMap;
+
+/// Adds an object at its number. Where memory was refused it comes back and nothing changed.
+pub fn add(objects: &mut BTreeMap<u64, Object>, object: Object) -> Result<(), AllocFailed<Object>>
+    ensures ok { OnOk result (objects.new.entries ≡ insert_entry nat_cmp objects.old.entries object.number.0 object) }
+    ensures ordered { IsOrdered nat_cmp objects.new }
+    ensures back { IfErr result (λ e. e.value ≡ object) }
+    ensures err { OnErr result (objects.new.entries ≡ objects.old.entries) }
+{
+    match objects.insert(object.number.0, object) {
+        Ok(_) => Ok(()),
+        Err(refused) => Err(AllocFailed {
+            value: refused.value.1,
+        }),
+    }
+}
 
 /// Bytes over a piece of the space of a number.
 pub fn write(objects: &mut BTreeMap<u64, Object>, number: u64, at: u32, bytes: &[u8])
@@ -17,6 +35,30 @@ pub fn write(objects: &mut BTreeMap<u64, Object>, number: u64, at: u32, bytes: &
 {
     if let Some(object) = objects.get_mut(&number) {
         body::write(&mut object.body, at, bytes);
+    }
+}
+
+/// A pointer, or sixteen zero bytes, into a cell of the space of a number.
+pub fn set_pointer(
+    objects: &mut BTreeMap<u64, Object>,
+    number: u64,
+    at: u32,
+    pointer: Option<Pointer>,
+)
+    ensures { objects.new.entries ≡ body_changed objects.old.entries number (space_body (with_pointer at pointer)) }
+{
+    if let Some(object) = objects.get_mut(&number) {
+        body::set_pointer(&mut object.body, at, pointer);
+    }
+}
+
+/// Cells with their tags over those of the space of a number.
+pub fn copy_in(objects: &mut BTreeMap<u64, Object>, number: u64, at: u32, piece: Vec<Cell>)
+    requires { All IsCell piece.items }
+    ensures { objects.new.entries ≡ body_changed objects.old.entries number (space_body (with_cells at piece.items)) }
+{
+    if let Some(object) = objects.get_mut(&number) {
+        body::copy_in(&mut object.body, at, piece);
     }
 }
 

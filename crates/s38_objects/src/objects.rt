@@ -1,15 +1,23 @@
-ghost use Rattle.std.specs.Prelude.{◌≡◌, ◌≤◌, ◌<◌, ◌%◌, ◌^◌, length, None, IfOk, IfErr, OnOk, OnErr};
+ghost use Rattle.std.specs.Prelude.{◌≡◌, ◌≤◌, ◌<◌, ◌%◌, ◌^◌, length, None, All, IfOk, IfErr, OnOk, OnErr};
 ghost use Rattle.std.specs.Option.{option_copied, option_map};
+ghost use Rattle.s38_memory.specs.Cell.{IsCell};
 ghost use Rattle.s38_memory.specs.Tagged.{resized};
-ghost use Rattle.s38_rules.specs.Spaces.{with_bytes};
+ghost use Rattle.s38_rules.specs.Spaces.{with_bytes, with_cells, with_pointer};
 ghost use Rattle.s38_rules.specs.State.{charge_beside, charge_in, found_in, object_in, with_space};
 ghost use Rattle.s38_objects.specs.Held.{contents_in, nothing, number_of, with_added, with_changed, with_removed};
+ghost use Rattle.std.specs.Borrow.{sem};
+ghost use Rattle.std.specs.Option.{option_copied_mut};
+ghost use Rattle.s38_objects.specs.Held.{queue_held};
+ghost use Rattle.s38_objects.specs.Lending.{LendsQueue};
 
 use crate::body::pages;
 use crate::charges::{charge_of, make_room, set_charge};
+use crate::lent::queue_in_body;
 use crate::name_key::{NameKey, key};
 use crate::{names, numbered};
-use s38_base::{Id, NoMemory, ObjNum, UserNum};
+use s38_base::{Id, NoMemory, ObjNum, Pointer, UserNum};
+use s38_memory::Cell;
+use s38_queues::Queue;
 use s38_rules::Object;
 use std::alloc::{AllocFailed, Global};
 use std::collections::BTreeMap;
@@ -153,10 +161,12 @@ impl Objects {
             return Err(AllocFailed { value: object });
         }
         let charge = charge_of(&self.charges, owner.0) + pages(&object.body) as u128;
-        if let Err(refused) = self.by_number.insert(number.0, object) {
-            let (_number, object) = refused.value;
-            names::leave(&mut self.by_name, &object);
-            return Err(AllocFailed { value: object });
+        match numbered::add(&mut self.by_number, object) {
+            Ok(()) => {}
+            Err(refused) => {
+                names::leave(&mut self.by_name, &refused.value);
+                return Err(refused);
+            }
         }
         set_charge(&mut self.charges, owner.0, charge);
         self.next = number.0 + 1;
@@ -180,6 +190,18 @@ impl Objects {
         }
     }
 
+    /// The queue of a number, to be written, in logarithmic time; None exactly where there is no such object or
+    /// it is no queue.
+    pub fn queue_mut(&mut self, number: ObjNum) -> Option<&mut Queue>
+        ensures* writes_back { sem 𝓛 (LendsQueue self.entry number.0 result) }
+        ensures value { option_copied_mut result ≡ queue_held (object_in self.old.objects number.0) }
+    {
+        match self.by_number.get_mut(&number.0) {
+            Some(object) => queue_in_body(&mut object.body),
+            None => None,
+        }
+    }
+
     /// Raises the next number, and sets the ceiling.
     pub fn raise(&mut self, next: u64, ceiling: u64)
         requires { self.old.next ≤ next }
@@ -195,6 +217,24 @@ impl Objects {
         ensures { self.new ≡ with_changed self.old number.0 (with_space (with_bytes at bytes.now)) }
     {
         numbered::write(&mut self.by_number, number.0, at, bytes);
+    }
+
+    /// Puts a pointer into the cell of the space of a number that begins at a byte; no pointer is sixteen zero
+    /// bytes. Nothing changes where there is no such space or cell, or the pointer is one to an item that is a
+    /// pointer.
+    pub fn set_pointer(&mut self, number: ObjNum, at: u32, pointer: Option<Pointer>)
+        ensures { self.new ≡ with_changed self.old number.0 (with_space (with_pointer at pointer)) }
+    {
+        numbered::set_pointer(&mut self.by_number, number.0, at, pointer);
+    }
+
+    /// Copies cells with their tags over those of the space of a number that begin at a byte. Nothing changes
+    /// where there is no such space, the cells leave it, or no cell begins there.
+    pub fn copy_in(&mut self, number: ObjNum, at: u32, piece: Vec<Cell>)
+        requires { All IsCell piece.items }
+        ensures { self.new ≡ with_changed self.old number.0 (with_space (with_cells at piece.items)) }
+    {
+        numbered::copy_in(&mut self.by_number, number.0, at, piece);
     }
 
     /// Cuts the space of a number, or fills it up with zero bytes. `NoMemory` where memory was refused, and

@@ -1,0 +1,5 @@
+pub mod NumberLaws
+pub mod NameLaws
+pub mod ChargeLaws
+pub mod IndexLaws
+pub mod BodyLaws

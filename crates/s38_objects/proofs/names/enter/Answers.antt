@@ -1,0 +1,8 @@
+use Rattle.std.specs.Prelude.{Some}
+use Rattle.s38_objects.proofs.NameLaws.{names_updated}
+use Rattle.s38_objects.proofs.names.enter.Goals as goal
+
+pub returns-in-Ok-clause-ok : goal.returns-in-Ok-clause-ok
+returns-in-Ok-clause-ok c =
+    let o = c.args.object.now in
+    names_updated o c.key.result (Some o.number.0) c.args.names.now c.insert.new.self c.key.ensures c.if-object-eq0.false c.in-Ok.ensures.updates.0

@@ -1,0 +1,21 @@
+use Rattle.std.proofs.Common.{ap, List, ◌∙◌}
+use Rattle.s38_rules.specs.declared.object.Object.{Object}
+use Rattle.s38_rules.specs.Spaces.{with_cells}
+use Rattle.s38_rules.specs.State.{space_body, with_space}
+use Rattle.s38_objects.specs.Held.{Held, with_changed}
+use Rattle.s38_objects.proofs.BodyLaws.{cells_kept, space_kept}
+use Rattle.s38_objects.proofs.IndexLaws.{indexed_bodied, values_bodied}
+use Rattle.s38_objects.proofs.objects.Objects.copy_in.Goals as goal
+
+pub invariant_of-self : goal.invariant_of-self
+invariant_of-self c =
+    let m = c.self.inside in
+    let f = with_cells c.args.at c.args.piece.items in
+    indexed_bodied m.by_number c.copy_in.new.objects m.by_name m.charges m.next c.args.number.0 (space_body f) c.self.invariant (space_kept f (cells_kept c.args.at c.args.piece.items)) c.copy_in.ensures
+
+pub returns : goal.returns
+returns c =
+    let m = c.self.inside in
+    let f = with_cells c.args.at c.args.piece.items in
+    let shown : List Object → Held = λ os. record { objects = os; next = m.next; ceiling = m.ceiling } in
+    rw (← c.self.view_is) (ap shown (values_bodied m.by_number c.copy_in.new.objects m.by_name m.charges m.next c.args.number.0 (space_body f) c.self.invariant c.copy_in.ensures))
