@@ -230,7 +230,7 @@ fn put_cells(world: &mut World, receiver: Option<&Operand>, cells: &[Cell])
     match receiver {
         Some(Operand::InSpace { base, offset, .. }) => {
             let at = start_of(*base, *offset);
-            world.objects.put_cells(target_of(*base), at, cells);
+            world.objects.copy_in(target_of(*base), at, cells);
         }
         _ => {}
     }
@@ -251,15 +251,26 @@ fn cpybwp(alloc: Global, world: &mut World, operands: &[Operand]) -> Result<(), 
     }
 }
 
+fn put_in(queue: &mut Queue, key: &[u8], text: &[u8]) -> Result<(), NoMemory>
+    requires { put_failure queue.old (length key.now) (length text.now) ≡ None }
+    ensures ok { OnOk result (queue.new ≡ with_message queue.old (message key.now text.now)) }
+    ensures err { OnErr result (queue.new ≡ queue.old) }
+{
+    match queue.put(key, text) {
+        Ok(()) => Ok(()),
+        Err(_) => Err(NoMemory),
+    }
+}
+
 fn put_message(world: &mut World, number: ObjNum, key: &[u8], text: &[u8]) -> Result<(), NoMemory>
     requires { put_failure (queue_at world.old number.0) (length key.now) (length text.now) ≡ None }
     ensures ok { OnOk result (world.new ≡ on_queue world.old number.0 (λ q. with_message q (message key.now text.now))) }
     ensures err { OnErr result (world.new ≡ world.old) }
 {
-    if let Err(fault) = world.objects.put_message(number, key, text) {
-        return Err(fault);
+    match world.objects.queue_mut(number) {
+        None => Ok(()),
+        Some(queue) => put_in(queue, key, text),
     }
-    Ok(())
 }
 
 /// The message stands last in the queue.
@@ -279,6 +290,13 @@ fn enq(alloc: Global, world: &mut World, operands: &[Operand]) -> Result<(), NoM
     }
 }
 
+fn take_from(queue: &mut Queue)
+    requires { 0 < length queue.old.messages }
+    ensures { queue.new ≡ without_message queue.old 0 }
+{
+    let _message = queue.take(0);
+}
+
 /// The oldest message leaves the queue.
 #[tactic(auto, unfolding(s38_rules::specs::Effect::deq_change))]
 fn deq(world: &mut World, operands: &[Operand])
@@ -286,7 +304,9 @@ fn deq(world: &mut World, operands: &[Operand])
     ensures { world.new ≡ deq_change world.old operands.now }
 {
     let number = target(world, operands, 2);
-    world.objects.take_message(number);
+    if let Some(queue) = world.objects.queue_mut(number) {
+        take_from(queue);
+    }
 }
 
 /// What a permitted instruction changes; where memory is refused nothing changes.

@@ -18,14 +18,16 @@ pub fn pages(body: &Body) -> u64
     }
 }
 
-fn write_cells(cells: &mut Tagged, at: u32, bytes: &[u8])
+fn write_cells(cells: &mut Tagged, at: u64, bytes: &[u8])
     ensures { cells.new ≡ with_bytes at bytes.now cells.old }
 {
-    let _result = cells.write(at, bytes);
+    if cells.has_piece(at, bytes.len()) {
+        let _result = cells.write(at as u32, bytes);
+    }
 }
 
 /// Bytes over a piece of a space.
-pub fn write(body: &mut Body, at: u32, bytes: &[u8])
+pub fn write(body: &mut Body, at: u64, bytes: &[u8])
     ensures { body.new ≡ space_body (with_bytes at bytes.now) body.old }
 {
     if let Body::Space(cells) = body {
@@ -52,15 +54,15 @@ fn is_pointer(attr: Attr) -> bool
     }
 }
 
-fn put_in_cells(cells: &mut Tagged, at: u32, pointer: Pointer)
+fn put_in_cells(cells: &mut Tagged, at: u64, pointer: Pointer)
     ensures { cells.new ≡ with_pointer at (Some pointer) cells.old }
 {
-    if is_storable(pointer) {
-        let _result = cells.set_pointer(at, pointer);
+    if is_storable(pointer) && cells.has_piece(at, 16) {
+        let _result = cells.set_pointer(at as u32, pointer);
     }
 }
 
-fn set_cells(cells: &mut Tagged, at: u32, pointer: Option<Pointer>)
+fn set_cells(cells: &mut Tagged, at: u64, pointer: Option<Pointer>)
     ensures { cells.new ≡ with_pointer at pointer cells.old }
 {
     match pointer {
@@ -70,7 +72,7 @@ fn set_cells(cells: &mut Tagged, at: u32, pointer: Option<Pointer>)
 }
 
 /// A pointer, or sixteen zero bytes, into a cell of a space.
-pub fn set_pointer(body: &mut Body, at: u32, pointer: Option<Pointer>)
+pub fn set_pointer(body: &mut Body, at: u64, pointer: Option<Pointer>)
     ensures { body.new ≡ space_body (with_pointer at pointer) body.old }
 {
     if let Body::Space(cells) = body {
@@ -78,22 +80,19 @@ pub fn set_pointer(body: &mut Body, at: u32, pointer: Option<Pointer>)
     }
 }
 
-fn copy_cells(cells: &mut Tagged, at: u32, piece: Vec<Cell>)
-    requires { All IsCell piece.items }
-    ensures { cells.new ≡ with_cells at piece.items cells.old }
+fn copy_cells(cells: &mut Tagged, at: u64, piece: &[Cell])
+    requires { All IsCell piece.now }
+    ensures { cells.new ≡ with_cells at piece.now cells.old }
 {
-    if piece.is_empty() || piece.len() > cells.cells().len() {
-        return;
+    if piece.len() <= cells.cells().len() && cells.has_piece(at, 16 * piece.len()) {
+        let _result = cells.put_cells(at as u32, piece);
     }
-    let len = 16 * piece.len() as u32;
-    let source = Tagged::from_cells(piece);
-    let _result = cells.copy_from(at, &source, 0, len);
 }
 
 /// Cells with their tags over those of a space.
-pub fn copy_in(body: &mut Body, at: u32, piece: Vec<Cell>)
-    requires { All IsCell piece.items }
-    ensures { body.new ≡ space_body (with_cells at piece.items) body.old }
+pub fn copy_in(body: &mut Body, at: u64, piece: &[Cell])
+    requires { All IsCell piece.now }
+    ensures { body.new ≡ space_body (with_cells at piece.now) body.old }
 {
     if let Body::Space(cells) = body {
         copy_cells(cells, at, piece);

@@ -30,7 +30,7 @@ pub fn add(objects: &mut BTreeMap<u64, Object>, object: Object) -> Result<(), Al
 }
 
 /// Bytes over a piece of the space of a number.
-pub fn write(objects: &mut BTreeMap<u64, Object>, number: u64, at: u32, bytes: &[u8])
+pub fn write(objects: &mut BTreeMap<u64, Object>, number: u64, at: u64, bytes: &[u8])
     ensures { objects.new.entries ≡ body_changed objects.old.entries number (space_body (with_bytes at bytes.now)) }
 {
     if let Some(object) = objects.get_mut(&number) {
@@ -42,7 +42,7 @@ pub fn write(objects: &mut BTreeMap<u64, Object>, number: u64, at: u32, bytes: &
 pub fn set_pointer(
     objects: &mut BTreeMap<u64, Object>,
     number: u64,
-    at: u32,
+    at: u64,
     pointer: Option<Pointer>,
 )
     ensures { objects.new.entries ≡ body_changed objects.old.entries number (space_body (with_pointer at pointer)) }
@@ -53,9 +53,9 @@ pub fn set_pointer(
 }
 
 /// Cells with their tags over those of the space of a number.
-pub fn copy_in(objects: &mut BTreeMap<u64, Object>, number: u64, at: u32, piece: Vec<Cell>)
-    requires { All IsCell piece.items }
-    ensures { objects.new.entries ≡ body_changed objects.old.entries number (space_body (with_cells at piece.items)) }
+pub fn copy_in(objects: &mut BTreeMap<u64, Object>, number: u64, at: u64, piece: &[Cell])
+    requires { All IsCell piece.now }
+    ensures { objects.new.entries ≡ body_changed objects.old.entries number (space_body (with_cells at piece.now)) }
 {
     if let Some(object) = objects.get_mut(&number) {
         body::copy_in(&mut object.body, at, piece);

@@ -213,7 +213,7 @@ impl Objects {
 
     /// Writes bytes over a piece of the space of a number. Nothing changes where there is no such space or the
     /// piece leaves it.
-    pub fn write(&mut self, number: ObjNum, at: u32, bytes: &[u8])
+    pub fn write(&mut self, number: ObjNum, at: u64, bytes: &[u8])
         ensures { self.new ≡ with_changed self.old number.0 (with_space (with_bytes at bytes.now)) }
     {
         numbered::write(&mut self.by_number, number.0, at, bytes);
@@ -222,7 +222,7 @@ impl Objects {
     /// Puts a pointer into the cell of the space of a number that begins at a byte; no pointer is sixteen zero
     /// bytes. Nothing changes where there is no such space or cell, or the pointer is one to an item that is a
     /// pointer.
-    pub fn set_pointer(&mut self, number: ObjNum, at: u32, pointer: Option<Pointer>)
+    pub fn set_pointer(&mut self, number: ObjNum, at: u64, pointer: Option<Pointer>)
         ensures { self.new ≡ with_changed self.old number.0 (with_space (with_pointer at pointer)) }
     {
         numbered::set_pointer(&mut self.by_number, number.0, at, pointer);
@@ -230,9 +230,9 @@ impl Objects {
 
     /// Copies cells with their tags over those of the space of a number that begin at a byte. Nothing changes
     /// where there is no such space, the cells leave it, or no cell begins there.
-    pub fn copy_in(&mut self, number: ObjNum, at: u32, piece: Vec<Cell>)
-        requires { All IsCell piece.items }
-        ensures { self.new ≡ with_changed self.old number.0 (with_space (with_cells at piece.items)) }
+    pub fn copy_in(&mut self, number: ObjNum, at: u64, piece: &[Cell])
+        requires { All IsCell piece.now }
+        ensures { self.new ≡ with_changed self.old number.0 (with_space (with_cells at piece.now)) }
     {
         numbered::copy_in(&mut self.by_number, number.0, at, piece);
     }

@@ -10,12 +10,12 @@ use Rattle.s38_objects.proofs.objects.Objects.copy_in.Goals as goal
 pub invariant_of-self : goal.invariant_of-self
 invariant_of-self c =
     let m = c.self.inside in
-    let f = with_cells c.args.at c.args.piece.items in
-    indexed_bodied m.by_number c.copy_in.new.objects m.by_name m.charges m.next c.args.number.0 (space_body f) c.self.invariant (space_kept f (cells_kept c.args.at c.args.piece.items)) c.copy_in.ensures
+    let f = with_cells c.args.at c.args.piece.now in
+    indexed_bodied m.by_number c.copy_in.new.objects m.by_name m.charges m.next c.args.number.0 (space_body f) c.self.invariant (space_kept f (cells_kept c.args.at c.args.piece.now)) c.copy_in.ensures
 
 pub returns : goal.returns
 returns c =
     let m = c.self.inside in
-    let f = with_cells c.args.at c.args.piece.items in
+    let f = with_cells c.args.at c.args.piece.now in
     let shown : List Object → Held = λ os. record { objects = os; next = m.next; ceiling = m.ceiling } in
     rw (← c.self.view_is) (ap shown (values_bodied m.by_number c.copy_in.new.objects m.by_name m.charges m.next c.args.number.0 (space_body f) c.self.invariant c.copy_in.ensures))
