@@ -104,6 +104,7 @@ fn numbers_and_names_are_given_once(rt: HostRuntime) -> Result<(), Fail> {
         assert_eq!(rt; objects.next_number(), next, "{}", row.0);
     }
     assert_eq!(rt; objects.len(), 6);
+    assert!(rt; objects.next_number() < 65);
     objects.raise(65, 64);
     assert_eq!(rt; objects.next_number(), 65);
     assert_eq!(rt; objects.ceiling(), 64);
@@ -198,6 +199,14 @@ fn bytes_at(objects: &Objects, number: u64, at: u32) -> Option<[u8; 4]> {
     }
 }
 
+/// Puts a message into the queue of a number, and says whether there is one that took it.
+fn put(objects: &mut Objects, number: u64) -> bool {
+    match objects.queue_mut(ObjNum(number)) {
+        Some(queue) => queue.put(b"", b"text").is_ok(),
+        None => false,
+    }
+}
+
 #[test]
 fn spaces_and_queues_are_written(rt: HostRuntime) -> Result<(), Fail> {
     let mut objects = filled(rt.alloc())?;
@@ -220,13 +229,8 @@ fn spaces_and_queues_are_written(rt: HostRuntime) -> Result<(), Fail> {
     assert_eq!(rt; bytes_at(&objects, 5, 48), Some([9; 4]));
     objects.set_pointer(space, 16, None);
     assert_eq!(rt; bytes_at(&objects, 5, 16), Some([0; 4]));
-    let mut sizes = 0;
-    for number in [3, 4, 5, 6] {
-        if let Some(queue) = objects.queue_mut(ObjNum(number)) {
-            assert!(rt; queue.put(b"", b"text").is_ok(), "{number}");
-            sizes += queue.len();
-        }
+    for (number, want) in [(3, true), (4, false), (5, false), (6, true)] {
+        assert_eq!(rt; put(&mut objects, number), want, "{number}");
     }
-    assert_eq!(rt; sizes, 2);
     Ok(())
 }
