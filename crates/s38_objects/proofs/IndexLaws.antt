@@ -1,21 +1,20 @@
 -- The three maps belong together after each change.
-use Rattle.std.proofs.Common.{◌≡◌, ℕ, ◌+◌, ◌-◌, ◌<◌, ◌≤◌, ◌^◌, ◌==◌, Bool, true, false, cond, List, [], ◌∷◌, ◌++◌, map, refl, sym, ◌∙◌, ap, subst, arith}
+use Rattle.std.proofs.Common.{◌≡◌, ℕ, ◌+◌, ◌-◌, ◌<◌, ◌≤◌, ◌^◌, ◌==◌, true, false, cond, List, [], ◌∷◌, ◌++◌, map, refl, sym, ◌∙◌, ap, subst, arith}
 use Rattle.std.proofs.lemmas.Bool.Decides.{nat_tests}
 use Rattle.std.specs.Prelude.{Option, Some, None, All}
 use Rattle.std.specs.Option.{option_map, unwrap_or}
 use Rattle.std.specs.Ordering.{nat_cmp}
 use Rattle.std.proofs.lemmas.Map.Keys.{IsStrictlyIncreasing-from_sorted}
 use Rattle.std.proofs.lemmas.List.Elements.{All-cons, All-nil}
-use Rattle.std.specs.List.Sorted.{IsStrictlySortedBy}
 use Rattle.std.specs.Map.{keys_of, values_of, lookup, remove_entry}
 use Rattle.std.specs.BTreeMap.{BTreeMap, IsOrdered, get, insert_entry, is_at, values}
 use Rattle.s38_base.specs.declared.id.Id.{Id}
 use Rattle.s38_rules.specs.declared.object.Body.{Body}
 use Rattle.s38_rules.specs.declared.object.Object.{Object}
-use Rattle.s38_rules.specs.State.{change_in, charge_beside, charge_in, found_in, is_named, object_in, pages_for, pages_of, without_in}
+use Rattle.s38_rules.specs.State.{change_in, charge_beside, charge_in, found_in, is_named, pages_for, pages_of}
 use Rattle.s38_objects.specs.declared.name_key.NameKey.{NameKey}
 use Rattle.s38_objects.specs.Changes.{body_changed, with_body}
-use Rattle.s38_objects.specs.Held.{AreApart, IsLawful, number_of}
+use Rattle.s38_objects.specs.Held.{IsLawful, number_of}
 use Rattle.s38_objects.specs.Indexed.{AreCharges, AreNames, AreNumbered, IsIndexed}
 use Rattle.s38_objects.specs.NameOrder.{key, name_cmp}
 use Rattle.s38_objects.proofs.NumberLaws.{body_absent, found_by_number, insert_last, keys_changed, lookup_bodied, numbered_changed, numbered_last, numbered_raised, numbered_without, values_changed, values_last}
