@@ -1,20 +1,21 @@
 -- The three maps belong together after each change.
-use Rattle.std.proofs.Common.{◌≡◌, ℕ, ◌+◌, ◌-◌, ◌<◌, ◌≤◌, ◌^◌, ◌==◌, Bool, true, false, cond, List, [], ◌∷◌, ◌++◌, refl, sym, ◌∙◌, ap, subst, arith}
+use Rattle.std.proofs.Common.{◌≡◌, ℕ, ◌+◌, ◌-◌, ◌<◌, ◌≤◌, ◌^◌, ◌==◌, true, false, cond, List, [], ◌∷◌, ◌++◌, map, refl, sym, ◌∙◌, ap, subst, arith}
 use Rattle.std.proofs.lemmas.Bool.Decides.{nat_tests}
-use Rattle.std.specs.Prelude.{Option, Some, None, IsSome}
+use Rattle.std.specs.Prelude.{Option, Some, None, All}
 use Rattle.std.specs.Option.{option_map, unwrap_or}
 use Rattle.std.specs.Ordering.{nat_cmp}
-use Rattle.std.specs.List.Sorted.{IsStrictlySortedBy}
+use Rattle.std.proofs.lemmas.Map.Keys.{IsStrictlyIncreasing-from_sorted}
+use Rattle.std.proofs.lemmas.List.Elements.{All-cons, All-nil}
 use Rattle.std.specs.Map.{keys_of, values_of, lookup, remove_entry}
 use Rattle.std.specs.BTreeMap.{BTreeMap, IsOrdered, get, insert_entry, is_at, values}
 use Rattle.s38_base.specs.declared.id.Id.{Id}
 use Rattle.s38_rules.specs.declared.object.Body.{Body}
 use Rattle.s38_rules.specs.declared.object.Object.{Object}
-use Rattle.s38_rules.specs.State.{change_in, charge_beside, charge_in, found_in, is_named, object_in, pages_for, pages_of, without_in}
+use Rattle.s38_rules.specs.State.{change_in, charge_beside, charge_in, found_in, is_named, pages_for, pages_of}
 use Rattle.s38_objects.specs.declared.name_key.NameKey.{NameKey}
 use Rattle.s38_objects.specs.Changes.{body_changed, with_body}
-use Rattle.s38_objects.specs.Held.{number_of}
-use Rattle.s38_objects.specs.Indexed.{AreApart, AreCharges, AreNames, AreNumbered, IsIndexed}
+use Rattle.s38_objects.specs.Held.{IsLawful, number_of}
+use Rattle.s38_objects.specs.Indexed.{AreCharges, AreNames, AreNumbered, IsIndexed}
 use Rattle.s38_objects.specs.NameOrder.{key, name_cmp}
 use Rattle.s38_objects.proofs.NumberLaws.{body_absent, found_by_number, insert_last, keys_changed, lookup_bodied, numbered_changed, numbered_last, numbered_raised, numbered_without, values_changed, values_last}
 use Rattle.s38_objects.proofs.NameLaws.{apart_changed, apart_last, apart_without, found_like, names_changed, names_last, names_without}
@@ -229,3 +230,20 @@ beside_pays m n names charges next number f x h e there =
 pub body_not_there : (m n : BTreeMap ℕ Object) (number : ℕ) (f : Body → Body) → n.entries ≡ body_changed m.entries number f → lookup (is_at (nat_cmp number)) n.entries ≡ None → n.entries ≡ m.entries
 body_not_there m n number f e none =
     e ∙ body_absent number f m.entries (was_none (with_body f) (lookup (is_at (nat_cmp number)) m.entries) (sym (lookup_bodied number f m.entries) ∙ (ap (lookup (is_at (nat_cmp number))) (sym e) ∙ none)))
+
+-- ---- what callers see
+
+numbers_are_keys : (next : ℕ) (es : List (ℕ × Object)) → AreNumbered next es → map number_of (values_of es) ≡ keys_of es
+numbers_are_keys next [] h = refl
+numbers_are_keys next (e ∷ es) h = rw (h.0, numbers_are_keys next es h.3) refl
+
+all_given : (next : ℕ) (es : List (ℕ × Object)) → AreNumbered next es → All (λ o. number_of o < next) (values_of es)
+all_given next [] h = All-nil (λ o. number_of o < next)
+all_given next (e ∷ es) h = All-cons (λ o. number_of o < next) e.1 (values_of es) (rw h.0 h.1) (all_given next es h.3)
+
+pub lawful : (m : BTreeMap ℕ Object) (names : BTreeMap NameKey ℕ) (charges : BTreeMap ℕ ℕ) (next ceiling : ℕ) → IsIndexed m names charges next → IsLawful (record { objects = values m; next = next; ceiling = ceiling })
+lawful m names charges next ceiling h = record {
+  rising = rw (numbers_are_keys next m.entries h.numbered) (IsStrictlyIncreasing-from_sorted (keys_of m.entries) h.ordered);
+  given = all_given next m.entries h.numbered;
+  apart = h.apart;
+}

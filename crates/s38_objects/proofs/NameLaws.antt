@@ -1,24 +1,23 @@
 -- The map from names to numbers, and the objects that are found by name.
-use Rattle.std.proofs.Common.{◌≡◌, ℕ, ◌+◌, ◌<◌, ◌≤◌, ◌==◌, Bool, true, false, cond, not, List, [], ◌∷◌, ◌++◌, length, refl, sym, ◌∙◌, ap, subst, arith}
+use Rattle.std.proofs.Common.{◌≡◌, ℕ, ◌==◌, Bool, true, false, cond, not, List, [], ◌∷◌, ◌++◌, refl, sym, ◌∙◌, ap, subst, arith}
 use Rattle.std.proofs.lemmas.Bool.Decides.{nat_tests}
 use Rattle.std.specs.Prelude.{Option, Some, None, ◌&&◌, nat_eq}
-use Rattle.std.specs.Cmp.Lexicographic.{pointwise, slice_cmp, texts_ties}
+use Rattle.std.specs.Cmp.Lexicographic.{pointwise, texts_ties}
 use Rattle.std.specs.declared.cmp.Ordering.{Ordering}
 use Rattle.std.specs.declared.cmp.Ordering.TheVariants.{Less, Equal, Greater}
 use Rattle.std.specs.Option.{option_map, option_or}
 use Rattle.std.proofs.lemmas.List.Folds.{find-append}
 use Rattle.std.specs.Ordering.{is_eq, nat_cmp, ordering_then}
-use Rattle.std.specs.Map.{keys_of, values_of, lookup, remove_entry}
+use Rattle.std.specs.Map.{values_of, lookup, remove_entry}
 use Rattle.std.specs.BTreeMap.{BTreeMap, get, is_at}
 use Rattle.s38_base.specs.declared.id.Id.{Id}
-use Rattle.s38_base.specs.Ids.{kind_code, same_id, same_kind}
+use Rattle.s38_base.specs.Ids.{kind_code, same_id}
 use Rattle.s38_rules.specs.declared.object.Body.{Body}
 use Rattle.s38_rules.specs.declared.object.Object.{Object}
 use Rattle.s38_rules.specs.State.{change_in, found_in, has_number, is_in_context, is_named}
 use Rattle.s38_objects.specs.Changes.{with_body}
 use Rattle.s38_objects.specs.declared.name_key.NameKey.{NameKey}
-use Rattle.s38_objects.specs.Held.{number_of}
-use Rattle.s38_objects.specs.Indexed.{AreApart}
+use Rattle.s38_objects.specs.Held.{AreApart, number_of}
 use Rattle.s38_objects.specs.NameOrder.{key, name_cmp}
 
 -- ---- keys and names

@@ -1,11 +1,12 @@
 -- What the object map holds, and how its calls change it.
-use Rattle.std.specs.Prelude.{ℕ, ◌+◌, List, [], ◌∷◌, ◌++◌, filter, map, Option, Some, None}
+use Rattle.std.specs.Prelude.{◌≡◌, ℕ, ◌+◌, ◌<◌, All, List, [], ◌∷◌, ◌++◌, filter, map, Option, Some, None}
+use Rattle.std.specs.List.Sorted.{IsStrictlyIncreasing}
 use Rattle.s38_base.specs.declared.id.Id.{Id}
 use Rattle.s38_queues.specs.MessageQueue.{MessageQueue}
 use Rattle.s38_rules.specs.declared.object.Body.{Body}
 use Rattle.s38_rules.specs.declared.object.Body.TheVariants as bodies
 use Rattle.s38_rules.specs.declared.object.Object.{Object}
-use Rattle.s38_rules.specs.State.{change_in, is_in_context, without_in}
+use Rattle.s38_rules.specs.State.{change_in, found_in, is_in_context, without_in}
 
 pub record Held : Type 0 where
   -- in rising order of number
@@ -52,3 +53,14 @@ queue_of_body _ = None
 abbrev pub queue_held : Option Object → Option MessageQueue
 queue_held None = None
 queue_held (Some o) = queue_of_body o.body
+
+-- no two objects in one context have one identification
+abbrev pub AreApart : List Object → Type 0
+AreApart [] = Unit {0}
+AreApart (o ∷ os) = (found_in os o.context.0 o.id ≡ None) × AreApart os
+
+-- what is true of every object map: the numbers rise and were given, and names are told apart
+pub record IsLawful (h : Held) : Type 0 where
+  pub rising : IsStrictlyIncreasing (map number_of h.objects)
+  pub given : All (λ o. number_of o < h.next) h.objects
+  pub apart : AreApart h.objects

@@ -1,5 +1,5 @@
 -- What is true of every object map: its three maps belong together.
-use Rattle.std.specs.Prelude.{◌≡◌, ℕ, ◌<◌, ◌≤◌, ◌^◌, List, [], ◌∷◌, Option, None}
+use Rattle.std.specs.Prelude.{◌≡◌, ℕ, ◌<◌, ◌^◌, List, [], ◌∷◌}
 use Rattle.std.specs.Option.{option_map, unwrap_or}
 use Rattle.std.specs.Ordering.{nat_cmp}
 use Rattle.std.specs.BTreeMap.{BTreeMap, IsOrdered, get, values}
@@ -7,18 +7,13 @@ use Rattle.s38_base.specs.declared.id.Id.{Id}
 use Rattle.s38_rules.specs.declared.object.Object.{Object}
 use Rattle.s38_rules.specs.State.{charge_in, found_in, pages_of}
 use Rattle.s38_objects.specs.declared.name_key.NameKey.{NameKey}
-use Rattle.s38_objects.specs.Held.{number_of}
+use Rattle.s38_objects.specs.Held.{AreApart, number_of}
 use Rattle.s38_objects.specs.NameOrder.{key, name_cmp}
 
 -- each object stands at its own number, which was given, and its pages can be counted
 abbrev pub AreNumbered : ℕ → List (ℕ × Object) → Type 0
 AreNumbered next [] = Unit {0}
 AreNumbered next (e ∷ es) = (number_of e.1 ≡ e.0) × (e.0 < next) × (pages_of e.1.body < 2 ^ 64) × AreNumbered next es
-
--- no two objects in one context have one identification
-abbrev pub AreApart : List Object → Type 0
-AreApart [] = Unit {0}
-AreApart (o ∷ os) = (found_in os o.context.0 o.id ≡ None) × AreApart os
 
 -- each name leads to the number of the object that it names, and to none where there is no such object
 pub record AreNames (names : BTreeMap NameKey ℕ) (os : List Object) : Type 0 where

@@ -9,6 +9,8 @@ mod name_key;
 mod names;
 mod numbered;
 mod objects;
+#[cfg(test)]
+mod tests;
 
 pub use objects::Objects;
 

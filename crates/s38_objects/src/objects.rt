@@ -1,13 +1,11 @@
-ghost use Rattle.std.specs.Prelude.{◌≡◌, ◌≤◌, ◌<◌, ◌%◌, ◌^◌, length, None, All, IfOk, IfErr, OnOk, OnErr};
-ghost use Rattle.std.specs.Option.{option_copied, option_map};
+ghost use Rattle.std.specs.Prelude.{◌≡◌, ◌≤◌, ◌<◌, ◌%◌, ◌^◌, ◌↔◌, length, None, All, IfOk, IfErr, IsTrue, OnOk, OnErr};
+ghost use Rattle.std.specs.Borrow.{sem};
+ghost use Rattle.std.specs.Option.{option_copied, option_copied_mut, option_map};
 ghost use Rattle.s38_memory.specs.Cell.{IsCell};
 ghost use Rattle.s38_memory.specs.Tagged.{resized};
 ghost use Rattle.s38_rules.specs.Spaces.{with_bytes, with_cells, with_pointer};
 ghost use Rattle.s38_rules.specs.State.{charge_beside, charge_in, found_in, object_in, with_space};
-ghost use Rattle.s38_objects.specs.Held.{contents_in, nothing, number_of, with_added, with_changed, with_removed};
-ghost use Rattle.std.specs.Borrow.{sem};
-ghost use Rattle.std.specs.Option.{option_copied_mut};
-ghost use Rattle.s38_objects.specs.Held.{queue_held};
+ghost use Rattle.s38_objects.specs.Held.{IsLawful, contents_in, nothing, number_of, queue_held, with_added, with_changed, with_removed};
 ghost use Rattle.s38_objects.specs.Lending.{LendsQueue};
 
 use crate::body::pages;
@@ -64,9 +62,17 @@ impl Objects {
 
     /// How many objects there are.
     pub fn len(&self) -> usize
-        ensures { result ≡ length self.now.objects }
+        ensures len { result ≡ length self.now.objects }
+        ensures lawful { IsLawful self.now }
     {
         self.by_number.len()
+    }
+
+    /// Whether there is no object.
+    pub fn is_empty(&self) -> bool
+        ensures { IsTrue result ↔ (length self.now.objects ≡ 0) }
+    {
+        self.by_number.is_empty()
     }
 
     /// The least number that may still be given.

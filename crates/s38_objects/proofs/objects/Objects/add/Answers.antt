@@ -1,11 +1,9 @@
-use Rattle.std.proofs.Common.{◌∙◌, ◌≡◌, ◌≤◌, ◌<◌, ◌^◌, ◌+◌, ℕ, List, arith, sym, refl, ap, subst, cond}
-use Rattle.std.specs.Prelude.{None, Some}
-use Rattle.std.specs.BTreeMap.{get, values}
-use Rattle.s38_base.specs.declared.id.Id.{Id}
+use Rattle.std.proofs.Common.{◌∙◌, ◌≡◌, ◌≤◌, ◌<◌, ◌^◌, ◌+◌, List, arith, sym, refl, ap, subst}
+use Rattle.std.specs.Prelude.{None}
+use Rattle.std.specs.BTreeMap.{values}
 use Rattle.s38_rules.specs.declared.object.Object.{Object}
-use Rattle.s38_rules.specs.State.{found_in, is_named, pages_of}
-use Rattle.s38_objects.specs.Held.{Held, number_of}
-use Rattle.s38_objects.specs.NameOrder.{key, name_cmp}
+use Rattle.s38_rules.specs.State.{found_in, pages_of}
+use Rattle.s38_objects.specs.Held.{Held}
 use Rattle.s38_objects.proofs.ChargeLaws.{charge_fits, from_ok}
 use Rattle.s38_objects.proofs.IndexLaws.{indexed_added, indexed_refused, values_added}
 use Rattle.s38_objects.proofs.objects.Objects.add.Goals as goal

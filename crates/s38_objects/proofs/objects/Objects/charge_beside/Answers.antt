@@ -1,4 +1,4 @@
-use Rattle.std.proofs.Common.{◌∙◌, ◌≡◌, ◌≤◌, ◌+◌, sym, arith}
+use Rattle.std.proofs.Common.{◌∙◌, ◌≡◌, ◌+◌, sym, arith}
 use Rattle.s38_rules.specs.State.{charge_beside, charge_in, pages_of}
 use Rattle.std.specs.BTreeMap.{values}
 use Rattle.s38_objects.proofs.ChargeLaws.{beside_found, beside_absent}

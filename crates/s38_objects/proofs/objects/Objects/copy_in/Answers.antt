@@ -1,8 +1,8 @@
-use Rattle.std.proofs.Common.{ap, List, ◌∙◌}
+use Rattle.std.proofs.Common.{ap, List}
 use Rattle.s38_rules.specs.declared.object.Object.{Object}
 use Rattle.s38_rules.specs.Spaces.{with_cells}
-use Rattle.s38_rules.specs.State.{space_body, with_space}
-use Rattle.s38_objects.specs.Held.{Held, with_changed}
+use Rattle.s38_rules.specs.State.{space_body}
+use Rattle.s38_objects.specs.Held.{Held}
 use Rattle.s38_objects.proofs.BodyLaws.{cells_kept, space_kept}
 use Rattle.s38_objects.proofs.IndexLaws.{indexed_bodied, values_bodied}
 use Rattle.s38_objects.proofs.objects.Objects.copy_in.Goals as goal

@@ -1,4 +1,4 @@
-use Rattle.std.proofs.Common.{◌∙◌, ap, sym}
+use Rattle.std.proofs.Common.{◌∙◌}
 use Rattle.s38_objects.proofs.IndexLaws.{found_by_name}
 use Rattle.s38_objects.proofs.objects.Objects.find_object.Goals as goal
 

@@ -1,6 +1,5 @@
 use Rattle.std.proofs.Common.{◌∙◌}
 use Rattle.s38_objects.proofs.NumberLaws.{lookup_object}
-use Rattle.s38_objects.proofs.ChargeLaws.{charge_changed}
 use Rattle.s38_objects.proofs.objects.Objects.get.Goals as goal
 
 pub returns : goal.returns

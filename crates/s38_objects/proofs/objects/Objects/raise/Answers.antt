@@ -1,4 +1,4 @@
-use Rattle.std.proofs.Common.{◌≤◌, ap, sym, subst, ℕ}
+use Rattle.std.proofs.Common.{◌≤◌, sym, subst}
 use Rattle.s38_objects.specs.Held.{Held}
 use Rattle.s38_objects.proofs.IndexLaws.{indexed_raised}
 use Rattle.s38_objects.proofs.objects.Objects.raise.Goals as goal

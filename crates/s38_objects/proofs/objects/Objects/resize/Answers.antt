@@ -1,4 +1,4 @@
-use Rattle.std.proofs.Common.{◌∙◌, ◌≡◌, ◌<◌, ◌^◌, ℕ, List, arith, sym, refl, ap}
+use Rattle.std.proofs.Common.{◌∙◌, ◌≡◌, ◌<◌, ◌^◌, List, arith, sym, refl, ap}
 use Rattle.std.specs.BTreeMap.{values}
 use Rattle.s38_memory.specs.Tagged.{resized}
 use Rattle.s38_rules.specs.declared.object.Object.{Object}
