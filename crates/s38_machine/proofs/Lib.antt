@@ -1,4 +1,5 @@
 pub mod EventLaws
 pub mod LogLaws
 pub mod NumberLaws
+pub mod QueueLaws
 pub mod VerdictLaws

@@ -1,16 +1,16 @@
 -- What a permitted event has met.
-use Rattle.std.proofs.Common.{◌≡◌, ℕ, ◌<◌, ◌≤◌, ◌^◌, ◌==◌, Bool, true, false, not, ◌||◌, nat_le, nat_lt, List, length, Option, None, Some, refl, arith}
+use Rattle.std.proofs.Common.{◌≡◌, ℕ, ◌+◌, ap, subst, sym, ◌<◌, ◌≤◌, ◌^◌, ◌==◌, Bool, true, false, not, ◌||◌, nat_le, nat_lt, List, length, Option, None, Some, refl, arith}
 use Rattle.std.proofs.lemmas.Bool.Decides.{nat_tests}
 use Rattle.s38_base.specs.declared.exception.Exception.{Exception}
 use Rattle.s38_code.specs.declared.event.Event.TheVariants.{Act}
 use Rattle.s38_code.specs.declared.event.Request.{Request}
 use Rattle.s38_code.specs.declared.operand.Operand.{Operand}
 use Rattle.s38_rules.specs.declared.verdict.Verdict.TheVariants.{Permit}
-use Rattle.s38_rules.specs.State.{State, queue_at}
+use Rattle.s38_rules.specs.State.{State, charge_beside, object, owner_in, queue_at}
 use Rattle.s38_base.specs.declared.id.Kind.{Kind}
 use Rattle.s38_base.specs.declared.id.Kind.TheVariants as kinds
 use Rattle.s38_rules.specs.Operands.{count_at, id_at, target}
-use Rattle.s38_rules.specs.Verdict.{first, fails, of_failure, refusal, conditions, deq_conditions, verdict_of, creation_limits, crtq_conditions, crts_conditions, mods_conditions, is_space_length, is_taken, last_number, length_rule, most_objects, name_rule, number_rule}
+use Rattle.s38_rules.specs.Verdict.{first, fails, of_failure, refusal, conditions, deq_conditions, verdict_of, creation_limits, crtq_conditions, crts_conditions, mods_conditions, is_space_length, is_taken, last_number, length_rule, most_objects, name_rule, number_rule, pages_for_length, pages_rule}
 
 -- where the first of two failures is none, both are
 pub first_none : (a b : Option Exception) → first a b ≡ None → (a ≡ None) × (b ≡ None)
@@ -76,3 +76,13 @@ crts_free s p ops h =
 pub mods_length : (s : State) (ops : List Operand) → mods_conditions s ops ≡ None → is_space_length (count_at s ops 2) ≡ true
 unfolding mods_conditions
 mods_length s ops h = length_good s ops 2 (first_none _ _ h).0
+
+-- the owner of the space pays for its new length
+pub mods_by : (s : State) (ops : List Operand) (n len : ℕ) → length_rule s ops 2 ≡ None → n ≡ target s ops 1
+    → (is_space_length (count_at s ops 2) ≡ true → len ≡ count_at s ops 2)
+    → pages_rule s (owner_in (object s n)) (charge_beside s.objects n + pages_for_length len) ≡ mods_conditions s ops
+unfolding mods_conditions
+mods_by s ops n len none there long =
+    let e : len ≡ count_at s ops 2 = long (length_good s ops 2 none) in
+    subst (λ (m : ℕ). pages_rule s (owner_in (object s m)) (charge_beside s.objects m + pages_for_length len) ≡ mods_conditions s ops) (sym there)
+    (rw none (ap (λ (l : ℕ). pages_rule s (owner_in (object s (target s ops 1))) (charge_beside s.objects (target s ops 1) + pages_for_length l)) e))

@@ -4,7 +4,8 @@ ghost use Rattle.std.specs.Option.{option_copied};
 ghost use Rattle.s38_queues.specs.MessageQueue.{message, with_message, without_message};
 ghost use Rattle.s38_base.specs.declared.id.Kind.{Kind};
 ghost use Rattle.s38_memory.specs.Tagged.{resized};
-ghost use Rattle.s38_rules.specs.State.{ceiling_for, found, on_queue, queue_at, with_object};
+ghost use Rattle.s38_objects.specs.Held.{with_changed};
+ghost use Rattle.s38_rules.specs.State.{ceiling_for, found, object_in, on_queue, queue_at, queue_in, with_object, with_queue};
 ghost use Rattle.s38_rules.specs.Operands.{bytes_at, count_at, delivered, id_at, put_value, size_at, target};
 ghost use Rattle.s38_rules.specs.Effect.{cells_put, change_of, cpybwp_change, created, crtq_change, crts_change, deq_change, destruction_change, enq_change, longest_at, made_object, maker_rows, mods_change};
 ghost use Rattle.s38_rules.specs.Verdict.{conditions, is_space_length, is_taken, put_failure};
@@ -19,6 +20,7 @@ use crate::world::World;
 use s38_base::{Id, Kind, NoMemory, ObjNum, Op, Rights, Seq, UserNum};
 use s38_code::Operand;
 use s38_memory::{Cell, Tagged};
+use s38_objects::Objects;
 use s38_queues::{Order, Queue};
 use s38_rules::{Body, Object, PrivateRow, RowList};
 use std::alloc::Global;
@@ -251,7 +253,7 @@ fn cpybwp(alloc: Global, world: &mut World, operands: &[Operand]) -> Result<(), 
     }
 }
 
-fn put_in(queue: &mut Queue, key: &[u8], text: &[u8]) -> Result<(), NoMemory>
+fn put_queue(queue: &mut Queue, key: &[u8], text: &[u8]) -> Result<(), NoMemory>
     requires { put_failure queue.old (length key.now) (length text.now) ≡ None }
     ensures ok { OnOk result (queue.new ≡ with_message queue.old (message key.now text.now)) }
     ensures err { OnErr result (queue.new ≡ queue.old) }
@@ -262,15 +264,27 @@ fn put_in(queue: &mut Queue, key: &[u8], text: &[u8]) -> Result<(), NoMemory>
     }
 }
 
+/// Puts a message behind those of the queue of a number; where memory is refused nothing changes.
+fn put_in(objects: &mut Objects, number: ObjNum, key: &[u8], text: &[u8]) -> Result<(), NoMemory>
+    requires { put_failure (queue_in (object_in objects.old.objects number.0)) (length key.now) (length text.now) ≡ None }
+    ensures ok { OnOk result (objects.new ≡ with_changed objects.old number.0 (with_queue (λ q. with_message q (message key.now text.now)))) }
+    ensures err { OnErr result (objects.new ≡ objects.old) }
+{
+    let Some(queue) = objects.queue_mut(number) else {
+        return Ok(());
+    };
+    put_queue(queue, key, text)
+}
+
 fn put_message(world: &mut World, number: ObjNum, key: &[u8], text: &[u8]) -> Result<(), NoMemory>
     requires { put_failure (queue_at world.old number.0) (length key.now) (length text.now) ≡ None }
     ensures ok { OnOk result (world.new ≡ on_queue world.old number.0 (λ q. with_message q (message key.now text.now))) }
     ensures err { OnErr result (world.new ≡ world.old) }
 {
-    match world.objects.queue_mut(number) {
-        None => Ok(()),
-        Some(queue) => put_in(queue, key, text),
+    if let Err(fault) = put_in(&mut world.objects, number, key, text) {
+        return Err(fault);
     }
+    Ok(())
 }
 
 /// The message stands last in the queue.
@@ -290,11 +304,21 @@ fn enq(alloc: Global, world: &mut World, operands: &[Operand]) -> Result<(), NoM
     }
 }
 
-fn take_from(queue: &mut Queue)
+fn take_queue(queue: &mut Queue)
     requires { 0 < length queue.old.messages }
     ensures { queue.new ≡ without_message queue.old 0 }
 {
     let _message = queue.take(0);
+}
+
+/// Takes the oldest message out of the queue of a number.
+fn take_in(objects: &mut Objects, number: ObjNum)
+    requires { 0 < length (queue_in (object_in objects.old.objects number.0)).messages }
+    ensures { objects.new ≡ with_changed objects.old number.0 (with_queue (λ q. without_message q 0)) }
+{
+    if let Some(queue) = objects.queue_mut(number) {
+        take_queue(queue);
+    }
 }
 
 /// The oldest message leaves the queue.
@@ -304,9 +328,7 @@ fn deq(world: &mut World, operands: &[Operand])
     ensures { world.new ≡ deq_change world.old operands.now }
 {
     let number = target(world, operands, 2);
-    if let Some(queue) = world.objects.queue_mut(number) {
-        take_from(queue);
-    }
+    take_in(&mut world.objects, number);
 }
 
 /// What a permitted instruction changes; where memory is refused nothing changes.

@@ -3,6 +3,7 @@
 ghost use Rattle.std.specs.Prelude.{◌≡◌, ◌+◌, nat_lt, true};
 ghost use Rattle.std.specs.Option.{option_copied};
 ghost use Rattle.s38_rules.specs.Operands.{count_at};
+ghost use Rattle.s38_rules.specs.State.{charge_beside, object, owner_in};
 ghost use Rattle.s38_rules.specs.Verdict.{creation_limits, crtq_conditions, crts_conditions, is_space_length, is_taken, length_rule, limit_in, limit_of, mods_conditions, name_rule, number_rule, of_kind, pages_for_length, pages_rule};
 
 use crate::failures::{fails, plain};
@@ -180,6 +181,14 @@ pub fn crts_conditions(world: &World, process: u32, operands: &[Operand]) -> Opt
     )
 }
 
+/// The owner of a space pays for so many pages of it.
+fn owner_rule(world: &World, space: ObjNum, pages: u64) -> Option<Exception>
+    ensures { result ≡ pages_rule world.now (owner_in (object world.now space.0)) (charge_beside world.now.objects space.0 + pages) }
+{
+    let others = world.objects.charge_beside(space);
+    pages_rule(world, owner_in(object(world, space)), others, pages)
+}
+
 /// The owner of the space pays for its new length.
 #[tactic(auto, unfolding(s38_rules::specs::Verdict::mods_conditions))]
 pub fn mods_conditions(world: &World, operands: &[Operand]) -> Option<Exception>
@@ -189,7 +198,9 @@ pub fn mods_conditions(world: &World, operands: &[Operand]) -> Option<Exception>
         return Some(failure);
     }
     let space = target(world, operands, 1);
-    let pages = pages_for_length(space_length(world, operands, 2));
-    let others = world.objects.charge_beside(space);
-    pages_rule(world, owner_in(object(world, space)), others, pages)
+    owner_rule(
+        world,
+        space,
+        pages_for_length(space_length(world, operands, 2)),
+    )
 }

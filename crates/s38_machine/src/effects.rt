@@ -5,7 +5,7 @@ ghost use Rattle.s38_code.specs.declared.reply.Val.{Val};
 ghost use Rattle.s38_rules.specs.declared.process.Standing.{Standing};
 ghost use Rattle.s38_rules.specs.declared.verdict.Verdict.{Verdict};
 ghost use Rattle.s38_rules.specs.State.{State, standing};
-ghost use Rattle.s38_rules.specs.Operands.{delivered};
+ghost use Rattle.s38_rules.specs.Operands.{delivered, place as operand};
 ghost use Rattle.s38_rules.specs.Effect.{effect, effect_of, end_at, start_at, started_as, value_of};
 ghost use Rattle.s38_rules.specs.Step.{awake};
 ghost use Rattle.s38_rules.specs.Verdict.{conditions, verdict_of};
@@ -17,8 +17,8 @@ use crate::operands::place;
 use crate::processes::standing;
 use crate::starts::started_as;
 use crate::world::World;
-use s38_base::{NoMemory, Op};
-use s38_code::{Event, Operand, Val};
+use s38_base::NoMemory;
+use s38_code::{Event, Request, Val};
 use s38_rules::{Standing, Started};
 use std::alloc::Global;
 
@@ -29,16 +29,17 @@ fn act(
     world: &mut World,
     process: u32,
     depth: u16,
-    op: Op,
-    operands: &[Operand],
+    request: &Request,
     value: Option<Val>,
 ) -> Result<(), NoMemory>
-    requires conditions { conditions world.old process depth op operands.now ≡ None }
-    requires value { (s : State) → (delivered s (Rattle.s38_rules.specs.Operands.place operands.now 1) value).state ≡ (delivered s (Rattle.s38_rules.specs.Operands.place operands.now 1) (value_of world.old process depth op operands.now)).state }
-    ensures ok { OnOk result (world.new ≡ (effect world.old process depth op operands.now).state) }
+    requires conditions { conditions world.old process depth request.now.op request.now.operands ≡ None }
+    requires value { (s : State) → (delivered s (operand request.now.operands 1) value).state
+        ≡ (delivered s (operand request.now.operands 1) (value_of world.old process depth request.now.op request.now.operands)).state }
+    ensures ok { OnOk result (world.new ≡ (effect world.old process depth request.now.op request.now.operands).state) }
     ensures err { OnErr result (world.new ≡ world.old) }
 {
-    match change(alloc, world, process, depth, op, operands) {
+    let operands = request.operands.as_slice();
+    match change(alloc, world, process, depth, request.op, operands) {
         Ok(()) => {
             put(world, place(operands, 1), value);
             Ok(())
@@ -100,7 +101,7 @@ fn end(world: &mut World, process: u32)
     }
 }
 
-#[tactic(auto, using(crate::proofs::VerdictLaws::permitted_conditions, crate::proofs::EventLaws::of_act), unfolding(s38_rules::specs::Effect::effect_of))]
+#[tactic(auto, using(crate::proofs::VerdictLaws::permitted_conditions), unfolding(s38_rules::specs::Effect::effect_of))]
 fn take_effect(
     alloc: Global,
     world: &mut World,
@@ -115,15 +116,7 @@ fn take_effect(
 {
     match event {
         Event::Start => start(alloc, world, process),
-        Event::Act { depth, request } => act(
-            alloc,
-            world,
-            process,
-            *depth,
-            request.op,
-            request.operands.as_slice(),
-            value,
-        ),
+        Event::Act { depth, request } => act(alloc, world, process, *depth, request, value),
         Event::Finish { .. } => {
             end(world, process);
             Ok(())
