@@ -213,6 +213,7 @@ fn spaces_and_queues_are_written(rt: HostRuntime) -> Result<(), Fail> {
     let space = ObjNum(5);
     objects.write(space, 1036, b"abcd");
     objects.write(space, 1037, b"bcde");
+    objects.write(space, u64::MAX, b"abcd");
     objects.write(ObjNum(3), 0, b"abcd");
     assert_eq!(rt; bytes_at(&objects, 5, 1036), Some(*b"abcd"));
     let pointer = Pointer::Space {
@@ -224,7 +225,9 @@ fn spaces_and_queues_are_written(rt: HostRuntime) -> Result<(), Fail> {
     assert_eq!(rt; bytes_at(&objects, 5, 16), Some([2, 0, 0, 0]));
     assert_eq!(rt; bytes_at(&objects, 5, 24), Some([0, 0, 0, 0]));
     let piece = vec![in rt.alloc(); Cell::Bytes(*b"0123456789abcdef"), Cell::Bytes([9; 16])]?;
-    objects.copy_in(space, 32, piece);
+    objects.copy_in(space, 32, &piece);
+    objects.copy_in(space, 1024, &piece);
+    objects.copy_in(space, 40, &piece);
     assert_eq!(rt; bytes_at(&objects, 5, 44), Some(*b"cdef"));
     assert_eq!(rt; bytes_at(&objects, 5, 48), Some([9; 4]));
     objects.set_pointer(space, 16, None);
