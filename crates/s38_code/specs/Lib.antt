@@ -1,3 +1,5 @@
+pub mod Built
 pub mod Class
 pub mod History
 pub mod Mnemonic
+pub mod Tie
