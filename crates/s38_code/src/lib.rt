@@ -12,6 +12,7 @@ mod operand;
 mod program;
 mod reply;
 mod step;
+pub mod words;
 
 pub use class::{Class, classes, is_built};
 pub use code::Code;
