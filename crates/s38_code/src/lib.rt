@@ -14,6 +14,7 @@ mod program;
 mod reply;
 mod step;
 mod tie;
+pub mod words;
 
 pub use built::{is_built, is_local_built, is_shared_built};
 pub use class::{Class, classes};
