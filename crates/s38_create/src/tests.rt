@@ -12,7 +12,7 @@ fn template(alloc: Global, text: &str) -> Result<Template, NoMemory> {
     for line in text.as_bytes().split(|byte| *byte == b'\n') {
         lines.push(Seq::from_slice(alloc, line)?)?;
     }
-    Ok(Template::new(lines))
+    Template::new(alloc, lines)
 }
 
 fn is_refused(alloc: Global, text: &str) -> Result<bool, NoMemory> {
