@@ -2,7 +2,7 @@
 use Rattle.std.specs.Prelude.{ℕ, ◌+◌, ◌-◌, ◌*◌, ◌/◌, ◌%◌, Bool, ◌&&◌, ◌||◌, ◌==◌, List, map, take, drop, length, slice_index, Option, Some, None, nat_le, if◌then◌else◌}
 use Rattle.std.specs.List.{list_all, range_with_len}
 use Rattle.std.specs.Option.{option_map, option_and_then}
-use Rattle.s38_base.specs.Scalar.{image_of}
+use Rattle.s38_base.specs.Scalar.{digit_at, image_of}
 use Rattle.s38_base.specs.declared.attr.Attr.TheVariants.{Packed, Chars}
 use Rattle.s38_code.specs.WordsNumber.{number_of}
 use Rattle.s38_code.specs.WordsText.{is_letter, is_digit, are_hex_digits, hex_byte}
@@ -52,6 +52,11 @@ text_from bytes = if nat_le (length bytes) 255 then Some (Literal (Chars (length
 -- a text literal as an operand
 unfoldable pub text_literal : List ℕ → Option Arg
 text_literal text = option_and_then text_from (text_of text)
+
+-- byte k of a packed number of whose bytes the last is number h
+abbrev pub packed_with : ℕ → ℕ → ℕ → ℕ → ℕ
+packed_with h number sign k =
+    digit_at 10 number (2 * (h - k)) * 16 + (if k == h then sign else digit_at 10 number (2 * (h - k) - 1))
 
 -- a packed number of as many digits as are written
 abbrev pub packed_number : Numeral → Arg

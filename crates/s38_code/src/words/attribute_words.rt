@@ -5,7 +5,7 @@ ghost use Rattle.s38_code.specs.WordsAttribute.{attr_of, attrs_from, attrs_of, d
 use crate::words::numbers::natural;
 use crate::words::texts::{before, behind, is_word};
 use s38_base::{Attr, AttrList, NoMemory, Seq};
-use std::alloc::Global;
+use std::alloc::{AllocError, Global};
 
 /// The number of a field of 8 bits.
 fn small_field(text: &[u8]) -> Option<u8>
@@ -76,10 +76,10 @@ pub fn attribute(word: &[u8]) -> Option<Attr>
 }
 
 /// The words of a text, parted by `+`.
-fn parts(alloc: Global, word: &[u8]) -> Result<Vec<&[u8]>, NoMemory>
+fn parts(alloc: Global, word: &[u8]) -> Result<Vec<&[u8]>, AllocError>
     ensures { IfOk result (λ list. map (λ part. part.now) list.items ≡ parts word.now) }
 {
-    Ok(word.split(|byte| *byte == b'+').collect(alloc)?)
+    word.split(|byte| *byte == b'+').collect(alloc)
 }
 
 fn attributes_of(alloc: Global, words: &[&[u8]]) -> Result<Option<AttrList>, NoMemory>

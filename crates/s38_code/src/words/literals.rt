@@ -1,9 +1,9 @@
 ghost use Rattle.std.specs.Prelude.{◌≡◌, ◌+◌, ◌/◌, ◌^◌, ◌<◌, ◌≤◌, length, map, IsTrue, IfOk, is_some};
 ghost use Rattle.std.specs.List.{list_all, range_with_len};
 ghost use Rattle.std.specs.Option.{option_map};
-ghost use Rattle.s38_base.specs.Scalar.{digit_at, packed_byte, sign_of};
+ghost use Rattle.s38_base.specs.Scalar.{digit_at, sign_of};
 ghost use Rattle.s38_code.specs.WordsText.{are_hex_digits};
-ghost use Rattle.s38_code.specs.WordsLiteral.{ebcdic, hex_bytes, is_hex_text, is_text_byte, number_literal, quoted, spelled_byte, text_bytes, text_literal, text_of};
+ghost use Rattle.s38_code.specs.WordsLiteral.{ebcdic, hex_bytes, is_hex_text, is_text_byte, number_literal, packed_with, quoted, spelled_byte, text_bytes, text_literal, text_of};
 
 use crate::program::Arg;
 use crate::words::numbers::number;
@@ -169,12 +169,11 @@ fn sign_of(units: i128) -> u8
 }
 
 /// A packed number of so many bytes and one more.
-fn packed(alloc: Global, units: i128, last: u8) -> Result<Bytes, NoMemory>
-    requires { last ≤ 15 }
-    ensures { IfOk result (λ bytes. bytes ≡ map (packed_byte last units) (range_with_len 0 (last + 1))) }
+fn packed(alloc: Global, number: u128, sign: u8, last: u8) -> Result<Bytes, NoMemory>
+    requires last { last ≤ 15 }
+    requires sign { sign < 16 }
+    ensures { IfOk result (λ bytes. bytes ≡ map (packed_with last number sign) (range_with_len 0 (last + 1))) }
 {
-    let number = units.unsigned_abs();
-    let sign = sign_of(units);
     let mut bytes = Vec::new(alloc);
     for k in 0..last + 1 {
         let high = digit_at(number, 2 * (last - k));
@@ -189,14 +188,16 @@ fn packed(alloc: Global, units: i128, last: u8) -> Result<Bytes, NoMemory>
 }
 
 /// The operand that a numeric literal is: a packed number of as many digits as are written.
-#[tactic(auto, unfolding(crate::specs::WordsLiteral::number_literal, s38_base::specs::Scalar::image_of))]
+#[tactic(auto, unfolding(crate::specs::WordsLiteral::number_literal, s38_base::specs::Scalar::image_of, s38_base::specs::Scalar::fits))]
 pub fn number_literal(alloc: Global, text: &[u8]) -> Result<Option<Arg>, NoMemory>
     ensures { IfOk result (λ literal. literal ≡ number_literal text.now) }
 {
     let Some(number) = number(text) else {
         return Ok(None);
     };
-    let bytes = packed(alloc, number.units, number.digits / 2)?;
+    let units = number.units;
+    let last = number.digits / 2;
+    let bytes = packed(alloc, units.unsigned_abs(), sign_of(units), last)?;
     Ok(Some(Arg::Literal {
         attr: Attr::Packed {
             digits: number.digits,

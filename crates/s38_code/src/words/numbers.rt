@@ -1,6 +1,7 @@
-ghost use Rattle.std.specs.Prelude.{◌≡◌, ◌+◌, ◌-◌, ◌^◌, ◌<◌, ◌≤◌, length, IsTrue};
+ghost use Rattle.std.specs.Prelude.{◌≡◌, ◌+◌, ◌-◌, ◌^◌, ◌<◌, ◌≤◌, length, IsTrue, IfSome};
 ghost use Rattle.std.specs.Option.{option_map};
-ghost use Rattle.s38_base.specs.Scalar.{with_minus};
+ghost use Rattle.s38_base.specs.Scalar.{fits, with_minus};
+ghost use Rattle.s38_base.specs.declared.attr.Attr.{Attr};
 ghost use Rattle.s38_code.specs.WordsNumber.{are_digits, digits_behind, has_minus, held, is_fraction, is_number, is_numeral, is_signed_whole, is_whole, natural_of, number_from, number_of, unsigned_number, value_behind, value_of_digits, whole_of, without_minus};
 
 use crate::words::texts::{before, behind, is_digit};
@@ -160,10 +161,11 @@ fn unsigned_number(minus: bool, text: &[u8]) -> Option<Numeral>
 }
 
 /// The number that a numeric literal writes: 1 to 31 digits with a point among them or none, perhaps behind a
-/// minus.
+/// minus. A packed number of so many digits holds it.
 #[tactic(auto, unfolding(crate::specs::WordsNumber::number_of))]
 pub fn number(text: &[u8]) -> Option<Numeral>
-    ensures { result ≡ number_of text.now }
+    ensures number { result ≡ number_of text.now }
+    ensures fits { IfSome result (λ n. IsTrue (fits (Attr.Packed n.digits n.fraction) n.units)) }
 {
     unsigned_number(has_minus(text), without_minus(text))
 }
