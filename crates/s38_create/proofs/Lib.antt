@@ -1,4 +1,1 @@
-pub mod FitLemmas
-pub mod Parts
-pub mod PlaceLemmas
-pub mod RowLemmas
+pub mod MapLemmas

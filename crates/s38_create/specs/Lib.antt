@@ -1,8 +1,9 @@
 pub mod Created
-pub mod Declaration
 pub mod Instruction
-pub mod Literal
-pub mod Operand
+pub mod Names
 pub mod Places
-pub mod Text
+pub mod Rows
+pub mod Said
+pub mod Suits
+pub mod Ties
 pub mod WellFormed
