@@ -1,1 +1,3 @@
+pub mod LabelLemmas
 pub mod MapLemmas
+pub mod NumberLemmas
