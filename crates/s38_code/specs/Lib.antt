@@ -1,4 +1,5 @@
 pub mod Class
+pub mod DeclarationLine
 pub mod History
 pub mod Mnemonic
 pub mod WordsAttribute

@@ -2,6 +2,7 @@
 //! and answers None exactly where the text spells nothing of its kind.
 
 mod attribute_words;
+mod declarations;
 mod forms;
 mod literals;
 mod names;
@@ -12,6 +13,7 @@ mod row_words;
 mod texts;
 
 pub use attribute_words::{attribute, attributes};
+pub use declarations::{DeclarationLine, Declares, declaration, initial, is_in_range};
 pub use forms::has_form;
 pub use literals::{is_text, number_literal, text_literal, text_value};
 pub use names::{declared_name, exception_code, identification, object_name};
