@@ -1,5 +1,6 @@
 pub mod Built
 pub mod Class
+pub mod DeclarationLine
 pub mod History
 pub mod Mnemonic
 pub mod Tie
