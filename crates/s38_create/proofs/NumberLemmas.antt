@@ -8,17 +8,14 @@ use Rattle.s38_base.specs.declared.op.Op.{Op}
 use Rattle.s38_base.specs.declared.op.Op.TheVariants.{Addn, Subn, Mult, Div, Rem, Neg, Cpynv, Scale, Cmpnvb}
 use Rattle.s38_code.specs.Class.{classes}
 use Rattle.s38_code.specs.declared.class.Class.{Class}
-use Rattle.s38_code.specs.declared.class.Class.TheVariants.{NumberSource, NumberReceiver}
+use Rattle.s38_code.specs.declared.class.Class.TheVariants.{NumberSource, NumberReceiver, ComparisonWord, Label, PowerLiteral}
 use Rattle.s38_code.specs.declared.program.Arg.{Arg}
 use Rattle.s38_code.specs.declared.program.Arg.TheVariants.{Item}
 use Rattle.s38_code.specs.declared.program.Row.{Row}
 use Rattle.s38_create.specs.Suits.{is_number, item_attr, operand_attr, suit, suits}
 use Rattle.s38_create.specs.Ties.{fits, number_at}
 use Rattle.s38_decimal.specs.Need.{has_one, has_second}
-
-pub and-both : (a b : Bool) → (a && b) ≡ true → (a ≡ true) × (b ≡ true)
-and-both true b h = (refl, h)
-and-both false b h = absurd (let e : false ≡ true = h in cc)
+use Rattle.s38_create.proofs.Parts.{and-both}
 
 number-numeric : (o : Option Attr) → is_number o ≡ true → is_numeric (unwrap_or o Pointer) ≡ true
 number-numeric None h = absurd (let e : false ≡ true = h in cc)
@@ -80,8 +77,8 @@ first-numbers rows Div args computes h = received-numbers rows (NumberSource ∷
 first-numbers rows Rem args computes h = received-numbers rows (NumberSource ∷ []) args (fits-suit rows Rem args h)
 first-numbers rows Neg args computes h = received-numbers rows [] args (fits-suit rows Neg args h)
 first-numbers rows Cpynv args computes h = received-numbers rows [] args (fits-suit rows Cpynv args h)
-first-numbers rows Scale args computes h = received-numbers rows _ args (fits-suit rows Scale args h)
-first-numbers rows Cmpnvb args computes h = compared-numbers rows _ args (fits-suit rows Cmpnvb args h)
+first-numbers rows Scale args computes h = received-numbers rows (PowerLiteral ∷ []) args (fits-suit rows Scale args h)
+first-numbers rows Cmpnvb args computes h = compared-numbers rows (ComparisonWord ∷ Label ∷ []) args (fits-suit rows Cmpnvb args h)
 first-numbers rows op args computes h = absurd (let e : false ≡ true = computes in cc)
 
 -- so is the third where the instruction has two sources beside its receiver

@@ -11,7 +11,7 @@ use Rattle.s38_code.specs.declared.program.Program.{Program}
 use Rattle.s38_code.specs.declared.program.Row.{Row}
 use Rattle.s38_create.specs.Instruction.{code_from, result_and_then}
 use Rattle.s38_create.specs.Names.{instruction_count}
-use Rattle.s38_create.specs.Rows.{rows_of}
+use Rattle.s38_odt.specs.Table.{rows_of}
 use Rattle.s38_create.specs.declared.head.Head.{Head}
 
 -- ---- the head

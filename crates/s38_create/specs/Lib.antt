@@ -1,8 +1,7 @@
 pub mod Created
 pub mod Instruction
+pub mod Labels
 pub mod Names
-pub mod Places
-pub mod Rows
 pub mod Said
 pub mod Suits
 pub mod Ties

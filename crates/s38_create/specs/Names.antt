@@ -1,15 +1,10 @@
--- What the names of a program stand for: declared items, and labels in its code.
+-- The labels of a program, and the places in its code for which they stand.
 use Rattle.std.specs.Prelude.{ℕ, ◌+◌, Bool, false, not, List, [], ◌∷◌, codes, Option, Some, None, is_some, if◌then◌else◌}
-use Rattle.std.specs.List.{count_by, position_from}
+use Rattle.std.specs.List.{count_by}
 use Rattle.std.specs.Option.{option_and_then, option_map_or}
 use Rattle.std.specs.Str.{bytes_eq}
 use Rattle.s38_code.specs.WordsName.{declared_name}
 use Rattle.s38_code.specs.WordsText.{rest_after}
-use Rattle.s38_code.specs.declared.program.Row.{Row}
-
--- where a name stands among the declarations, from 0 on
-unfoldable pub item_in : List Row → List ℕ → Option ℕ
-item_in rows name = position_from (λ row. bytes_eq row.name name) 0 rows
 
 -- the name in a line LABEL name
 unfoldable pub label_of : List ℕ → Option (List ℕ)

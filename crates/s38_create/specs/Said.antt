@@ -13,7 +13,8 @@ use Rattle.s38_code.specs.declared.class.Class.TheVariants.{NumberSource, Number
 use Rattle.s38_code.specs.declared.program.Arg.{Arg}
 use Rattle.s38_code.specs.declared.program.Arg.TheVariants as args
 use Rattle.s38_code.specs.declared.program.Row.{Row}
-use Rattle.s38_create.specs.Names.{item_in, label_in}
+use Rattle.s38_create.specs.Names.{label_in}
+use Rattle.s38_odt.specs.Table.{place_in}
 use Rattle.s38_create.specs.declared.said.Said.{Said}
 use Rattle.s38_create.specs.declared.said.Said.TheVariants as says
 
@@ -21,7 +22,7 @@ use Rattle.s38_create.specs.declared.said.Said.TheVariants as says
 
 -- a name says an item, whether it is declared or not
 abbrev pub item_said : List Row → List ℕ → Option Said
-item_said rows word = option_map (λ name. says.Item (item_in rows name)) (declared_name word)
+item_said rows word = option_map (λ name. says.Item (place_in rows name)) (declared_name word)
 
 -- a name says a place in the code, whether the label is there or not
 abbrev pub label_said : List (List ℕ) → List ℕ → Option Said

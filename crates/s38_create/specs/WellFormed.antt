@@ -12,6 +12,7 @@ use Rattle.s38_code.specs.declared.program.Program.{Program}
 use Rattle.s38_code.specs.declared.program.Row.{Row}
 use Rattle.s38_create.specs.Instruction.{are_words_built, rounds_right}
 use Rattle.s38_create.specs.Suits.{suit}
+use Rattle.s38_odt.specs.Formed.{AreFormed}
 use Rattle.s38_create.specs.Ties.{digits_needed, is_of_kind, is_tied}
 
 -- a literal has as many bytes as its attribute says
@@ -39,5 +40,6 @@ pub record InstructionFits (rows : List Row) (count : ℕ) (instruction : Instru
 
 pub record WellFormed (program : Program) : Type 0 where
   pub few_rows : length program.rows ≤ 1024
+  pub formed : AreFormed program.rows
   pub few_instructions : length program.code ≤ 16384
   pub fits : All (InstructionFits program.rows (length program.code)) program.code

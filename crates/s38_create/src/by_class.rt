@@ -1,7 +1,7 @@
 ghost use Rattle.std.specs.Prelude.{◌≡◌, IfOk, codes};
 ghost use Rattle.std.specs.Option.{option_or};
 ghost use Rattle.s38_code.specs.declared.program.Arg.TheVariants as args;
-ghost use Rattle.s38_create.specs.Places.{IsTied};
+ghost use Rattle.s38_create.specs.Labels.{HasLabels};
 ghost use Rattle.s38_create.specs.Said.{bytes_said, item_said, said_of, star_said};
 
 use crate::forms::{
@@ -19,8 +19,7 @@ use std::alloc::Global;
 
 /// A word with a star, or an item.
 fn star_or_item(scope: &Scope, star: &[u8], arg: Arg, word: &[u8]) -> Option<Said>
-    requires { IsTied scope.now.rows.items scope.now.code.now scope.now.places scope.now.labels }
-    ensures { result ≡ option_or (star_said star.now arg word.now) (item_said scope.now.rows.items word.now) }
+    ensures { result ≡ option_or (star_said star.now arg word.now) (item_said scope.now.table word.now) }
 {
     match star_said(star, arg, word) {
         Some(said) => Some(said),
@@ -29,8 +28,7 @@ fn star_or_item(scope: &Scope, star: &[u8], arg: Arg, word: &[u8]) -> Option<Sai
 }
 
 fn bytes_or_none(alloc: Global, scope: &Scope, word: &[u8]) -> Result<Option<Said>, NoMemory>
-    requires { IsTied scope.now.rows.items scope.now.code.now scope.now.places scope.now.labels }
-    ensures { IfOk result (λ said. said ≡ option_or (star_said (codes "*NONE") args.Nothing word.now) (bytes_said scope.now.rows.items word.now)) }
+    ensures { IfOk result (λ said. said ≡ option_or (star_said (codes "*NONE") args.Nothing word.now) (bytes_said scope.now.table word.now)) }
 {
     match star_said(b"*NONE", Arg::Nothing, word) {
         Some(said) => Ok(Some(said)),
@@ -39,8 +37,7 @@ fn bytes_or_none(alloc: Global, scope: &Scope, word: &[u8]) -> Result<Option<Sai
 }
 
 fn context_or_list(scope: &Scope, word: &[u8]) -> Option<Said>
-    requires { IsTied scope.now.rows.items scope.now.code.now scope.now.places scope.now.labels }
-    ensures { result ≡ option_or (star_said (codes "*LIST") args.ContextList word.now) (option_or (star_said (codes "*MACHINE") args.MachineContext word.now) (item_said scope.now.rows.items word.now)) }
+    ensures { result ≡ option_or (star_said (codes "*LIST") args.ContextList word.now) (option_or (star_said (codes "*MACHINE") args.MachineContext word.now) (item_said scope.now.table word.now)) }
 {
     match star_said(b"*LIST", Arg::ContextList, word) {
         Some(said) => Some(said),
@@ -56,8 +53,8 @@ pub fn said_of(
     class: Class,
     word: &[u8],
 ) -> Result<Option<Said>, NoMemory>
-    requires { IsTied scope.now.rows.items scope.now.code.now scope.now.places scope.now.labels }
-    ensures { IfOk result (λ said. said ≡ said_of scope.now.rows.items scope.now.code.now class word.now) }
+    requires { HasLabels scope.now.code.now scope.now.labels }
+    ensures { IfOk result (λ said. said ≡ said_of scope.now.table scope.now.code.now class word.now) }
 {
     match class {
         Class::NumberSource => number_said(alloc, scope, word),

@@ -2,17 +2,17 @@ ghost use Rattle.std.specs.Prelude.{◌≡◌, ◌⊎◌, ◌≤◌, length, Ok,
 ghost use Rattle.s38_create.specs.Created.{created, created_by, created_inner, is_small, with_rows};
 ghost use Rattle.s38_create.specs.Names.{instruction_count};
 ghost use Rattle.s38_create.specs.WellFormed.{WellFormed};
+ghost use Rattle.s38_odt.specs.Formed.{AreFormed};
 
 use crate::causes::NOT_OF_ROW;
 use crate::frame::{declaration_count, instruction_count, is_ended};
 use crate::head::{Head, head_of};
 use crate::instruction::instructions;
 use crate::labels::labels_of;
-use crate::places::places_of;
-use crate::rows::rows;
 use crate::scope::Scope;
-use s38_base::{Bytes, Seq, Twin};
-use s38_code::{CreateFault, Program, Row, Template};
+use s38_base::{Bytes, Twin};
+use s38_code::{CreateFault, Program, Template};
+use s38_odt::{Odt, definition_table};
 use std::alloc::Global;
 
 /// The most declarations of a program.
@@ -33,18 +33,18 @@ fn with_rows(
     template: &Template,
     head: Head,
     code: &[Bytes],
-    rows: Vec<Row>,
+    table: Odt,
 ) -> Result<Program, CreateFault>
-    requires rows { length rows.items ≤ 1024 }
+    requires rows { length table ≤ 1024 }
+    requires formed { AreFormed table }
     requires code { instruction_count code.now ≤ 16384 }
-    ensures made { IfOk result (λ program. with_rows template.now head code.now rows.items ≡ Ok program) }
-    ensures bad { IfErr result (λ fault. (fault ≡ CreateFault.NoMemory) ⊎ (with_rows template.now head code.now rows.items ≡ Err fault)) }
+    ensures formed { IfOk result (λ program. WellFormed program) }
+    ensures made { IfOk result (λ program. with_rows template.now head code.now table ≡ Ok program) }
+    ensures bad { IfErr result (λ fault. (fault ≡ CreateFault.NoMemory) ⊎ (with_rows template.now head code.now table ≡ Err fault)) }
 {
-    let places = places_of(alloc, rows.as_slice())?;
     let labels = labels_of(alloc, code)?;
     let scope = Scope {
-        rows,
-        places,
+        table,
         code,
         labels,
     };
@@ -52,7 +52,7 @@ fn with_rows(
     let template = template.twin(alloc)?;
     Ok(Program {
         template,
-        rows: Seq::from_vec(scope.rows),
+        rows: scope.table.into_rows(),
         code: made,
         adopts: head.adopts,
         propagates: head.propagates,
@@ -74,6 +74,7 @@ fn created_inner(
     head: Head,
     body: &[Bytes],
 ) -> Result<Program, CreateFault>
+    ensures formed { IfOk result (λ program. WellFormed program) }
     ensures made { IfOk result (λ program. created_inner template.now head body.now ≡ Ok program) }
     ensures bad { IfErr result (λ fault. (fault ≡ CreateFault.NoMemory) ⊎ (created_inner template.now head body.now ≡ Err fault)) }
 {
@@ -81,8 +82,8 @@ fn created_inner(
         return Err(NO_TEMPLATE);
     }
     let count = declaration_count(body);
-    let rows = rows(alloc, &body[..count])?;
-    with_rows(alloc, template, head, &body[count..], rows)
+    let table = definition_table(alloc, &body[..count])?;
+    with_rows(alloc, template, head, &body[count..], table)
 }
 
 fn created_by(
@@ -91,6 +92,7 @@ fn created_by(
     head: Option<Head>,
 ) -> Result<Program, CreateFault>
     requires { 2 ≤ length template.now }
+    ensures formed { IfOk result (λ program. WellFormed program) }
     ensures made { IfOk result (λ program. created_by template.now head ≡ Ok program) }
     ensures bad { IfErr result (λ fault. (fault ≡ CreateFault.NoMemory) ⊎ (created_by template.now head ≡ Err fault)) }
 {

@@ -1,10 +1,10 @@
 ghost use Rattle.std.specs.Prelude.{◌≡◌, unsigned_abs, nat_le, pos, if◌then◌else◌, IfOk};
 ghost use Rattle.s38_code.specs.WordsName.{code_of};
-ghost use Rattle.s38_create.specs.Places.{IsTied};
+ghost use Rattle.s38_create.specs.Labels.{HasLabels};
 ghost use Rattle.s38_create.specs.Said.{attribute_said, attributes_said, bytes_said, given, id_said, item_said, label_said, name_said, number_said, power_of, power_said, size_said, star_said, word_said};
 
 use crate::said::Said;
-use crate::scope::{Scope, item, place};
+use crate::scope::{Scope, place};
 use s38_base::{NoMemory, Seq};
 use s38_code::Arg;
 use s38_code::words::{
@@ -17,17 +17,16 @@ use std::alloc::Global;
 const TOO_LARGE: u64 = 4_294_967_296;
 
 pub fn item_said(scope: &Scope, word: &[u8]) -> Option<Said>
-    requires { IsTied scope.now.rows.items scope.now.code.now scope.now.places scope.now.labels }
-    ensures { result ≡ item_said scope.now.rows.items word.now }
+    ensures { result ≡ item_said scope.now.table word.now }
 {
     match declared_name(word) {
-        Some(name) => Some(Said::Item(item(scope, &name))),
+        Some(name) => Some(Said::Item(scope.table.place(&name))),
         None => None,
     }
 }
 
 pub fn label_said(scope: &Scope, word: &[u8]) -> Option<Said>
-    requires { IsTied scope.now.rows.items scope.now.code.now scope.now.places scope.now.labels }
+    requires { HasLabels scope.now.code.now scope.now.labels }
     ensures { result ≡ label_said scope.now.code.now word.now }
 {
     match declared_name(word) {
@@ -46,8 +45,7 @@ fn given(arg: Option<Arg>) -> Option<Said>
 }
 
 pub fn number_said(alloc: Global, scope: &Scope, word: &[u8]) -> Result<Option<Said>, NoMemory>
-    requires { IsTied scope.now.rows.items scope.now.code.now scope.now.places scope.now.labels }
-    ensures { IfOk result (λ said. said ≡ number_said scope.now.rows.items word.now) }
+    ensures { IfOk result (λ said. said ≡ number_said scope.now.table word.now) }
 {
     match item_said(scope, word) {
         Some(said) => Ok(Some(said)),
@@ -56,8 +54,7 @@ pub fn number_said(alloc: Global, scope: &Scope, word: &[u8]) -> Result<Option<S
 }
 
 pub fn bytes_said(alloc: Global, scope: &Scope, word: &[u8]) -> Result<Option<Said>, NoMemory>
-    requires { IsTied scope.now.rows.items scope.now.code.now scope.now.places scope.now.labels }
-    ensures { IfOk result (λ said. said ≡ bytes_said scope.now.rows.items word.now) }
+    ensures { IfOk result (λ said. said ≡ bytes_said scope.now.table word.now) }
 {
     match item_said(scope, word) {
         Some(said) => Ok(Some(said)),

@@ -3,7 +3,7 @@ ghost use Rattle.std.specs.List.{list_all};
 ghost use Rattle.std.specs.Option.{option_map};
 ghost use Rattle.s38_create.specs.Instruction.{checked, code_from, instruction_of, is_taken, rounds_right, saids_of};
 ghost use Rattle.s38_create.specs.Names.{instruction_count};
-ghost use Rattle.s38_create.specs.Places.{IsTied};
+ghost use Rattle.s38_create.specs.Labels.{HasLabels};
 ghost use Rattle.s38_create.specs.Said.{arg_of, is_declared, is_placed};
 
 use crate::causes::{NOT_OF_ROW, cause};
@@ -30,8 +30,8 @@ fn saids_of(
     line: &[u8],
     op: Op,
 ) -> Result<Option<Vec<Said>>, NoMemory>
-    requires { IsTied scope.now.rows.items scope.now.code.now scope.now.places scope.now.labels }
-    ensures { IfOk result (λ saids. option_map (λ v. v.items) saids ≡ saids_of scope.now.rows.items scope.now.code.now line.now op) }
+    requires { HasLabels scope.now.code.now scope.now.labels }
+    ensures { IfOk result (λ saids. option_map (λ v. v.items) saids ≡ saids_of scope.now.table scope.now.code.now line.now op) }
 {
     if !is_taken(op, line) {
         return Ok(None);
@@ -68,8 +68,8 @@ fn checked(
     round: bool,
     saids: Vec<Said>,
 ) -> Result<Instruction, CreateFault>
-    ensures made { IfOk result (λ i. checked scope.now.rows.items number op round saids.items ≡ Ok i) }
-    ensures bad { IfErr result (λ fault. (fault ≡ CreateFault.NoMemory) ⊎ (checked scope.now.rows.items number op round saids.items ≡ Err fault)) }
+    ensures made { IfOk result (λ i. checked scope.now.table number op round saids.items ≡ Ok i) }
+    ensures bad { IfErr result (λ fault. (fault ≡ CreateFault.NoMemory) ⊎ (checked scope.now.table number op round saids.items ≡ Err fault)) }
 {
     let declared = are_declared(saids.as_slice());
     let placed = are_placed(saids.as_slice());
@@ -78,7 +78,7 @@ fn checked(
         round,
         args: Seq::from_vec(args_of(alloc, saids)?),
     };
-    match cause(scope.rows.as_slice(), &instruction, declared, placed) {
+    match cause(scope.table.rows(), &instruction, declared, placed) {
         Some(id) => Err(CreateFault::Bad { id, number }),
         None => Ok(instruction),
     }
@@ -92,9 +92,9 @@ fn instruction_of(
     number: u32,
     line: &[u8],
 ) -> Result<Instruction, CreateFault>
-    requires { IsTied scope.now.rows.items scope.now.code.now scope.now.places scope.now.labels }
-    ensures made { IfOk result (λ i. instruction_of scope.now.rows.items scope.now.code.now number line.now ≡ Ok i) }
-    ensures bad { IfErr result (λ fault. (fault ≡ CreateFault.NoMemory) ⊎ (instruction_of scope.now.rows.items scope.now.code.now number line.now ≡ Err fault)) }
+    requires { HasLabels scope.now.code.now scope.now.labels }
+    ensures made { IfOk result (λ i. instruction_of scope.now.table scope.now.code.now number line.now ≡ Ok i) }
+    ensures bad { IfErr result (λ fault. (fault ≡ CreateFault.NoMemory) ⊎ (instruction_of scope.now.table scope.now.code.now number line.now ≡ Err fault)) }
 {
     let none = CreateFault::Bad {
         id: NOT_OF_ROW,
@@ -112,10 +112,10 @@ fn instruction_of(
 /// The instructions of the code. `Bad` exactly at the first line that makes none, with its number among the
 /// instructions, from 1 on.
 pub fn instructions(alloc: Global, scope: &Scope) -> Result<Instructions, CreateFault>
-    requires tied { IsTied scope.now.rows.items scope.now.code.now scope.now.places scope.now.labels }
+    requires tied { HasLabels scope.now.code.now scope.now.labels }
     requires few { instruction_count scope.now.code.now ≤ 16384 }
-    ensures made { IfOk result (λ made. code_from scope.now.rows.items scope.now.code.now [] scope.now.code.now ≡ Ok made) }
-    ensures bad { IfErr result (λ fault. (fault ≡ CreateFault.NoMemory) ⊎ (code_from scope.now.rows.items scope.now.code.now [] scope.now.code.now ≡ Err fault)) }
+    ensures made { IfOk result (λ made. code_from scope.now.table scope.now.code.now [] scope.now.code.now ≡ Ok made) }
+    ensures bad { IfErr result (λ fault. (fault ≡ CreateFault.NoMemory) ⊎ (code_from scope.now.table scope.now.code.now [] scope.now.code.now ≡ Err fault)) }
 {
     let mut made = Seq::new(alloc);
     for line in scope.code {

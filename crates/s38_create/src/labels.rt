@@ -1,6 +1,6 @@
 ghost use Rattle.std.specs.Prelude.{◌≡◌, ◌≤◌, IfOk, OnOk};
 ghost use Rattle.s38_create.specs.Names.{instruction_count};
-ghost use Rattle.s38_create.specs.Places.{EntersNew, HasLabels};
+ghost use Rattle.s38_create.specs.Labels.{EntersNew, HasLabels};
 
 use crate::line::label;
 use s38_base::{Bytes, Name, NoMemory};

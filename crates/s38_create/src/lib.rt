@@ -13,8 +13,6 @@ mod instruction;
 mod items;
 mod labels;
 mod line;
-mod places;
-mod rows;
 mod said;
 mod saids;
 mod scope;

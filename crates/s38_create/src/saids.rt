@@ -1,6 +1,6 @@
 ghost use Rattle.std.specs.Prelude.{◌≡◌, [], IfOk};
 ghost use Rattle.std.specs.Option.{option_map};
-ghost use Rattle.s38_create.specs.Places.{IsTied};
+ghost use Rattle.s38_create.specs.Labels.{HasLabels};
 ghost use Rattle.s38_create.specs.Said.{is_argument, saids_from};
 
 use crate::by_class::said_of;
@@ -25,8 +25,8 @@ pub fn saids(
     classes: &[Class],
     text: Option<&[u8]>,
 ) -> Result<Option<Vec<Said>>, NoMemory>
-    requires { IsTied scope.now.rows.items scope.now.code.now scope.now.places scope.now.labels }
-    ensures { IfOk result (λ saids. option_map (λ v. v.items) saids ≡ saids_from scope.now.rows.items scope.now.code.now [] classes.now (option_map (λ t. t.now) text.entry)) }
+    requires { HasLabels scope.now.code.now scope.now.labels }
+    ensures { IfOk result (λ saids. option_map (λ v. v.items) saids ≡ saids_from scope.now.table scope.now.code.now [] classes.now (option_map (λ t. t.now) text.entry)) }
 {
     let mut saids = Vec::new(alloc);
     let mut rest = text;

@@ -1,6 +1,6 @@
 ghost use Rattle.std.specs.Prelude.{◌≡◌, ◌⊎◌, ◌≤◌, ◌<◌, length, [], Ok, Err, IfOk, IfErr, OnOk};
 ghost use Rattle.s38_odt.specs.Formed.{AreFormed};
-ghost use Rattle.s38_odt.specs.Table.{item_of, more_rows, row_of, rows_from, rows_of};
+ghost use Rattle.s38_odt.specs.Table.{item_of, more_rows, place_in, row_of, rows_from, rows_of};
 ghost use Rattle.s38_odt.specs.Places.{IsTied};
 ghost use Rattle.s38_code.specs.declared.program.CreateFault.{CreateFault};
 
@@ -45,9 +45,16 @@ impl Odt {
         ensures { result ≡ item_of self.now word.now }
     {
         match Name::parse(word) {
-            Ok(name) => self.places.get(&name).copied(),
+            Ok(name) => self.place(&name),
             Err(_) => None,
         }
+    }
+
+    /// The number, from 0 on, of the item that has a name; None exactly where none has it.
+    pub fn place(&self, name: &Name) -> Option<u16>
+        ensures { result ≡ place_in self.now name.now }
+    {
+        self.places.get(name).copied()
     }
 
     /// The rows alone, without a copy.

@@ -1,27 +1,33 @@
-use Rattle.std.proofs.Common.{rules, ◌≡◌, ◌||◌, IsTrue, pos, unwrap_or, if◌then◌else◌, nat_le, unsigned_abs, ℕ, ◌+◌, ◌-◌, ◌*◌, ◌<◌, ◌≤◌, length, ◌/◌, ◌%◌, Bool, true, false, nat_eq, nat_lt, List, [], ◌∷◌, ◌++◌, slice_index_or, slice_set, bit_and, bit_or, Fits, w8, w32, w64, Bor, MutBor, ℤ, ◌+ℤ◌, ◌-ℤ◌, ◌*ℤ◌, ◌≤ℤ◌, ◌<ℤ◌, FitsSigned, to_z, of_z}
-use Rattle.s38_base.specs.declared.attr.Attr.TheVariants as attrs
-use Rattle.s38_code.specs.Class.{classes}
-use Rattle.s38_create.specs.Suits.{suit}
-use Rattle.s38_create.specs.Ties.{digits_needed, fits, need_with, number_at, power_at, power_of}
+use Rattle.std.proofs.Common.{◌≡◌, ◌||◌, Bool, true, false, sym, ◌∙◌, ap, arith, rules}
+use Rattle.std.proofs.lemmas.Grind.{common_steps}
+use Rattle.s38_base.specs.Scalar.{is_numeric}
+use Rattle.s38_base.specs.declared.op.Op.TheVariants.{Cmpnvb}
+use Rattle.s38_create.proofs.NumberLemmas.{first-numbers, second-source}
+use Rattle.s38_create.specs.Ties.{fits}
 use Rattle.s38_decimal.specs.Need.{has_one, has_second}
 use Rattle.s38_create.proofs.digits.digits_needed.Goals as goal
+use Rattle.s38_create.proofs.digits.digits_needed.Goals.{in-Cmpnvb, in_default}
 
--- src/digits.rt:62:9
 pub need-requires-clause-first : goal.need-requires-clause-first
-need-requires-clause-first c = ?
+need-requires-clause-first c =
+    let computes : (has_one c.args.op || has_second c.args.op) ≡ true = grind (arith, common_steps) in
+    ap is_numeric c.number_at-first.ensures ∙ (first-numbers c.args.rows.now c.args.op c.args.args.now computes c.requires).0
 
--- src/digits.rt:62:9
 pub need-requires-clause-second : goal.need-requires-clause-second
-need-requires-clause-second c = ?
+need-requires-clause-second c two =
+    let computes : (has_one c.args.op || has_second c.args.op) ≡ true = grind (arith, common_steps) in
+    ap is_numeric c.number_at-second.ensures ∙ (first-numbers c.args.rows.now c.args.op c.args.args.now computes c.requires).1
 
--- src/digits.rt:64:5
 pub need-requires-2-clause-first : goal.need-requires-2-clause-first
-need-requires-2-clause-first c = ?
+need-requires-2-clause-first c =
+    let computes : (has_one c.args.op || has_second c.args.op) ≡ true = grind (arith, common_steps) in
+    ap is_numeric c.number_at-second.ensures ∙ (first-numbers c.args.rows.now c.args.op c.args.args.now computes c.requires).1
 
--- src/digits.rt:64:5
 pub need-requires-2-clause-second : goal.need-requires-2-clause-second
-need-requires-2-clause-second c = ?
+need-requires-2-clause-second c two =
+    ap is_numeric c.number_at.ensures ∙ second-source c.args.rows.now c.args.op c.args.args.now two (λ same. elim c.match-matches.branch [ in-Cmpnvb w ↦ (cc) | in_default w ↦ w.in_default.not-Cmpnvb same ]) c.requires
 
--- src/digits.rt:64:5
 pub need-requires-2-clause-receiver : goal.need-requires-2-clause-receiver
-need-requires-2-clause-receiver c = ?
+need-requires-2-clause-receiver c received =
+    let computes : (has_one c.args.op || has_second c.args.op) ≡ true = grind (arith, common_steps) in
+    ap is_numeric c.number_at-first.ensures ∙ (first-numbers c.args.rows.now c.args.op c.args.args.now computes c.requires).0

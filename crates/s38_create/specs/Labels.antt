@@ -1,11 +1,10 @@
--- Maps from names to numbers, beside the declarations and the code of which they speak.
+-- A map from labels to places, beside the code of which it speaks.
 use Rattle.std.specs.Prelude.{◌≡◌, ℕ, Bool, true, false, List, Option, Some, None}
 use Rattle.std.specs.Ordering.{nat_cmp}
 use Rattle.std.specs.Str.{bytes_eq}
 use Rattle.std.specs.Cmp.Lexicographic.{slice_cmp}
 use Rattle.std.specs.BTreeMap.{BTreeMap, get}
-use Rattle.s38_code.specs.declared.program.Row.{Row}
-use Rattle.s38_create.specs.Names.{item_in, label_in}
+use Rattle.s38_create.specs.Names.{label_in}
 
 -- a map in which this name is entered, unless one of that name was there
 abbrev pub entered : Option ℕ → Bool → ℕ → Option ℕ
@@ -16,14 +15,6 @@ entered None false n = None
 pub record EntersNew (old new : BTreeMap (List ℕ) ℕ) (name : List ℕ) (n : ℕ) : Type 0 where
   pub each : (q : List ℕ) → get (slice_cmp nat_cmp) new q ≡ entered (get (slice_cmp nat_cmp) old q) (bytes_eq name q) n
 
--- the map gives the number of each declared name
-pub record HasItems (rows : List Row) (places : BTreeMap (List ℕ) ℕ) : Type 0 where
-  pub item : (name : List ℕ) → get (slice_cmp nat_cmp) places name ≡ item_in rows name
-
 -- the map gives the place of each label
 pub record HasLabels (code : List (List ℕ)) (labels : BTreeMap (List ℕ) ℕ) : Type 0 where
   pub place : (name : List ℕ) → get (slice_cmp nat_cmp) labels name ≡ label_in code name
-
-pub record IsTied (rows : List Row) (code : List (List ℕ)) (places labels : BTreeMap (List ℕ) ℕ) : Type 0 where
-  pub has_items : HasItems rows places
-  pub has_labels : HasLabels code labels

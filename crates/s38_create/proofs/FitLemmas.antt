@@ -1,0 +1,132 @@
+-- Instructions that creation makes fit their rows.
+use Rattle.std.proofs.Common.{◌≡◌, ◌≤◌, ◌+◌, ◌&&◌, ℕ, Bool, true, false, cond, List, [], ◌∷◌, ◌++◌, map, length, length-append, append-nil, Option, Some, None, Result, Ok, Err, refl, sym, ◌∙◌, ap, subst, arith, leb-true}
+use Rattle.std.specs.Bool.{nat_le}
+use Rattle.std.specs.List.{All, list_all}
+use Rattle.std.specs.Option.{is_some}
+use Rattle.std.proofs.lemmas.List.Elements.{All-append, All-cons, All-nil}
+use Rattle.std.proofs.lemmas.List.Folds.{list_all-map}
+use Rattle.s38_base.specs.declared.op.Op.{Op}
+use Rattle.s38_code.specs.Built.{is_built}
+use Rattle.s38_code.specs.Class.{classes}
+use Rattle.s38_code.specs.Mnemonic.{op_of}
+use Rattle.s38_code.specs.Tie.{made_kind, may_round, tie_of}
+use Rattle.s38_code.specs.WordsText.{before}
+use Rattle.s38_code.specs.declared.program.CreateFault.{CreateFault}
+use Rattle.s38_code.specs.declared.program.CreateFault.TheVariants.{Bad}
+use Rattle.s38_code.specs.declared.program.Instruction.{Instruction}
+use Rattle.s38_code.specs.declared.program.Row.{Row}
+use Rattle.s38_create.proofs.LabelLemmas.{instruction_count-label, instruction_count-more}
+use Rattle.s38_create.proofs.Parts.{and-both, if-some, no-cause}
+use Rattle.s38_create.proofs.SaidLemmas.{said_of-good, saids_from-all}
+use Rattle.s38_create.specs.Instruction.{are_words_built, by_op, by_saids, cause_of, checked, code_from, instruction_of, is_rounded, is_taken, made_of, operand_text, result_and_then, rounds_right, saids_of, unless}
+use Rattle.s38_create.specs.Names.{instruction_count, is_label}
+use Rattle.s38_create.specs.Said.{arg_of, is_declared, is_placed, saids_from}
+use Rattle.s38_create.specs.Suits.{suit}
+use Rattle.s38_create.specs.Ties.{digits_needed, fits, is_of_kind, is_tied}
+use Rattle.s38_create.specs.WellFormed.{InstructionFits, is_filled, lands_in}
+use Rattle.s38_create.specs.declared.said.Said.{Said}
+
+-- where no cause stands against it, the operands are the row's
+cause_of-none : (rows : List Row) (i : Instruction) (declared placed : Bool) → cause_of rows i declared placed ≡ None →
+    (are_words_built i.op i.args ≡ true) × (fits rows i.op i.args ≡ true) × (digits_needed rows i.op i.args ≤ 38)
+unfolding cause_of
+cause_of-none rows i declared placed h =
+    let words = no-cause (are_words_built i.op i.args) 0x2A04 _ h in
+    let named = no-cause declared 0x2A07 _ words.1 in
+    let fitting = no-cause (fits rows i.op i.args) 0x2A05 _ named.1 in
+    let few = no-cause (nat_le (digits_needed rows i.op i.args) 38) 0x2A06 _ fitting.1 in
+    (words.0, fitting.0, leb-true (digits_needed rows i.op i.args) 38 few.0)
+
+unless-ok : (cause : Option ℕ) (number : ℕ) (i made : Instruction) → unless cause number i ≡ Ok made → (cause ≡ None) × (i ≡ made)
+unless-ok None number i made h = (refl, cc)
+unless-ok (Some id) number i made h = absurd (let e : Err (Bad id number) ≡ Ok made = h in cc)
+
+fits-parts : (rows : List Row) (op : Op) (args : List _) → fits rows op args ≡ true →
+    (suit rows (classes op) args ≡ true) × (list_all (is_of_kind (made_kind op)) args ≡ true) × (is_tied rows (tie_of op) args ≡ true)
+unfolding fits
+fits-parts rows op args h =
+    let first = and-both (suit rows (classes op) args) _ h in
+    let second = and-both (list_all (is_of_kind (made_kind op)) args) _ first.1 in
+    (first.0, second.0, second.1)
+
+checked-fits : (rows : List Row) (code : List (List ℕ)) (number : ℕ) (op : Op) (round : Bool) (saids : List Said) (made : Instruction) →
+    is_built op ≡ true → rounds_right round op ≡ true →
+    list_all (λ s. is_filled (arg_of s)) saids ≡ true → list_all (λ s. lands_in (instruction_count code) (arg_of s)) saids ≡ true →
+    checked rows number op round saids ≡ Ok made → InstructionFits rows (instruction_count code) made
+checked-fits rows code number op round saids made built rounded filled lands h =
+    let fine = unless-ok (cause_of rows (made_of op round saids) (list_all is_declared saids) (list_all is_placed saids)) number (made_of op round saids) made h in
+    let held = cause_of-none rows (made_of op round saids) (list_all is_declared saids) (list_all is_placed saids) fine.0 in
+    let parts = fits-parts rows op (map arg_of saids) held.1 in
+    let P : Instruction → Type 0 = λ i. InstructionFits rows (instruction_count code) i in
+    subst P fine.1 (record {
+      built = built;
+      words = held.0;
+      rounded = rounded;
+      suited = parts.0;
+      kinds = parts.1;
+      tied = parts.2;
+      digits = held.2;
+      filled = list_all-map is_filled arg_of saids ∙ filled;
+      jumps = list_all-map (lands_in (instruction_count code)) arg_of saids ∙ lands;
+    })
+
+by_saids-fits : (rows : List Row) (code : List (List ℕ)) (number : ℕ) (line : List ℕ) (op : Op) (made : Instruction) (o : Option (List Said)) →
+    saids_of rows code line op ≡ o → by_saids rows number op (is_rounded line) o ≡ Ok made → InstructionFits rows (instruction_count code) made
+by_saids-fits rows code number line op made None is h = absurd (let e : Err (Bad 0x2A04 number) ≡ Ok made = h in cc)
+by_saids-fits rows code number line op made (Some saids) is h =
+    let taken = if-some (is_taken op line) (saids_from rows code [] (classes op) (operand_text line)) saids is in
+    let both = and-both (is_built op) (rounds_right (is_rounded line) op) taken.0 in
+    checked-fits rows code number op (is_rounded line) saids made both.0 both.1
+    (saids_from-all (λ s. is_filled (arg_of s)) rows code [] (classes op) (operand_text line) saids
+    (λ class word said found. (said_of-good rows code class word said found).filled) refl taken.1)
+    (saids_from-all (λ s. lands_in (instruction_count code) (arg_of s)) rows code [] (classes op) (operand_text line) saids
+    (λ class word said found. (said_of-good rows code class word said found).lands) refl taken.1)
+    h
+
+by_op-fits : (rows : List Row) (code : List (List ℕ)) (number : ℕ) (line : List ℕ) (made : Instruction) (o : Option Op) →
+    by_op rows code number line o ≡ Ok made → InstructionFits rows (instruction_count code) made
+by_op-fits rows code number line made None h = absurd (let e : Err (Bad 0x2A04 number) ≡ Ok made = h in cc)
+by_op-fits rows code number line made (Some op) h = by_saids-fits rows code number line op made (saids_of rows code line op) refl h
+
+instruction_of-fits : (rows : List Row) (code : List (List ℕ)) (number : ℕ) (line : List ℕ) (made : Instruction) →
+    instruction_of rows code number line ≡ Ok made → InstructionFits rows (instruction_count code) made
+unfolding instruction_of
+instruction_of-fits rows code number line made h = by_op-fits rows code number line made (op_of (before 32 line)) h
+
+-- ---- code
+
+and_then-ok : {A B : Type 0} (f : A → Result B CreateFault) (r : Result A CreateFault) (x : B) → result_and_then f r ≡ Ok x → (y : A) × (r ≡ Ok y) × (f y ≡ Ok x)
+and_then-ok f (Ok y) x h = (y, refl, h)
+and_then-ok f (Err e) x h = absurd (let e : Err e ≡ Ok x = h in cc)
+
+abbrev AreFit : List Row → List (List ℕ) → List Instruction → Type 0
+AreFit rows code made = All (InstructionFits rows (instruction_count code)) made
+
+code_from-step : (rows : List Row) (code : List (List ℕ)) (made : List Instruction) (line : List ℕ) (lines : List (List ℕ)) (out : List Instruction) →
+    ((made : List Instruction) → AreFit rows code made → code_from rows code made lines ≡ Ok out → AreFit rows code out × (length out ≡ length made + instruction_count lines)) →
+    AreFit rows code made → (b : Bool) → is_label line ≡ b →
+    cond b (code_from rows code made lines) (result_and_then (λ i. code_from rows code (made ++ i ∷ []) lines) (instruction_of rows code (length made + 1) line)) ≡ Ok out →
+    AreFit rows code out × (length out ≡ length made + instruction_count (line ∷ lines))
+code_from-step rows code made line lines out more fit true is h =
+    let later = more made fit h in
+    let counted : instruction_count (line ∷ lines) ≡ instruction_count lines = instruction_count-label line lines is in
+    let long : length out ≡ length made + instruction_count lines = later.1 in
+    (later.0, omega arith)
+code_from-step rows code made line lines out more fit false is h =
+    let step = and_then-ok (λ i. code_from rows code (made ++ i ∷ []) lines) (instruction_of rows code (length made + 1) line) out h in
+    let one : AreFit rows code (step.0 ∷ []) = All-cons (InstructionFits rows (instruction_count code)) step.0 []
+    (instruction_of-fits rows code (length made + 1) line step.0 step.1) (All-nil (InstructionFits rows (instruction_count code))) in
+    let later = more (made ++ step.0 ∷ []) (All-append (InstructionFits rows (instruction_count code)) made (step.0 ∷ []) fit one) step.2 in
+    let counted : instruction_count (line ∷ lines) ≡ 1 + instruction_count lines = instruction_count-more line lines is in
+    let long : length out ≡ length (made ++ step.0 ∷ []) + instruction_count lines = later.1 in
+    (later.0, omega (arith, length-append {A = Instruction}))
+
+-- the instructions of the code fit, and are as many as its lines that are no labels
+pub code_from-fits : (rows : List Row) (code : List (List ℕ)) (made : List Instruction) (lines : List (List ℕ)) (out : List Instruction) →
+    AreFit rows code made → code_from rows code made lines ≡ Ok out → AreFit rows code out × (length out ≡ length made + instruction_count lines)
+code_from-fits rows code made [] out fit h =
+    let same : made ≡ out = cc in
+    let P : List Instruction → Type 0 = λ xs. AreFit rows code xs in
+    (subst P same fit, ap length (sym same) ∙ omega arith)
+code_from-fits rows code made (line ∷ lines) out fit h =
+    code_from-step rows code made line lines out (λ made fit h. code_from-fits rows code made lines out fit h) fit (is_label line) refl h
