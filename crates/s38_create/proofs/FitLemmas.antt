@@ -23,7 +23,10 @@ use Rattle.s38_create.specs.Names.{instruction_count, is_label}
 use Rattle.s38_create.specs.Said.{arg_of, is_declared, is_placed, saids_from}
 use Rattle.s38_create.specs.Suits.{suit}
 use Rattle.s38_create.specs.Ties.{digits_needed, fits, is_of_kind, is_tied}
-use Rattle.s38_create.specs.WellFormed.{InstructionFits, is_filled, lands_in}
+use Rattle.s38_create.specs.WellFormed.{InstructionFits, WellFormed, is_filled, lands_in}
+use Rattle.s38_create.specs.Created.{program}
+use Rattle.s38_create.specs.declared.head.Head.{Head}
+use Rattle.s38_odt.specs.Formed.{AreFormed}
 use Rattle.s38_create.specs.declared.said.Said.{Said}
 
 -- where no cause stands against it, the operands are the row's
@@ -130,3 +133,13 @@ code_from-fits rows code made [] out fit h =
     (subst P same fit, ap length (sym same) ∙ omega arith)
 code_from-fits rows code made (line ∷ lines) out fit h =
     code_from-step rows code made line lines out (λ made fit h. code_from-fits rows code made lines out fit h) fit (is_label line) refl h
+
+-- a program of such declarations and of this code is well formed
+pub program-well_formed : (template : List (List ℕ)) (head : Head) (rows : List Row) (code : List (List ℕ)) (made : List Instruction) →
+    length rows ≤ 1024 → AreFormed rows → instruction_count code ≤ 16384 → code_from rows code [] code ≡ Ok made →
+    WellFormed (program template head rows made)
+program-well_formed template head rows code made few formed small h =
+    let fit = code_from-fits rows code [] code made (All-nil (InstructionFits rows (instruction_count code))) h in
+    let long : length made ≡ instruction_count code = fit.1 ∙ omega arith in
+    let P : ℕ → Type 0 = λ n. All (InstructionFits rows n) made in
+    record { few_rows = few; formed = formed; few_instructions = omega arith; fits = subst P (sym long) fit.0 }

@@ -1,5 +1,5 @@
 -- What words say: literals have the bytes of their attribute, and jumps stay in the code.
-use Rattle.std.proofs.Common.{◌≡◌, ◌⊎◌, ◌≤◌, ◌+◌, ◌/◌, ◌&&◌, ℕ, Bool, true, false, cond, List, [], ◌∷◌, ◌++◌, length, Option, Some, None, refl, sym, ◌∙◌, ap, subst, arith, eq-eqb, le-leb}
+use Rattle.std.proofs.Common.{inl, inr, ◌≡◌, ◌⊎◌, ◌≤◌, ◌+◌, ◌/◌, ◌&&◌, ℕ, Bool, true, false, cond, List, [], ◌∷◌, ◌++◌, length, Option, Some, None, refl, sym, ◌∙◌, ap, subst, arith, eq-eqb, le-leb}
 use Rattle.std.specs.List.{list_all}
 use Rattle.std.specs.Bool.{nat_le}
 use Rattle.std.specs.Option.{option_map, option_and_then, option_or}

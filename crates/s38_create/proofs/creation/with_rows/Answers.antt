@@ -1,11 +1,9 @@
-use Rattle.std.proofs.Common.{◌≡◌, ◌≤◌, ◌+◌, [], length, Ok, sym, subst, ap, arith, rules}
-use Rattle.std.specs.List.{All}
-use Rattle.std.proofs.lemmas.List.Elements.{All-nil}
-use Rattle.s38_create.proofs.FitLemmas.{code_from-fits}
-use Rattle.s38_create.specs.Instruction.{code_from}
-use Rattle.s38_create.specs.Names.{instruction_count}
-use Rattle.s38_create.specs.WellFormed.{InstructionFits}
+use Rattle.std.proofs.Common.{rules}
+use Rattle.s38_create.proofs.FitLemmas.{program-well_formed}
 use Rattle.s38_create.proofs.creation.with_rows.Goals as goal
 
-pub returns-in_ok-template-clause-formed : goal.returns-in_ok-template-clause-formed
-returns-in_ok-template-clause-formed c = ?
+pub returns-clause-formed : goal.returns-clause-formed
+returns-clause-formed c =
+    rw c.into_rows.ensures
+    (program-well_formed c.in_ok-template.template c.args.head c.args.table c.args.code.now c.in_ok-made.made
+      c.requires.rows c.requires.formed c.requires.code c.in_ok-made.ensures.made)
