@@ -21,7 +21,7 @@ use Rattle.s38_create.proofs.SaidLemmas.{said_of-good, saids_from-all}
 use Rattle.s38_create.specs.Instruction.{are_words_built, by_op, by_saids, cause_of, checked, code_from, instruction_of, is_rounded, is_taken, made_of, operand_text, result_and_then, rounds_right, saids_of, unless}
 use Rattle.s38_create.specs.Names.{instruction_count, is_label}
 use Rattle.s38_create.specs.Said.{arg_of, is_declared, is_placed, saids_from}
-use Rattle.s38_create.specs.Suits.{suit}
+use Rattle.s38_create.specs.Suits.{all_suit}
 use Rattle.s38_create.specs.Ties.{digits_needed, fits, is_of_kind, is_tied}
 use Rattle.s38_create.specs.WellFormed.{InstructionFits, WellFormed, is_filled, lands_in}
 use Rattle.s38_create.specs.Created.{program}
@@ -45,10 +45,10 @@ unless-ok None number i made h = (refl, cc)
 unless-ok (Some id) number i made h = absurd (let e : Err (Bad id number) ≡ Ok made = h in cc)
 
 fits-parts : (rows : List Row) (op : Op) (args : List _) → fits rows op args ≡ true →
-    (suit rows (classes op) args ≡ true) × (list_all (is_of_kind (made_kind op)) args ≡ true) × (is_tied rows (tie_of op) args ≡ true)
+    (all_suit rows (classes op) args ≡ true) × (list_all (is_of_kind (made_kind op)) args ≡ true) × (is_tied rows (tie_of op) args ≡ true)
 unfolding fits
 fits-parts rows op args h =
-    let first = and-both (suit rows (classes op) args) _ h in
+    let first = and-both (all_suit rows (classes op) args) _ h in
     let second = and-both (list_all (is_of_kind (made_kind op)) args) _ first.1 in
     (first.0, second.0, second.1)
 

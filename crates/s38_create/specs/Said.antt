@@ -141,14 +141,14 @@ is_placed (says.Label at) = is_some at
 is_placed (says.Given arg) = true
 
 abbrev pub item_arg : Option ℕ → Arg
-item_arg None = args.Nothing
+item_arg None = args.Item 0
 item_arg (Some item) = args.Item item
 
 abbrev pub jump_arg : Option ℕ → Arg
 jump_arg None = args.Jump 0
 jump_arg (Some at) = args.Jump at
 
--- the operand that is said
+-- the operand that is said; the first item or place stands for a name that stands for none
 abbrev pub arg_of : Said → Arg
 arg_of (says.Item item) = item_arg item
 arg_of (says.Label at) = jump_arg at

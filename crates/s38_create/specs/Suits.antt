@@ -210,8 +210,8 @@ suits rows JobName arg = is_name arg
 suits rows Argument arg = item_suits can_be_passed rows arg
 
 -- an operand for each class, each in its place; arguments at the end may be left out
-abbrev pub suit : List Row → List Class → List Arg → Bool
-suit rows [] [] = true
-suit rows [] (arg ∷ args) = false
-suit rows (class ∷ classes) [] = is_argument class
-suit rows (class ∷ classes) (arg ∷ args) = suits rows class arg && suit rows classes args
+abbrev pub all_suit : List Row → List Class → List Arg → Bool
+all_suit rows [] [] = true
+all_suit rows [] (arg ∷ args) = false
+all_suit rows (class ∷ classes) [] = is_argument class
+all_suit rows (class ∷ classes) (arg ∷ args) = suits rows class arg && all_suit rows classes args

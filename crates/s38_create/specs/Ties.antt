@@ -17,7 +17,7 @@ use Rattle.s38_code.specs.declared.program.Form.TheVariants as forms
 use Rattle.s38_code.specs.declared.program.Row.{Row}
 use Rattle.s38_code.specs.declared.tie.Tie.{Tie}
 use Rattle.s38_code.specs.declared.tie.Tie.TheVariants.{Free, EqualLengths, EqualTables, OneByte, TwiceTheSource, TwiceTheReceiver, TwoLocalBytes, ShortBinary, Parameters, QueueLengths, EntryLength}
-use Rattle.s38_create.specs.Suits.{is_natural_to, is_nothing, item_suits, operand_attr, suit}
+use Rattle.s38_create.specs.Suits.{is_natural_to, is_nothing, item_suits, operand_attr, all_suit}
 use Rattle.s38_decimal.specs.Need.{has_receiver, need_of}
 
 -- ---- operands by their place, from 0 on
@@ -114,7 +114,7 @@ is_of_kind _ _ = true
 -- the operands are the row's
 unfoldable pub fits : List Row → Op → List Arg → Bool
 fits rows op args =
-    suit rows (classes op) args && (list_all (is_of_kind (made_kind op)) args && is_tied rows (tie_of op) args)
+    all_suit rows (classes op) args && (list_all (is_of_kind (made_kind op)) args && is_tied rows (tie_of op) args)
 
 -- ---- digits
 

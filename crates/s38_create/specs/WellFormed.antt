@@ -11,7 +11,7 @@ use Rattle.s38_code.specs.declared.program.Instruction.{Instruction}
 use Rattle.s38_code.specs.declared.program.Program.{Program}
 use Rattle.s38_code.specs.declared.program.Row.{Row}
 use Rattle.s38_create.specs.Instruction.{are_words_built, rounds_right}
-use Rattle.s38_create.specs.Suits.{suit}
+use Rattle.s38_create.specs.Suits.{all_suit}
 use Rattle.s38_odt.specs.Formed.{AreFormed}
 use Rattle.s38_create.specs.Ties.{digits_needed, is_of_kind, is_tied}
 
@@ -31,7 +31,7 @@ pub record InstructionFits (rows : List Row) (count : ℕ) (instruction : Instru
   pub words : IsTrue (are_words_built instruction.op instruction.args)
   pub rounded : IsTrue (rounds_right instruction.round instruction.op)
   -- an operand for each class, which suits it
-  pub suited : IsTrue (suit rows (classes instruction.op) instruction.args)
+  pub suited : IsTrue (all_suit rows (classes instruction.op) instruction.args)
   pub kinds : IsTrue (list_all (is_of_kind (made_kind instruction.op)) instruction.args)
   pub tied : IsTrue (is_tied rows (tie_of instruction.op) instruction.args)
   pub digits : digits_needed rows instruction.op instruction.args ≤ 38

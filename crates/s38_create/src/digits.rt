@@ -1,7 +1,7 @@
 ghost use Rattle.std.specs.Prelude.{◌≡◌, ◌||◌, IsTrue, pos, unwrap_or, if◌then◌else◌, nat_le, unsigned_abs};
 ghost use Rattle.s38_base.specs.declared.attr.Attr.TheVariants as attrs;
 ghost use Rattle.s38_code.specs.Class.{classes};
-ghost use Rattle.s38_create.specs.Suits.{suit};
+ghost use Rattle.s38_create.specs.Suits.{all_suit};
 ghost use Rattle.s38_create.specs.Ties.{digits_needed, fits, need_with, number_at, power_at, power_of};
 ghost use Rattle.s38_decimal.specs.Need.{has_one, has_second};
 

@@ -21,3 +21,6 @@ mod suits;
 mod ties;
 
 pub use creation::create;
+
+#[cfg(test)]
+mod tests;

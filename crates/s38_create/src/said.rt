@@ -34,13 +34,13 @@ pub fn is_placed(said: &Said) -> bool
     }
 }
 
-/// The operand that is said.
+/// The operand that is said; the first item or place stands for a name that stands for none.
 pub fn arg_of(said: Said) -> Arg
     ensures { result ≡ arg_of said }
 {
     match said {
         Said::Item(Some(item)) => Arg::Item(item),
-        Said::Item(None) => Arg::Nothing,
+        Said::Item(None) => Arg::Item(0),
         Said::Label(Some(at)) => Arg::Jump(at),
         Said::Label(None) => Arg::Jump(0),
         Said::Given(arg) => arg,

@@ -1,5 +1,5 @@
 ghost use Rattle.std.specs.Prelude.{◌≡◌};
-ghost use Rattle.s38_create.specs.Suits.{suit, suits};
+ghost use Rattle.s38_create.specs.Suits.{all_suit, suits};
 
 use crate::attributes::{are_bytes, is_number, is_pointer, item_attr, operand_attr};
 use crate::items::{item_can_be_passed, item_has_cells, item_is_handler};
@@ -57,14 +57,14 @@ fn suits(rows: &[Row], class: Class, arg: &Arg) -> bool
 }
 
 /// Whether an operand stands for each class, each in its place; arguments at the end may be left out.
-pub fn suit(rows: &[Row], classes: &[Class], args: &[Arg]) -> bool
-    ensures { result ≡ suit rows.now classes.now args.now }
+pub fn all_suit(rows: &[Row], classes: &[Class], args: &[Arg]) -> bool
+    ensures { result ≡ all_suit rows.now classes.now args.now }
 {
     match classes {
         [] => args.is_empty(),
         [class, classes @ ..] => match args {
             [] => is_argument(*class),
-            [arg, args @ ..] => suits(rows, *class, arg) && suit(rows, classes, args),
+            [arg, args @ ..] => suits(rows, *class, arg) && all_suit(rows, classes, args),
         },
     }
 }

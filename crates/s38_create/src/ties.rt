@@ -6,7 +6,7 @@ ghost use Rattle.s38_create.specs.Ties.{at_suits, attr_at, attr_length, fits, ha
 use crate::attributes::operand_attr;
 use crate::items::{item_is_parameter, item_is_two_local_bytes};
 use crate::shapes::{is_natural_to, is_nothing};
-use crate::suits::suit;
+use crate::suits::all_suit;
 use s38_base::{Attr, Kind, Op};
 use s38_code::{Arg, Row, Tie, classes, made_kind, tie_of};
 
@@ -180,7 +180,7 @@ fn are_of_kind(kind: Option<Kind>, args: &[Arg]) -> bool
 pub fn fits(rows: &[Row], op: Op, args: &[Arg]) -> bool
     ensures { result ≡ fits rows.now op args.now }
 {
-    suit(rows, classes(op), args)
+    all_suit(rows, classes(op), args)
         && are_of_kind(made_kind(op), args)
         && is_tied(rows, tie_of(op), args)
 }

@@ -6,4 +6,4 @@ pub returns-clause-formed : goal.returns-clause-formed
 returns-clause-formed c =
     rw c.into_rows.ensures
     (program-well_formed c.in_ok-template.template c.args.head c.args.table c.args.code.now c.in_ok-made.made
-      c.requires.rows c.requires.formed c.requires.code c.in_ok-made.ensures.made)
+    c.requires.rows c.requires.formed c.requires.code c.in_ok-made.ensures.made)
