@@ -45,4 +45,6 @@ pub fn all_may_be_sent() {
 }
 
 #[cfg(test)]
+mod table_tests;
+#[cfg(test)]
 mod tests;
