@@ -17,3 +17,6 @@ fn sends<T: Send + Sync>() {}
 pub fn all_may_be_sent() {
     sends::<Odt>();
 }
+
+#[cfg(test)]
+mod tests;

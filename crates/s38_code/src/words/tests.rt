@@ -2,8 +2,9 @@
 
 use crate::Arg;
 use crate::words::{
-    attribute, attributes, exception_code, has_form, identification, lock_state, natural, number,
-    number_literal, operation, relation, rights, specials, text_value, wait, whole,
+    attribute, attributes, declaration, exception_code, has_form, identification, is_in_range,
+    lock_state, natural, number, number_literal, operation, relation, rights, specials, text_value,
+    wait, whole,
 };
 use s38_base::{Attr, Kind, Op};
 use std::test::Fail;
@@ -248,5 +249,46 @@ fn an_operand_has_a_form(rt: HostRuntime) {
         " Q",
     ] {
         assert!(rt; !has_form(text.as_bytes()), "{text}");
+    }
+}
+
+#[test]
+fn lines_of_declarations_are_read(rt: HostRuntime) {
+    let taken: [(&str, bool); 12] = [
+        ("DCL A PKD:9:2", true),
+        ("DCL A CHAR:0", true),
+        ("DCL A CHAR:3 INIT 'A B'", true),
+        ("DCL A CHAR:3 INIT -1.5", true),
+        ("DCL A PARM 1 PTR", true),
+        ("DCL A PARM 16 PTR", true),
+        ("DCL A PARM 0 PTR", false),
+        ("DCL A PARM 17 PTR", false),
+        ("DCL A BASED P 16777216 BIN:2", true),
+        ("DCL A BASED P 16777217 BIN:2", false),
+        ("DCL A EXCM * L", true),
+        ("DCL A EXCM 2A04 L", true),
+    ];
+    for (text, in_range) in taken {
+        let found = declaration(text.as_bytes()).map(|line| is_in_range(&line.declares));
+        assert_eq!(rt; found, Some(in_range), "{text}");
+    }
+    for text in [
+        "DCL A",
+        "DCL  A PTR",
+        "DCL 1A PTR",
+        "DCL A PTR ",
+        "DCL A CHAR:3 INIT",
+        "DCL A CHAR:3 INIT A",
+        "DCL A CHAR:3  INIT 5",
+        "DCL A PARM 01 PTR",
+        "DCL A PARM 1",
+        "DCL A BASED 1 0 PTR",
+        "DCL A BASED P PTR",
+        "DCL A EXCM 2A4 L",
+        "DCL A EXCM * 1L",
+        "dcl A PTR",
+        "",
+    ] {
+        assert!(rt; declaration(text.as_bytes()).is_none(), "{text}");
     }
 }
