@@ -1,5 +1,5 @@
 ghost use Rattle.std.specs.Prelude.{◌≡◌};
-ghost use Rattle.s38_code.specs.Class.{classes, is_built};
+ghost use Rattle.s38_code.specs.Class.{classes};
 
 use s38_base::Op;
 
@@ -14,15 +14,15 @@ pub enum Class {
     BytesSource,
     /// Bytes that are read, or `*NONE`.
     BytesOrNone,
-    /// An item that gets bytes.
+    /// An item but a pointer that gets bytes.
     BytesReceiver,
     /// A pointer that is used.
     PointerSource,
     /// An item that gets a pointer.
     PointerReceiver,
-    /// Whole cells that are read: a pointer, or bytes in a space.
+    /// Cells that are read with their pointers: a pointer, or bytes in a space.
     CellsSource,
-    /// An item that gets whole cells.
+    /// Cells that get bytes and pointers: a pointer, or bytes in a space.
     CellsReceiver,
     /// A pointer to a context, or `*MACHINE`.
     Context,
@@ -39,7 +39,10 @@ pub enum Class {
     LockStateWord,
     /// WAIT or NOWAIT
     WaitWord,
+    /// One of all nine relations.
     RelationWord,
+    /// A relation of two values: EQ, NE, LO, HI, NL or NH.
+    ComparisonWord,
     /// FIFO, LIFO or KEYED
     OrderWord,
     /// FIRST, LAST, NEXT, PREV or AT
@@ -49,7 +52,10 @@ pub enum Class {
     /// ON or OFF
     SwitchWord,
     Label,
+    /// A whole number without a sign.
     WholeLiteral,
+    /// The power of ten by which a number is scaled, which may have a sign.
+    PowerLiteral,
     AttributeWord,
     /// Attributes joined by `+`.
     AttributesWord,
@@ -59,39 +65,64 @@ pub enum Class {
     Handler,
     TemplateName,
     JobName,
-    /// An item that is passed on.
+    /// An item that is passed on. Arguments stand at the end of a row, and may be fewer than it has.
     Argument,
 }
 
-/// Whether this machine has the instruction.
-#[tactic(auto, unfolding(crate::specs::Class::is_built))]
-pub fn is_built(op: Op) -> bool
-    ensures { result ≡ is_built op }
-{
-    matches!(
-        op,
-        Op::Rslvsp
-            | Op::Setsppfp
-            | Op::Setspfp
-            | Op::Setdp
-            | Op::Cpybwp
-            | Op::Crtq
-            | Op::Crts
-            | Op::Mods
-            | Op::Desq
-            | Op::Dess
-            | Op::Enq
-            | Op::Deq
-            | Op::Rtx
-    )
-}
-
-/// What stands at each place of an instruction that is built.
+/// What stands at each place of an instruction, in order.
 #[tactic(auto, unfolding(crate::specs::Class::classes))]
 pub fn classes(op: Op) -> &'static [Class]
     ensures { result.now ≡ classes op }
 {
     match op {
+        Op::Addn | Op::Subn | Op::Mult | Op::Div | Op::Rem => &[
+            Class::NumberReceiver,
+            Class::NumberSource,
+            Class::NumberSource,
+        ],
+        Op::Neg | Op::Cpynv => &[Class::NumberReceiver, Class::NumberSource],
+        Op::Scale => &[
+            Class::NumberReceiver,
+            Class::NumberSource,
+            Class::PowerLiteral,
+        ],
+        Op::Cmpnvb => &[
+            Class::NumberSource,
+            Class::NumberSource,
+            Class::ComparisonWord,
+            Class::Label,
+        ],
+        Op::Cpybla | Op::Cpybra | Op::Cvthc | Op::Cvtch | Op::Not => {
+            &[Class::BytesReceiver, Class::BytesSource]
+        }
+        Op::Cpyblap | Op::Cat | Op::And | Op::Or | Op::Xor => &[
+            Class::BytesReceiver,
+            Class::BytesSource,
+            Class::BytesSource,
+        ],
+        Op::Xlate => &[
+            Class::BytesReceiver,
+            Class::BytesSource,
+            Class::BytesSource,
+            Class::BytesSource,
+        ],
+        Op::Cmpblab => &[
+            Class::BytesSource,
+            Class::BytesSource,
+            Class::ComparisonWord,
+            Class::Label,
+        ],
+        Op::B | Op::Calli => &[Class::Label],
+        Op::Rtx => &[],
+        Op::Sigexcp => &[Class::ExceptionCode],
+        Op::Retexcpd => &[Class::BytesReceiver],
+        Op::Modexcpd => &[Class::Handler, Class::SwitchWord],
+        Op::Cmpptrt => &[Class::PointerSource, Class::PointerKindWord, Class::Label],
+        Op::Addspp | Op::Subspp => &[
+            Class::PointerReceiver,
+            Class::PointerSource,
+            Class::NumberSource,
+        ],
         Op::Rslvsp => &[
             Class::PointerReceiver,
             Class::ContextOrList,
@@ -105,6 +136,77 @@ pub fn classes(op: Op) -> &'static [Class]
             Class::AttributeWord,
         ],
         Op::Cpybwp => &[Class::CellsReceiver, Class::CellsSource],
+        Op::Crtctx => &[
+            Class::PointerReceiver,
+            Class::Identification,
+            Class::RightsWord,
+        ],
+        Op::Modadr => &[Class::PointerSource, Class::PointerOrNone],
+        Op::Rename => &[Class::PointerSource, Class::Identification],
+        Op::Matctx => &[Class::BytesReceiver, Class::Context],
+        Op::Crtup => &[
+            Class::PointerReceiver,
+            Class::Identification,
+            Class::SpecialsWord,
+            Class::WholeLiteral,
+        ],
+        Op::Modup => &[
+            Class::PointerSource,
+            Class::SpecialsWord,
+            Class::WholeLiteral,
+        ],
+        Op::Grant | Op::Retract => &[Class::PointerSource, Class::UserOrPublic, Class::RightsWord],
+        Op::Xfro | Op::Jrnlobj => &[Class::PointerSource, Class::PointerSource],
+        Op::Testau => &[
+            Class::NumberReceiver,
+            Class::PointerSource,
+            Class::RightsWord,
+        ],
+        Op::Matau => &[
+            Class::BytesReceiver,
+            Class::PointerSource,
+            Class::UserOrPublic,
+        ],
+        Op::Matauobj | Op::Matobjlk | Op::Retdsen => {
+            &[Class::BytesReceiver, Class::PointerSource]
+        }
+        Op::Crtpg => &[
+            Class::PointerReceiver,
+            Class::PointerOrNone,
+            Class::Identification,
+            Class::RightsWord,
+            Class::TemplateName,
+        ],
+        Op::Callx | Op::Xctl => &[
+            Class::PointerSource,
+            Class::Argument,
+            Class::Argument,
+            Class::Argument,
+            Class::Argument,
+            Class::Argument,
+            Class::Argument,
+            Class::Argument,
+            Class::Argument,
+            Class::Argument,
+            Class::Argument,
+            Class::Argument,
+            Class::Argument,
+            Class::Argument,
+            Class::Argument,
+            Class::Argument,
+            Class::Argument,
+        ],
+        Op::Lock => &[Class::PointerSource, Class::LockStateWord, Class::WaitWord],
+        Op::Unlock => &[Class::PointerSource, Class::LockStateWord],
+        Op::Xfrlock => &[Class::PointerSource, Class::LockStateWord, Class::JobName],
+        Op::Crts => &[
+            Class::PointerReceiver,
+            Class::PointerOrNone,
+            Class::Identification,
+            Class::RightsWord,
+            Class::NumberSource,
+        ],
+        Op::Mods => &[Class::PointerSource, Class::NumberSource],
         Op::Crtq => &[
             Class::PointerReceiver,
             Class::PointerOrNone,
@@ -114,15 +216,6 @@ pub fn classes(op: Op) -> &'static [Class]
             Class::WholeLiteral,
             Class::WholeLiteral,
         ],
-        Op::Crts => &[
-            Class::PointerReceiver,
-            Class::PointerOrNone,
-            Class::Identification,
-            Class::RightsWord,
-            Class::NumberSource,
-        ],
-        Op::Mods => &[Class::PointerSource, Class::NumberSource],
-        Op::Desq | Op::Dess => &[Class::PointerSource],
         Op::Enq => &[Class::PointerSource, Class::BytesOrNone, Class::BytesSource],
         Op::Deq => &[
             Class::BytesReceiver,
@@ -131,6 +224,70 @@ pub fn classes(op: Op) -> &'static [Class]
             Class::BytesOrNone,
             Class::WaitWord,
         ],
-        _ => &[],
+        Op::Crtinx => &[
+            Class::PointerReceiver,
+            Class::PointerOrNone,
+            Class::Identification,
+            Class::RightsWord,
+            Class::WholeLiteral,
+        ],
+        Op::Insinxen | Op::Rmvinxen | Op::Insdsen | Op::Updsen => {
+            &[Class::PointerSource, Class::BytesSource]
+        }
+        Op::Fndinxen => &[
+            Class::BytesReceiver,
+            Class::PointerSource,
+            Class::RelationWord,
+            Class::BytesSource,
+        ],
+        Op::Crtds => &[
+            Class::PointerReceiver,
+            Class::PointerOrNone,
+            Class::Identification,
+            Class::RightsWord,
+            Class::AttributesWord,
+        ],
+        Op::Crtcr => &[
+            Class::PointerReceiver,
+            Class::PointerOrNone,
+            Class::Identification,
+            Class::RightsWord,
+            Class::PointerSource,
+            Class::PointerOrNone,
+        ],
+        Op::Setcr => &[Class::PointerSource, Class::SeekWord, Class::NumberSource],
+        Op::Crtjs => &[
+            Class::PointerReceiver,
+            Class::PointerOrNone,
+            Class::Identification,
+            Class::RightsWord,
+        ],
+        Op::Crtjp | Op::Crtcb => &[
+            Class::PointerReceiver,
+            Class::PointerOrNone,
+            Class::Identification,
+            Class::RightsWord,
+            Class::PointerSource,
+        ],
+        Op::Retjent => &[
+            Class::BytesReceiver,
+            Class::PointerSource,
+            Class::NumberSource,
+        ],
+        Op::Deldsen
+        | Op::Commit
+        | Op::Decommit
+        | Op::Ensobj
+        | Op::Desctx
+        | Op::Desup
+        | Op::Despg
+        | Op::Dess
+        | Op::Desq
+        | Op::Desinx
+        | Op::Desds
+        | Op::Descr
+        | Op::Desjs
+        | Op::Desjp
+        | Op::Descb => &[Class::PointerSource],
     }
 }

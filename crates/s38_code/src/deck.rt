@@ -1,14 +1,15 @@
 ghost use Rattle.std.specs.Prelude.{◌≡◌, IfOk};
 
-use s38_base::{Bytes, Name, NoMemory, Seq, Twin, twins};
+use s38_base::{Bytes, Name, NoMemory, Seq, Twin};
 use std::alloc::Global;
 use std::marker::Model;
+use std::sync::Arc;
 
-/// The lines of a program's text, from PROGRAM to END, without their line feeds. Contracts see it as the
-/// list of the lines.
+/// The lines of a program's text, from PROGRAM to END, without their line feeds; a second one shares them.
+/// Contracts see it as the list of the lines.
 #[derive(Drop, Debug)]
 pub struct Template {
-    lines: Seq<Bytes>,
+    held: Arc<Seq<Bytes>>,
 }
 
 impl Model for Template {
@@ -16,30 +17,34 @@ impl Model for Template {
 
     ghost Value = { List (List ℕ) };
 
-    ghost view = { λ t. t.lines };
+    ghost view = { λ t. t.held.value };
 }
 
 impl Template {
-    /// The template of these lines.
-    pub fn new(lines: Seq<Bytes>) -> Template
-        ensures { result ≡ lines }
+    /// The template of these lines; where memory is refused they are dropped.
+    pub fn new(alloc: Global, lines: Seq<Bytes>) -> Result<Template, NoMemory>
+        ensures { IfOk result (λ template. template ≡ lines) }
     {
-        Template { lines }
+        match Arc::new(alloc, lines) {
+            Ok(held) => Ok(Template { held }),
+            Err(_) => Err(NoMemory),
+        }
     }
 
     /// The lines.
     pub fn lines(&self) -> &[Bytes]
         ensures { result.now ≡ self.now }
     {
-        self.lines.as_slice()
+        self.held.as_slice()
     }
 }
 
 impl Twin for Template {
-    fn twin(&self, alloc: Global) -> Result<Self, NoMemory> {
-        Ok(Template {
-            lines: twins(alloc, self.lines.as_slice())?,
-        })
+    fn twin(&self, _: Global) -> Result<Self, NoMemory> {
+        match Arc::try_clone(&self.held) {
+            Ok(held) => Ok(Template { held }),
+            Err(_) => Err(NoMemory),
+        }
     }
 }
 

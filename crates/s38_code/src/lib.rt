@@ -2,6 +2,7 @@
 //! history; and what stands before a run: programs, templates and decks, and the table of mnemonics.
 #![tactic(auto)]
 
+mod built;
 mod class;
 mod code;
 mod deck;
@@ -12,8 +13,11 @@ mod operand;
 mod program;
 mod reply;
 mod step;
+mod tie;
+pub mod words;
 
-pub use class::{Class, classes, is_built};
+pub use built::{is_built, is_local_built, is_shared_built};
+pub use class::{Class, classes};
 pub use code::Code;
 pub use deck::{Deck, Job, Jobs, Names, Template, Templates};
 pub use entry::Entry;
@@ -24,6 +28,7 @@ pub use program::{Arg, Args, CreateFault, Form, Instruction, Instructions, Progr
 pub use reply::{Reply, Val, Vals};
 pub use s38_base::{AttrList, Bytes, Op};
 pub use step::{StepFault, Stepper};
+pub use tie::{Tie, made_kind, may_round, tie_of};
 
 /// What is sent between threads.
 fn sends<T: Send + Sync>() {}
@@ -39,5 +44,7 @@ pub fn all_may_be_sent() {
     sends::<StepFault>();
 }
 
+#[cfg(test)]
+mod table_tests;
 #[cfg(test)]
 mod tests;

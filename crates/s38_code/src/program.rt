@@ -1,9 +1,10 @@
 ghost use Rattle.std.specs.Prelude.{◌≡◌, ◌<◌, length, Some};
 ghost use Rattle.std.specs.Prelude.{slice_get};
 ghost use Rattle.std.specs.Option.{option_copied};
+ghost use Rattle.s38_code.specs.declared.program.CreateFault.TheVariants as faults;
 
 use crate::deck::Template;
-use s38_base::{Attr, AttrList, Bytes, Id, Name, Op, Seq};
+use s38_base::{Attr, AttrList, Bytes, Id, Name, NoMemory, Op, Seq};
 use thiserror::Error;
 
 /// An operand of an instruction that was checked: items and instructions are numbered from 0.
@@ -115,4 +116,12 @@ pub enum CreateFault {
     Bad { id: u16, number: u32 },
     #[error("no memory")]
     NoMemory,
+}
+
+impl From<NoMemory> for CreateFault {
+    ghost from_gives = { λ _ e. e ≡ faults.NoMemory };
+
+    fn from(_: NoMemory) -> Self {
+        CreateFault::NoMemory
+    }
 }

@@ -44,7 +44,7 @@ fn a_program_is_shared(rt: HostRuntime) -> Result<(), Fail> {
     let mut lines = Seq::new(alloc);
     lines.push(Seq::from_slice(alloc, b"PROGRAM P")?)?;
     let program = Program {
-        template: Template::new(lines).twin(alloc)?,
+        template: Template::new(alloc, lines)?.twin(alloc)?,
         rows: Seq::new(alloc),
         code: Seq::new(alloc),
         adopts: true,

@@ -1,4 +1,6 @@
 pub mod FitLemmas
+pub mod LabelLemmas
+pub mod MapLemmas
+pub mod NumberLemmas
 pub mod Parts
-pub mod PlaceLemmas
-pub mod RowLemmas
+pub mod SaidLemmas

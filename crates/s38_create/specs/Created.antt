@@ -1,23 +1,48 @@
--- The program that a template makes: a head, declarations, instructions and END.
-use Rattle.std.specs.Prelude.{ℕ, ◌-◌, Bool, false, ◌&&◌, List, [], take, drop, length, slice_index_or, codes, Option, None, nat_le, if◌then◌else◌}
+-- The program that a template makes: a head, declarations, code and END.
+use Rattle.std.specs.Prelude.{ℕ, ◌-◌, Bool, true, false, ◌&&◌, List, [], take, drop, length, slice_index_or, codes, Option, Some, None, is_some, nat_le, Result, Ok, Err, if◌then◌else◌}
 use Rattle.std.specs.List.{prefix_len}
-use Rattle.std.specs.Option.{is_some, option_map, option_and_then}
+use Rattle.std.specs.Option.{option_and_then}
+use Rattle.s38_code.specs.WordsName.{declared_name}
+use Rattle.s38_code.specs.WordsText.{is_word, before, behind, rest_after}
+use Rattle.s38_code.specs.declared.program.CreateFault.{CreateFault}
+use Rattle.s38_code.specs.declared.program.CreateFault.TheVariants.{Bad}
 use Rattle.s38_code.specs.declared.program.Instruction.{Instruction}
 use Rattle.s38_code.specs.declared.program.Program.{Program}
 use Rattle.s38_code.specs.declared.program.Row.{Row}
-use Rattle.s38_create.specs.Declaration.{named, rows_from}
-use Rattle.s38_create.specs.Instruction.{code_from}
-use Rattle.s38_create.specs.Text.{is_word, rest_after}
+use Rattle.s38_create.specs.Instruction.{code_from, result_and_then}
+use Rattle.s38_create.specs.Names.{instruction_count}
+use Rattle.s38_odt.specs.Table.{rows_of}
+use Rattle.s38_create.specs.declared.head.Head.{Head}
+
+-- ---- the head
+
+abbrev pub adopting : Bool → Bool → Head
+adopting adopts propagates = record { adopts = adopts; propagates = propagates }
+
+-- ADOPT, PROPAGATE, both in this order, or nothing
+abbrev pub adoption : Option (List ℕ) → Option Head
+adoption None = Some (adopting false false)
+adoption (Some text) =
+    if is_word (codes "ADOPT") text then Some (adopting true false)
+    else (if is_word (codes "PROPAGATE") text then Some (adopting false true)
+    else (if is_word (codes "ADOPT PROPAGATE") text then Some (adopting true true) else None))
+
+abbrev pub head_said : List ℕ → Option Head
+head_said text = option_and_then (λ name. adoption (behind 32 text)) (declared_name (before 32 text))
+
+-- what a line PROGRAM name and its further words say
+unfoldable pub head_of : List ℕ → Option Head
+head_of line = option_and_then head_said (rest_after (codes "PROGRAM ") line)
+
+-- ---- lines
 
 abbrev pub line_at : List (List ℕ) → ℕ → List ℕ
 line_at lines k = slice_index_or lines k []
 
--- the first line is PROGRAM and a name, and the last is END
-abbrev pub is_framed : List (List ℕ) → Bool
-is_framed lines =
-    nat_le 2 (length lines) && (is_some (named (line_at lines 0)) && is_word (codes "END") (line_at lines (length lines - 1)))
+abbrev pub is_ended : List (List ℕ) → Bool
+is_ended lines = nat_le 2 (length lines) && is_word (codes "END") (line_at lines (length lines - 1))
 
--- the lines between these two
+-- the lines between the first and the last
 abbrev pub inner : List (List ℕ) → List (List ℕ)
 inner lines = take (length lines - 2) (drop 1 lines)
 
@@ -26,23 +51,42 @@ is_declaration line = is_some (rest_after (codes "DCL ") line)
 
 -- how many lines stand before the first that is no declaration
 abbrev pub declaration_count : List (List ℕ) → ℕ
-declaration_count lines = prefix_len is_declaration lines
+declaration_count body = prefix_len is_declaration body
 
-abbrev pub program : List (List ℕ) → List Row → List Instruction → Program
-program lines rows code = record { template = lines; rows = rows; code = code; adopts = false; propagates = false }
+abbrev pub declarations : List (List ℕ) → List (List ℕ)
+declarations body = take (declaration_count body) body
 
--- the program of these declarations, and of the instructions behind them
-abbrev pub program_from : List (List ℕ) → List (List ℕ) → List (List ℕ) → Option Program
-program_from lines declarations instructions =
-    option_and_then (λ rows. option_map (program lines rows) (code_from rows [] instructions)) (rows_from [] declarations)
+abbrev pub code : List (List ℕ) → List (List ℕ)
+code body = drop (declaration_count body) body
 
 -- at most 1,024 declarations and 16,384 instructions
 abbrev pub is_small : List (List ℕ) → Bool
-is_small lines = nat_le (declaration_count lines) 1024 && nat_le (length lines - declaration_count lines) 16384
+is_small body = nat_le (declaration_count body) 1024 && nat_le (instruction_count (code body)) 16384
 
-abbrev pub created_inner : List (List ℕ) → List (List ℕ) → Option Program
-created_inner lines body =
-    if is_small body then program_from lines (take (declaration_count body) body) (drop (declaration_count body) body) else None
+-- ---- the program
 
-unfoldable pub created : List (List ℕ) → Option Program
-created lines = if is_framed lines then created_inner lines (inner lines) else None
+-- a template that no deck has: its form is none, or it is too large
+abbrev pub no_template : Result Program CreateFault
+no_template = Err (Bad 0x2A04 0)
+
+abbrev pub program : List (List ℕ) → Head → List Row → List Instruction → Program
+program lines head rows code = record { template = lines; rows = rows; code = code; adopts = head.adopts; propagates = head.propagates }
+
+abbrev pub with_code : List (List ℕ) → Head → List Row → Result (List Instruction) CreateFault → Result Program CreateFault
+with_code lines head rows made = result_and_then (λ code. Ok (program lines head rows code)) made
+
+abbrev pub with_rows : List (List ℕ) → Head → List (List ℕ) → List Row → Result Program CreateFault
+with_rows lines head code rows = with_code lines head rows (code_from rows code [] code)
+
+-- the declarations come before the code
+abbrev pub created_inner : List (List ℕ) → Head → List (List ℕ) → Result Program CreateFault
+created_inner lines head body =
+    if is_small body then result_and_then (with_rows lines head (code body)) (rows_of (declarations body)) else no_template
+
+abbrev pub created_by : List (List ℕ) → Option Head → Result Program CreateFault
+created_by lines None = no_template
+created_by lines (Some head) = created_inner lines head (inner lines)
+
+-- the program of a template's lines, or its first bad place
+unfoldable pub created : List (List ℕ) → Result Program CreateFault
+created lines = if is_ended lines then created_by lines (head_of (line_at lines 0)) else no_template

@@ -1,8 +1,8 @@
 pub mod Created
-pub mod Declaration
 pub mod Instruction
-pub mod Literal
-pub mod Operand
-pub mod Places
-pub mod Text
+pub mod Labels
+pub mod Names
+pub mod Said
+pub mod Suits
+pub mod Ties
 pub mod WellFormed

@@ -1,14 +1,18 @@
-ghost use Rattle.std.specs.Prelude.{◌≡◌, ◌⊎◌, ◌≤◌, length, Some, None, IfOk, IfErr};
-ghost use Rattle.std.specs.Option.{option_map};
-ghost use Rattle.s38_create.specs.Created.{created, created_inner, declaration_count, inner, is_declaration, is_framed, is_small, program_from};
+ghost use Rattle.std.specs.Prelude.{◌≡◌, ◌⊎◌, ◌≤◌, length, Ok, Err, IfOk, IfErr};
+ghost use Rattle.s38_create.specs.Created.{created, created_by, created_inner, is_small, with_rows};
+ghost use Rattle.s38_create.specs.Names.{instruction_count};
 ghost use Rattle.s38_create.specs.WellFormed.{WellFormed};
+ghost use Rattle.s38_odt.specs.Formed.{AreFormed};
 
-use crate::declaration::program_name;
-use crate::declared::declarations;
+use crate::causes::NOT_OF_ROW;
+use crate::frame::{declaration_count, instruction_count, is_ended};
+use crate::head::{Head, head_of};
 use crate::instruction::instructions;
-use crate::text::{is_word, rest_after};
-use s38_base::{Bytes, NoMemory, Seq, Twin};
+use crate::labels::labels_of;
+use crate::scope::Scope;
+use s38_base::{Bytes, Twin};
 use s38_code::{CreateFault, Program, Template};
+use s38_odt::{Odt, definition_table};
 use std::alloc::Global;
 
 /// The most declarations of a program.
@@ -17,104 +21,99 @@ const MOST_DECLARATIONS: usize = 1024;
 /// The most instructions of a program.
 const MOST_INSTRUCTIONS: usize = 16384;
 
-/// The refusal of a template whose form is not built.
-const NOT_BUILT: u16 = 0x2A04;
+/// A template that no deck has.
+const NO_TEMPLATE: CreateFault = CreateFault::Bad {
+    id: NOT_OF_ROW,
+    number: 0,
+};
 
-/// The first line is PROGRAM and a name, and the last is END.
-fn is_framed(lines: &[Bytes]) -> bool
-    ensures { result ≡ is_framed lines.now }
-{
-    if lines.len() < 2 {
-        return false;
-    }
-    if program_name(lines[0].as_slice()).is_none() {
-        return false;
-    }
-    is_word(b"END", lines[lines.len() - 1].as_slice())
-}
-
-fn is_declaration(line: &[u8]) -> bool
-    ensures { result ≡ is_declaration line.now }
-{
-    rest_after(b"DCL ", line).is_some()
-}
-
-/// How many lines stand before the first that is no declaration.
-fn declaration_count(lines: &[Bytes]) -> usize
-    ensures count { result ≡ declaration_count lines.now }
-    ensures bound { result ≤ length lines.now }
-{
-    lines
-        .iter()
-        .take_while(|line| is_declaration(line.as_slice()))
-        .count()
-}
-
-/// The program of these declarations and instructions; None where one of them is bad.
-fn program(
+/// The program of these declarations and this code.
+fn with_rows(
     alloc: Global,
     template: &Template,
-    declared: &[Bytes],
+    head: Head,
     code: &[Bytes],
-) -> Result<Option<Program>, NoMemory>
-    requires { length declared.now ≤ 1024 }
-    ensures { IfOk result (λ program. program ≡ program_from template.now declared.now code.now) }
+    table: Odt,
+) -> Result<Program, CreateFault>
+    requires rows { length table ≤ 1024 }
+    requires formed { AreFormed table }
+    requires code { instruction_count code.now ≤ 16384 }
+    ensures formed { IfOk result (λ program. WellFormed program) }
+    ensures made { IfOk result (λ program. with_rows template.now head code.now table ≡ Ok program) }
+    ensures bad { IfErr result (λ fault. (fault ≡ CreateFault.NoMemory) ⊎ (with_rows template.now head code.now table ≡ Err fault)) }
 {
-    let Some(declared) = declarations(alloc, declared)? else {
-        return Ok(None);
+    let labels = labels_of(alloc, code)?;
+    let scope = Scope {
+        table,
+        code,
+        labels,
     };
-    let Some(code) = instructions(alloc, &declared, code)? else {
-        return Ok(None);
-    };
+    let made = instructions(alloc, &scope)?;
     let template = template.twin(alloc)?;
-    Ok(Some(Program {
+    Ok(Program {
         template,
-        rows: Seq::from_vec(declared.rows),
-        code: Seq::from_vec(code),
-        adopts: false,
-        propagates: false,
-    }))
+        rows: scope.table.into_rows(),
+        code: made,
+        adopts: head.adopts,
+        propagates: head.propagates,
+    })
+}
+
+/// At most so many declarations and instructions.
+fn is_small(body: &[Bytes]) -> bool
+    ensures { result ≡ is_small body.now }
+{
+    let count = declaration_count(body);
+    count <= MOST_DECLARATIONS && instruction_count(&body[count..]) <= MOST_INSTRUCTIONS
 }
 
 /// The program of the lines between the first and the last.
 fn created_inner(
     alloc: Global,
     template: &Template,
+    head: Head,
     body: &[Bytes],
-) -> Result<Option<Program>, NoMemory>
-    ensures { IfOk result (λ program. program ≡ created_inner template.now body.now) }
+) -> Result<Program, CreateFault>
+    ensures formed { IfOk result (λ program. WellFormed program) }
+    ensures made { IfOk result (λ program. created_inner template.now head body.now ≡ Ok program) }
+    ensures bad { IfErr result (λ fault. (fault ≡ CreateFault.NoMemory) ⊎ (created_inner template.now head body.now ≡ Err fault)) }
 {
-    let count = declaration_count(body);
-    if count > MOST_DECLARATIONS || body.len() - count > MOST_INSTRUCTIONS {
-        return Ok(None);
+    if !is_small(body) {
+        return Err(NO_TEMPLATE);
     }
-    program(alloc, template, &body[..count], &body[count..])
+    let count = declaration_count(body);
+    let table = definition_table(alloc, &body[..count])?;
+    with_rows(alloc, template, head, &body[count..], table)
 }
 
-/// The checked program that a template makes; None where it makes none.
-#[tactic(auto, unfolding(crate::specs::Created::created))]
-fn created(alloc: Global, template: &Template) -> Result<Option<Program>, NoMemory>
-    ensures { IfOk result (λ program. program ≡ created template.now) }
+fn created_by(
+    alloc: Global,
+    template: &Template,
+    head: Option<Head>,
+) -> Result<Program, CreateFault>
+    requires { 2 ≤ length template.now }
+    ensures formed { IfOk result (λ program. WellFormed program) }
+    ensures made { IfOk result (λ program. created_by template.now head ≡ Ok program) }
+    ensures bad { IfErr result (λ fault. (fault ≡ CreateFault.NoMemory) ⊎ (created_by template.now head ≡ Err fault)) }
 {
     let lines = template.lines();
-    if !is_framed(lines) {
-        return Ok(None);
+    match head {
+        Some(head) => created_inner(alloc, template, head, &lines[1..lines.len() - 1]),
+        None => Err(NO_TEMPLATE),
     }
-    created_inner(alloc, template, &lines[1..lines.len() - 1])
 }
 
-/// Makes a checked program of a template. `Bad` exactly where its lines make none.
+/// Makes a checked program of a template. `Bad` is the first bad declaration, or else the first bad
+/// instruction, with its cause.
+#[tactic(auto, unfolding(crate::specs::Created::created))]
 pub fn create(alloc: Global, template: &Template) -> Result<Program, CreateFault>
-    ensures made { IfOk result (λ program. created template.now ≡ Some program) }
+    ensures made { IfOk result (λ program. created template.now ≡ Ok program) }
     ensures formed { IfOk result (λ program. WellFormed program) }
-    ensures bad { IfErr result (λ fault. (fault ≡ CreateFault.NoMemory) ⊎ ((fault ≡ CreateFault.Bad 0x2A04 0) × (created template.now ≡ None))) }
+    ensures bad { IfErr result (λ fault. (fault ≡ CreateFault.NoMemory) ⊎ (created template.now ≡ Err fault)) }
 {
-    match created(alloc, template) {
-        Ok(Some(program)) => Ok(program),
-        Ok(None) => Err(CreateFault::Bad {
-            id: NOT_BUILT,
-            number: 0,
-        }),
-        Err(NoMemory) => Err(CreateFault::NoMemory),
+    let lines = template.lines();
+    if !is_ended(lines) {
+        return Err(NO_TEMPLATE);
     }
+    created_by(alloc, template, head_of(lines[0].as_slice()))
 }

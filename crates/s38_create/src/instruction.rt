@@ -1,101 +1,129 @@
-ghost use Rattle.std.specs.Prelude.{◌≡◌, [], IfOk};
+ghost use Rattle.std.specs.Prelude.{◌≡◌, ◌⊎◌, ◌+◌, ◌≤◌, Ok, Err, [], map, IfOk, IfErr};
+ghost use Rattle.std.specs.List.{list_all};
 ghost use Rattle.std.specs.Option.{option_map};
-ghost use Rattle.s38_create.specs.Instruction.{args_from, code_from, instruction_of, op_of};
-ghost use Rattle.s38_create.specs.Places.{IsTied};
+ghost use Rattle.s38_create.specs.Instruction.{checked, code_from, instruction_of, is_taken, rounds_right, saids_of};
+ghost use Rattle.s38_create.specs.Names.{instruction_count};
+ghost use Rattle.s38_create.specs.Labels.{HasLabels};
+ghost use Rattle.s38_create.specs.Said.{arg_of, is_declared, is_placed};
 
-use crate::declared::Declared;
-use crate::operand::argument;
-use crate::text::{before, behind, is_word};
-use s38_base::{Bytes, NoMemory, Op, Seq};
-use s38_code::{Arg, Class, Instruction, classes, mnemonic};
+use crate::causes::{NOT_OF_ROW, cause};
+use crate::line::{is_label, is_rounded, operand_text};
+use crate::said::{Said, arg_of, is_declared, is_placed};
+use crate::saids::saids;
+use crate::scope::Scope;
+use s38_base::{NoMemory, Op, Seq};
+use s38_code::words::{before, operation};
+use s38_code::{Arg, CreateFault, Instruction, Instructions, classes, is_built, may_round};
 use std::alloc::Global;
 
-/// The operation that a word is the mnemonic of, among those that are built.
-#[tactic(auto, unfolding(crate::specs::Instruction::op_of))]
-fn operation(word: &[u8]) -> Option<Op>
-    ensures { result ≡ op_of word.now }
+/// This machine has the instruction, and `(R)` stands in its line only where it may.
+fn is_taken(op: Op, line: &[u8]) -> bool
+    ensures { result ≡ is_taken op line.now }
 {
-    if is_word(mnemonic(Op::Rslvsp), word) {
-        return Some(Op::Rslvsp);
-    }
-    if is_word(mnemonic(Op::Enq), word) {
-        return Some(Op::Enq);
-    }
-    if is_word(mnemonic(Op::Deq), word) {
-        return Some(Op::Deq);
-    }
-    if is_word(mnemonic(Op::Rtx), word) {
-        return Some(Op::Rtx);
-    }
-    None
+    is_built(op) && (!is_rounded(line) || may_round(op))
 }
 
-/// One operand for each class, parted by commas; None where one is not of its class, or their number is another.
-fn arguments(
+/// What the words of a line say; None where they are not those of the row.
+fn saids_of(
     alloc: Global,
-    declared: &Declared,
-    classes: &[Class],
-    text: Option<&[u8]>,
-) -> Result<Option<Vec<Arg>>, NoMemory>
-    requires { IsTied declared.now.places declared.now.rows.items }
-    ensures { IfOk result (λ args. option_map (λ v. v.items) args ≡ args_from declared.now.rows.items [] classes.now (option_map (λ t. t.now) text.entry)) }
-{
-    let mut args = Vec::new(alloc);
-    let mut rest = text;
-    for class in classes {
-        let Some(text) = rest else {
-            return Ok(None);
-        };
-        let Some(arg) = argument(alloc, declared, *class, before(b',', text))? else {
-            return Ok(None);
-        };
-        args.push(arg)?;
-        rest = behind(b',', text);
-    }
-    if rest.is_some() {
-        return Ok(None);
-    }
-    Ok(Some(args))
-}
-
-/// The instruction that a line makes; None where it makes none.
-#[tactic(auto, unfolding(crate::specs::Instruction::instruction_of))]
-fn instruction(
-    alloc: Global,
-    declared: &Declared,
+    scope: &Scope,
     line: &[u8],
-) -> Result<Option<Instruction>, NoMemory>
-    requires { IsTied declared.now.places declared.now.rows.items }
-    ensures { IfOk result (λ instruction. instruction ≡ instruction_of declared.now.rows.items line.now) }
+    op: Op,
+) -> Result<Option<Vec<Said>>, NoMemory>
+    requires { HasLabels scope.now.code.now scope.now.labels }
+    ensures { IfOk result (λ saids. option_map (λ v. v.items) saids ≡ saids_of scope.now.table scope.now.code.now line.now op) }
 {
-    let Some(op) = operation(before(b' ', line)) else {
+    if !is_taken(op, line) {
         return Ok(None);
-    };
-    let Some(args) = arguments(alloc, declared, classes(op), behind(b' ', line))? else {
-        return Ok(None);
-    };
-    Ok(Some(Instruction {
-        op,
-        round: false,
-        args: Seq::from_vec(args),
-    }))
+    }
+    saids(alloc, scope, classes(op), operand_text(line))
 }
 
-/// The instructions of these lines; None where one makes none.
-pub fn instructions(
-    alloc: Global,
-    declared: &Declared,
-    lines: &[Bytes],
-) -> Result<Option<Vec<Instruction>>, NoMemory>
-    requires { IsTied declared.now.places declared.now.rows.items }
-    ensures { IfOk result (λ code. option_map (λ v. v.items) code ≡ code_from declared.now.rows.items [] lines.now) }
+fn are_declared(saids: &[Said]) -> bool
+    ensures { result ≡ list_all is_declared saids.now }
 {
-    let mut code = Vec::new(alloc);
-    for line in lines {
-        let Some(instruction) = instruction(alloc, declared, line.as_slice())? else {
-            return Ok(None);
-        };
-        code.push(instruction)?;
+    saids.iter().all(is_declared)
+}
+
+fn are_placed(saids: &[Said]) -> bool
+    ensures { result ≡ list_all is_placed saids.now }
+{
+    saids.iter().all(is_placed)
+}
+
+/// The operands that are said.
+fn args_of(alloc: Global, saids: Vec<Said>) -> Result<Vec<Arg>, NoMemory>
+    ensures { IfOk result (λ args. args.items ≡ map arg_of saids.items) }
+{
+    let args = saids.into_iter().map(arg_of).collect(alloc)?;
+    Ok(args)
+}
+
+/// The instruction that these words say, as the one of this number, where there is no cause against it.
+fn checked(
+    alloc: Global,
+    scope: &Scope,
+    number: u32,
+    op: Op,
+    round: bool,
+    saids: Vec<Said>,
+) -> Result<Instruction, CreateFault>
+    ensures made { IfOk result (λ i. checked scope.now.table number op round saids.items ≡ Ok i) }
+    ensures bad { IfErr result (λ fault. (fault ≡ CreateFault.NoMemory) ⊎ (checked scope.now.table number op round saids.items ≡ Err fault)) }
+{
+    let declared = are_declared(saids.as_slice());
+    let placed = are_placed(saids.as_slice());
+    let instruction = Instruction {
+        op,
+        round,
+        args: Seq::from_vec(args_of(alloc, saids)?),
+    };
+    match cause(scope.table.rows(), &instruction, declared, placed) {
+        Some(id) => Err(CreateFault::Bad { id, number }),
+        None => Ok(instruction),
     }
-    Ok(Some(code))
+}
+
+/// What a line makes as the instruction of a number.
+#[tactic(auto, unfolding(crate::specs::Instruction::instruction_of))]
+fn instruction_of(
+    alloc: Global,
+    scope: &Scope,
+    number: u32,
+    line: &[u8],
+) -> Result<Instruction, CreateFault>
+    requires { HasLabels scope.now.code.now scope.now.labels }
+    ensures made { IfOk result (λ i. instruction_of scope.now.table scope.now.code.now number line.now ≡ Ok i) }
+    ensures bad { IfErr result (λ fault. (fault ≡ CreateFault.NoMemory) ⊎ (instruction_of scope.now.table scope.now.code.now number line.now ≡ Err fault)) }
+{
+    let none = CreateFault::Bad {
+        id: NOT_OF_ROW,
+        number,
+    };
+    let Some(op) = operation(before(b' ', line)) else {
+        return Err(none);
+    };
+    match saids_of(alloc, scope, line, op)? {
+        Some(saids) => checked(alloc, scope, number, op, is_rounded(line), saids),
+        None => Err(none),
+    }
+}
+
+/// The instructions of the code. `Bad` exactly at the first line that makes none, with its number among the
+/// instructions, from 1 on.
+pub fn instructions(alloc: Global, scope: &Scope) -> Result<Instructions, CreateFault>
+    requires tied { HasLabels scope.now.code.now scope.now.labels }
+    requires few { instruction_count scope.now.code.now ≤ 16384 }
+    ensures made { IfOk result (λ made. code_from scope.now.table scope.now.code.now [] scope.now.code.now ≡ Ok made) }
+    ensures bad { IfErr result (λ fault. (fault ≡ CreateFault.NoMemory) ⊎ (code_from scope.now.table scope.now.code.now [] scope.now.code.now ≡ Err fault)) }
+{
+    let mut made = Seq::new(alloc);
+    for line in scope.code {
+        if !is_label(line.as_slice()) {
+            let number = made.len() as u32 + 1;
+            let instruction = instruction_of(alloc, scope, number, line.as_slice())?;
+            made.push(instruction)?;
+        }
+    }
+    Ok(made)
 }

@@ -1,16 +1,26 @@
-//! Makes checked programs of templates.
+//! Makes checked programs of templates, or finds the first place at which a template is bad.
 #![tactic(auto)]
 
+mod attributes;
+mod by_class;
+mod causes;
 mod creation;
-mod declaration;
-mod declared;
+mod digits;
+mod forms;
+mod frame;
+mod head;
 mod instruction;
-mod literal;
-mod operand;
-mod text;
+mod items;
+mod labels;
+mod line;
+mod said;
+mod saids;
+mod scope;
+mod shapes;
+mod suits;
+mod ties;
 
 pub use creation::create;
-pub use declaration::program_name;
 
 #[cfg(test)]
 mod tests;

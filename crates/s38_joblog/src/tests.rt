@@ -141,7 +141,7 @@ fn values_are_written(rt: HostRuntime) -> Result<(), Fail> {
         );
     }
     let program = Program {
-        template: Template::new(Seq::new(alloc)),
+        template: Template::new(alloc, Seq::new(alloc))?,
         rows: Seq::new(alloc),
         code: Seq::new(alloc),
         adopts: false,

@@ -55,7 +55,7 @@ fn enq(alloc: Global) -> Result<Instruction, Fail> {
 
 fn program(alloc: Global, code: Vec<Instruction>) -> Result<Code, Fail> {
     let made = Program {
-        template: Template::new(Seq::new(alloc)),
+        template: Template::new(alloc, Seq::new(alloc))?,
         rows: Seq::from_vec(rows(alloc)?),
         code: Seq::from_vec(code),
         adopts: false,

@@ -115,7 +115,8 @@ fn closed(alloc: Global, reader: Reader) -> Result<Reader, DeckFault>
         stage,
     } = reader;
     let lines = with_line(alloc, draft, END)?;
-    templates.push(Template::new(lines))?;
+    let template = Template::new(alloc, lines)?;
+    templates.push(template)?;
     Ok(Reader {
         place: Place::Between,
         templates,

@@ -1,0 +1,3 @@
+pub mod DigitLaws
+pub mod NumberLaws
+pub mod PartLaws

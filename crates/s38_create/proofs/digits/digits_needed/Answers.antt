@@ -1,0 +1,33 @@
+use Rattle.std.proofs.Common.{◌≡◌, ◌||◌, Bool, true, false, sym, ◌∙◌, ap, arith, rules}
+use Rattle.std.proofs.lemmas.Grind.{common_steps}
+use Rattle.s38_base.specs.Scalar.{is_numeric}
+use Rattle.s38_base.specs.declared.op.Op.TheVariants.{Cmpnvb}
+use Rattle.s38_create.proofs.NumberLemmas.{first-numbers, second-source}
+use Rattle.s38_create.specs.Ties.{fits}
+use Rattle.s38_decimal.specs.Need.{has_one, has_second}
+use Rattle.s38_create.proofs.digits.digits_needed.Goals as goal
+use Rattle.s38_create.proofs.digits.digits_needed.Goals.{in-Cmpnvb, in_default}
+
+pub need-requires-clause-first : goal.need-requires-clause-first
+need-requires-clause-first c =
+    let computes : (has_one c.args.op || has_second c.args.op) ≡ true = grind (arith, common_steps) in
+    ap is_numeric c.number_at-first.ensures ∙ (first-numbers c.args.rows.now c.args.op c.args.args.now computes c.requires).0
+
+pub need-requires-clause-second : goal.need-requires-clause-second
+need-requires-clause-second c two =
+    let computes : (has_one c.args.op || has_second c.args.op) ≡ true = grind (arith, common_steps) in
+    ap is_numeric c.number_at-second.ensures ∙ (first-numbers c.args.rows.now c.args.op c.args.args.now computes c.requires).1
+
+pub need-requires-2-clause-first : goal.need-requires-2-clause-first
+need-requires-2-clause-first c =
+    let computes : (has_one c.args.op || has_second c.args.op) ≡ true = grind (arith, common_steps) in
+    ap is_numeric c.number_at-second.ensures ∙ (first-numbers c.args.rows.now c.args.op c.args.args.now computes c.requires).1
+
+pub need-requires-2-clause-second : goal.need-requires-2-clause-second
+need-requires-2-clause-second c two =
+    ap is_numeric c.number_at.ensures ∙ second-source c.args.rows.now c.args.op c.args.args.now two (λ same. elim c.match-matches.branch [ in-Cmpnvb w ↦ (cc) | in_default w ↦ w.in_default.not-Cmpnvb same ]) c.requires
+
+pub need-requires-2-clause-receiver : goal.need-requires-2-clause-receiver
+need-requires-2-clause-receiver c received =
+    let computes : (has_one c.args.op || has_second c.args.op) ≡ true = grind (arith, common_steps) in
+    ap is_numeric c.number_at-first.ensures ∙ (first-numbers c.args.rows.now c.args.op c.args.args.now computes c.requires).0

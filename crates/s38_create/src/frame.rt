@@ -1,0 +1,42 @@
+ghost use Rattle.std.specs.Prelude.{◌≡◌, ◌≤◌, length};
+ghost use Rattle.s38_create.specs.Created.{declaration_count, is_declaration, is_ended};
+ghost use Rattle.s38_create.specs.Names.{instruction_count};
+
+use crate::line::is_label;
+use s38_base::Bytes;
+use s38_code::words::{is_word, rest_after};
+
+/// The last of two or more lines is END.
+pub fn is_ended(lines: &[Bytes]) -> bool
+    ensures { result ≡ is_ended lines.now }
+{
+    if lines.len() < 2 {
+        return false;
+    }
+    is_word(b"END", lines[lines.len() - 1].as_slice())
+}
+
+fn is_declaration(line: &[u8]) -> bool
+    ensures { result ≡ is_declaration line.now }
+{
+    rest_after(b"DCL ", line).is_some()
+}
+
+/// How many lines stand before the first that is no declaration.
+pub fn declaration_count(body: &[Bytes]) -> usize
+    ensures count { result ≡ declaration_count body.now }
+    ensures bound { result ≤ length body.now }
+{
+    body.iter()
+        .take_while(|line| is_declaration(line.as_slice()))
+        .count()
+}
+
+/// How many of the lines are no labels.
+pub fn instruction_count(code: &[Bytes]) -> usize
+    ensures { result ≡ instruction_count code.now }
+{
+    code.iter()
+        .filter(|line| !is_label(line.as_slice()))
+        .count()
+}

@@ -1,0 +1,191 @@
+-- The rows that are made are formed.
+use Rattle.std.proofs.Common.{◌≡◌, ◌≤◌, ◌<◌, ◌+◌, ◌-◌, ◌*◌, ◌/◌, ℕ, ℤ, pos, Bool, true, false, cond, leb, List, [], ◌∷◌, ◌++◌, length, length-append, get_or, take, map, Option, Some, None, Result, Ok, Err, refl, sym, ◌∙◌, ap, subst, ⊎_elim, arith}
+use Rattle.std.specs.Prelude.{slice_get, replicate}
+use Rattle.std.specs.List.{range_with_len}
+use Rattle.std.specs.Option.{is_some, option_and_then}
+use Rattle.std.proofs.lemmas.Bool.{cases_lt}
+use Rattle.std.proofs.lemmas.Bool.Decides.{nat_tests}
+use Rattle.std.proofs.lemmas.List.{get_or_append_left, length-replicate, take-append-le}
+use Rattle.std.proofs.lemmas.List.FromFn.{length-map-range_with_len}
+use Rattle.std.proofs.lemmas.Option.{get_or_from_slice_get, slice_get-get_or, slice_get_within}
+use Rattle.std.proofs.Math.Seq.{get_or-append_seam, take-append_seam}
+use Rattle.s38_base.specs.Scalar.{digit_at, bits_of, fits, image_of, is_bounded, length_of, packed_byte, zoned_byte}
+use Rattle.s38_base.specs.declared.attr.Attr.{Attr}
+use Rattle.s38_base.specs.declared.attr.Attr.TheVariants.{Packed, Zoned, Binary, Chars, Pointer}
+use Rattle.s38_code.specs.DeclarationLine.{declaration_of, initial_of, is_in_range}
+use Rattle.s38_code.specs.WordsLiteral.{text_of}
+use Rattle.s38_code.specs.WordsNumber.{number_of}
+use Rattle.s38_code.specs.declared.program.CreateFault.{CreateFault}
+use Rattle.s38_code.specs.declared.program.Form.{Form}
+use Rattle.s38_code.specs.declared.program.Form.TheVariants.{Local, Based}
+use Rattle.s38_code.specs.declared.program.Row.{Row}
+use Rattle.s38_code.specs.declared.words.declarations.DeclarationLine.{DeclarationLine}
+use Rattle.s38_code.specs.declared.words.declarations.Declares.{Declares}
+use Rattle.s38_code.specs.declared.words.declarations.Declares.TheVariants.{Variable, Parameter, BasedItem, Description}
+use Rattle.s38_code.specs.declared.words.numbers.Numeral.{Numeral}
+use Rattle.s38_odt.specs.First.{blank_of, either_held, filled, first_of, is_exact, number_held, text_held, units_held, units_in}
+use Rattle.s38_odt.specs.Formed.{AreFormed, IsBased, IsForm, IsVariable, first_length}
+use Rattle.s38_odt.specs.Table.{and_then, attribute_bounded, bad_attribute, bad_name, base_at, base_in, based_form, checked_form, form_of, is_base_row, is_bounded_line, more_rows, new_row, place_in, refused, row_of, row_said, rows_from, variable_form}
+use Rattle.s38_odt.proofs.Parts.{and_then-some, if-ok, if-some, unless-ok}
+
+-- ---- first bytes
+
+units_held-length : (attr : Attr) (z : ℤ) (first : List ℕ) → units_held attr z ≡ Some first → length first ≡ first_length attr
+unfolding fits image_of
+units_held-length (Packed digits fraction) z first h =
+    let made = (if-some (fits (Packed digits fraction) z) (Some (image_of (Packed digits fraction) z)) first h).1 in
+    let same : image_of (Packed digits fraction) z ≡ first = cc in
+    ap length (sym same) ∙ length-map-range_with_len (packed_byte (digits / 2) z) 0 (digits / 2 + 1)
+units_held-length (Zoned digits fraction) z first h =
+    let made = (if-some (fits (Zoned digits fraction) z) (Some (image_of (Zoned digits fraction) z)) first h).1 in
+    let same : image_of (Zoned digits fraction) z ≡ first = cc in
+    ap length (sym same) ∙ length-map-range_with_len (zoned_byte digits z) 0 digits
+units_held-length (Binary size) z first h =
+    let made = (if-some (fits (Binary size) z) (Some (image_of (Binary size) z)) first h).1 in
+    let same : image_of (Binary size) z ≡ first = cc in
+    ap length (sym same) ∙ length-map-range_with_len (λ k. digit_at 256 (bits_of size z) (size - 1 - k)) 0 size
+units_held-length (Chars len) z first h = absurd (let e : None ≡ Some first = h in cc)
+units_held-length Pointer z first h = absurd (let e : None ≡ Some first = h in cc)
+
+number_held-length : (attr : Attr) (n : Numeral) (first : List ℕ) → number_held attr n ≡ Some first → length first ≡ first_length attr
+unfolding number_held
+number_held-length attr n first h =
+    units_held-length attr (units_in attr n) first (if-some (is_exact attr n) (units_held attr (units_in attr n)) first h).1
+
+filled-length : (len : ℕ) (bytes : List ℕ) → length bytes ≤ len → length (filled len bytes) ≡ len
+filled-length len bytes h =
+    let tail : List ℕ = replicate (len - length bytes) 64 in
+    let pad : length tail ≡ len - length bytes = length-replicate {A = ℕ} (len - length bytes) 64 in
+    omega (arith, length-append bytes tail, pad)
+
+text_held-length : (attr : Attr) (bytes first : List ℕ) → text_held attr bytes ≡ Some first → length first ≡ first_length attr
+text_held-length (Packed digits fraction) bytes first h = absurd (let e : None ≡ Some first = h in cc)
+text_held-length (Zoned digits fraction) bytes first h = absurd (let e : None ≡ Some first = h in cc)
+text_held-length (Binary size) bytes first h = absurd (let e : None ≡ Some first = h in cc)
+text_held-length (Chars len) bytes first h =
+    let made = if-some (leb (length bytes) len) (Some (filled len bytes)) first h in
+    let test : leb (length bytes) len ≡ true = made.0 in
+    let few : length bytes ≤ len = grind (arith, nat_tests) in
+    let taken = made.1 in
+    let same : filled len bytes ≡ first = cc in
+    ap length (sym same) ∙ filled-length len bytes few
+text_held-length Pointer bytes first h = absurd (let e : None ≡ Some first = h in cc)
+
+blank_of-length : (attr : Attr) (first : List ℕ) → blank_of attr ≡ Some first → length first ≡ first_length attr
+blank_of-length (Packed digits fraction) first h = units_held-length (Packed digits fraction) (pos 0) first h
+blank_of-length (Zoned digits fraction) first h = units_held-length (Zoned digits fraction) (pos 0) first h
+blank_of-length (Binary size) first h = units_held-length (Binary size) (pos 0) first h
+blank_of-length (Chars len) first h = let same : replicate len 64 ≡ first = cc in ap length (sym same) ∙ length-replicate len 64
+blank_of-length Pointer first h = let same : [] ≡ first = cc in ap length (sym same)
+
+either_held-length : (attr : Attr) (n : Option Numeral) (text : Option (List ℕ)) (first : List ℕ) → either_held attr n text ≡ Some first → length first ≡ first_length attr
+either_held-length attr (Some n) text first h = number_held-length attr n first h
+either_held-length attr None text first h = let held = and_then-some (text_held attr) text first h in text_held-length attr held.0 first held.2
+
+first_of-length : (attr : Attr) (literal : Option (List ℕ)) (first : List ℕ) → first_of attr literal ≡ Some first → length first ≡ first_length attr
+first_of-length attr None first h = blank_of-length attr first h
+first_of-length attr (Some literal) first h = either_held-length attr (number_of literal) (text_of literal) first h
+
+-- ---- forms
+
+variable_form-formed : (rows : List Row) (attr : Attr) (begun : Option (List ℕ)) (form : Form) → is_bounded attr ≡ true →
+    ((first : List ℕ) → begun ≡ Some first → length first ≡ first_length attr) → variable_form attr begun ≡ Ok form → IsForm rows form
+variable_form-formed rows attr None form bounded long h = absurd (let e : Err bad_attribute ≡ Ok form = h in cc)
+variable_form-formed rows attr (Some first) form bounded long h =
+    let same : Local attr first ≡ form = cc in
+    let P : Form → Type 0 = λ f. IsForm rows f in
+    subst P same (record { bounded = bounded; begun = long first refl })
+
+based_form-formed : (rows : List Row) (offset : ℕ) (attr : Attr) (base : Option ℕ) (form : Form) → is_bounded attr ≡ true → offset ≤ 16777216 →
+    ((k : ℕ) → base ≡ Some k → is_base_row (slice_get rows k) ≡ true) → based_form offset attr base ≡ Ok form → IsForm rows form
+based_form-formed rows offset attr None form bounded near is h = absurd (let e : Err bad_name ≡ Ok form = h in cc)
+based_form-formed rows offset attr (Some k) form bounded near is h =
+    let same : Based k offset attr ≡ form = cc in
+    let P : Form → Type 0 = λ f. IsForm rows f in
+    subst P same (record { bounded = bounded; near = near; declared = is k refl })
+
+base_in-is : (rows : List Row) (name : List ℕ) (k : ℕ) → base_in rows name ≡ Some k → is_base_row (slice_get rows k) ≡ true
+base_in-is rows name k h =
+    let at = and_then-some (base_at rows) (place_in rows name) k h in
+    let made = if-some (is_base_row (slice_get rows at.0)) (Some at.0) k at.2 in
+    let taken = made.1 in
+    let same : at.0 ≡ k = cc in
+    let P : ℕ → Type 0 = λ n. is_base_row (slice_get rows n) ≡ true in
+    subst P same made.0
+
+form_of-formed : (rows : List Row) (literal : Option (List ℕ)) (declares : Declares) (form : Form) →
+    is_bounded_line declares ≡ true → form_of rows literal declares ≡ Ok form → IsForm rows form
+unfolding form_of
+form_of-formed rows literal (Variable attr) form bounded h =
+    variable_form-formed rows attr (first_of attr literal) form bounded (λ first e. first_of-length attr literal first e) h
+form_of-formed rows literal (Parameter k attr) form bounded h = absurd (let e : Err bad_name ≡ Ok form = h in cc)
+form_of-formed rows literal (BasedItem base offset attr) form bounded h =
+    let near : offset ≤ 16777216 = grind (arith, nat_tests) in
+    let attr_bounded : is_bounded attr ≡ true = grind arith in
+    based_form-formed rows offset attr (base_in rows base) form attr_bounded near (λ k e. base_in-is rows base k e) h
+form_of-formed rows literal (Description code label) form bounded h = absurd (let e : Err bad_name ≡ Ok form = h in cc)
+
+-- ---- rows
+
+new_row-formed : (rows : List Row) (name : List ℕ) (made : Result Form ℕ) (row : Row) →
+    ((form : Form) → made ≡ Ok form → IsForm rows form) → new_row rows name made ≡ Ok row → IsForm rows row.form
+new_row-formed rows name (Err cause) row formed h = absurd (let e : Err cause ≡ Ok row = h in cc)
+new_row-formed rows name (Ok form) row formed h =
+    let parts = unless-ok (is_some (place_in rows name)) (Ok (record { name = name; form = form })) bad_name row h in
+    let taken = parts.1 in
+    let same : record { name = name; form = form } ≡ row = cc in
+    let P : Row → Type 0 = λ r. IsForm rows r.form in
+    subst P same (formed form refl)
+
+row_said-formed : (rows : List Row) (literal : Option (List ℕ)) (line : Option DeclarationLine) (row : Row) → row_said rows literal line ≡ Ok row → IsForm rows row.form
+row_said-formed rows literal None row h = absurd (let e : Err bad_attribute ≡ Ok row = h in cc)
+row_said-formed rows literal (Some line) row h =
+    new_row-formed rows line.name (checked_form rows literal line.declares) row
+    (λ form e. let checked = if-ok (is_bounded_line line.declares) (form_of rows literal line.declares) bad_attribute form e in
+    form_of-formed rows literal line.declares form checked.0 checked.1) h
+
+row_of-formed : (rows : List Row) (line : List ℕ) (row : Row) → row_of rows line ≡ Ok row → IsForm rows row.form
+unfolding row_of
+row_of-formed rows line row h = row_said-formed rows (initial_of line) (declaration_of line) row h
+
+AreFormed-none : AreFormed []
+AreFormed-none = record { each = λ k row h. absurd (let within : k < 0 = slice_get_within [] k row h in omega arith) }
+
+AreFormed-push : (rows : List Row) (row : Row) → AreFormed rows → IsForm rows row.form → AreFormed (rows ++ row ∷ [])
+AreFormed-push rows row formed one = record {
+  each = λ k r h.
+      let within : k < length (rows ++ row ∷ []) = slice_get_within (rows ++ row ∷ []) k r h in
+      let read : get_or (rows ++ row ∷ []) k r ≡ r = get_or_from_slice_get (rows ++ row ∷ []) k r r h in
+      let P : List Row → Type 0 = λ front. IsForm front r.form in
+      ⊎_elim
+      (λ below.
+      let old : get_or rows k r ≡ r = sym (get_or_append_left rows (row ∷ []) r k below) ∙ read in
+      let found : slice_get rows k ≡ Some r = slice_get-get_or rows k r below ∙ ap (λ x. Some x) old in
+      subst P (sym (take-append-le k rows (row ∷ []) (omega arith))) (formed.each k r found))
+      (λ above.
+      let last : length rows ≡ k = omega (arith, length-append rows (row ∷ [])) in
+      let same : row ≡ r = sym (get_or-append_seam rows row [] r) ∙ (ap (λ n. get_or (rows ++ row ∷ []) n r) last ∙ read) in
+      let front : rows ≡ take k (rows ++ row ∷ []) = sym (take-append_seam rows (row ∷ [])) ∙ ap (λ n. take n (rows ++ row ∷ [])) last in
+      let Q : Row → Type 0 = λ x. IsForm rows x.form in
+      subst P front (subst Q same one))
+      (cases_lt k (length rows));
+}
+
+more_rows-ok : (rows : List Row) (made : Result Row ℕ) (next : List Row → Result (List Row) CreateFault) (out : List Row) →
+    and_then (more_rows rows made) next ≡ Ok out → (row : Row) × (made ≡ Ok row) × (next (rows ++ row ∷ []) ≡ Ok out)
+more_rows-ok rows (Err cause) next out h = absurd (let e : Err (refused rows cause) ≡ Ok out = h in cc)
+more_rows-ok rows (Ok row) next out h = (row, refl, h)
+
+-- the rows of all lines are formed, and each line makes one
+pub rows_from-formed : (rows : List Row) (lines : List (List ℕ)) (out : List Row) → AreFormed rows → rows_from rows lines ≡ Ok out →
+    AreFormed out × (length out ≡ length rows + length lines)
+rows_from-formed rows [] out formed h =
+    let same : rows ≡ out = cc in
+    (subst AreFormed same formed, omega (arith, ap length same))
+rows_from-formed rows (line ∷ lines) out formed h =
+    let step = more_rows-ok rows (row_of rows line) (λ more. rows_from more lines) out h in
+    let rest = rows_from-formed (rows ++ step.0 ∷ []) lines out (AreFormed-push rows step.0 formed (row_of-formed rows line step.0 step.1)) step.2 in
+    (rest.0, omega (arith, rest.1, length-append rows (step.0 ∷ [])))
+
+pub rows_of-formed : (lines : List (List ℕ)) (out : List Row) → rows_from [] lines ≡ Ok out → AreFormed out × (length out ≡ length lines)
+rows_of-formed lines out h = let all = rows_from-formed [] lines out AreFormed-none h in (all.0, omega (arith, all.1))

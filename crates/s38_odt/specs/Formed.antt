@@ -1,0 +1,34 @@
+-- What a caller may rely on in declarations that were checked.
+use Rattle.std.specs.Prelude.{◌≡◌, ◌≤◌, ℕ, IsTrue, List, [], take, length, slice_get, Some, if◌then◌else◌}
+use Rattle.s38_base.specs.Scalar.{is_bounded, length_of}
+use Rattle.s38_base.specs.declared.attr.Attr.{Attr}
+use Rattle.s38_code.specs.declared.program.Form.{Form}
+use Rattle.s38_code.specs.declared.program.Form.TheVariants.{Local, Parm, Based, Handler}
+use Rattle.s38_code.specs.declared.program.Row.{Row}
+use Rattle.s38_odt.specs.Table.{is_base_row, is_pointer}
+
+-- how many bytes a variable begins with: none for a pointer
+abbrev pub first_length : Attr → ℕ
+first_length attr = if is_pointer attr then 0 else length_of attr
+
+-- its attribute keeps the bounds of a declaration, and it begins with as many bytes as the attribute has
+pub record IsVariable (attr : Attr) (first : List ℕ) : Type 0 where
+  pub bounded : IsTrue (is_bounded attr)
+  pub begun : length first ≡ first_length attr
+
+-- its base is a pointer that was declared before it
+pub record IsBased (before : List Row) (base offset : ℕ) (attr : Attr) : Type 0 where
+  pub bounded : IsTrue (is_bounded attr)
+  pub near : offset ≤ 16777216
+  pub declared : IsTrue (is_base_row (slice_get before base))
+
+-- of a form, by the rows before it
+abbrev pub IsForm : List Row → Form → Type 0
+IsForm before (Local attr first) = IsVariable attr first
+IsForm before (Parm k attr) = ⊥
+IsForm before (Based base offset attr) = IsBased before base offset attr
+IsForm before (Handler code at) = ⊥
+
+-- each row has its form by the rows before it
+pub record AreFormed (rows : List Row) : Type 0 where
+  pub each : (k : ℕ) (row : Row) → slice_get rows k ≡ Some row → IsForm (take k rows) row.form

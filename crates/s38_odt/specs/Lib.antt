@@ -1,0 +1,4 @@
+pub mod First
+pub mod Formed
+pub mod Places
+pub mod Table

@@ -1,0 +1,130 @@
+-- The declarations of a program: each line is checked against the rows before it.
+use Rattle.std.specs.Prelude.{ℕ, ◌+◌, Bool, true, false, ◌&&◌, List, [], ◌∷◌, ◌++◌, length, slice_get, Option, Some, None, is_some, Result, Ok, Err, if◌then◌else◌}
+use Rattle.std.specs.List.{position_from}
+use Rattle.std.specs.Option.{option_and_then}
+use Rattle.std.specs.Str.{bytes_eq}
+use Rattle.s38_base.specs.NameText.{is_name}
+use Rattle.s38_base.specs.Scalar.{is_bounded}
+use Rattle.s38_base.specs.declared.attr.Attr.{Attr}
+use Rattle.s38_base.specs.declared.attr.Attr.TheVariants.{Packed, Zoned, Binary, Chars, Pointer}
+use Rattle.s38_code.specs.DeclarationLine.{declaration_of, initial_of, is_in_range}
+use Rattle.s38_code.specs.declared.program.CreateFault.{CreateFault}
+use Rattle.s38_code.specs.declared.program.CreateFault.TheVariants.{Bad}
+use Rattle.s38_code.specs.declared.program.Form.{Form}
+use Rattle.s38_code.specs.declared.program.Form.TheVariants.{Local, Parm, Based, Handler}
+use Rattle.s38_code.specs.declared.program.Row.{Row}
+use Rattle.s38_code.specs.declared.words.declarations.DeclarationLine.{DeclarationLine}
+use Rattle.s38_code.specs.declared.words.declarations.Declares.{Declares}
+use Rattle.s38_code.specs.declared.words.declarations.Declares.TheVariants.{Variable, Parameter, BasedItem, Description}
+use Rattle.s38_odt.specs.First.{first_of}
+
+-- an attribute out of its bounds, or a literal that it does not hold
+abbrev pub bad_attribute : ℕ
+bad_attribute = 0x2A02
+
+-- a name that stands there already, a base that is no pointer, or a form that is not built
+abbrev pub bad_name : ℕ
+bad_name = 0x2A03
+
+-- ---- names
+
+-- where a name stands among rows, from 0 on
+unfoldable pub place_in : List Row → List ℕ → Option ℕ
+place_in rows name = position_from (λ row. bytes_eq row.name name) 0 rows
+
+-- the number of the item that a word names
+abbrev pub item_of : List Row → List ℕ → Option ℕ
+item_of rows word = if is_name word then place_in rows word else None
+
+-- ---- bases
+
+abbrev pub is_pointer : Attr → Bool
+is_pointer (Packed digits fraction) = false
+is_pointer (Zoned digits fraction) = false
+is_pointer (Binary size) = false
+is_pointer (Chars len) = false
+is_pointer Pointer = true
+
+-- a variable or a parameter that holds a pointer
+abbrev pub is_base : Form → Bool
+is_base (Local attr first) = is_pointer attr
+is_base (Parm k attr) = is_pointer attr
+is_base (Based base offset attr) = false
+is_base (Handler code at) = false
+
+abbrev pub is_base_row : Option Row → Bool
+is_base_row None = false
+is_base_row (Some row) = is_base row.form
+
+abbrev pub base_at : List Row → ℕ → Option ℕ
+base_at rows k = if is_base_row (slice_get rows k) then Some k else None
+
+-- the number of the base that a name is
+abbrev pub base_in : List Row → List ℕ → Option ℕ
+base_in rows name = option_and_then (base_at rows) (place_in rows name)
+
+-- ---- one declaration
+
+-- its attribute keeps its bounds, and its numbers their ranges
+abbrev pub attribute_bounded : Declares → Bool
+attribute_bounded (Variable attr) = is_bounded attr
+attribute_bounded (Parameter k attr) = is_bounded attr
+attribute_bounded (BasedItem base offset attr) = is_bounded attr
+attribute_bounded (Description code label) = true
+
+abbrev pub is_bounded_line : Declares → Bool
+is_bounded_line declares = is_in_range declares && attribute_bounded declares
+
+abbrev pub variable_form : Attr → Option (List ℕ) → Result Form ℕ
+variable_form attr None = Err bad_attribute
+variable_form attr (Some first) = Ok (Local attr first)
+
+abbrev pub based_form : ℕ → Attr → Option ℕ → Result Form ℕ
+based_form offset attr None = Err bad_name
+based_form offset attr (Some base) = Ok (Based base offset attr)
+
+-- what a bounded line makes of its name; parameters and descriptions of exceptions are not built
+unfoldable pub form_of : List Row → Option (List ℕ) → Declares → Result Form ℕ
+form_of rows literal (Variable attr) = variable_form attr (first_of attr literal)
+form_of rows literal (Parameter k attr) = Err bad_name
+form_of rows literal (BasedItem base offset attr) = based_form offset attr (base_in rows base)
+form_of rows literal (Description code label) = Err bad_name
+
+abbrev pub checked_form : List Row → Option (List ℕ) → Declares → Result Form ℕ
+checked_form rows literal declares = if is_bounded_line declares then form_of rows literal declares else Err bad_attribute
+
+-- the row, if its name is new
+abbrev pub new_row : List Row → List ℕ → Result Form ℕ → Result Row ℕ
+new_row rows name (Err cause) = Err cause
+new_row rows name (Ok form) = if is_some (place_in rows name) then Err bad_name else Ok (record { name = name; form = form })
+
+abbrev pub row_said : List Row → Option (List ℕ) → Option DeclarationLine → Result Row ℕ
+row_said rows literal None = Err bad_attribute
+row_said rows literal (Some line) = new_row rows line.name (checked_form rows literal line.declares)
+
+-- the row that a line makes behind these rows, or the cause for which it is refused
+unfoldable pub row_of : List Row → List ℕ → Result Row ℕ
+row_of rows line = row_said rows (initial_of line) (declaration_of line)
+
+-- ---- all declarations
+
+abbrev pub refused : List Row → ℕ → CreateFault
+refused rows cause = Bad cause (length rows + 1)
+
+-- the rows so far and one more, or the fault with the number of its declaration
+abbrev pub more_rows : List Row → Result Row ℕ → Result (List Row) CreateFault
+more_rows rows (Err cause) = Err (refused rows cause)
+more_rows rows (Ok row) = Ok (rows ++ row ∷ [])
+
+abbrev pub and_then : Result (List Row) CreateFault → (List Row → Result (List Row) CreateFault) → Result (List Row) CreateFault
+and_then (Err fault) next = Err fault
+and_then (Ok rows) next = next rows
+
+-- the rows so far and those of further lines, up to the first bad one
+abbrev pub rows_from : List Row → List (List ℕ) → Result (List Row) CreateFault
+rows_from rows [] = Ok rows
+rows_from rows (line ∷ lines) = and_then (more_rows rows (row_of rows line)) (λ more. rows_from more lines)
+
+-- the rows of all declarations, or the first bad one
+unfoldable pub rows_of : List (List ℕ) → Result (List Row) CreateFault
+rows_of lines = rows_from [] lines

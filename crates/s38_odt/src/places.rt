@@ -1,0 +1,81 @@
+ghost use Rattle.std.specs.Prelude.{◌≡◌, ◌<◌, ◌++◌, ◌∷◌, [], length, slice_get, is_some, None, OnOk};
+ghost use Rattle.s38_odt.specs.Places.{IsTied};
+ghost use Rattle.s38_odt.specs.Table.{base_in, is_base, is_base_row, is_pointer, item_of, place_in};
+
+use s38_base::{Attr, Name, NoMemory};
+use s38_code::{Form, Row};
+use std::collections::BTreeMap;
+
+/// The number of each declared name's item.
+pub type Places = BTreeMap<Name, u16>;
+
+/// Rows, and where each name stands among them.
+#[derive(Drop)]
+pub struct Declared {
+    pub rows: Vec<Row>,
+    pub places: Places,
+}
+
+/// Whether a name stands there already.
+pub fn is_declared(declared: &Declared, name: &Name) -> bool
+    requires { IsTied declared.now.places declared.now.rows.items }
+    ensures { result ≡ is_some (place_in declared.now.rows.items name.now) }
+{
+    declared.places.contains_key(name)
+}
+
+fn is_pointer(attr: Attr) -> bool
+    ensures { result ≡ is_pointer attr }
+{
+    matches!(attr, Attr::Pointer)
+}
+
+/// A variable or a parameter that holds a pointer.
+fn is_base(form: &Form) -> bool
+    ensures { result ≡ is_base form.now }
+{
+    match form {
+        Form::Local { attr, .. } => is_pointer(*attr),
+        Form::Parm { attr, .. } => is_pointer(*attr),
+        _ => false,
+    }
+}
+
+fn is_base_row(rows: &[Row], at: u16) -> bool
+    ensures { result ≡ is_base_row (slice_get rows.now at) }
+{
+    match rows.get(at as usize) {
+        Some(row) => is_base(&row.form),
+        None => false,
+    }
+}
+
+/// The number of the base that a name is.
+pub fn base(declared: &Declared, name: &Name) -> Option<u16>
+    requires { IsTied declared.now.places declared.now.rows.items }
+    ensures { result ≡ base_in declared.now.rows.items name.now }
+{
+    match declared.places.get(name).copied() {
+        Some(at) => if is_base_row(declared.rows.as_slice(), at) {
+            Some(at)
+        } else {
+            None
+        },
+        None => None,
+    }
+}
+
+/// Adds a row whose name is new.
+pub fn add(declared: &mut Declared, row: Row) -> Result<(), NoMemory>
+    requires tied { IsTied declared.old.places declared.old.rows.items }
+    requires few { length declared.old.rows.items < 1024 }
+    requires absent { place_in declared.old.rows.items row.name ≡ None }
+    ensures tied { OnOk result (IsTied declared.new.places declared.new.rows.items) }
+    ensures rows { OnOk result (declared.new.rows.items ≡ declared.old.rows.items ++ row ∷ []) }
+{
+    declared
+        .places
+        .insert(row.name, declared.rows.len() as u16)?;
+    declared.rows.push(row)?;
+    Ok(())
+}
