@@ -17,17 +17,19 @@ mod signed;
 mod sums;
 mod tens;
 mod units;
+mod whole;
 mod write;
 
 pub use dec::{Dec, DecimalFault, Target};
 pub use digits::need;
 pub use laws::written_is_read;
 pub use order::compare;
-pub use products::{mult, scale};
+pub use products::{mult, neg, scale};
 pub use quotients::div;
 pub use read::read_scalar;
 pub use remainders::rem;
 pub use sums::{add, sub};
+pub use whole::whole_part;
 pub use write::write_scalar;
 
 #[cfg(test)]

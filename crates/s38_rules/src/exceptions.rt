@@ -16,3 +16,13 @@ pub const LENGTH_INVALID: u16 = 0x2405;
 pub const NO_MESSAGE: u16 = 0x2601;
 /// A limit would be passed.
 pub const LIMIT_EXCEEDED: u16 = 0x1C03;
+/// Bytes of a numeric source have no value.
+pub const DECIMAL_DATA: u16 = 0x0C02;
+/// The receiver doesn't hold the result.
+pub const SIZE: u16 = 0x0C0A;
+/// The divisor is zero.
+pub const ZERO_DIVIDE: u16 = 0x0C0B;
+/// A byte is no hexadecimal character.
+pub const CONVERSION: u16 = 0x0C01;
+/// An address lies outside a space.
+pub const SPACE_ADDRESSING: u16 = 0x0601;

@@ -4,15 +4,18 @@
 #![tactic(auto)]
 
 mod exceptions;
+mod local;
 mod need;
 mod object;
 mod process;
 mod verdict;
 
 pub use exceptions::{
-    LENGTH_INVALID, LIMIT_EXCEEDED, NO_MESSAGE, OBJECT_DESTROYED, OBJECT_NOT_FOUND,
-    OBJECT_TYPE_INVALID, POINTER_MISSING, POINTER_TYPE_INVALID, UNAUTHORIZED,
+    CONVERSION, DECIMAL_DATA, LENGTH_INVALID, LIMIT_EXCEEDED, NO_MESSAGE, OBJECT_DESTROYED,
+    OBJECT_NOT_FOUND, OBJECT_TYPE_INVALID, POINTER_MISSING, POINTER_TYPE_INVALID, SIZE,
+    SPACE_ADDRESSING, UNAUTHORIZED, ZERO_DIVIDE,
 };
+pub use local::LocalEnd;
 pub use need::{Located, Named, Need, PointerKind};
 pub use object::{Body, Object, PrivateRow, RowList};
 pub use process::{Standing, Started, Status};
@@ -28,4 +31,5 @@ pub fn all_may_be_sent() {
     sends::<Standing>();
     sends::<Status>();
     sends::<Verdict>();
+    sends::<LocalEnd>();
 }
