@@ -1,14 +1,15 @@
 ghost use Rattle.std.specs.Prelude.{◌≡◌, ◌==◌};
 ghost use Rattle.std.specs.Option.{option_copied};
 ghost use Rattle.s38_rules.specs.Compute.{holds};
-ghost use Rattle.s38_rules.specs.Local.{jump_to, jumps};
+ghost use Rattle.s38_rules.specs.Local.{branch_end, jump_to, jumps};
 
+use s38_base::Exception;
 use s38_code::Arg;
 use s38_rules::LocalEnd;
 use std::cmp::Ordering;
 
 /// Whether a relation holds; EQ, NE, LO, HI, NL and NH are numbered from 0 on.
-fn holds(relation: u32, order: Ordering) -> bool
+pub fn holds(relation: u32, order: Ordering) -> bool
     ensures { result ≡ holds relation order }
 {
     match order {
@@ -35,9 +36,12 @@ pub fn jump(test: bool, label: Option<&Arg>) -> LocalEnd
     if test { jump_to(label) } else { LocalEnd::Next }
 }
 
-/// Goes on at a label where the relation holds.
-pub fn branch(relation: u32, order: Ordering, label: Option<&Arg>) -> LocalEnd
-    ensures { result ≡ jumps (holds relation order) (option_copied label.entry) }
+/// The same with a test that may signal.
+pub fn branch_end(test: Result<bool, Exception>, label: Option<&Arg>) -> LocalEnd
+    ensures { result ≡ branch_end (option_copied label.entry) test }
 {
-    jump(holds(relation, order), label)
+    match test {
+        Err(exception) => LocalEnd::Signal(exception),
+        Ok(test) => jump(test, label),
+    }
 }

@@ -1,9 +1,14 @@
-ghost use Rattle.std.specs.Prelude.{◌≡◌, ◌≤ℤ◌, IfOk, IsTrue, pos, negsuc};
-ghost use Rattle.s38_base.specs.Scalar.{fits};
-ghost use Rattle.s38_decimal.specs.Need.{has_one, has_second};
+ghost use Rattle.std.specs.Prelude.{◌≡◌, ◌≤◌, ◌≤ℤ◌, IfOk, IsTrue, pos, negsuc};
+ghost use Rattle.std.specs.Option.{option_copied};
+ghost use Rattle.s38_base.specs.Scalar.{fits, is_numeric};
+ghost use Rattle.s38_decimal.specs.Need.{copy_need, has_one, has_second};
+ghost use Rattle.s38_decimal.specs.Values.{answer, exact_of};
+ghost use Rattle.s38_rules.specs.Local.{whole_of};
 ghost use Rattle.s38_rules.specs.Compute.{fault_signal, has_room, one_computed, signal, signalled, two_computed};
 
+use crate::operands::whole_of;
 use s38_base::{Attr, Exception, Op, Rule};
+use s38_code::Arg;
 use s38_decimal::{Dec, DecimalFault, Target, add, div, mult, need, neg, rem, scale, sub};
 use s38_rules::{DECIMAL_DATA, SIZE, ZERO_DIVIDE};
 
@@ -48,6 +53,15 @@ pub fn two_computed(op: Op, to: Target, a: Dec, b: Dec) -> Result<i128, DecimalF
     }
 }
 
+/// The number itself, at the receiver's fraction.
+fn copied(a: Dec, to: Target) -> Result<i128, DecimalFault>
+    requires { copy_need a.attr to.attr ≤ 38 }
+    ensures exact { result ≡ answer to (exact_of a) }
+    ensures fits { IfOk result (λ units. IsTrue (fits to.attr units)) }
+{
+    scale(a, 0, to)
+}
+
 /// The receiver holds numbers, and the instruction on one source needs at most 38 digits.
 fn has_room_for(op: Op, a: Attr, to: Attr, power: i8) -> bool
     requires one { IsTrue (has_one op) }
@@ -61,7 +75,7 @@ fn has_room_for(op: Op, a: Attr, to: Attr, power: i8) -> bool
 
 /// What an instruction with one numeric source gives.
 #[tactic(auto, unfolding(s38_rules::specs::Compute::one_computed))]
-pub fn one_computed(op: Op, to: Target, a: Dec, power: i64) -> Result<i128, DecimalFault>
+fn one_computed(op: Op, to: Target, a: Dec, power: i64) -> Result<i128, DecimalFault>
     requires { IsTrue (has_one op) }
     ensures exact { result ≡ one_computed op to a.attr a.units power }
     ensures fits { IfOk result (λ units. IsTrue (fits to.attr units)) }
@@ -75,10 +89,20 @@ pub fn one_computed(op: Op, to: Target, a: Dec, power: i64) -> Result<i128, Deci
     }
     match op {
         Op::Neg => neg(a, to),
-        Op::Cpynv => scale(a, 0, to),
+        Op::Cpynv => copied(a, to),
         Op::Scale => scale(a, power, to),
         _ => Err(DecimalFault::Size),
     }
+}
+
+/// The same with the power at an argument.
+pub fn one_given(op: Op, to: Target, a: Dec, arg: Option<&Arg>) -> Result<i128, DecimalFault>
+    requires { IsTrue (has_one op) }
+    ensures exact { result ≡ one_computed op to a.attr a.units (whole_of (option_copied arg.entry)) }
+    ensures fits { IfOk result (λ units. IsTrue (fits to.attr units)) }
+{
+    let power = whole_of(arg);
+    one_computed(op, to, a, power)
 }
 
 fn fault_signal(fault: DecimalFault) -> Exception

@@ -7,11 +7,10 @@ mod dispatch;
 mod given;
 mod numbers;
 mod operands;
+mod overlap;
 mod pointers;
 mod receivers;
 mod strings;
 
 pub use dispatch::{is_local, run_local};
 
-#[cfg(test)]
-mod tests;

@@ -1,11 +1,11 @@
 ghost use Rattle.std.specs.Prelude.{◌≡◌, IfOk, IsTrue, MatchOption, None, Some};
 ghost use Rattle.s38_base.specs.Scalar.{fits};
 ghost use Rattle.s38_decimal.specs.Need.{has_one, has_second};
-ghost use Rattle.s38_rules.specs.Local.{number_branch, one_source, target_of, two_sources};
+ghost use Rattle.s38_rules.specs.Local.{compared, number_branch, of_one_source, of_two_sources, one_source, target_of, two_sources};
 
-use crate::branches::branch;
-use crate::given::{one_computed, signal, signalled, two_computed};
-use crate::operands::{attr_of, number_of, whole_of, word_of};
+use crate::branches::{branch_end, holds};
+use crate::given::{one_given, signal, signalled, two_computed};
+use crate::operands::{attr_of, number_of, word_of};
 use crate::receivers::receive_number;
 use s38_base::Exception;
 use s38_code::{Instruction, Row, Val};
@@ -58,7 +58,7 @@ fn of_one(rows: &[Row], values: &[Val], instruction: &Instruction, to: Target) -
     let args = instruction.args.as_slice();
     match number_of(rows, values, args.get(1)) {
         None => Err(signal(DECIMAL_DATA, 2)),
-        Some(a) => signalled(one_computed(instruction.op, to, a, whole_of(args.get(2)))),
+        Some(a) => signalled(one_given(instruction.op, to, a, args.get(2))),
     }
 }
 
@@ -74,17 +74,25 @@ pub fn one_source(rows: &[Row], values: &mut [Val], instruction: &Instruction) -
     receive_number(values, instruction.args.as_slice().get(0), to.attr, given)
 }
 
+/// Whether the relation holds between two numbers.
+fn compared(rows: &[Row], values: &[Val], instruction: &Instruction) -> Result<bool, Exception>
+    ensures { result ≡ compared rows.now values.now instruction.now }
+{
+    let args = instruction.args.as_slice();
+    match number_of(rows, values, args.get(0)) {
+        None => Err(signal(DECIMAL_DATA, 1)),
+        Some(a) => match number_of(rows, values, args.get(1)) {
+            None => Err(signal(DECIMAL_DATA, 2)),
+            Some(b) => Ok(holds(word_of(args.get(2)), compare(a, b))),
+        },
+    }
+}
+
 /// A branch by the order of two numbers.
 #[tactic(auto, unfolding(s38_rules::specs::Local::number_branch))]
 pub fn number_branch(rows: &[Row], values: &[Val], instruction: &Instruction) -> LocalEnd
     ensures { result ≡ (number_branch rows.now values.now instruction.now).end }
 {
-    let args = instruction.args.as_slice();
-    match number_of(rows, values, args.get(0)) {
-        None => LocalEnd::Signal(signal(DECIMAL_DATA, 1)),
-        Some(a) => match number_of(rows, values, args.get(1)) {
-            None => LocalEnd::Signal(signal(DECIMAL_DATA, 2)),
-            Some(b) => branch(word_of(args.get(2)), compare(a, b), args.get(3)),
-        },
-    }
+    let test = compared(rows, values, instruction);
+    branch_end(test, instruction.args.as_slice().get(3))
 }

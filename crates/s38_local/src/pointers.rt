@@ -1,5 +1,6 @@
 ghost use Rattle.std.specs.Prelude.{◌≡◌, ◌<◌, ◌^◌, unsigned_abs};
-ghost use Rattle.s38_rules.specs.Compute.{kind_word, moved, offset_in, pointer_moved, pointing};
+ghost use Rattle.s38_decimal.specs.Values.{exact_of, whole_part_of};
+ghost use Rattle.s38_rules.specs.Compute.{is_backwards, kind_word, moved, offset_in, pointer_moved, pointing};
 ghost use Rattle.s38_rules.specs.Local.{pointer_branch, pointer_offset, pointer_given};
 
 use crate::branches::jump;
@@ -8,7 +9,7 @@ use crate::operands::{number_of, pointer_of, word_of};
 use crate::receivers::receive_pointer;
 use s38_base::{Exception, ObjNum, Op, Pointer};
 use s38_code::{Instruction, Row, Val};
-use s38_decimal::whole_part;
+use s38_decimal::{Dec, whole_part};
 use s38_rules::{DECIMAL_DATA, LocalEnd, POINTER_MISSING, POINTER_TYPE_INVALID, SPACE_ADDRESSING};
 
 /// The number of the word for a pointer's kind: SYS, SPC, DTA and NONE from 0 on.
@@ -44,14 +45,29 @@ fn offset_in(number: i128) -> Option<u32>
     }
 }
 
-fn moved(op: Op, offset: u32, by: i128) -> Option<u32>
-    requires { unsigned_abs by < 10 ^ 31 }
-    ensures { result ≡ moved op offset by }
+fn is_backwards(op: Op) -> bool
+    ensures { result ≡ is_backwards op }
 {
-    match op {
-        Op::Subspp => offset_in(offset as i128 - by),
-        _ => offset_in(offset as i128 + by),
+    matches!(op, Op::Subspp)
+}
+
+fn moved(backwards: bool, offset: u32, by: i128) -> Option<u32>
+    requires { unsigned_abs by < 10 ^ 31 }
+    ensures { result ≡ moved backwards offset by }
+{
+    if backwards {
+        offset_in(offset as i128 - by)
+    } else {
+        offset_in(offset as i128 + by)
     }
+}
+
+/// The offset, moved by the whole part of a number.
+fn moved_by(backwards: bool, offset: u32, number: Dec) -> Option<u32>
+    ensures { result ≡ moved backwards offset (whole_part_of (exact_of number)) }
+{
+    let by = whole_part(number);
+    moved(backwards, offset, by)
 }
 
 fn pointing(object: ObjNum, offset: Option<u32>) -> Result<Pointer, Exception>
@@ -72,7 +88,7 @@ fn pointer_given(rows: &[Row], values: &[Val], instruction: &Instruction) -> Res
         None => Err(signal(POINTER_MISSING, 2)),
         Some(Pointer::Space { object, offset }) => match number_of(rows, values, args.get(2)) {
             None => Err(signal(DECIMAL_DATA, 3)),
-            Some(number) => pointing(object, moved(instruction.op, offset, whole_part(number))),
+            Some(number) => pointing(object, moved_by(is_backwards(instruction.op), offset, number)),
         },
         Some(_) => Err(signal(POINTER_TYPE_INVALID, 2)),
     }

@@ -1,8 +1,10 @@
-ghost use Rattle.std.specs.Prelude.{◌≡◌, ◌<◌, Some, ForOk, IsTrue, length, slice_get};
+ghost use Rattle.std.specs.Prelude.{◌≡◌, ◌<◌, Some, IsTrue, length, slice_get};
 ghost use Rattle.std.specs.Option.{option_copied};
+ghost use Rattle.std.specs.Result.{ForOk};
 ghost use Rattle.s38_base.specs.Scalar.{fits};
-ghost use Rattle.s38_rules.specs.Local.{number_put, receives_number, receives_pointer, with_number};
+ghost use Rattle.s38_rules.specs.Local.{number_put, number_put_at, receives_number, receives_pointer, with_number};
 ghost use Rattle.s38_rules.specs.Variables.{put_in};
+ghost use Rattle.s38_code.specs.declared.reply.Val.{Val};
 
 use s38_base::{Attr, Exception, Pointer, Seq};
 use s38_code::{Arg, Val};

@@ -142,9 +142,13 @@ abbrev pub offset_in : ℤ → Option ℕ
 offset_in (pos n) = if nat_le n furthest then Some n else None
 offset_in (negsuc n) = None
 
-abbrev pub moved : Op → ℕ → ℤ → Option ℕ
-moved Subspp offset by = offset_in (pos offset -ℤ by)
-moved _ offset by = offset_in (pos offset +ℤ by)
+-- SUBSPP moves backwards
+abbrev pub is_backwards : Op → Bool
+is_backwards Subspp = true
+is_backwards _ = false
+
+abbrev pub moved : Bool → ℕ → ℤ → Option ℕ
+moved backwards offset by = offset_in (if backwards then pos offset -ℤ by else pos offset +ℤ by)
 
 abbrev pub pointing : ObjNum → Option ℕ → Result Pointer Exception
 pointing object None = Err (signal SPACE_ADDRESSING 3)
@@ -153,7 +157,7 @@ pointing object (Some offset) = Ok (pointers.Space object offset)
 abbrev pub space_moved : Op → ObjNum → ℕ → Attr → Option ℤ → Result Pointer Exception
 space_moved op object offset a None = Err (signal DECIMAL_DATA 3)
 space_moved op object offset a (Some x) =
-    pointing object (moved op offset (whole_part_of (exact x (fraction_of a))))
+    pointing object (moved (is_backwards op) offset (whole_part_of (exact x (fraction_of a))))
 
 -- a space pointer, moved by a number whose fraction is dropped
 abbrev pub pointer_moved : Op → Option Pointer → Attr → Option ℤ → Result Pointer Exception

@@ -63,9 +63,12 @@ jump_to _ = ends.Next
 abbrev pub jumps : Bool → Option Arg → LocalEnd
 jumps test label = if test then jump_to label else ends.Next
 
+abbrev pub branch_end : Option Arg → Result Bool Exception → LocalEnd
+branch_end label (Err x) = ends.Signal x
+branch_end label (Ok test) = jumps test label
+
 abbrev pub branches : List Val → Option Arg → Result Bool Exception → Ran
-branches values label (Err x) = signals values x
-branches values label (Ok test) = record { end = jumps test label; values = values }
+branches values label test = record { end = branch_end label test; values = values }
 
 -- ---- numbers
 
@@ -111,12 +114,14 @@ one_source rows values i =
     let to = target_of rows i in
     receives_number values (operand i 1) to.attr (of_one_source rows values i to)
 
-unfoldable pub number_branch : List Row → List Val → Instruction → Ran
-number_branch rows values i =
+abbrev pub compared : List Row → List Val → Instruction → Result Bool Exception
+compared rows values i =
     let a = operand i 1 in
     let b = operand i 2 in
-    branches values (operand i 4)
-    (numbers_compared (word_of (operand i 3)) (attr_of rows a) (number_of rows values a) (attr_of rows b) (number_of rows values b))
+    numbers_compared (word_of (operand i 3)) (attr_of rows a) (number_of rows values a) (attr_of rows b) (number_of rows values b)
+
+unfoldable pub number_branch : List Row → List Val → Instruction → Ran
+number_branch rows values i = branches values (operand i 4) (compared rows values i)
 
 -- ---- strings
 
