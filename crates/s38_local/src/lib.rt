@@ -14,3 +14,6 @@ mod strings;
 
 pub use dispatch::{is_local, run_local};
 
+
+#[cfg(test)]
+mod tests;

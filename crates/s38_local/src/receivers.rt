@@ -65,7 +65,7 @@ pub fn receive_number(
     ensures values { values.new ≡ (receives_number values.old (option_copied to.entry) attr given).values }
 {
     match given {
-        Err(exception) => LocalEnd::Signal(exception),
+        Err(refusal) => LocalEnd::Signal(refusal),
         Ok(units) => {
             number_put(values, to, attr, units);
             LocalEnd::Next
