@@ -20,6 +20,10 @@ pub enum Class {
     PointerSource,
     /// An item that gets a pointer.
     PointerReceiver,
+    /// Whole cells that are read: a pointer, or bytes in a space.
+    CellsSource,
+    /// An item that gets whole cells.
+    CellsReceiver,
     /// A pointer to a context, or `*MACHINE`.
     Context,
     /// A pointer to a context, `*MACHINE` or `*LIST`.
@@ -64,7 +68,22 @@ pub enum Class {
 pub fn is_built(op: Op) -> bool
     ensures { result ≡ is_built op }
 {
-    matches!(op, Op::Rslvsp | Op::Enq | Op::Deq | Op::Rtx)
+    matches!(
+        op,
+        Op::Rslvsp
+            | Op::Setsppfp
+            | Op::Setspfp
+            | Op::Setdp
+            | Op::Cpybwp
+            | Op::Crtq
+            | Op::Crts
+            | Op::Mods
+            | Op::Desq
+            | Op::Dess
+            | Op::Enq
+            | Op::Deq
+            | Op::Rtx
+    )
 }
 
 /// What stands at each place of an instruction that is built.
@@ -79,6 +98,31 @@ pub fn classes(op: Op) -> &'static [Class]
             Class::Identification,
             Class::RightsWord,
         ],
+        Op::Setsppfp | Op::Setspfp => &[Class::PointerReceiver, Class::PointerSource],
+        Op::Setdp => &[
+            Class::PointerReceiver,
+            Class::PointerSource,
+            Class::AttributeWord,
+        ],
+        Op::Cpybwp => &[Class::CellsReceiver, Class::CellsSource],
+        Op::Crtq => &[
+            Class::PointerReceiver,
+            Class::PointerOrNone,
+            Class::Identification,
+            Class::RightsWord,
+            Class::OrderWord,
+            Class::WholeLiteral,
+            Class::WholeLiteral,
+        ],
+        Op::Crts => &[
+            Class::PointerReceiver,
+            Class::PointerOrNone,
+            Class::Identification,
+            Class::RightsWord,
+            Class::NumberSource,
+        ],
+        Op::Mods => &[Class::PointerSource, Class::NumberSource],
+        Op::Desq | Op::Dess => &[Class::PointerSource],
         Op::Enq => &[Class::PointerSource, Class::BytesOrNone, Class::BytesSource],
         Op::Deq => &[
             Class::BytesReceiver,

@@ -173,11 +173,13 @@ impl Process {
     fn take_values(&mut self, given: Vec<Val>)
         requires room { self.old.done < self.old.budget }
         requires within { self.old.at < length self.old.program.code }
-        ensures { self.new ≡ record self.old { values = received_by (slice_get self.old.program.code self.old.at) given.items self.old.values; at = self.old.at + 1; done = self.old.done + 1 } }
+        ensures { self.new ≡ record self.old { values = received_by self.old.program.rows (slice_get self.old.program.code self.old.at) given.items self.old.values; at = self.old.at + 1; done = self.old.done + 1 } }
     {
-        let instruction = &self.program.program().code.as_slice()[self.at];
+        let program = self.program.program();
+        let instruction = &program.code.as_slice()[self.at];
         receive(
             &mut self.values,
+            program.rows.as_slice(),
             classes(instruction.op),
             instruction.args.as_slice(),
             given,

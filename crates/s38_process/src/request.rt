@@ -1,10 +1,10 @@
 ghost use Rattle.std.specs.Prelude.{◌≡◌, ◌++◌, IfOk, OnOk};
 ghost use Rattle.std.specs.Option.{option_copied};
-ghost use Rattle.s38_rules.specs.Process.{item_operand, operand_of, operands_of, request_of, source_by};
+ghost use Rattle.s38_rules.specs.Process.{item_by, item_operand, operand_of, operands_of, request_of, source_by};
 
-use crate::variables::{attr_in, is_receiver, value_bytes, value_pointer};
+use crate::variables::{form_in, is_receiver, value_bytes, value_pointer};
 use s38_base::{Attr, NoMemory, Seq, Twin};
-use s38_code::{Arg, Class, Instruction, Operand, Request, Row, Val, classes};
+use s38_code::{Arg, Class, Form, Instruction, Operand, Request, Row, Val, classes};
 use std::alloc::Global;
 
 fn source_by(alloc: Global, attr: Attr, value: Option<&Val>) -> Result<Operand, NoMemory>
@@ -34,6 +34,30 @@ fn item_operand(
     }
 }
 
+/// An item as the machine gets it: one behind a base lies in the space of the base's pointer.
+fn item_by(
+    alloc: Global,
+    values: &[Val],
+    receiver: bool,
+    item: usize,
+    form: Option<&Form>,
+) -> Result<Operand, NoMemory>
+    ensures { IfOk result (λ operand. operand ≡ item_by values.now receiver item (option_copied form.entry)) }
+{
+    let value = values.get(item);
+    match form {
+        Some(Form::Based { base, offset, attr }) => Ok(Operand::InSpace {
+            base: value_pointer(values.get(*base as usize)),
+            offset: *offset,
+            attr: *attr,
+        }),
+        Some(Form::Local { attr, .. }) => item_operand(alloc, receiver, *attr, value),
+        Some(Form::Parm { attr, .. }) => item_operand(alloc, receiver, *attr, value),
+        Some(Form::Handler { .. }) => item_operand(alloc, receiver, Attr::Pointer, value),
+        None => item_operand(alloc, receiver, Attr::Pointer, value),
+    }
+}
+
 fn operand_of(
     alloc: Global,
     rows: &[Row],
@@ -44,11 +68,12 @@ fn operand_of(
     ensures { IfOk result (λ operand. operand ≡ operand_of rows.now values.now class arg.now) }
 {
     match arg {
-        Arg::Item(item) => item_operand(
+        Arg::Item(item) => item_by(
             alloc,
+            values,
             is_receiver(class),
-            attr_in(rows.get(*item as usize)),
-            values.get(*item as usize),
+            *item as usize,
+            form_in(rows.get(*item as usize)),
         ),
         Arg::Literal { attr, bytes } => Ok(Operand::Value {
             attr: *attr,

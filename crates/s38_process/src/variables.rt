@@ -1,30 +1,19 @@
 ghost use Rattle.std.specs.Prelude.{◌≡◌, ◌<◌, IfOk, length, slice_set};
 ghost use Rattle.std.specs.Option.{option_copied};
 ghost use Rattle.s38_code.specs.declared.class.Class.{Class};
-ghost use Rattle.s38_rules.specs.Process.{attr_in, attr_of_form, first_by, first_value, first_values, is_receiver, put, received, value_bytes, value_pointer};
+ghost use Rattle.s38_rules.specs.Process.{first_by, first_value, first_values, form_in, is_based, is_receiver, put, received, takes_value, value_bytes, value_pointer};
 
 use s38_base::{Attr, Bytes, NoMemory, Pointer, Seq, Twin};
 use s38_code::{Arg, Class, Form, Row, Val};
 use std::alloc::Global;
 
-fn attr_of_form(form: &Form) -> Attr
-    ensures { result ≡ attr_of_form form.now }
-{
-    match form {
-        Form::Local { attr, .. } => *attr,
-        Form::Parm { attr, .. } => *attr,
-        Form::Based { attr, .. } => *attr,
-        Form::Handler { .. } => Attr::Pointer,
-    }
-}
-
-/// What a declaration says of its variable.
-pub fn attr_in(row: Option<&Row>) -> Attr
-    ensures { result ≡ attr_in (option_copied row.entry) }
+/// What a declaration stands for.
+pub fn form_in(row: Option<&Row>) -> Option<&Form>
+    ensures { option_copied result ≡ form_in (option_copied row.entry) }
 {
     match row {
-        None => Attr::Pointer,
-        Some(row) => attr_of_form(&row.form),
+        None => None,
+        Some(row) => Some(&row.form),
     }
 }
 
@@ -86,8 +75,24 @@ pub fn is_receiver(class: Class) -> bool
 {
     matches!(
         class,
-        Class::NumberReceiver | Class::BytesReceiver | Class::PointerReceiver
+        Class::NumberReceiver | Class::BytesReceiver | Class::PointerReceiver | Class::CellsReceiver
     )
+}
+
+fn is_based(form: Option<&Form>) -> bool
+    ensures { result ≡ is_based (option_copied form.entry) }
+{
+    matches!(form, Some(Form::Based { .. }))
+}
+
+/// Whether an argument gets a value of a reply: a receiver that lies in no space does.
+fn takes_value(rows: &[Row], class: Class, arg: &Arg) -> bool
+    ensures { result ≡ takes_value rows.now class arg.now }
+{
+    match arg {
+        Arg::Item(item) => is_receiver(class) && !is_based(form_in(rows.get(*item as usize))),
+        _ => is_receiver(class),
+    }
 }
 
 fn put_at(values: &mut [Val], at: usize, value: Val)
@@ -112,8 +117,14 @@ fn put(values: &mut Vec<Val>, arg: &Arg, value: Val)
 }
 
 /// The values of a reply go to the receivers in order; it takes no memory.
-pub fn receive(values: &mut Vec<Val>, classes: &[Class], args: &[Arg], mut given: Vec<Val>)
-    ensures { values.new.items ≡ received classes.now args.now given.items values.old.items }
+pub fn receive(
+    values: &mut Vec<Val>,
+    rows: &[Row],
+    classes: &[Class],
+    args: &[Arg],
+    mut given: Vec<Val>,
+)
+    ensures { values.new.items ≡ received rows.now classes.now args.now given.items values.old.items }
 {
     match classes {
         [] => {}
@@ -123,11 +134,11 @@ pub fn receive(values: &mut Vec<Val>, classes: &[Class], args: &[Arg], mut given
                 if given.is_empty() {
                     return;
                 }
-                if is_receiver(*class) {
+                if takes_value(rows, *class, arg) {
                     let value = given.remove(0);
                     put(values, arg, value);
                 }
-                receive(values, more, rest, given);
+                receive(values, rows, more, rest, given);
             }
         },
     }

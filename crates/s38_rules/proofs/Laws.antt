@@ -3,16 +3,24 @@ use Rattle.std.proofs.Common.{◌≡◌, ℕ, ◌+◌, Bool, true, false, List, 
 use Rattle.std.proofs.lemmas.List.{append-nil}
 use Rattle.std.specs.Prelude.{Option, Some, None}
 use Rattle.s38_base.specs.declared.op.Op.{Op}
-use Rattle.s38_base.specs.declared.op.Op.TheVariants.{Rslvsp, Enq, Deq}
+use Rattle.s38_base.specs.declared.op.Op.TheVariants.{Cpybwp, Crtq, Crts, Mods, Desq, Dess, Enq, Deq}
+use Rattle.s38_base.specs.declared.id.Id.{Id}
+use Rattle.s38_base.specs.declared.id.Kind.{Kind}
+use Rattle.s38_memory.specs.declared.cell.Cell.{Cell}
 use Rattle.s38_code.specs.declared.entry.Entry.{Entry}
 use Rattle.s38_code.specs.declared.event.Event.{Event}
 use Rattle.s38_code.specs.declared.event.Event.TheVariants.{Start, Act, Finish}
 use Rattle.s38_code.specs.declared.operand.Operand.{Operand}
+use Rattle.s38_code.specs.declared.operand.Operand.TheVariants.{InSpace}
 use Rattle.s38_code.specs.declared.reply.Reply.TheVariants.{MustWait}
+use Rattle.s38_code.specs.declared.reply.Val.{Val}
+use Rattle.s38_code.specs.declared.reply.Val.TheVariants as vals
 use Rattle.s38_code.specs.History.{IsAnswered, entry_after}
 use Rattle.s38_rules.specs.declared.process.Standing.{Standing}
 use Rattle.s38_rules.specs.State.{State, standing, waits}
-use Rattle.s38_rules.specs.Effect.{effect, effect_of, start_at, end_at, rslvsp_effect, enq_effect, deq_effect}
+use Rattle.s38_rules.specs.declared.object.Body.{Body}
+use Rattle.s38_rules.specs.Operands.{deliver, delivered, put_value, place}
+use Rattle.s38_rules.specs.Effect.{effect, effect_of, value_of, change_of, cells_put, created, start_at, end_at, cpybwp_change, crtq_change, crts_change, mods_change, destruction_change, enq_change, deq_change}
 use Rattle.s38_rules.specs.declared.verdict.Verdict.{Verdict}
 use Rattle.s38_rules.specs.declared.verdict.Verdict.TheVariants.{Permit, Wait, Refuse}
 use Rattle.s38_rules.specs.Verdict.{verdict_of}
@@ -65,12 +73,44 @@ end_keeps : (s : State) (p : ℕ) (x : Option Standing) → length (end_at s p x
 end_keeps s p None = refl
 end_keeps s p (Some x) = simp length-set
 
+put_keeps : (s : State) (n at : ℕ) (v : Val) → (put_value s n at v).processes ≡ s.processes
+put_keeps s n at (vals.Bytes bytes) = refl
+put_keeps s n at (vals.Ptr p) = refl
+put_keeps s n at (vals.Branch b) = refl
+put_keeps s n at (vals.Code c) = refl
+
+deliver_keeps : (s : State) (receiver : Option Operand) (v : Val) → (deliver s receiver v).state.processes ≡ s.processes
+deliver_keeps s (Some (InSpace base offset attr)) v = put_keeps s _ _ v
+deliver_keeps s _ v = refl
+
+delivered_keeps : (s : State) (receiver : Option Operand) (v : Option Val) → (delivered s receiver v).state.processes ≡ s.processes
+delivered_keeps s receiver None = refl
+delivered_keeps s receiver (Some v) = deliver_keeps s receiver v
+
+cells_keep : (s : State) (receiver : Option Operand) (piece : List Cell) → (cells_put s receiver piece).processes ≡ s.processes
+cells_keep s (Some (InSpace base offset attr)) piece = refl
+cells_keep s _ piece = refl
+
+created_keeps : (s : State) (p : ℕ) (ops : List Operand) (kind : Kind) (body : Body) (id : Option Id) → (created s p ops kind body id).processes ≡ s.processes
+created_keeps s p ops kind body None = refl
+created_keeps s p ops kind body (Some id) = refl
+
+change_keeps : (s : State) (p : ℕ) (op : Op) (ops : List Operand) → (change_of s p op ops).processes ≡ s.processes
+unfolding change_of cpybwp_change crtq_change crts_change mods_change destruction_change enq_change deq_change
+change_keeps s p Cpybwp ops = cells_keep s (place ops 1) _
+change_keeps s p Crtq ops = created_keeps s p ops _ _ _
+change_keeps s p Crts ops = created_keeps s p ops _ _ _
+change_keeps s p Mods ops = refl
+change_keeps s p Desq ops = refl
+change_keeps s p Dess ops = refl
+change_keeps s p Enq ops = refl
+change_keeps s p Deq ops = refl
+change_keeps s p _ ops = refl
+
 pub act_keeps : (s : State) (p depth : ℕ) (op : Op) (ops : List Operand) → (effect s p depth op ops).state.processes ≡ s.processes
-unfolding effect rslvsp_effect enq_effect deq_effect
-act_keeps s p depth Rslvsp ops = refl
-act_keeps s p depth Enq ops = refl
-act_keeps s p depth Deq ops = refl
-act_keeps s p depth _ ops = refl
+unfolding effect
+act_keeps s p depth op ops =
+    delivered_keeps (change_of s p op ops) (place ops 1) (value_of s p depth op ops) ∙ change_keeps s p op ops
 
 -- an effect neither makes a process nor takes one away
 pub effect_keeps : (s : State) (p : ℕ) (e : Event) → length (effect_of s p e).state.processes ≡ length s.processes

@@ -9,9 +9,8 @@ use Rattle.s38_rules.specs.State.{State, object}
 
 -- what a user's profile says of special authorities; nothing where there is no such profile
 abbrev pub special_of : Body → Option ℕ
-special_of bodies.Context = None
 special_of (bodies.Profile special limit) = Some special.0
-special_of (bodies.Queue q) = None
+special_of _ = None
 
 abbrev pub special_in : Option Object → Option ℕ
 special_in None = None

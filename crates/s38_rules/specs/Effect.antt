@@ -1,59 +1,176 @@
 -- What a permitted event does: the new state, and the values that come back.
-use Rattle.std.specs.Prelude.{ℕ, ◌-◌, true, List, [], ◌∷◌, ◌++◌, length, map, take, replicate, Option, Some, None}
+use Rattle.std.specs.Prelude.{ℕ, ◌-◌, ◌*◌, ◌/◌, true, List, [], ◌∷◌, ◌++◌, length, map, max, min, take, replicate, Option, Some, None, if◌then◌else◌}
+use Rattle.std.specs.Option.{option_map}
+use Rattle.s38_base.specs.declared.attr.Attr.{Attr}
+use Rattle.s38_base.specs.declared.id.Id.{Id}
+use Rattle.s38_base.specs.declared.id.Kind.{Kind}
+use Rattle.s38_base.specs.declared.id.Kind.TheVariants as kinds
 use Rattle.s38_base.specs.declared.id.ObjNum.{ObjNum}
 use Rattle.s38_base.specs.declared.pointer.Pointer.{Pointer}
 use Rattle.s38_base.specs.declared.pointer.Pointer.TheVariants as pointers
 use Rattle.s38_base.specs.declared.op.Op.{Op}
-use Rattle.s38_base.specs.declared.op.Op.TheVariants.{Rslvsp, Enq, Deq}
-use Rattle.s38_queues.specs.MessageQueue.{message, with_message, without_message}
+use Rattle.s38_base.specs.declared.op.Op.TheVariants.{Rslvsp, Setsppfp, Setspfp, Setdp, Cpybwp, Crtq, Crts, Mods, Desq, Dess, Enq, Deq}
+use Rattle.s38_memory.specs.declared.cell.Cell.{Cell}
+use Rattle.s38_memory.specs.Tagged.{resized}
+use Rattle.s38_queues.specs.MessageQueue.{MessageQueue, message, with_message, without_message}
 use Rattle.s38_queues.specs.declared.message.Message.{Message}
+use Rattle.s38_queues.specs.declared.message.Order.TheVariants.{Fifo}
 use Rattle.s38_code.specs.declared.deck.Job.{Job}
 use Rattle.s38_code.specs.declared.event.Event.{Event}
 use Rattle.s38_code.specs.declared.event.Event.TheVariants.{Start, Act, Finish}
 use Rattle.s38_code.specs.declared.operand.Operand.{Operand}
+use Rattle.s38_code.specs.declared.operand.Operand.TheVariants as operands
+use Rattle.s38_code.specs.declared.reply.Val.{Val}
 use Rattle.s38_code.specs.declared.reply.Val.TheVariants as vals
 use Rattle.s38_rules.specs.declared.need.Located.{Located}
 use Rattle.s38_rules.specs.declared.object.Object.{Object}
+use Rattle.s38_rules.specs.declared.object.Body.{Body}
+use Rattle.s38_rules.specs.declared.object.Body.TheVariants as bodies
+use Rattle.s38_rules.specs.declared.object.PrivateRow.{PrivateRow}
 use Rattle.s38_rules.specs.declared.process.Standing.{Standing}
 use Rattle.s38_rules.specs.declared.process.Started.{Started}
-use Rattle.s38_rules.specs.State.{State, found, on_queue, queue_at, standing, stand}
-use Rattle.s38_rules.specs.Operands.{Done, deliver, place, bytes_at, rights_at, room_at, target}
+use Rattle.s38_rules.specs.State.{State, found, on_queue, on_space, queue_at, with_object, without, standing, stand}
+use Rattle.s38_rules.specs.Spaces.{first_pointer, object_of, offset_of, start_of, target_of, with_cells}
+use Rattle.s38_rules.specs.Users.{user_of}
+use Rattle.s38_rules.specs.Operands.{Done, delivered, is_in_space, place, pointer_at, bytes_at, rights_at, room_at, id_at, attr_at, count_at, source_cells, target, whole_at}
 use Rattle.s38_rules.specs.Needs.{resolved}
-use Rattle.s38_rules.specs.Verdict.{profile_id, context_id}
+use Rattle.s38_rules.specs.Verdict.{profile_id, context_id, of_kind}
 
 -- bytes cut to a length, or filled to it on the right
 abbrev pub fitted : ℕ → ℕ → List ℕ → List ℕ
 fitted len fill bytes = take len bytes ++ replicate (len - length bytes) fill
 
--- ---- instructions
+-- ---- the value that an instruction gives to its receiver
 
 -- a system pointer to what was found, which carries the rights that were asked
 abbrev pub pointer_to : ℕ → Option Located → Option Pointer
 pointer_to word None = None
 pointer_to word (Some p) = Some (pointers.System p.object (record { 0 = word }))
 
-unfoldable pub rslvsp_effect : State → ℕ → ℕ → List Operand → Done
-rslvsp_effect s process depth ops = deliver s (place ops 1) (vals.Ptr (pointer_to (rights_at ops 4) (resolved s process depth ops)))
+unfoldable pub rslvsp_value : State → ℕ → ℕ → List Operand → Val
+rslvsp_value s process depth ops = vals.Ptr (pointer_to (rights_at ops 4) (resolved s process depth ops))
 
--- the message stands last in the queue
-unfoldable pub enq_effect : State → List Operand → Done
-enq_effect s ops = record { state = on_queue s (target s ops 1) (λ q. with_message q (message (bytes_at s ops 2) (bytes_at s ops 3))); values = [] }
+abbrev pub num_of : Pointer → ObjNum
+num_of p = record { 0 = object_of p }
+
+-- a pointer to the first byte of the space
+unfoldable pub setsppfp_value : State → List Operand → Val
+setsppfp_value s ops = vals.Ptr (option_map (λ p. pointers.Space (num_of p) 0) (pointer_at s ops 2))
+
+-- a pointer to the object, without rights
+unfoldable pub setspfp_value : State → List Operand → Val
+setspfp_value s ops = vals.Ptr (option_map (λ p. pointers.System (num_of p) (record { 0 = 0 })) (pointer_at s ops 2))
+
+-- a pointer to an item of the attribute
+unfoldable pub setdp_value : State → List Operand → Val
+setdp_value s ops = vals.Ptr (option_map (λ p. pointers.Item (num_of p) (offset_of p) (attr_at ops 3)) (pointer_at s ops 2))
+
+-- a variable gets the pointer of the cell
+unfoldable pub cpybwp_value : State → List Operand → Option Val
+cpybwp_value s ops = if is_in_space (place ops 1) then None else Some (vals.Ptr (first_pointer (source_cells s ops 2)))
+
+abbrev pub pointer_made : State → Option Id → Option Pointer
+pointer_made s None = None
+pointer_made s (Some id) = Some (pointers.System (record { 0 = s.next }) (record { 0 = 0 }))
+
+-- a system pointer to the new object, without rights
+unfoldable pub creation_value : State → List Operand → Val
+creation_value s ops = vals.Ptr (pointer_made s (id_at ops 3))
 
 abbrev pub oldest : List Message → List ℕ
 oldest [] = []
 oldest (m ∷ ms) = m.text
 
--- the oldest message leaves the queue and goes to the receiver, cut or filled with blanks
-unfoldable pub deq_effect : State → List Operand → Done
-deq_effect s ops =
-    deliver (on_queue s (target s ops 2) (λ q. without_message q 0)) (place ops 1)
-    (vals.Bytes (fitted (room_at ops 1) 64 (oldest (queue_at s (target s ops 2)).messages)))
+-- the oldest message, cut or filled with blanks
+unfoldable pub deq_value : State → List Operand → Val
+deq_value s ops = vals.Bytes (fitted (room_at ops 1) 64 (oldest (queue_at s (target s ops 2)).messages))
 
+unfoldable pub value_of : State → ℕ → ℕ → Op → List Operand → Option Val
+value_of s process depth Rslvsp ops = Some (rslvsp_value s process depth ops)
+value_of s process depth Setsppfp ops = Some (setsppfp_value s ops)
+value_of s process depth Setspfp ops = Some (setspfp_value s ops)
+value_of s process depth Setdp ops = Some (setdp_value s ops)
+value_of s process depth Cpybwp ops = cpybwp_value s ops
+value_of s process depth Crtq ops = Some (creation_value s ops)
+value_of s process depth Crts ops = Some (creation_value s ops)
+value_of s process depth Deq ops = Some (deq_value s ops)
+value_of s process depth _ ops = None
+
+-- ---- what an instruction changes
+
+-- cells go with their tags into the space
+abbrev pub cells_put : State → Option Operand → List Cell → State
+cells_put s (Some (operands.InSpace base offset attr)) piece = on_space s (target_of base) (with_cells (start_of base offset) piece)
+cells_put s _ piece = s
+
+unfoldable pub cpybwp_change : State → List Operand → State
+cpybwp_change s ops = cells_put s (place ops 1) (source_cells s ops 2)
+
+-- all eight rights of the user who made an object
+abbrev pub maker_rows : ℕ → List PrivateRow
+maker_rows user = record { user = record { 0 = user }; rights = record { 0 = 255 } } ∷ []
+
+-- an object of the process's user, in the context that is given, with the rights of everybody that are given
+abbrev pub made_object : State → ℕ → List Operand → Id → Body → Object
+made_object s process ops id body =
+    record {
+      number = record { 0 = s.next };
+      id = id;
+      context = record { 0 = target s ops 2 };
+      owner = record { 0 = user_of s process };
+      public = record { 0 = rights_at ops 4 };
+      rows = maker_rows (user_of s process);
+      body = body;
+    }
+
+abbrev pub created : State → ℕ → List Operand → Kind → Body → Option Id → State
+created s process ops kind body None = s
+created s process ops kind body (Some id) = with_object s (made_object s process ops (of_kind kind id) body)
+
+-- messages of 1 to 4,096 bytes; another number, which a checked program does not have, is brought there
+abbrev pub longest_at : List Operand → ℕ
+longest_at ops = max 1 (min 4096 (whole_at ops 7))
+
+abbrev pub new_queue : ℕ → MessageQueue
+new_queue longest = record { order = Fifo; key_len = 0; longest = longest; messages = [] }
+
+unfoldable pub crtq_change : State → ℕ → List Operand → State
+crtq_change s process ops = created s process ops kinds.Queue (bodies.Queue (new_queue (longest_at ops))) (id_at ops 3)
+
+-- a space of zero bytes
+unfoldable pub crts_change : State → ℕ → List Operand → State
+crts_change s process ops = created s process ops kinds.Space (bodies.Space (resized (count_at s ops 5) [])) (id_at ops 3)
+
+-- the space is cut, or lengthened by zero bytes
+unfoldable pub mods_change : State → List Operand → State
+mods_change s ops = on_space s (target s ops 1) (resized (count_at s ops 2))
+
+-- the object is there no more
+unfoldable pub destruction_change : State → List Operand → State
+destruction_change s ops = without s (target s ops 1)
+
+-- the message stands last in the queue
+unfoldable pub enq_change : State → List Operand → State
+enq_change s ops = on_queue s (target s ops 1) (λ q. with_message q (message (bytes_at s ops 2) (bytes_at s ops 3)))
+
+-- the oldest message leaves the queue
+unfoldable pub deq_change : State → List Operand → State
+deq_change s ops = on_queue s (target s ops 2) (λ q. without_message q 0)
+
+unfoldable pub change_of : State → ℕ → Op → List Operand → State
+change_of s process Cpybwp ops = cpybwp_change s ops
+change_of s process Crtq ops = crtq_change s process ops
+change_of s process Crts ops = crts_change s process ops
+change_of s process Mods ops = mods_change s ops
+change_of s process Desq ops = destruction_change s ops
+change_of s process Dess ops = destruction_change s ops
+change_of s process Enq ops = enq_change s ops
+change_of s process Deq ops = deq_change s ops
+change_of s process _ ops = s
+
+-- the value is that of the state before the change, and goes to the first operand after it
 unfoldable pub effect : State → ℕ → ℕ → Op → List Operand → Done
-effect s process depth Rslvsp ops = rslvsp_effect s process depth ops
-effect s process depth Enq ops = enq_effect s ops
-effect s process depth Deq ops = deq_effect s ops
-effect s process depth _ ops = record { state = s; values = [] }
+effect s process depth op ops = delivered (change_of s process op ops) (place ops 1) (value_of s process depth op ops)
 
 -- ---- start and end
 

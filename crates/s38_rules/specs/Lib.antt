@@ -7,6 +7,7 @@ pub mod Needs
 pub mod Opening
 pub mod Operands
 pub mod Process
+pub mod Spaces
 pub mod State
 pub mod Step
 pub mod Users

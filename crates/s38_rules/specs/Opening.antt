@@ -51,9 +51,9 @@ opening = machine_context ∷ officer ∷ general_context ∷ plain_user ∷ loc
 abbrev pub standings : List Job → List Standing
 standings jobs = map (λ job. record { job = job; started = None; ended = false }) jobs
 
-abbrev pub state_of : List Object → ℕ → List Job → State
-state_of objects next jobs = record { objects = objects; next = next; processes = standings jobs; waiting = [] }
+abbrev pub state_of : List Object → ℕ → ℕ → List Job → State
+state_of objects next ceiling jobs = record { objects = objects; next = next; ceiling = ceiling; processes = standings jobs; waiting = [] }
 
 -- the state in which a deck's jobs find the machine
 abbrev pub opened : List Job → State
-opened jobs = state_of opening 6 jobs
+opened jobs = state_of opening 6 5 jobs

@@ -1,19 +1,28 @@
 -- What stands at an operand. Operands are numbered from 1; what an instruction does not have reads as nothing.
-use Rattle.std.specs.Prelude.{ℕ, ◌-◌, Bool, true, false, List, [], ◌∷◌, Option, Some, None, bit_and, slice_get}
+use Rattle.std.specs.Prelude.{◌≡◌, ℕ, ◌+◌, ◌-◌, ◌*◌, ◌/◌, ◌%◌, ◌^◌, ◌==◌, Bool, true, false, ℤ, pos, negsuc, List, [], ◌∷◌, Option, Some, None, bit_and, length, slice_get, if◌then◌else◌}
+use Rattle.s38_base.specs.declared.attr.Attr.{Attr}
+use Rattle.s38_base.specs.declared.attr.Attr.TheVariants as attrs
 use Rattle.s38_base.specs.declared.id.Id.{Id}
 use Rattle.s38_base.specs.declared.pointer.Pointer.{Pointer}
-use Rattle.s38_base.specs.declared.pointer.Pointer.TheVariants as pointers
-use Rattle.s38_base.specs.Scalar.{length_of}
+use Rattle.s38_base.specs.Scalar.{fraction_of, length_of, value_of}
+use Rattle.s38_memory.specs.declared.cell.Cell.{Cell}
 use Rattle.s38_code.specs.declared.operand.Operand.{Operand}
 use Rattle.s38_code.specs.declared.operand.Operand.TheVariants as operands
 use Rattle.s38_code.specs.declared.reply.Val.{Val}
-use Rattle.s38_rules.specs.State.{State}
+use Rattle.s38_code.specs.declared.reply.Val.TheVariants as vals
+use Rattle.s38_rules.specs.State.{State, cells_at, on_space}
+use Rattle.s38_rules.specs.Spaces.{bytes_there, cell_for, cells_there, is_pointer_attr, pointer_there, start_of, target_of, with_bytes, with_pointer}
 
 abbrev pub place : List Operand → ℕ → Option Operand
 place ops k = slice_get ops (k - 1)
 
+-- a pointer in a space stands in a cell
+abbrev pub pointer_in : List Cell → ℕ → Attr → Option Pointer
+pointer_in cells at attr = if is_pointer_attr attr then pointer_there cells at else None
+
 abbrev pub pointer_of : State → Option Operand → Option Pointer
 pointer_of s (Some (operands.Ptr p)) = p
+pointer_of s (Some (operands.InSpace base offset attr)) = pointer_in (cells_at s (target_of base)) (start_of base offset) attr
 pointer_of s _ = None
 
 -- the pointer that is used
@@ -22,11 +31,16 @@ pointer_at s ops k = pointer_of s (place ops k)
 
 abbrev pub bytes_of : State → Option Operand → List ℕ
 bytes_of s (Some (operands.Value attr bytes)) = bytes
+bytes_of s (Some (operands.InSpace base offset attr)) = bytes_there (cells_at s (target_of base)) (start_of base offset) (length_of attr)
 bytes_of s _ = []
 
 -- the bytes that are read
 abbrev pub bytes_at : State → List Operand → ℕ → List ℕ
 bytes_at s ops k = bytes_of s (place ops k)
+
+-- how many they are
+abbrev pub size_at : State → List Operand → ℕ → ℕ
+size_at s ops k = length (bytes_at s ops k)
 
 abbrev pub is_given_in : Option Operand → Bool
 is_given_in (Some operands.Nothing) = false
@@ -44,6 +58,14 @@ is_list_in _ = false
 -- `*LIST` stands there
 abbrev pub is_list : List Operand → ℕ → Bool
 is_list ops k = is_list_in (place ops k)
+
+abbrev pub is_machine_in : Option Operand → Bool
+is_machine_in (Some operands.MachineContext) = true
+is_machine_in _ = false
+
+-- `*MACHINE` stands there
+abbrev pub is_machine : List Operand → ℕ → Bool
+is_machine ops k = is_machine_in (place ops k)
 
 abbrev pub word_of : Option Operand → ℕ
 word_of (Some (operands.Word w)) = w
@@ -66,28 +88,61 @@ id_at ops k = id_of (place ops k)
 
 abbrev pub room_of : Option Operand → ℕ
 room_of (Some (operands.Receiver attr)) = length_of attr
+room_of (Some (operands.InSpace base offset attr)) = length_of attr
 room_of _ = 0
 
 -- how many bytes the receiver takes
 abbrev pub room_at : List Operand → ℕ → ℕ
 room_at ops k = room_of (place ops k)
 
--- ---- what a pointer says
+-- a whole number that is written; 0 for another operand
+abbrev pub whole_of : Option Operand → ℕ
+whole_of (Some (operands.Whole (pos n))) = n
+whole_of _ = 0
 
-abbrev pub object_of : Pointer → ℕ
-object_of (pointers.System object rights) = object.0
-object_of (pointers.Space object offset) = object.0
-object_of (pointers.Item object offset attr) = object.0
+abbrev pub whole_at : List Operand → ℕ → ℕ
+whole_at ops k = whole_of (place ops k)
 
--- the rights that it carries
-abbrev pub carried_by : Pointer → ℕ
-carried_by (pointers.System object rights) = rights.0
-carried_by (pointers.Space object offset) = 0
-carried_by (pointers.Item object offset attr) = 0
+-- the attribute of a list of one
+abbrev pub attr_of : Option Operand → Attr
+attr_of (Some (operands.Attrs (attr ∷ []))) = attr
+attr_of _ = attrs.Chars 0
 
-abbrev pub target_of : Option Pointer → ℕ
-target_of None = 0
-target_of (Some p) = object_of p
+abbrev pub attr_at : List Operand → ℕ → Attr
+attr_at ops k = attr_of (place ops k)
+
+-- ---- numbers
+
+abbrev pub scalar_attr : Option Operand → Attr
+scalar_attr (Some (operands.Value attr bytes)) = attr
+scalar_attr (Some (operands.InSpace base offset attr)) = attr
+scalar_attr _ = attrs.Chars 0
+
+-- the number that is read, in units of its last digit; none where its bytes have no value
+abbrev pub number_at : State → List Operand → ℕ → Option ℤ
+number_at s ops k = value_of (scalar_attr (place ops k)) (bytes_at s ops k)
+
+-- a count that so many units are, with so many digits behind the point: 0 where that is no whole number above 0
+abbrev pub count_of : ℕ → Option ℤ → ℕ
+count_of fraction (Some (pos units)) = if units % 10 ^ fraction == 0 then units / 10 ^ fraction else 0
+count_of fraction _ = 0
+
+-- the count that a number is; 0 where it is none
+abbrev pub count_at : State → List Operand → ℕ → ℕ
+count_at s ops k = count_of (fraction_of (scalar_attr (place ops k))) (number_at s ops k)
+
+-- ---- cells
+
+abbrev pub cells_of : State → Option Operand → List Cell
+cells_of s (Some (operands.Ptr p)) = cell_for p ∷ []
+cells_of s (Some (operands.InSpace base offset attr)) = cells_there (cells_at s (target_of base)) (start_of base offset) (length_of attr)
+cells_of s _ = []
+
+-- the cells that are read, a pointer of a variable as one cell
+abbrev pub source_cells : State → List Operand → ℕ → List Cell
+source_cells s ops k = cells_of s (place ops k)
+
+-- ---- targets
 
 -- the number of the object that the used pointer names, 0 for none
 abbrev pub target : State → List Operand → ℕ → ℕ
@@ -100,6 +155,21 @@ pub record Done : Type 0 where
   -- those of the local receivers, in order
   pub values : List Val
 
--- a value goes to its receiver: a local one gets it with the reply
+-- a receiver in a space is changed there
+abbrev pub put_value : State → ℕ → ℕ → Val → State
+put_value s n at (vals.Bytes bytes) = on_space s n (with_bytes at bytes)
+put_value s n at (vals.Ptr p) = on_space s n (with_pointer at p)
+put_value s n at _ = s
+
+-- a value goes to its receiver: one in a space takes it there, a variable of the process gets it with the reply
 abbrev pub deliver : State → Option Operand → Val → Done
-deliver s receiver v = record { state = s; values = v ∷ [] }
+deliver s (Some (operands.InSpace base offset attr)) v = record { state = put_value s (target_of base) (start_of base offset) v; values = [] }
+deliver s _ v = record { state = s; values = v ∷ [] }
+
+abbrev pub delivered : State → Option Operand → Option Val → Done
+delivered s receiver None = record { state = s; values = [] }
+delivered s receiver (Some v) = deliver s receiver v
+
+abbrev pub is_in_space : Option Operand → Bool
+is_in_space (Some (operands.InSpace base offset attr)) = true
+is_in_space _ = false

@@ -1,6 +1,6 @@
 -- A process: its program, the values of its variables, and where it stands. It asks one event after another, and
 -- goes on by the replies.
-use Rattle.std.specs.Prelude.{◌≡◌, ℕ, ◌+◌, Bool, true, false, List, [], ◌∷◌, map, Option, Some, None, slice_get, slice_set, nat_le, if◌then◌else◌}
+use Rattle.std.specs.Prelude.{◌≡◌, ℕ, ◌+◌, Bool, true, false, not, ◌&&◌, List, [], ◌∷◌, map, Option, Some, None, slice_get, slice_set, nat_le, if◌then◌else◌}
 use Rattle.s38_base.specs.declared.attr.Attr.{Attr}
 use Rattle.s38_base.specs.declared.attr.Attr.TheVariants as attrs
 use Rattle.s38_base.specs.declared.pointer.Pointer.{Pointer}
@@ -8,7 +8,7 @@ use Rattle.s38_base.specs.declared.op.Op.{Op}
 use Rattle.s38_base.specs.declared.op.Op.TheVariants.{Rtx}
 use Rattle.s38_code.specs.Class.{classes}
 use Rattle.s38_code.specs.declared.class.Class.{Class}
-use Rattle.s38_code.specs.declared.class.Class.TheVariants.{NumberReceiver, BytesReceiver, PointerReceiver}
+use Rattle.s38_code.specs.declared.class.Class.TheVariants.{NumberReceiver, BytesReceiver, PointerReceiver, CellsReceiver}
 use Rattle.s38_code.specs.declared.entry.Entry.{Entry}
 use Rattle.s38_code.specs.declared.event.Event.{Event}
 use Rattle.s38_code.specs.declared.event.Event.TheVariants.{Start, Act, Finish}
@@ -83,6 +83,7 @@ abbrev pub is_receiver : Class → Bool
 is_receiver NumberReceiver = true
 is_receiver BytesReceiver = true
 is_receiver PointerReceiver = true
+is_receiver CellsReceiver = true
 is_receiver _ = false
 
 -- a variable that is read: its pointer, or its bytes
@@ -94,9 +95,21 @@ abbrev pub item_operand : Bool → Attr → Option Val → Operand
 item_operand true attr v = operands.Receiver attr
 item_operand false attr v = source_by attr v
 
+-- an item behind a base lies in the space of the base's pointer
+abbrev pub item_by : List Val → Bool → ℕ → Option Form → Operand
+item_by values receiver i (Some (forms.Based base offset attr)) = operands.InSpace (value_pointer (slice_get values base)) offset attr
+item_by values receiver i (Some (forms.Local attr first)) = item_operand receiver attr (slice_get values i)
+item_by values receiver i (Some (forms.Parm k attr)) = item_operand receiver attr (slice_get values i)
+item_by values receiver i (Some (forms.Handler code at)) = item_operand receiver attrs.Pointer (slice_get values i)
+item_by values receiver i None = item_operand receiver attrs.Pointer (slice_get values i)
+
+abbrev pub form_in : Option Row → Option Form
+form_in None = None
+form_in (Some row) = Some row.form
+
 -- an argument as the machine gets it
 abbrev pub operand_of : List Row → List Val → Class → Arg → Operand
-operand_of rows values class (args.Item i) = item_operand (is_receiver class) (attr_in (slice_get rows i)) (slice_get values i)
+operand_of rows values class (args.Item i) = item_by values (is_receiver class) i (form_in (slice_get rows i))
 operand_of rows values class (args.Literal attr bytes) = operands.Value attr bytes
 operand_of rows values class (args.Whole z) = operands.Whole z
 operand_of rows values class (args.Jump at) = operands.Nothing
@@ -147,23 +160,35 @@ abbrev pub put : List Val → Arg → Val → List Val
 put values (args.Item i) v = slice_set values i v
 put values _ v = values
 
--- the variables behind a reply, whose values go to the receivers in order
-abbrev pub received : List Class → List Arg → List Val → List Val → List Val
-received (class ∷ more) (arg ∷ rest) [] values = values
-received (class ∷ more) (arg ∷ rest) (v ∷ vs) values =
-    if is_receiver class then received more rest vs (put values arg v) else received more rest (v ∷ vs) values
-received _ _ vs values = values
+abbrev pub is_based : Option Form → Bool
+is_based (Some (forms.Based base offset attr)) = true
+is_based (Some (forms.Local attr first)) = false
+is_based (Some (forms.Parm k attr)) = false
+is_based (Some (forms.Handler code at)) = false
+is_based None = false
 
-abbrev pub received_by : Option Instruction → List Val → List Val → List Val
-received_by None vs values = values
-received_by (Some i) vs values = received (classes i.op) i.args vs values
+-- a receiver gets a value, but for one in a space, which the machine has changed there
+abbrev pub takes_value : List Row → Class → Arg → Bool
+takes_value rows class (args.Item i) = is_receiver class && not (is_based (form_in (slice_get rows i)))
+takes_value rows class _ = is_receiver class
+
+-- the variables behind a reply, whose values go to the receivers in order
+abbrev pub received : List Row → List Class → List Arg → List Val → List Val → List Val
+received rows (class ∷ more) (arg ∷ rest) [] values = values
+received rows (class ∷ more) (arg ∷ rest) (v ∷ vs) values =
+    if takes_value rows class arg then received rows more rest vs (put values arg v) else received rows more rest (v ∷ vs) values
+received rows _ _ vs values = values
+
+abbrev pub received_by : List Row → Option Instruction → List Val → List Val → List Val
+received_by rows None vs values = values
+received_by rows (Some i) vs values = received rows (classes i.op) i.args vs values
 
 -- an exception that no description takes ends the process; the budget comes before it
 abbrev pub unhandled : Doing → ℕ → EndCause
 unhandled d id = if nat_le d.budget (d.done + 1) then causes.Budget else causes.Unhandled id
 
 abbrev pub after_act : Doing → Reply → Doing
-after_act d (replies.Done vs) = record d { values = received_by (slice_get d.program.code d.at) vs d.values; at = d.at + 1; done = d.done + 1 }
+after_act d (replies.Done vs) = record d { values = received_by d.program.rows (slice_get d.program.code d.at) vs d.values; at = d.at + 1; done = d.done + 1 }
 after_act d (replies.Signal x) = record d { done = d.done + 1; status = Ending (unhandled d x.id) }
 after_act d replies.MustWait = d
 

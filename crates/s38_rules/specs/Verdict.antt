@@ -1,6 +1,7 @@
 -- Whether an event may take effect: the first rule that fails is signalled.
-use Rattle.std.specs.Prelude.{ℕ, ◌+◌, ◌==◌, Bool, true, false, not, List, [], ◌∷◌, length, min, Option, Some, None, bit_or, nat_lt, if◌then◌else◌}
+use Rattle.std.specs.Prelude.{ℕ, ◌+◌, ◌/◌, ◌%◌, ◌^◌, ◌==◌, Bool, true, false, not, ◌&&◌, ◌||◌, List, [], ◌∷◌, filter, length, min, Option, Some, None, is_none, is_some, bit_or, nat_le, nat_lt, if◌then◌else◌}
 use Rattle.bitflags.specs.Sets.{without}
+use Rattle.s38_base.specs.declared.attr.Attr.{Attr}
 use Rattle.s38_base.specs.declared.exception.Exception.{Exception}
 use Rattle.s38_base.specs.declared.exception.Rule.TheVariants.{Plain, Missing}
 use Rattle.s38_base.specs.declared.id.Id.{Id}
@@ -9,28 +10,37 @@ use Rattle.s38_base.specs.declared.id.Kind.TheVariants as kinds
 use Rattle.s38_base.specs.declared.pointer.Pointer.{Pointer}
 use Rattle.s38_base.specs.declared.pointer.Pointer.TheVariants as pointers
 use Rattle.s38_base.specs.Ids.{same_kind}
+use Rattle.s38_base.specs.Scalar.{length_of}
 use Rattle.s38_base.specs.declared.op.Op.{Op}
-use Rattle.s38_base.specs.declared.op.Op.TheVariants.{Rslvsp, Enq, Deq}
-use Rattle.s38_queues.specs.MessageQueue.{MessageQueue, image_size, message, message_size}
+use Rattle.s38_base.specs.declared.op.Op.TheVariants.{Rslvsp, Setdp, Cpybwp, Crtq, Crts, Mods, Enq, Deq}
+use Rattle.s38_memory.specs.declared.cell.Cell.{Cell}
+use Rattle.s38_memory.specs.Tagged.{is_aligned, is_within}
+use Rattle.s38_queues.specs.MessageQueue.{MessageQueue, image_size, message_size}
 use Rattle.s38_code.specs.declared.deck.Job.{Job}
 use Rattle.s38_code.specs.declared.event.Event.{Event}
 use Rattle.s38_code.specs.declared.event.Event.TheVariants.{Start, Act, Finish}
 use Rattle.s38_code.specs.declared.operand.Operand.{Operand}
-use Rattle.s38_rules.specs.declared.exceptions.TheConstants.{POINTER_MISSING, POINTER_TYPE_INVALID, OBJECT_DESTROYED, OBJECT_TYPE_INVALID, OBJECT_NOT_FOUND, UNAUTHORIZED, LENGTH_INVALID, NO_MESSAGE, LIMIT_EXCEEDED}
+use Rattle.s38_code.specs.declared.operand.Operand.TheVariants as operands
+use Rattle.s38_rules.specs.declared.exceptions.TheConstants.{POINTER_MISSING, POINTER_TYPE_INVALID, OBJECT_DESTROYED, OBJECT_TYPE_INVALID, OBJECT_NOT_FOUND, UNAUTHORIZED, LENGTH_INVALID, NO_MESSAGE, LIMIT_EXCEEDED, SPACE_ADDRESSING, BOUNDARY_ALIGNMENT, DECIMAL_DATA, DUPLICATE_IDENTIFICATION, PAGES_EXCEEDED}
 use Rattle.s38_rules.specs.declared.need.Need.{Need}
 use Rattle.s38_rules.specs.declared.need.Located.{Located}
 use Rattle.s38_rules.specs.declared.need.Named.{Named}
 use Rattle.s38_rules.specs.declared.need.Named.TheVariants.{Written, Implied}
 use Rattle.s38_rules.specs.declared.need.PointerKind.{PointerKind}
 use Rattle.s38_rules.specs.declared.need.PointerKind.TheVariants as pointer_kinds
+use Rattle.s38_rules.specs.declared.need.Sought.{Sought}
+use Rattle.s38_rules.specs.declared.need.Sought.TheVariants.{Any, Of, Container}
 use Rattle.s38_rules.specs.declared.object.Object.{Object}
+use Rattle.s38_rules.specs.declared.object.Body.{Body}
+use Rattle.s38_rules.specs.declared.object.Body.TheVariants as bodies
 use Rattle.s38_rules.specs.declared.process.Standing.{Standing}
 use Rattle.s38_rules.specs.declared.verdict.Verdict.{Verdict}
 use Rattle.s38_rules.specs.declared.verdict.Verdict.TheVariants.{Permit, Wait, Refuse}
-use Rattle.s38_rules.specs.State.{State, object, found, kind_of, queue_at, standing, is_early}
-use Rattle.s38_rules.specs.Users.{acting}
+use Rattle.s38_rules.specs.State.{State, object, found, kind_of, cells_at, cells_of, queue_at, charge_in, charge_beside, owner_in, space_pages, standing, is_early}
+use Rattle.s38_rules.specs.Spaces.{carried_by, is_pointer_attr, object_of, offset_of, same_attr, start_of}
+use Rattle.s38_rules.specs.Users.{acting, user_of}
 use Rattle.s38_rules.specs.Authority.{available, has_rights}
-use Rattle.s38_rules.specs.Operands.{pointer_at, bytes_at, is_given, rights_at, word_at, object_of, carried_by, target}
+use Rattle.s38_rules.specs.Operands.{place, pointer_at, is_given, rights_at, room_at, size_at, word_at, id_at, attr_at, count_at, number_at, target}
 use Rattle.s38_rules.specs.Needs.{needs, resolved}
 
 -- ---- failures
@@ -59,8 +69,36 @@ missing operand needed there =
     if has_rights needed there then None
     else Some (record { id = UNAUTHORIZED; operand = operand; rule = Missing (record { 0 = without 8 needed there }) })
 
--- ---- address rules: there is a pointer, of the kind that is used, to an object that is there, of the kind
--- that is used
+-- ---- address rules of an item in a space: its base is a pointer into a space, or to the very item; the space
+-- is there, the item lies inside, and a pointer begins with a cell
+
+abbrev pub is_base : Pointer → ℕ → Attr → Bool
+is_base (pointers.System o r) offset attr = false
+is_base (pointers.Space o n) offset attr = true
+is_base (pointers.Item o n a) offset attr = (offset == 0) && same_attr a attr
+
+abbrev pub place_rule : ℕ → List Cell → ℕ → Attr → Option Exception
+place_rule k cells at attr =
+    if is_within at (length_of attr) cells then fails (is_pointer_attr attr && not (is_aligned at)) BOUNDARY_ALIGNMENT k
+    else Some (plain SPACE_ADDRESSING k)
+
+abbrev pub space_rule : ℕ → Option Object → ℕ → Attr → Option Exception
+space_rule k None at attr = Some (plain OBJECT_DESTROYED k)
+space_rule k (Some o) at attr =
+    if same_kind kinds.Space (kind_of o.body) then place_rule k (cells_of o.body) at attr else Some (plain OBJECT_TYPE_INVALID k)
+
+abbrev pub base_rule : State → ℕ → Option Pointer → ℕ → Attr → Option Exception
+base_rule s k None offset attr = Some (plain POINTER_MISSING k)
+base_rule s k (Some p) offset attr =
+    if is_base p offset attr then space_rule k (object s (object_of p)) (offset_of p + offset) attr
+    else Some (plain POINTER_TYPE_INVALID k)
+
+unfoldable pub item_rule : State → ℕ → Operand → Option Exception
+item_rule s k (operands.InSpace base offset attr) = base_rule s k base offset attr
+item_rule s k _ = None
+
+-- ---- address rules of a pointer that is used: there is one, of the kind that is used, to an object that is
+-- there, and suits
 
 abbrev pub is_pointer : PointerKind → Pointer → Bool
 is_pointer pointer_kinds.System (pointers.System o r) = true
@@ -69,13 +107,14 @@ is_pointer pointer_kinds.Item (pointers.Item o n a) = true
 is_pointer pointer_kinds.Any p = true
 is_pointer _ p = false
 
-abbrev pub is_kind : Option Kind → Kind → Bool
-is_kind None kind = true
-is_kind (Some k) kind = same_kind k kind
+abbrev pub is_sought : Sought → Object → Bool
+is_sought Any o = true
+is_sought (Of kind) o = same_kind kind (kind_of o.body)
+is_sought Container o = same_kind kinds.Context (kind_of o.body) && not (o.number.0 == 1)
 
 abbrev pub object_rule : Need → Option Object → Option Exception
 object_rule need None = Some (plain OBJECT_DESTROYED need.place)
-object_rule need (Some o) = fails (not (is_kind need.kind (kind_of o.body))) OBJECT_TYPE_INVALID need.place
+object_rule need (Some o) = fails (not (is_sought need.sought o)) OBJECT_TYPE_INVALID need.place
 
 abbrev pub pointer_rule : State → Need → Option Pointer → Option Exception
 pointer_rule s need None = Some (plain POINTER_MISSING need.place)
@@ -89,6 +128,23 @@ named_rule s ops need (Implied n) = object_rule need (object s n.0)
 
 unfoldable pub address_rule : State → List Operand → Need → Option Exception
 address_rule s ops need = named_rule s ops need need.named
+
+-- ---- the address rules of all operands: those of each operand in order, and then those of objects that no
+-- operand names
+
+abbrev pub stands_at : ℕ → Need → Bool
+stands_at k need = need.place == k
+
+abbrev pub needs_rule : State → List Operand → List Need → ℕ → Option Exception
+needs_rule s ops wanted k = first_of (address_rule s ops) (filter (stands_at k) wanted)
+
+abbrev pub address_rules_from : State → List Operand → List Need → ℕ → List Operand → Option Exception
+address_rules_from s ops wanted k [] = needs_rule s ops wanted 0
+address_rules_from s ops wanted k (operand ∷ more) =
+    first (item_rule s k operand) (first (needs_rule s ops wanted k) (address_rules_from s ops wanted (k + 1) more))
+
+unfoldable pub address_rules : State → List Operand → List Need → Option Exception
+address_rules s ops wanted = address_rules_from s ops wanted 1 ops
 
 -- ---- rights
 
@@ -117,15 +173,103 @@ carried_rights s users word (Some p) = if word == 0 then None else missing 0 (bi
 unfoldable pub rslvsp_conditions : State → ℕ → ℕ → List Operand → Option Exception
 rslvsp_conditions s process depth ops = carried_rights s (acting s process depth) (rights_at ops 4) (resolved s process depth ops)
 
-abbrev pub put_failure : MessageQueue → List ℕ → List ℕ → Option Exception
+-- ---- creation: the identification is new in its context, the owner may pay for it, and a number is left
+
+abbrev pub of_kind : Kind → Id → Id
+of_kind kind id = record id { kind = kind }
+
+abbrev pub is_taken : State → ℕ → Kind → Option Id → Bool
+is_taken s context kind None = false
+is_taken s context kind (Some id) = is_some (found s context (of_kind kind id))
+
+unfoldable pub name_rule : State → Kind → List Operand → Option Exception
+name_rule s kind ops = fails (is_taken s (target s ops 2) kind (id_at ops 3)) DUPLICATE_IDENTIFICATION 3
+
+abbrev pub limit_of : Body → ℕ
+limit_of (bodies.Profile special limit) = limit
+limit_of _ = 0
+
+abbrev pub limit_in : Option Object → ℕ
+limit_in None = 0
+limit_in (Some o) = limit_of o.body
+
+-- a user would own more pages than its profile allows
+abbrev pub pages_rule : State → ℕ → ℕ → Option Exception
+pages_rule s user pages = fails (nat_lt (limit_in (object s user)) pages) PAGES_EXCEEDED 0
+
+-- the greatest number of an object
+abbrev pub last_number : ℕ
+last_number = 2 ^ 62
+
+-- how many objects there may be
+abbrev pub most_objects : ℕ
+most_objects = 65535
+
+abbrev pub number_rule : State → Option Exception
+number_rule s = fails (nat_le most_objects (length s.objects) || nat_lt last_number s.next) LIMIT_EXCEEDED 0
+
+-- the user of the process owns what it makes, which takes so many pages
+unfoldable pub creation_limits : State → ℕ → ℕ → Option Exception
+creation_limits s process pages =
+    first (pages_rule s (user_of s process) (charge_in s.objects (user_of s process) + pages)) (number_rule s)
+
+unfoldable pub crtq_conditions : State → ℕ → List Operand → Option Exception
+crtq_conditions s process ops = first (name_rule s kinds.Queue ops) (creation_limits s process 1)
+
+-- ---- spaces
+
+-- a multiple of 16, of 16 to 1,048,576 bytes
+abbrev pub is_space_length : ℕ → Bool
+is_space_length n = nat_le 16 n && (nat_le n body_limit && (n % 16 == 0))
+
+-- the number at an operand has a value, and is the length of a space
+abbrev pub length_rule : State → List Operand → ℕ → Option Exception
+length_rule s ops k =
+    first (fails (is_none (number_at s ops k)) DECIMAL_DATA k) (fails (not (is_space_length (count_at s ops k))) LENGTH_INVALID k)
+
+-- the pages of a space of so many bytes
+abbrev pub pages_for_length : ℕ → ℕ
+pages_for_length n = 1 + space_pages (n / 16)
+
+unfoldable pub crts_conditions : State → ℕ → List Operand → Option Exception
+crts_conditions s process ops =
+    first (name_rule s kinds.Space ops)
+    (first (length_rule s ops 5) (creation_limits s process (pages_for_length (count_at s ops 5))))
+
+-- the owner of the space pays for its new length
+unfoldable pub mods_conditions : State → List Operand → Option Exception
+mods_conditions s ops =
+    first (length_rule s ops 2)
+    (pages_rule s (owner_in (object s (target s ops 1))) (charge_beside s.objects (target s ops 1) + pages_for_length (count_at s ops 2)))
+
+abbrev pub item_start : Option Pointer → ℕ
+item_start p = start_of p 0
+
+-- the item lies inside the space
+unfoldable pub setdp_conditions : State → List Operand → Option Exception
+setdp_conditions s ops =
+    fails (not (is_within (item_start (pointer_at s ops 2)) (length_of (attr_at ops 3)) (cells_at s (target s ops 2)))) SPACE_ADDRESSING 2
+
+abbrev pub is_unaligned : Option Operand → Bool
+is_unaligned (Some (operands.InSpace base offset attr)) = not (is_aligned (start_of base offset))
+is_unaligned _ = false
+
+-- what is copied, and where it goes, begins with a cell
+unfoldable pub cpybwp_conditions : List Operand → Option Exception
+cpybwp_conditions ops =
+    first (fails (is_unaligned (place ops 1)) BOUNDARY_ALIGNMENT 1) (fails (is_unaligned (place ops 2)) BOUNDARY_ALIGNMENT 2)
+
+-- ---- queues
+
+abbrev pub put_failure : MessageQueue → ℕ → ℕ → Option Exception
 put_failure q key text =
-    first (fails (not (length key == q.key_len)) LENGTH_INVALID 2)
-    (first (fails (nat_lt q.longest (length text)) LENGTH_INVALID 3)
-    (fails (nat_lt body_limit (image_size q.messages + message_size (message key text))) LIMIT_EXCEEDED 1))
+    first (fails (not (key == q.key_len)) LENGTH_INVALID 2)
+    (first (fails (nat_lt q.longest text) LENGTH_INVALID 3)
+    (fails (nat_lt body_limit (image_size q.messages + (key + text + 2))) LIMIT_EXCEEDED 1))
 
 -- the key has the length of the queue's keys, the message is not too long, and the queue's image stays small
 unfoldable pub enq_conditions : State → List Operand → Option Exception
-enq_conditions s ops = put_failure (queue_at s (target s ops 1)) (bytes_at s ops 2) (bytes_at s ops 3)
+enq_conditions s ops = put_failure (queue_at s (target s ops 1)) (size_at s ops 2) (size_at s ops 3)
 
 -- the relation is ANY (6) on a queue without keys, no key is given with it, and there is a message
 unfoldable pub deq_conditions : State → List Operand → Option Exception
@@ -134,8 +278,15 @@ deq_conditions s ops =
     (first (fails (is_given ops 4) LENGTH_INVALID 4)
     (fails (length (queue_at s (target s ops 2)).messages == 0) NO_MESSAGE 2))
 
+-- ---- the table
+
 unfoldable pub conditions : State → ℕ → ℕ → Op → List Operand → Option Exception
 conditions s process depth Rslvsp ops = rslvsp_conditions s process depth ops
+conditions s process depth Setdp ops = setdp_conditions s ops
+conditions s process depth Cpybwp ops = cpybwp_conditions ops
+conditions s process depth Crtq ops = crtq_conditions s process ops
+conditions s process depth Crts ops = crts_conditions s process ops
+conditions s process depth Mods ops = mods_conditions s ops
 conditions s process depth Enq ops = enq_conditions s ops
 conditions s process depth Deq ops = deq_conditions s ops
 conditions s process depth _ ops = None
@@ -144,7 +295,7 @@ conditions s process depth _ ops = None
 unfoldable pub refusal : State → ℕ → ℕ → Op → List Operand → Option Exception
 refusal s process depth op ops =
     let wanted = needs s process depth op ops in
-    first (first_of (address_rule s ops) wanted)
+    first (address_rules s ops wanted)
     (first (first_of (rights_rule s (acting s process depth) ops) wanted)
     (conditions s process depth op ops))
 

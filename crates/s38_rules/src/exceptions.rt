@@ -16,13 +16,19 @@ pub const LENGTH_INVALID: u16 = 0x2405;
 pub const NO_MESSAGE: u16 = 0x2601;
 /// A limit would be passed.
 pub const LIMIT_EXCEEDED: u16 = 0x1C03;
-/// Bytes of a numeric source have no value.
+/// A piece of bytes leaves its space.
+pub const SPACE_ADDRESSING: u16 = 0x0601;
+/// A cell does not begin at a multiple of 16.
+pub const BOUNDARY_ALIGNMENT: u16 = 0x0602;
+/// The bytes of a number have no value.
 pub const DECIMAL_DATA: u16 = 0x0C02;
+/// Another object of the context has the identification.
+pub const DUPLICATE_IDENTIFICATION: u16 = 0x0E01;
+/// The owner's pages would pass its limit.
+pub const PAGES_EXCEEDED: u16 = 0x1C04;
 /// The receiver doesn't hold the result.
 pub const SIZE: u16 = 0x0C0A;
 /// The divisor is zero.
 pub const ZERO_DIVIDE: u16 = 0x0C0B;
 /// A byte is no hexadecimal character.
 pub const CONVERSION: u16 = 0x0C01;
-/// An address lies outside a space.
-pub const SPACE_ADDRESSING: u16 = 0x0601;

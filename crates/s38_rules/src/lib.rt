@@ -11,12 +11,13 @@ mod process;
 mod verdict;
 
 pub use exceptions::{
-    CONVERSION, DECIMAL_DATA, LENGTH_INVALID, LIMIT_EXCEEDED, NO_MESSAGE, OBJECT_DESTROYED,
-    OBJECT_NOT_FOUND, OBJECT_TYPE_INVALID, POINTER_MISSING, POINTER_TYPE_INVALID, SIZE,
-    SPACE_ADDRESSING, UNAUTHORIZED, ZERO_DIVIDE,
+    BOUNDARY_ALIGNMENT, CONVERSION, DECIMAL_DATA, DUPLICATE_IDENTIFICATION, LENGTH_INVALID,
+    LIMIT_EXCEEDED, NO_MESSAGE, OBJECT_DESTROYED, OBJECT_NOT_FOUND, OBJECT_TYPE_INVALID,
+    PAGES_EXCEEDED, POINTER_MISSING, POINTER_TYPE_INVALID, SIZE, SPACE_ADDRESSING, UNAUTHORIZED,
+    ZERO_DIVIDE,
 };
 pub use local::LocalEnd;
-pub use need::{Located, Named, Need, PointerKind};
+pub use need::{Located, Named, Need, PointerKind, Sought};
 pub use object::{Body, Object, PrivateRow, RowList};
 pub use process::{Standing, Started, Status};
 pub use verdict::Verdict;

@@ -18,6 +18,17 @@ pub enum PointerKind {
     Any,
 }
 
+/// Which objects suit an operand.
+#[derive(Clone, Copy, PartialEq, Eq, Debug)]
+pub enum Sought {
+    /// Those of every kind.
+    Any,
+    /// Those of this kind.
+    Of(Kind),
+    /// Contexts but the machine's: new objects are put there.
+    Container,
+}
+
 /// What an instruction needs of an operand: the kinds of pointer and of object, rights on the object, and
 /// what the instruction does to it.
 #[derive(Clone, Copy, PartialEq, Eq, Debug)]
@@ -26,8 +37,7 @@ pub struct Need {
     pub place: u8,
     pub named: Named,
     pub pointer: PointerKind,
-    /// None: of any kind.
-    pub kind: Option<Kind>,
+    pub sought: Sought,
     pub rights: Rights,
     /// None: locks of others don't block.
     pub category: Option<Category>,

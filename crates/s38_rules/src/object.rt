@@ -1,4 +1,6 @@
 use s38_base::{Id, ObjNum, Rights, Seq, Special, UserNum};
+use s38_code::Code;
+use s38_memory::Tagged;
 use s38_queues::Queue;
 
 /// The rights that a user holds on an object by a row of its own.
@@ -15,8 +17,11 @@ pub type RowList = Seq<PrivateRow>;
 #[derive(Drop)]
 pub enum Body {
     Context,
+    Program(Code),
     /// A user: special authorities, and how many pages it may own.
     Profile { special: Special, limit: u32 },
+    /// Cells, each sixteen bytes or a pointer.
+    Space(Tagged),
     Queue(Queue),
 }
 
