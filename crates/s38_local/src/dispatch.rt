@@ -1,7 +1,8 @@
 ghost use Rattle.std.specs.Prelude.{◌≡◌, IfOk, OnErr, OnOk};
 ghost use Rattle.std.specs.List.{list_any};
 ghost use Rattle.std.specs.Option.{option_copied};
-ghost use Rattle.s38_rules.specs.Local.{is_based, is_based_form, is_based_row, is_local, is_local_op, run};
+ghost use Rattle.s38_rules.specs.Local.{is_local, is_local_op, lies_in_space, run};
+ghost use Rattle.s38_rules.specs.Variables.{form_in, is_based};
 
 use crate::branches::jump_to;
 use crate::numbers::{number_branch, one_source, two_sources};
@@ -87,34 +88,34 @@ fn is_local_op(op: Op) -> bool
     )
 }
 
-fn is_based_row(row: Option<&Row>) -> bool
-    ensures { result ≡ is_based_row (option_copied row.entry) }
+fn form_in(row: Option<&Row>) -> Option<&Form>
+    ensures { option_copied result ≡ form_in (option_copied row.entry) }
 {
     match row {
-        None => false,
-        Some(row) => is_based_form(&row.form),
+        None => None,
+        Some(row) => Some(&row.form),
     }
 }
 
-fn is_based_form(form: &Form) -> bool
-    ensures { result ≡ is_based_form form.now }
+fn is_based(form: Option<&Form>) -> bool
+    ensures { result ≡ is_based (option_copied form.entry) }
 {
-    matches!(form, Form::Based { .. })
+    matches!(form, Some(Form::Based { .. }))
 }
 
-fn is_based(rows: &[Row], arg: &Arg) -> bool
-    ensures { result ≡ is_based rows.now arg.now }
+fn lies_in_space(rows: &[Row], arg: &Arg) -> bool
+    ensures { result ≡ lies_in_space rows.now arg.now }
 {
     match arg {
-        Arg::Item(item) => is_based_row(rows.get(*item as usize)),
+        Arg::Item(item) => is_based(form_in(rows.get(*item as usize))),
         _ => false,
     }
 }
 
-fn has_based(rows: &[Row], args: &[Arg]) -> bool
-    ensures { result ≡ list_any (is_based rows.now) args.now }
+fn any_in_space(rows: &[Row], args: &[Arg]) -> bool
+    ensures { result ≡ list_any (lies_in_space rows.now) args.now }
 {
-    args.iter().any(|arg| is_based(rows, arg))
+    args.iter().any(|arg| lies_in_space(rows, arg))
 }
 
 /// Whether an instruction is done by the process alone: it computes, branches or returns, and no operand lies in
@@ -123,5 +124,5 @@ fn has_based(rows: &[Row], args: &[Arg]) -> bool
 pub fn is_local(rows: &[Row], instruction: &Instruction) -> bool
     ensures { result ≡ is_local rows.now instruction.now }
 {
-    is_local_op(instruction.op) && !has_based(rows, instruction.args.as_slice())
+    is_local_op(instruction.op) && !any_in_space(rows, instruction.args.as_slice())
 }

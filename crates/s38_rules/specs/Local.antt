@@ -13,8 +13,6 @@ use Rattle.s38_base.specs.declared.pointer.Pointer.{Pointer}
 use Rattle.s38_base.specs.Scalar.{image_of, length_of, value_of}
 use Rattle.s38_code.specs.declared.program.Arg.{Arg}
 use Rattle.s38_code.specs.declared.program.Arg.TheVariants as args
-use Rattle.s38_code.specs.declared.program.Form.{Form}
-use Rattle.s38_code.specs.declared.program.Form.TheVariants as forms
 use Rattle.s38_code.specs.declared.program.Instruction.{Instruction}
 use Rattle.s38_code.specs.declared.program.Row.{Row}
 use Rattle.s38_code.specs.declared.reply.Val.{Val}
@@ -23,7 +21,7 @@ use Rattle.s38_decimal.specs.declared.dec.Target.{Target}
 use Rattle.s38_rules.specs.declared.local.LocalEnd.{LocalEnd}
 use Rattle.s38_rules.specs.declared.local.LocalEnd.TheVariants as ends
 use Rattle.s38_rules.specs.Compute.{holds, kind_word, numbers_compared, one_number, pointer_moved, string_given, two_numbers}
-use Rattle.s38_rules.specs.Variables.{attr_of, bytes_of, pointer_of, put_in}
+use Rattle.s38_rules.specs.Variables.{attr_of, bytes_of, form_in, is_based, pointer_of, put_in}
 
 -- how an instruction ends, and the variables behind it
 pub record Ran : Type 0 where
@@ -236,19 +234,11 @@ is_local_op Addspp = true
 is_local_op Subspp = true
 is_local_op _ = false
 
-abbrev pub is_based_form : Form → Bool
-is_based_form (forms.Based base offset attr) = true
-is_based_form _ = false
-
-abbrev pub is_based_row : Option Row → Bool
-is_based_row None = false
-is_based_row (Some row) = is_based_form row.form
-
 -- an item that lies in a space
-abbrev pub is_based : List Row → Arg → Bool
-is_based rows (args.Item i) = is_based_row (slice_get rows i)
-is_based rows _ = false
+abbrev pub lies_in_space : List Row → Arg → Bool
+lies_in_space rows (args.Item i) = is_based (form_in (slice_get rows i))
+lies_in_space rows _ = false
 
 -- a local instruction has no operand in a space; with one it is asked of the machine
 unfoldable pub is_local : List Row → Instruction → Bool
-is_local rows i = is_local_op i.op && not (list_any (is_based rows) i.args)
+is_local rows i = is_local_op i.op && not (list_any (lies_in_space rows) i.args)

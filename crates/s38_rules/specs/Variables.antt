@@ -1,5 +1,5 @@
 -- The variables of an invocation: what their declarations say, and what they hold.
-use Rattle.std.specs.Prelude.{ℕ, List, [], Option, Some, None, slice_get, slice_set}
+use Rattle.std.specs.Prelude.{ℕ, Bool, true, false, List, [], Option, Some, None, slice_get, slice_set}
 use Rattle.s38_base.specs.declared.attr.Attr.{Attr}
 use Rattle.s38_base.specs.declared.attr.Attr.TheVariants as attrs
 use Rattle.s38_base.specs.declared.pointer.Pointer.{Pointer}
@@ -18,6 +18,18 @@ attr_of_form (forms.Local attr first) = attr
 attr_of_form (forms.Parm k attr) = attr
 attr_of_form (forms.Based base offset attr) = attr
 attr_of_form (forms.Handler code at) = attrs.Pointer
+
+abbrev pub form_in : Option Row → Option Form
+form_in None = None
+form_in (Some row) = Some row.form
+
+-- an item behind a base lies in a space
+abbrev pub is_based : Option Form → Bool
+is_based (Some (forms.Based base offset attr)) = true
+is_based (Some (forms.Local attr first)) = false
+is_based (Some (forms.Parm k attr)) = false
+is_based (Some (forms.Handler code at)) = false
+is_based None = false
 
 abbrev pub attr_in : Option Row → Attr
 attr_in None = attrs.Pointer
@@ -50,10 +62,6 @@ pointer_of values (Some (args.Item i)) = value_pointer (slice_get values i)
 pointer_of values _ = None
 
 -- ---- how a variable gets a value
-
-abbrev pub put : List Val → Arg → Val → List Val
-put values (args.Item i) v = slice_set values i v
-put values _ v = values
 
 abbrev pub put_in : List Val → Option Arg → Val → List Val
 put_in values (Some (args.Item i)) v = slice_set values i v
