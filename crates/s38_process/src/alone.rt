@@ -1,8 +1,8 @@
-ghost use Rattle.std.specs.Prelude.{◌≡◌, ◌<◌, ◌≤◌, ◌+◌, ◌^◌, [], IfOk, IsSome, List, OnErr, OnOk, length, is_some};
+ghost use Rattle.std.specs.Prelude.{◌≡◌, ◌<◌, ◌≤◌, ◌+◌, ◌^◌, [], IfOk, IsSome, List, OnErr, OnOk, Some, is_some};
 ghost use Rattle.std.specs.Option.{option_copied};
 ghost use Rattle.s38_code.specs.declared.program.Program.{Program};
 ghost use Rattle.s38_code.specs.declared.reply.Val.{Val};
-ghost use Rattle.s38_rules.specs.Process.{Doing, after_local, alone, alone_by, alone_in, is_return, settled, step_alone, unhandled};
+ghost use Rattle.s38_rules.specs.Process.{after_local, alone, alone_by, alone_in, is_return, settled, step_alone, unhandled_by};
 ghost use Rattle.s38_process.specs.Standing.{doing};
 
 use crate::progress::Progress;
@@ -19,19 +19,13 @@ pub fn is_return(op: Op) -> bool
     matches!(op, Op::Rtx)
 }
 
-fn alone_in<'a>(rows: &[Row], instruction: Option<&'a Instruction>) -> Option<&'a Instruction>
-    ensures local { option_copied result ≡ alone_in rows.now (option_copied instruction.entry) }
-    ensures some { IsSome result → IsSome instruction.entry }
+fn alone_in<'a>(rows: &[Row], instruction: &'a Instruction) -> Option<&'a Instruction>
+    ensures { option_copied result ≡ alone_in rows.now (Some instruction.now) }
 {
-    match instruction {
-        None => None,
-        Some(instruction) => {
-            if is_local(rows, instruction) && !is_return(instruction.op) {
-                Some(instruction)
-            } else {
-                None
-            }
-        }
+    if is_local(rows, instruction) && !is_return(instruction.op) {
+        Some(instruction)
+    } else {
+        None
     }
 }
 
@@ -39,14 +33,14 @@ fn alone_in<'a>(rows: &[Row], instruction: Option<&'a Instruction>) -> Option<&'
 fn alone(program: &Program, budget: u32, progress: Progress) -> Option<&Instruction>
     ensures local { option_copied result ≡ alone (doing program.now budget [] progress) }
     ensures room { IsSome result → progress.done < budget }
-    ensures within { IsSome result → progress.at < length program.now.code }
+    ensures place { IsSome result → progress.at + 1 < 2 ^ 64 }
 {
     match progress.status {
         Status::Running => {
-            if budget <= progress.done {
+            if budget <= progress.done || program.code.len() <= progress.at {
                 return None;
             }
-            let instruction = program.code.as_slice().get(progress.at);
+            let instruction = &program.code.as_slice()[progress.at];
             alone_in(program.rows.as_slice(), instruction)
         }
         _ => None,
@@ -56,7 +50,7 @@ fn alone(program: &Program, budget: u32, progress: Progress) -> Option<&Instruct
 /// Why a process ends by an exception that no description takes.
 pub fn unhandled(done: u32, budget: u32, id: u16) -> EndCause
     requires { done < budget }
-    ensures { (d : Doing) → d.done ≡ done → d.budget ≡ budget → result ≡ unhandled d id }
+    ensures { result ≡ unhandled_by budget done id }
 {
     if budget <= done + 1 {
         EndCause::Budget
@@ -131,7 +125,7 @@ pub fn settle(
     ensures same { settled (doing program.now budget values.new progress.new) ≡ settled (doing program.now budget values.old progress.old) }
     ensures within { progress.new.done ≤ budget }
 {
-    loop {
+    'steps: loop {
         match step(alloc, program, budget, values, progress) {
             Err(fault) => return Err(fault),
             Ok(false) => return Ok(()),

@@ -134,8 +134,11 @@ asks d (Ending cause) = Some (Finish cause)
 asks d Ended = None
 
 -- an exception that no description takes ends the process; the budget comes before it
+abbrev pub unhandled_by : ℕ → ℕ → ℕ → EndCause
+unhandled_by budget done id = if nat_le budget (done + 1) then causes.Budget else causes.Unhandled id
+
 abbrev pub unhandled : Doing → ℕ → EndCause
-unhandled d id = if nat_le d.budget (d.done + 1) then causes.Budget else causes.Unhandled id
+unhandled d id = unhandled_by d.budget d.done id
 
 -- ---- what it does alone
 
