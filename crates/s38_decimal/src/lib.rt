@@ -8,6 +8,7 @@ mod dec;
 mod digits;
 mod laws;
 mod order;
+mod packed;
 mod products;
 mod quotients;
 mod read;
