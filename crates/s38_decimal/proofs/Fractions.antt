@@ -1,6 +1,6 @@
 -- Fractions under a common factor, cut and rounded.
 use Rattle.std.proofs.Common.{◌≡◌, ℕ, ◌+◌, ◌-◌, ◌*◌, ◌/◌, ◌%◌, ◌^◌, ◌<◌, ◌≤◌, Bool, true, false, ap, sym, ◌∙◌, arith}
-use Rattle.std.proofs.Math.Nat.{div-eq_of_lt-le, mul-div-mul_right, div-add-mod', mod-lt, one-le-pow, mul-le-mul}
+use Rattle.std.proofs.Math.Nat.{div-le_self, div-eq_of_lt-le, mul-div-mul_right, div-add-mod', mod-lt, one-le-pow, mul-le-mul}
 use Rattle.std.proofs.lemmas.Nat.{pow-add}
 use Rattle.s38_decimal.specs.Values.{cut_or_rounded}
 
@@ -49,3 +49,7 @@ cut_or_rounded-less round n m up down h =
 -- a bottom stays above 0
 pub bottom_pos : (m k : ℕ) → 0 < m → 0 < m * 10 ^ k
 bottom_pos m k pos = omega (arith, mul-le-mul pos (one-le-pow k 10 (omega arith)))
+
+-- a whole part is no greater
+pub quotient_le : (n m : ℕ) → n / m ≤ n
+quotient_le n m = div-le_self n m

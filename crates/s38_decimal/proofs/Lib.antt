@@ -4,6 +4,7 @@ pub mod Fractions
 pub mod ImageLaws
 pub mod Integers
 pub mod OrderLaws
+pub mod PackedLaws
 pub mod Powers
 pub mod ProductLaws
 pub mod QuotientLaws

@@ -8,9 +8,9 @@ use Rattle.std.proofs.Math.Nat.{le-mul_of_pos_right, one-le-pow}
 use Rattle.std.specs.Int.{w128, cast_signed, cast_unsigned}
 use Rattle.s38_base.specs.declared.attr.Attr.{Attr}
 use Rattle.s38_base.specs.Scalar.{digits_of, fraction_of, fits}
-use Rattle.s38_decimal.specs.Need.{product_need, scale_need}
+use Rattle.s38_decimal.specs.Need.{copy_need, product_need, scale_need}
 use Rattle.s38_decimal.specs.Values.{cut_or_rounded, exact, product_of, scaled_by, units_at, with_sign}
-use Rattle.s38_decimal.proofs.Attributes.{fits_below, fits_numeric, fits_same, fraction_le}
+use Rattle.s38_decimal.proofs.Attributes.{IsOf-fits, IsOf-negative, fits_below, fits_numeric, fits_same, fraction_le}
 use Rattle.s38_decimal.proofs.Rooms.{product_below, raised_le}
 
 -- the product of two numbers under their need
@@ -74,3 +74,7 @@ raised_top a to x k h need =
 pub lowered_top : (a to : Attr) (x : ℤ) (k : ℕ) → 0 < k → IsTrue (fits a x) → scale_need a to (negsuc (k - 1)) ≤ 38 → unsigned_abs x * 10 ^ (fraction_of to - (fraction_of a + k)) ≤ 10 ^ 38
 lowered_top a to x k some h need =
     raised_le (unsigned_abs x) (digits_of a) (fraction_of to - (fraction_of a + k)) 38 (fits_below a x h) (omega (arith, fraction_le a (fits_numeric a x h)))
+
+pub negative_top : (a to : Attr) (x : ℤ) → IsTrue (fits a x) → copy_need a to ≤ 38 → unsigned_abs (neg_ℤ x) * 10 ^ (fraction_of to - fraction_of a) ≤ 10 ^ 38
+negative_top a to x h need =
+    raised_le (unsigned_abs (neg_ℤ x)) (digits_of a) (fraction_of to - fraction_of a) 38 (IsOf-negative a x (IsOf-fits a x h)).digits (omega (arith, fraction_le a (fits_numeric a x h)))

@@ -1,11 +1,12 @@
 -- 38 digits are enough, and 127 bits for them.
-use Rattle.std.proofs.Common.{◌≡◌, ℕ, ◌+◌, ◌-◌, ◌*◌, ◌^◌, ◌<◌, ◌≤◌, ℤ, ◌*ℤ◌, ◌+ℤ◌, ap, ◌∙◌, arith}
+use Rattle.std.proofs.Common.{◌≡◌, ℕ, zero, suc, pos, negsuc, refl, ◌+◌, ◌-◌, ◌*◌, ◌^◌, ◌<◌, ◌≤◌, ℤ, ◌*ℤ◌, ◌+ℤ◌, ap, ◌∙◌, arith}
 use Rattle.std.specs.Prelude.{unsigned_abs}
 use Rattle.std.specs.Int.{w128, cast_signed, cast_unsigned}
 use Rattle.std.specs.Int.RustNames.{FitsSigned}
 use Rattle.std.proofs.lemmas.Int.{fits_signed_from_abs, to_z-of_z, unsigned_abs-mul}
 use Rattle.std.proofs.lemmas.Nat.{pow-add, mul-le, mul-lt}
 use Rattle.std.proofs.Math.Nat.{le-mul_of_pos_right, one-le-pow}
+use Rattle.s38_decimal.specs.Values.{with_sign}
 use Rattle.s38_decimal.proofs.Powers.{tens_le}
 
 -- a number of d digits with k zeros behind it
@@ -61,3 +62,13 @@ bottom_is n m up down u d is up_is down_is small =
     let e : n * 10 ^ (down - up) ≡ m * 10 ^ (d - u) =
     ap (λ k. k * 10 ^ (down - up)) is ∙ ap (λ k. m * 10 ^ (down - k)) up_is ∙ ap (λ k. m * 10 ^ (k - u)) down_is in
     omega (arith, e)
+
+pub with_sign-abs : (z : ℤ) (n : ℕ) → unsigned_abs (with_sign z n) ≡ n
+with_sign-abs (pos a) n = refl
+with_sign-abs (negsuc a) zero = refl
+with_sign-abs (negsuc a) (suc n) = refl
+
+-- a number with a sign, as it reaches a caller
+pub signed_word : (top z : ℤ) (n : ℕ) → top ≡ with_sign z n → n < 10 ^ 31 → unsigned_abs (cast_signed w128 (cast_unsigned w128 top)) < 10 ^ 31
+signed_word top z n is small =
+    omega (arith, ap unsigned_abs (same_word top (with_sign z n) is (omega (arith, with_sign-abs z n, tens_le 31 38 (omega arith)))), with_sign-abs z n)

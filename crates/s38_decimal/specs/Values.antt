@@ -33,6 +33,9 @@ difference_of x y = record { top = x.top *ℤ pos y.bottom -ℤ y.top *ℤ pos x
 abbrev pub product_of : Exact → Exact → Exact
 product_of x y = record { top = x.top *ℤ y.top; bottom = x.bottom * y.bottom }
 
+abbrev pub negative_of : Exact → Exact
+negative_of x = record { top = neg_ℤ x.top; bottom = x.bottom }
+
 -- where y is not 0
 abbrev pub quotient_of : Exact → Exact → Exact
 quotient_of x y =
@@ -59,6 +62,10 @@ remainder_of x y = difference_of x (product_of y (whole_number (units_at false 0
 abbrev pub scaled_by : Exact → ℤ → Exact
 scaled_by x (pos power) = record { top = x.top *ℤ pos (10 ^ power); bottom = x.bottom }
 scaled_by x (negsuc below) = record { top = x.top; bottom = x.bottom * 10 ^ (below + 1) }
+
+-- the value without its fraction
+abbrev pub whole_part_of : Exact → ℤ
+whole_part_of x = units_at false 0 x
 
 abbrev pub order_of : Exact → Exact → Ordering
 order_of x y = int_cmp (x.top *ℤ pos y.bottom) (y.top *ℤ pos x.bottom)

@@ -8,6 +8,7 @@ mod dec;
 mod digits;
 mod laws;
 mod order;
+mod packed;
 mod products;
 mod quotients;
 mod read;
@@ -17,18 +18,20 @@ mod signed;
 mod sums;
 mod tens;
 mod units;
+mod whole;
 mod write;
 
 pub use dec::{Dec, DecimalFault, Target};
 pub use digits::need;
 pub use laws::written_is_read;
 pub use order::compare;
-pub use products::{mult, scale};
+pub use products::{mult, neg, scale};
 pub use quotients::div;
 pub use read::read_scalar;
 pub use remainders::rem;
 pub use sums::{add, sub};
 pub use tens::ten;
+pub use whole::whole_part;
 pub use write::write_scalar;
 
 #[cfg(test)]

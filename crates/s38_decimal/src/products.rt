@@ -1,11 +1,11 @@
 ghost use Rattle.std.specs.Prelude.{◌≡◌, ◌<◌, ◌≤◌, ◌-◌, pos, negsuc, IfOk, IsTrue};
 ghost use Rattle.s38_base.specs.Scalar.{fits};
-ghost use Rattle.s38_decimal.specs.Need.{product_need, scale_need};
-ghost use Rattle.s38_decimal.specs.Values.{answer, exact_of, product_of, scaled_by};
+ghost use Rattle.s38_decimal.specs.Need.{copy_need, product_need, scale_need};
+ghost use Rattle.s38_decimal.specs.Values.{answer, exact_of, negative_of, product_of, scaled_by};
 
 use crate::dec::{Dec, DecimalFault, Target};
 use crate::results::answer;
-use crate::signed::product;
+use crate::signed::{negative, product};
 
 /// The product, at the receiver's fraction. `Size` exactly where the receiver doesn't hold it.
 pub fn mult(a: Dec, b: Dec, to: Target) -> Result<i128, DecimalFault>
@@ -18,6 +18,18 @@ pub fn mult(a: Dec, b: Dec, to: Target) -> Result<i128, DecimalFault>
     let first = a.attr.fraction();
     let second = b.attr.fraction();
     answer(to, top, 1, at, first + second)
+}
+
+/// The negative, at the receiver's fraction. `Size` exactly where the receiver doesn't hold it.
+pub fn neg(a: Dec, to: Target) -> Result<i128, DecimalFault>
+    requires { copy_need a.attr to.attr ≤ 38 }
+    ensures exact { result ≡ answer to (negative_of (exact_of a)) }
+    ensures fits { IfOk result (λ units. IsTrue (fits to.attr units)) }
+{
+    let top = negative(a.units);
+    let at = to.attr.fraction();
+    let behind = a.attr.fraction();
+    answer(to, top, 1, at, behind)
 }
 
 /// The number times 10 ^ zeros.

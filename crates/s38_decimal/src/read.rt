@@ -3,6 +3,7 @@ ghost use Rattle.s38_decimal.specs.Forms.{is_decimal};
 ghost use Rattle.s38_base.specs.Scalar.{are_decimal, begins_right, digit_in, digits_of, fits, fits_bytes, half_byte, is_numeric, is_minus, is_sign, length_of, meaning_of, number_from, sign_in, spelled, twos_complement, value_of, with_minus};
 
 use crate::dec::{Dec, DecimalFault};
+use crate::packed::short_packed;
 use crate::units::signed;
 use s38_base::Attr;
 
@@ -71,20 +72,38 @@ fn long_number(attr: Attr, bytes: &[u8], n: u8) -> Option<u128>
     Some(number)
 }
 
+/// The same, by how many there are.
+fn spaced_number(attr: Attr, bytes: &[u8], n: u8) -> Option<u128>
+    requires long { length bytes.now ≡ length_of attr }
+    requires inside { n ≤ digits_of attr }
+    requires short { n ≤ 31 }
+    requires decimal { IsTrue (is_decimal attr) }
+    ensures value { result ≡ (if are_decimal (digit_in attr bytes.now) n
+        then Some (number_from 10 (digit_in attr bytes.now) n) else None) }
+    ensures bound { IfSome result (λ number. number < 10 ^ n) }
+{
+    if n <= 18 {
+        short_number(attr, bytes, n).map(|number| number as u128)
+    } else {
+        long_number(attr, bytes, n)
+    }
+}
+
 /// The number that all digits spell.
 fn number(attr: Attr, bytes: &[u8]) -> Option<u128>
     requires long { length bytes.now ≡ length_of attr }
+    requires begins { IsTrue (begins_right attr bytes.now) }
     requires numeric { IsTrue (is_numeric attr) }
     requires decimal { IsTrue (is_decimal attr) }
     ensures value { result ≡ (if are_decimal (digit_in attr bytes.now) (digits_of attr)
         then Some (number_from 10 (digit_in attr bytes.now) (digits_of attr)) else None) }
     ensures bound { IfSome result (λ number. number < 10 ^ digits_of attr) }
 {
-    let n = attr.digits();
-    if n <= 18 {
-        short_number(attr, bytes, n).map(|number| number as u128)
-    } else {
-        long_number(attr, bytes, n)
+    match attr {
+        Attr::Packed { digits, fraction } if digits <= 18 => {
+            short_packed(digits, fraction, bytes).map(|number| number as u128)
+        }
+        _ => spaced_number(attr, bytes, attr.digits()),
     }
 }
 

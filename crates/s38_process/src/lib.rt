@@ -1,7 +1,9 @@
 //! A process: it asks one event after another, and goes on by the replies.
 #![tactic(auto)]
 
+mod alone;
 mod process;
+mod progress;
 mod request;
 mod variables;
 

@@ -1,11 +1,14 @@
 ghost use Rattle.std.specs.Prelude.{◌≡◌, ◌<◌, ◌+◌, IfOk, OnOk, OnErr, Some, length, slice_get};
 ghost use Rattle.std.specs.Option.{option_copied};
 ghost use Rattle.s38_process.specs.Asked.{asked, is_acting};
-ghost use Rattle.s38_rules.specs.Process.{absorbed, acts, after_act, after_end, after_event, after_start, event_of, fresh, is_return, received_by, returns, runs, unhandled};
+ghost use Rattle.s38_rules.specs.declared.process.Status.{Status};
+ghost use Rattle.s38_rules.specs.Process.{absorbed, acts, after_act, after_asked, after_end, after_event, after_start, asks_now, event_of, fresh, place_behind, received_by, returns, runs, settled, unhandled};
 
+use crate::alone::{is_return, settle, unhandled};
+use crate::progress::Progress;
 use crate::request::request_of;
-use crate::variables::{first_values, receive};
-use s38_base::{NoMemory, Op, twins};
+use crate::variables::{first_values, place_behind, receive};
+use s38_base::{NoMemory, twins};
 use s38_code::{Code, EndCause, Event, Instruction, Job, Reply, Val, classes};
 use s38_rules::Status;
 use std::alloc::Global;
@@ -26,27 +29,20 @@ pub struct Process {
     alloc: Global,
     program: Code,
     values: Vec<Val>,
-    at: usize,
-    done: u32,
     budget: u32,
-    status: Status,
+    progress: Progress,
 }
 
 impl Model for Process {
     ghost use Rattle.std.specs.Prelude.{◌≤◌};
     ghost use Rattle.s38_rules.specs.Process.{Doing};
+    ghost use Rattle.s38_process.specs.Standing.{doing};
 
     ghost Value = { Doing };
 
-    ghost view = { λ p. record { program = p.program; values = p.values.items; at = p.at; done = p.done; budget = p.budget; status = p.status } };
+    ghost view = { λ p. doing p.program p.budget p.values.items p.progress };
 
-    ghost invariant = { λ p. p.done ≤ p.budget };
-}
-
-fn is_return(op: Op) -> bool
-    ensures { result ≡ is_return op }
-{
-    matches!(op, Op::Rtx)
+    ghost invariant = { λ p. p.progress.done ≤ p.budget };
 }
 
 impl Process {
@@ -59,24 +55,40 @@ impl Process {
             alloc,
             program,
             values,
-            at: 0,
-            done: 0,
             budget: job.budget,
-            status: Status::Fresh,
+            progress: Progress {
+                at: 0,
+                done: 0,
+                status: Status::Fresh,
+            },
         })
+    }
+
+    /// Does local instructions until the process asks something or ends.
+    fn settle(&mut self) -> Result<(), NoMemory>
+        ensures ok { OnOk result (self.new ≡ settled self.old) }
+        ensures same { settled self.new ≡ settled self.old }
+    {
+        settle(
+            self.alloc,
+            self.program.program(),
+            self.budget,
+            self.values.as_mut_slice(),
+            &mut self.progress,
+        )
     }
 
     /// The instruction that comes next.
     fn instruction(&self) -> Option<&Instruction>
         ensures { option_copied result ≡ slice_get self.now.program.code self.now.at }
     {
-        self.program.program().code.as_slice().get(self.at)
+        self.program.program().code.as_slice().get(self.progress.at)
     }
 
     fn returns(&self) -> Event
         ensures { result ≡ returns self.now }
     {
-        let cause = if self.budget - self.done <= 1 {
+        let cause = if self.budget - self.progress.done <= 1 {
             EndCause::Budget
         } else {
             EndCause::Return
@@ -100,7 +112,7 @@ impl Process {
     fn runs(&self) -> Result<Event, NoMemory>
         ensures { IfOk result (λ event. event ≡ runs self.now) }
     {
-        if self.budget <= self.done {
+        if self.budget <= self.progress.done {
             return Ok(Event::Finish {
                 cause: EndCause::Budget,
             });
@@ -111,12 +123,11 @@ impl Process {
         }
     }
 
-    /// What the process does next: the same again until it is answered, and Ended exactly after its end.
-    #[tactic(auto, unfolding(s38_rules::specs::Process::event_of))]
-    pub fn next(&self) -> Result<Next, NoMemory>
-        ensures { IfOk result (λ next. asked next ≡ event_of self.now) }
+    /// What the process asks where it stands.
+    fn asks(&self) -> Result<Next, NoMemory>
+        ensures { IfOk result (λ next. asked next ≡ asks_now self.now) }
     {
-        match self.status {
+        match self.progress.status {
             Status::Fresh => Ok(Next::Step(Event::Start)),
             Status::Running => Ok(Next::Step(self.runs()?)),
             Status::Ending(cause) => Ok(Next::Step(Event::Finish { cause })),
@@ -124,13 +135,28 @@ impl Process {
         }
     }
 
+    /// Does local instructions, and tells what the process does next: the same again until it is answered, and
+    /// Ended exactly after its end. Also with an error it still stands before the same event.
+    #[tactic(auto, unfolding(s38_rules::specs::Process::event_of))]
+    pub fn next(&mut self) -> Result<Next, NoMemory>
+        ensures next { IfOk result (λ next. asked next ≡ event_of self.old) }
+        ensures ok { OnOk result (self.new ≡ settled self.old) }
+        ensures same { settled self.new ≡ settled self.old }
+    {
+        match self.settle() {
+            Ok(()) => {}
+            Err(fault) => return Err(fault),
+        }
+        self.asks()
+    }
+
     fn go_on_from_start(&mut self, reply: &Reply)
         ensures { self.new ≡ after_start self.old reply.now }
     {
         match reply {
-            Reply::Done(_) => self.status = Status::Running,
+            Reply::Done(_) => self.progress.status = Status::Running,
             Reply::Signal(exception) => {
-                self.status = Status::Ending(EndCause::Start { id: exception.id });
+                self.progress.status = Status::Ending(EndCause::Start { id: exception.id });
             }
             Reply::MustWait => {}
         }
@@ -140,8 +166,8 @@ impl Process {
         ensures { self.new ≡ after_end self.old reply.now }
     {
         match reply {
-            Reply::Done(_) => self.status = Status::Ended,
-            Reply::Signal(_) => self.status = Status::Ended,
+            Reply::Done(_) => self.progress.status = Status::Ended,
+            Reply::Signal(_) => self.progress.status = Status::Ended,
             Reply::MustWait => {}
         }
     }
@@ -150,7 +176,7 @@ impl Process {
     fn is_acting(&self) -> bool
         ensures { result ≡ is_acting self.now }
     {
-        if self.budget <= self.done {
+        if self.budget <= self.progress.done {
             return false;
         }
         match self.instruction() {
@@ -159,33 +185,33 @@ impl Process {
         }
     }
 
-    fn unhandled(&self, id: u16) -> EndCause
-        requires { self.now.done < self.now.budget }
-        ensures { result ≡ unhandled self.now id }
-    {
-        if self.budget <= self.done + 1 {
-            EndCause::Budget
-        } else {
-            EndCause::Unhandled { id }
-        }
-    }
-
     fn take_values(&mut self, given: Vec<Val>)
         requires room { self.old.done < self.old.budget }
         requires within { self.old.at < length self.old.program.code }
-        ensures { self.new ≡ record self.old { values = received_by self.old.program.rows (slice_get self.old.program.code self.old.at) given.items self.old.values; at = self.old.at + 1; done = self.old.done + 1 } }
+        ensures { self.new ≡ (let i = slice_get self.old.program.code self.old.at in record self.old { values = received_by self.old.program.rows i given.items self.old.values; at = place_behind i given.items self.old.at; done = self.old.done + 1 }) }
     {
         let program = self.program.program();
-        let instruction = &program.code.as_slice()[self.at];
+        let instruction = &program.code.as_slice()[self.progress.at];
+        let next = place_behind(instruction, given.as_slice(), self.progress.at);
         receive(
+            instruction.op,
             &mut self.values,
             program.rows.as_slice(),
             classes(instruction.op),
             instruction.args.as_slice(),
             given,
         );
-        self.at += 1;
-        self.done += 1;
+        self.progress.at = next;
+        self.progress.done += 1;
+    }
+
+    fn take_signal(&mut self, id: u16)
+        requires { self.old.done < self.old.budget }
+        ensures { self.new ≡ record self.old { done = self.old.done + 1; status = Status.Ending (unhandled self.old id) } }
+    {
+        let cause = unhandled(self.progress.done, self.budget, id);
+        self.progress.done += 1;
+        self.progress.status = Status::Ending(cause);
     }
 
     fn go_on_from_act(&mut self, reply: &Reply) -> Result<(), NoMemory>
@@ -201,9 +227,7 @@ impl Process {
                 Ok(())
             }
             Reply::Signal(exception) => {
-                let cause = self.unhandled(exception.id);
-                self.done += 1;
-                self.status = Status::Ending(cause);
+                self.take_signal(exception.id);
                 Ok(())
             }
             Reply::MustWait => Ok(()),
@@ -222,13 +246,12 @@ impl Process {
         }
     }
 
-    /// Goes on by the reply to what it asked; MustWait leaves it as it was, and so does an error.
-    #[tactic(auto, unfolding(s38_rules::specs::Process::absorbed, s38_rules::specs::Process::event_of))]
-    pub fn absorb(&mut self, reply: &Reply) -> Result<(), NoMemory>
-        ensures ok { OnOk result (self.new ≡ absorbed self.old reply.now) }
+    /// Goes on by the reply to what it asks where it stands.
+    fn answer(&mut self, reply: &Reply) -> Result<(), NoMemory>
+        ensures ok { OnOk result (self.new ≡ after_asked self.old (asks_now self.old) reply.now) }
         ensures err { OnErr result (self.new ≡ self.old) }
     {
-        match self.status {
+        match self.progress.status {
             Status::Fresh => {
                 self.go_on_from_start(reply);
                 Ok(())
@@ -240,5 +263,18 @@ impl Process {
             }
             Status::Ended => Ok(()),
         }
+    }
+
+    /// Goes on by the reply to what it asked; MustWait leaves it before the same event, and so does an error.
+    #[tactic(auto, unfolding(s38_rules::specs::Process::absorbed, s38_rules::specs::Process::event_of))]
+    pub fn absorb(&mut self, reply: &Reply) -> Result<(), NoMemory>
+        ensures ok { OnOk result (self.new ≡ absorbed self.old reply.now) }
+        ensures err { OnErr result (settled self.new ≡ settled self.old) }
+    {
+        match self.settle() {
+            Ok(()) => {}
+            Err(fault) => return Err(fault),
+        }
+        self.answer(reply)
     }
 }

@@ -1,8 +1,10 @@
-//! Processes of programs that are made by hand: what they ask, reply by reply, and why they end.
+//! Processes of programs that are made by hand: what they do alone, what they ask, reply by reply, and why they
+//! end.
 
 use crate::Process;
+use crate::variables::receive;
 use s38_base::{Attr, Exception, Name, ObjNum, Op, Pointer, Rights, Rule, Seq};
-use s38_code::{Arg, Code, Form, Instruction, Job, Program, Reply, Row, Template, Val};
+use s38_code::{Arg, Class, Code, Form, Instruction, Job, Program, Reply, Row, Template, Val};
 use std::alloc::Global;
 use std::test::Fail;
 
@@ -166,6 +168,187 @@ fn a_process_ends_for_its_cause(rt: HostRuntime) -> Result<(), Fail> {
             asks(alloc, &mut process, text, &done(alloc))?,
             "{text} at {budget}"
         );
+    }
+    Ok(())
+}
+
+const DIGITS: Attr = Attr::Packed {
+    digits: 3,
+    fraction: 0,
+};
+
+/// A number of three digits, in packed form.
+fn number(alloc: Global, image: [u8; 2]) -> Result<Arg, Fail> {
+    Ok(Arg::Literal {
+        attr: DIGITS,
+        bytes: Seq::from_slice(alloc, &image)?,
+    })
+}
+
+/// A pointer Q, a number X that begins as 0, and a number T in a space behind Q.
+fn numbers(alloc: Global, code: Vec<Instruction>) -> Result<Code, Fail> {
+    let rows = vec![in alloc;
+        Row {
+            name: Name::parse(b"Q")?,
+            form: Form::Local {
+                attr: Attr::Pointer,
+                first: Seq::new(alloc)
+            }
+        },
+        Row {
+            name: Name::parse(b"X")?,
+            form: Form::Local {
+                attr: DIGITS,
+                first: Seq::from_slice(alloc, &[0x00, 0x0F])?
+            }
+        },
+        Row {
+            name: Name::parse(b"T")?,
+            form: Form::Based {
+                base: 0,
+                offset: 0,
+                attr: DIGITS
+            }
+        },
+    ]?;
+    let made = Program {
+        template: Template::new(Seq::new(alloc)),
+        rows: Seq::from_vec(rows),
+        code: Seq::from_vec(code),
+        adopts: false,
+        propagates: false,
+    };
+    Ok(Code::new(alloc, made)?)
+}
+
+/// X grows by a number.
+fn add(alloc: Global, image: [u8; 2]) -> Result<Instruction, Fail> {
+    let args = vec![in alloc; Arg::Item(1), Arg::Item(1), number(alloc, image)?]?;
+    Ok(instruction(Op::Addn, args))
+}
+
+/// Goes on at a place.
+fn go_to(alloc: Global, at: u32) -> Result<Instruction, Fail> {
+    Ok(instruction(Op::B, vec![in alloc; Arg::Jump(at)]?))
+}
+
+/// Goes on at a place where an item is lower than 3.
+fn while_low(alloc: Global, item: u16, at: u32) -> Result<Instruction, Fail> {
+    let args = vec![in alloc;
+        Arg::Item(item),
+        number(alloc, [0x00, 0x3F])?,
+        Arg::Word(2),
+        Arg::Jump(at),
+    ]?;
+    Ok(instruction(Op::Cmpnvb, args))
+}
+
+/// The queue of Q gets X.
+fn send(alloc: Global) -> Result<Instruction, Fail> {
+    let args = vec![in alloc; Arg::Item(0), Arg::Nothing, Arg::Item(1)]?;
+    Ok(instruction(Op::Enq, args))
+}
+
+/// What a process of this code asks after its start, by the budget.
+fn first_asked(
+    alloc: Global,
+    budget: u32,
+    code: Vec<Instruction>,
+    text: &str,
+) -> Result<bool, Fail> {
+    let mut process = Process::begin(alloc, &job(alloc, budget)?, numbers(alloc, code)?)?;
+    process.absorb(&done(alloc))?;
+    let once = asks(alloc, &mut process, text, &Reply::MustWait)?;
+    Ok(once && asks(alloc, &mut process, text, &done(alloc))?)
+}
+
+#[test]
+fn local_instructions_are_done_alone(rt: HostRuntime) -> Result<(), Fail> {
+    let alloc = rt.alloc();
+    let mut ten = Vec::new(alloc);
+    for _ in 0..10 {
+        ten.push(add(alloc, [0x00, 0x1F])?)?;
+    }
+    ten.push(go_to(alloc, 0)?)?;
+    let count = vec![in alloc;
+        add(alloc, [0x00, 0x1F])?,
+        while_low(alloc, 1, 0)?,
+        send(alloc)?,
+    ]?;
+    let sent =
+        "Step(Act { depth: 1, request: Request { op: Enq, round: false, operands: Seq { items: [Ptr(None), Nothing, Value { attr: Packed { digits: 3, fraction: 0 }, bytes: Seq { items: [0, 63] } }] } } })";
+    let full = vec![in alloc;
+        add(alloc, [0x99, 0x9F])?,
+        add(alloc, [0x00, 0x1F])?,
+        send(alloc)?,
+    ]?;
+    let full_again = vec![in alloc; add(alloc, [0x99, 0x9F])?, add(alloc, [0x00, 0x1F])?]?;
+    let past = vec![in alloc; go_to(alloc, 5)?]?;
+    let cases = [
+        (10, ten, "Step(Finish { cause: Budget })"),
+        (7, count, sent),
+        (3, full, "Step(Finish { cause: Unhandled { id: 3082 } })"),
+        (2, full_again, "Step(Finish { cause: Budget })"),
+        (3, past, "Step(Finish { cause: Return })"),
+    ];
+    for (budget, code, text) in cases {
+        assert!(rt;
+            first_asked(alloc, budget, code, text)?,
+            "{text} at {budget}"
+        );
+    }
+    Ok(())
+}
+
+/// A comparison with an item in a space is asked, and its answer decides where the process goes on.
+#[test]
+fn a_branch_comes_back(rt: HostRuntime) -> Result<(), Fail> {
+    let alloc = rt.alloc();
+    for (taken, text) in [
+        (true, "Step(Finish { cause: Return })"),
+        (false, "Step(Finish { cause: Unhandled { id: 3082 } })"),
+    ] {
+        let code = vec![in alloc;
+            while_low(alloc, 2, 3)?,
+            add(alloc, [0x99, 0x9F])?,
+            add(alloc, [0x99, 0x9F])?,
+        ]?;
+        let mut process = Process::begin(alloc, &job(alloc, 100)?, numbers(alloc, code)?)?;
+        process.absorb(&done(alloc))?;
+        process.absorb(&given(alloc, Val::Branch(taken))?)?;
+        assert!(rt; asks(alloc, &mut process, text, &done(alloc))?, "{text}");
+    }
+    Ok(())
+}
+
+/// What comes into a longer receiver by a copy leaves the rest of it.
+#[test]
+fn a_copy_that_was_asked_leaves_the_rest(rt: HostRuntime) -> Result<(), Fail> {
+    let alloc = rt.alloc();
+    for (op, text) in [
+        (Op::Cpybla, b"XYC"),
+        (Op::Xlate, b"XYC"),
+        (Op::Cpybra, b"AXY"),
+    ] {
+        let rows = rows(alloc)?;
+        let mut values = vec![in alloc;
+            Val::Ptr(None),
+            Val::Bytes(Seq::from_slice(alloc, b"ABC")?),
+        ]?;
+        let came = vec![in alloc; Val::Bytes(Seq::from_slice(alloc, b"XY")?)]?;
+        receive(
+            op,
+            &mut values,
+            rows.as_slice(),
+            &[Class::BytesReceiver],
+            &[Arg::Item(1)],
+            came,
+        );
+        let left = match values.as_slice().get(1) {
+            Some(Val::Bytes(bytes)) => bytes.as_slice() == text.as_slice(),
+            _ => false,
+        };
+        assert!(rt; left, "{op:?}");
     }
     Ok(())
 }

@@ -1,11 +1,14 @@
-ghost use Rattle.std.specs.Prelude.{◌≡◌, ◌<◌, IfOk, length, slice_set};
+ghost use Rattle.std.specs.Prelude.{◌≡◌, ◌<◌, ◌+◌, ◌^◌, ◌||◌, IfOk, IsTrue, Some, length, slice_get, slice_set};
 ghost use Rattle.std.specs.Option.{option_copied};
 ghost use Rattle.s38_code.specs.declared.class.Class.{Class};
-ghost use Rattle.s38_rules.specs.Process.{first_by, first_value, first_values, form_in, is_based, is_receiver, put, received, takes_value, value_bytes, value_pointer};
+ghost use Rattle.s38_rules.specs.Process.{copies_left, copies_right, first_by, first_value, first_values, is_receiver, is_taken, label_in, label_of, merged, merged_bytes, place_behind, put, received, takes_value};
+ghost use Rattle.s38_rules.specs.Variables.{form_in, is_based, value_bytes, value_pointer};
 
-use s38_base::{Attr, Bytes, NoMemory, Pointer, Seq, Twin};
-use s38_code::{Arg, Class, Form, Row, Val};
+use s38_base::{Attr, Bytes, NoMemory, Op, Pointer, Seq, Twin};
+use s38_code::{Arg, Class, Form, Instruction, Row, Val};
+use s38_strings::{copy_left, copy_right};
 use std::alloc::Global;
+use std::mem;
 
 /// What a declaration stands for.
 pub fn form_in(row: Option<&Row>) -> Option<&Form>
@@ -95,21 +98,72 @@ fn takes_value(rows: &[Row], class: Class, arg: &Arg) -> bool
     }
 }
 
-fn put_at(values: &mut [Val], at: usize, value: Val)
-    requires { at < length values.old }
-    ensures { values.new ≡ slice_set values.old at value }
+fn copies_left(op: Op) -> bool
+    ensures { result ≡ copies_left op }
 {
-    values[at] = value;
+    matches!(op, Op::Cpybla | Op::Xlate)
 }
 
-fn put(values: &mut Vec<Val>, arg: &Arg, value: Val)
-    ensures { values.new.items ≡ put values.old.items arg.now value }
+fn copies_right(op: Op) -> bool
+    ensures { result ≡ copies_right op }
+{
+    matches!(op, Op::Cpybra)
+}
+
+/// Writes the bytes that came into those that stand there.
+fn merge_into(op: Op, held: &mut [u8], given: &[u8])
+    requires { IsTrue (copies_left op || copies_right op) }
+    ensures { held.new ≡ merged_bytes op held.old given.now }
+{
+    if copies_left(op) {
+        copy_left(held, given);
+    } else {
+        copy_right(held, given);
+    }
+}
+
+/// The bytes of a receiver once a value has come.
+fn merge_bytes(op: Op, old: Bytes, new: Bytes) -> Bytes
+    ensures { result ≡ merged_bytes op old new }
+{
+    if copies_left(op) || copies_right(op) {
+        let mut held = old.into_vec();
+        merge_into(op, held.as_mut_slice(), new.as_slice());
+        Seq::from_vec(held)
+    } else {
+        new
+    }
+}
+
+/// A receiver once a value has come: a copy into a longer one leaves the rest.
+fn merge(op: Op, old: Val, new: Val) -> Val
+    ensures { result ≡ merged op (Some old) new }
+{
+    match old {
+        Val::Bytes(old) => match new {
+            Val::Bytes(new) => Val::Bytes(merge_bytes(op, old, new)),
+            other => other,
+        },
+        _ => new,
+    }
+}
+
+fn put_at(op: Op, values: &mut [Val], at: usize, value: Val)
+    requires { at < length values.old }
+    ensures { values.new ≡ slice_set values.old at (merged op (slice_get values.old at) value) }
+{
+    let old = mem::replace(&mut values[at], Val::Branch(false));
+    values[at] = merge(op, old, value);
+}
+
+fn put(op: Op, values: &mut Vec<Val>, arg: &Arg, value: Val)
+    ensures { values.new.items ≡ put op values.old.items arg.now value }
 {
     match arg {
         Arg::Item(item) => {
             let at = *item as usize;
             if at < values.len() {
-                put_at(values, at, value);
+                put_at(op, values, at, value);
             }
         }
         _ => {}
@@ -118,13 +172,14 @@ fn put(values: &mut Vec<Val>, arg: &Arg, value: Val)
 
 /// The values of a reply go to the receivers in order; it takes no memory.
 pub fn receive(
+    op: Op,
     values: &mut Vec<Val>,
     rows: &[Row],
     classes: &[Class],
     args: &[Arg],
     mut given: Vec<Val>,
 )
-    ensures { values.new.items ≡ received rows.now classes.now args.now given.items values.old.items }
+    ensures { values.new.items ≡ received op rows.now classes.now args.now given.items values.old.items }
 {
     match classes {
         [] => {}
@@ -136,10 +191,54 @@ pub fn receive(
                 }
                 if takes_value(rows, *class, arg) {
                     let value = given.remove(0);
-                    put(values, arg, value);
+                    put(op, values, arg, value);
                 }
-                receive(values, rows, more, rest, given);
+                receive(op, values, rows, more, rest, given);
             }
         },
+    }
+}
+
+fn is_taken(given: &[Val]) -> bool
+    ensures { result ≡ is_taken given.now }
+{
+    match given {
+        [Val::Branch(taken), ..] => *taken,
+        _ => false,
+    }
+}
+
+fn label_of(arg: &Arg) -> Option<u32>
+    ensures { result ≡ label_of arg.now }
+{
+    match arg {
+        Arg::Jump(at) => Some(*at),
+        _ => None,
+    }
+}
+
+fn label_in(args: &[Arg]) -> Option<u32>
+    ensures { result ≡ label_in args.now }
+{
+    match args {
+        [] => None,
+        [arg, rest @ ..] => match label_of(arg) {
+            Some(at) => Some(at),
+            None => label_in(rest),
+        },
+    }
+}
+
+/// The place behind an instruction that was answered with these values.
+pub fn place_behind(instruction: &Instruction, given: &[Val], at: usize) -> usize
+    requires { at + 1 < 2 ^ 64 }
+    ensures { result ≡ place_behind (Some instruction.now) given.now at }
+{
+    if !is_taken(given) {
+        return at + 1;
+    }
+    match label_in(instruction.args.as_slice()) {
+        Some(label) => label as usize,
+        None => at + 1,
     }
 }

@@ -1,6 +1,8 @@
 pub mod Authority
+pub mod Compute
 pub mod Effect
 pub mod Legal
+pub mod Local
 pub mod Needs
 pub mod Opening
 pub mod Operands
@@ -9,4 +11,5 @@ pub mod Spaces
 pub mod State
 pub mod Step
 pub mod Users
+pub mod Variables
 pub mod Verdict

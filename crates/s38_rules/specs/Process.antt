@@ -1,11 +1,12 @@
--- A process: its program, the values of its variables, and where it stands. It asks one event after another, and
--- goes on by the replies.
-use Rattle.std.specs.Prelude.{◌≡◌, ℕ, ◌+◌, Bool, true, false, not, ◌&&◌, List, [], ◌∷◌, map, Option, Some, None, slice_get, slice_set, nat_le, if◌then◌else◌}
+-- A process: its program, the values of its variables, and where it stands. It does local instructions by itself,
+-- asks one event after another, and goes on by the replies.
+use Rattle.std.specs.Prelude.{◌≡◌, ℕ, zero, suc, ◌+◌, ◌-◌, Bool, true, false, not, ◌&&◌, List, [], ◌∷◌, map, Option, Some, None, unwrap_or, slice_get, slice_set, nat_le, if◌then◌else◌}
+use Rattle.std.specs.Option.{option_or}
 use Rattle.s38_base.specs.declared.attr.Attr.{Attr}
 use Rattle.s38_base.specs.declared.attr.Attr.TheVariants as attrs
 use Rattle.s38_base.specs.declared.pointer.Pointer.{Pointer}
 use Rattle.s38_base.specs.declared.op.Op.{Op}
-use Rattle.s38_base.specs.declared.op.Op.TheVariants.{Rtx}
+use Rattle.s38_base.specs.declared.op.Op.TheVariants.{Cpybla, Cpybra, Rtx, Xlate}
 use Rattle.s38_code.specs.Class.{classes}
 use Rattle.s38_code.specs.declared.class.Class.{Class}
 use Rattle.s38_code.specs.declared.class.Class.TheVariants.{NumberReceiver, BytesReceiver, PointerReceiver, CellsReceiver}
@@ -28,8 +29,13 @@ use Rattle.s38_code.specs.declared.reply.Reply.{Reply}
 use Rattle.s38_code.specs.declared.reply.Reply.TheVariants as replies
 use Rattle.s38_code.specs.declared.reply.Val.{Val}
 use Rattle.s38_code.specs.declared.reply.Val.TheVariants as vals
+use Rattle.s38_rules.specs.declared.local.LocalEnd.{LocalEnd}
+use Rattle.s38_rules.specs.declared.local.LocalEnd.TheVariants as ends
 use Rattle.s38_rules.specs.declared.process.Status.{Status}
 use Rattle.s38_rules.specs.declared.process.Status.TheVariants.{Fresh, Running, Ending, Ended}
+use Rattle.s38_rules.specs.Local.{Ran, is_local, run}
+use Rattle.s38_rules.specs.Variables.{form_in, is_based, value_bytes, value_pointer}
+use Rattle.s38_strings.specs.Copies.{copied_left, copied_right}
 
 pub record Doing : Type 0 where
   pub program : Program
@@ -44,17 +50,6 @@ pub record Doing : Type 0 where
 
 -- ---- variables
 
--- what a declaration says of its variable
-abbrev pub attr_of_form : Form → Attr
-attr_of_form (forms.Local attr first) = attr
-attr_of_form (forms.Parm k attr) = attr
-attr_of_form (forms.Based base offset attr) = attr
-attr_of_form (forms.Handler code at) = attrs.Pointer
-
-abbrev pub attr_in : Option Row → Attr
-attr_in None = attrs.Pointer
-attr_in (Some row) = attr_of_form row.form
-
 -- a pointer variable begins with no pointer, another with its first bytes
 abbrev pub first_by : Attr → List ℕ → Val
 first_by attrs.Pointer first = vals.Ptr None
@@ -68,14 +63,6 @@ first_value (forms.Handler code at) = vals.Ptr None
 
 abbrev pub first_values : List Row → List Val
 first_values rows = map (λ row. first_value row.form) rows
-
-abbrev pub value_bytes : Option Val → List ℕ
-value_bytes (Some (vals.Bytes bytes)) = bytes
-value_bytes _ = []
-
-abbrev pub value_pointer : Option Val → Option Pointer
-value_pointer (Some (vals.Ptr p)) = p
-value_pointer _ = None
 
 -- ---- what an instruction asks
 
@@ -102,10 +89,6 @@ item_by values receiver i (Some (forms.Local attr first)) = item_operand receive
 item_by values receiver i (Some (forms.Parm k attr)) = item_operand receiver attr (slice_get values i)
 item_by values receiver i (Some (forms.Handler code at)) = item_operand receiver attrs.Pointer (slice_get values i)
 item_by values receiver i None = item_operand receiver attrs.Pointer (slice_get values i)
-
-abbrev pub form_in : Option Row → Option Form
-form_in None = None
-form_in (Some row) = Some row.form
 
 -- an argument as the machine gets it
 abbrev pub operand_of : List Row → List Val → Class → Arg → Operand
@@ -150,22 +133,85 @@ asks d Running = Some (runs d)
 asks d (Ending cause) = Some (Finish cause)
 asks d Ended = None
 
+-- an exception that no description takes ends the process; the budget comes before it
+abbrev pub unhandled_by : ℕ → ℕ → ℕ → EndCause
+unhandled_by budget done id = if nat_le budget (done + 1) then causes.Budget else causes.Unhandled id
+
+abbrev pub unhandled : Doing → ℕ → EndCause
+unhandled d id = unhandled_by d.budget d.done id
+
+-- ---- what it does alone
+
+-- an instruction that is local; a return is none, since it is an end
+abbrev pub alone_in : List Row → Option Instruction → Option Instruction
+alone_in rows None = None
+alone_in rows (Some i) = if is_local rows i && not (is_return i.op) then Some i else None
+
+abbrev pub alone_by : Doing → Status → Option Instruction
+alone_by d Running = if nat_le d.budget d.done then None else alone_in d.program.rows (slice_get d.program.code d.at)
+alone_by d _ = None
+
+-- the next instruction of a running process that has budget left, where the instruction is local
+abbrev pub alone : Doing → Option Instruction
+alone d = alone_by d d.status
+
+-- a local instruction counts, also where it is signalled
+abbrev pub after_local : Doing → List Val → LocalEnd → Doing
+after_local d values ends.Next = record d { values = values; at = d.at + 1; done = d.done + 1 }
+after_local d values (ends.Jump at) = record d { values = values; at = at; done = d.done + 1 }
+after_local d values ends.Return = record d { values = values; at = d.at + 1; done = d.done + 1 }
+after_local d values (ends.Signal x) = record d { values = values; done = d.done + 1; status = Ending (unhandled d x.id) }
+
+abbrev pub after_run : Doing → Ran → Doing
+after_run d ran = after_local d ran.values ran.end
+
+abbrev pub stepped : Doing → Option Instruction → Doing
+stepped d None = d
+stepped d (Some i) = after_run d (run d.program.rows d.values i)
+
+-- behind its next instruction, where that is local
+unfoldable pub step_alone : Doing → Doing
+step_alone d = stepped d (alone d)
+
+-- behind so many local instructions, or before the first one that is none
+unfoldable pub steps_alone : ℕ → Doing → Doing
+steps_alone zero d = d
+steps_alone (suc n) d = steps_alone n (step_alone d)
+
+-- behind its local instructions, where it asks something or ends; each one counts, so its budget bounds them
+unfoldable pub settled : Doing → Doing
+settled d = steps_alone (d.budget - d.done) d
+
+abbrev pub asks_now : Doing → Option Event
+asks_now d = asks d d.status
+
 -- the next event of a process; none exactly after its end
 unfoldable pub event_of : Doing → Option Event
-event_of d = asks d d.status
+event_of d = asks_now (settled d)
 
 -- ---- how it goes on
 
-abbrev pub put : List Val → Arg → Val → List Val
-put values (args.Item i) v = slice_set values i v
-put values _ v = values
+-- a copy into a receiver that is longer brings the copied bytes alone, and the others stay
+abbrev pub copies_left : Op → Bool
+copies_left Cpybla = true
+copies_left Xlate = true
+copies_left _ = false
 
-abbrev pub is_based : Option Form → Bool
-is_based (Some (forms.Based base offset attr)) = true
-is_based (Some (forms.Local attr first)) = false
-is_based (Some (forms.Parm k attr)) = false
-is_based (Some (forms.Handler code at)) = false
-is_based None = false
+abbrev pub copies_right : Op → Bool
+copies_right Cpybra = true
+copies_right _ = false
+
+abbrev pub merged_bytes : Op → List ℕ → List ℕ → List ℕ
+merged_bytes op old new =
+    if copies_left op then copied_left old new else (if copies_right op then copied_right old new else new)
+
+abbrev pub merged : Op → Option Val → Val → Val
+merged op (Some (vals.Bytes old)) (vals.Bytes new) = vals.Bytes (merged_bytes op old new)
+merged op old v = v
+
+abbrev pub put : Op → List Val → Arg → Val → List Val
+put op values (args.Item i) v = slice_set values i (merged op (slice_get values i) v)
+put op values _ v = values
 
 -- a receiver gets a value, but for one in a space, which the machine has changed there
 abbrev pub takes_value : List Row → Class → Arg → Bool
@@ -173,22 +219,39 @@ takes_value rows class (args.Item i) = is_receiver class && not (is_based (form_
 takes_value rows class _ = is_receiver class
 
 -- the variables behind a reply, whose values go to the receivers in order
-abbrev pub received : List Row → List Class → List Arg → List Val → List Val → List Val
-received rows (class ∷ more) (arg ∷ rest) [] values = values
-received rows (class ∷ more) (arg ∷ rest) (v ∷ vs) values =
-    if takes_value rows class arg then received rows more rest vs (put values arg v) else received rows more rest (v ∷ vs) values
-received rows _ _ vs values = values
+abbrev pub received : Op → List Row → List Class → List Arg → List Val → List Val → List Val
+received op rows (class ∷ more) (arg ∷ rest) [] values = values
+received op rows (class ∷ more) (arg ∷ rest) (v ∷ vs) values =
+    if takes_value rows class arg then received op rows more rest vs (put op values arg v)
+    else received op rows more rest (v ∷ vs) values
+received op rows _ _ vs values = values
 
 abbrev pub received_by : List Row → Option Instruction → List Val → List Val → List Val
 received_by rows None vs values = values
-received_by rows (Some i) vs values = received rows (classes i.op) i.args vs values
+received_by rows (Some i) vs values = received i.op rows (classes i.op) i.args vs values
 
--- an exception that no description takes ends the process; the budget comes before it
-abbrev pub unhandled : Doing → ℕ → EndCause
-unhandled d id = if nat_le d.budget (d.done + 1) then causes.Budget else causes.Unhandled id
+-- a comparison that was asked tells whether it branches
+abbrev pub is_taken : List Val → Bool
+is_taken (vals.Branch taken ∷ vs) = taken
+is_taken _ = false
+
+abbrev pub label_of : Arg → Option ℕ
+label_of (args.Jump at) = Some at
+label_of _ = None
+
+-- the first label
+abbrev pub label_in : List Arg → Option ℕ
+label_in [] = None
+label_in (arg ∷ rest) = option_or (label_of arg) (label_in rest)
+
+abbrev pub place_behind : Option Instruction → List Val → ℕ → ℕ
+place_behind None vs at = at + 1
+place_behind (Some i) vs at = if is_taken vs then unwrap_or (label_in i.args) (at + 1) else at + 1
 
 abbrev pub after_act : Doing → Reply → Doing
-after_act d (replies.Done vs) = record d { values = received_by d.program.rows (slice_get d.program.code d.at) vs d.values; at = d.at + 1; done = d.done + 1 }
+after_act d (replies.Done vs) =
+    let i = slice_get d.program.code d.at in
+    record d { values = received_by d.program.rows i vs d.values; at = place_behind i vs d.at; done = d.done + 1 }
 after_act d (replies.Signal x) = record d { done = d.done + 1; status = Ending (unhandled d x.id) }
 after_act d replies.MustWait = d
 
@@ -213,7 +276,7 @@ after_asked d (Some event) reply = after_event d event reply
 
 -- the process behind the reply to its event
 unfoldable pub absorbed : Doing → Reply → Doing
-absorbed d reply = after_asked d (event_of d) reply
+absorbed d reply = after_asked (settled d) (event_of d) reply
 
 -- a process that has not started
 abbrev pub fresh : Program → ℕ → Doing

@@ -26,3 +26,9 @@ pub const DECIMAL_DATA: u16 = 0x0C02;
 pub const DUPLICATE_IDENTIFICATION: u16 = 0x0E01;
 /// The owner's pages would pass its limit.
 pub const PAGES_EXCEEDED: u16 = 0x1C04;
+/// The receiver doesn't hold the result.
+pub const SIZE: u16 = 0x0C0A;
+/// The divisor is zero.
+pub const ZERO_DIVIDE: u16 = 0x0C0B;
+/// A byte is no hexadecimal character.
+pub const CONVERSION: u16 = 0x0C01;

@@ -4,16 +4,19 @@
 #![tactic(auto)]
 
 mod exceptions;
+mod local;
 mod need;
 mod object;
 mod process;
 mod verdict;
 
 pub use exceptions::{
-    BOUNDARY_ALIGNMENT, DECIMAL_DATA, DUPLICATE_IDENTIFICATION, LENGTH_INVALID, LIMIT_EXCEEDED,
-    NO_MESSAGE, OBJECT_DESTROYED, OBJECT_NOT_FOUND, OBJECT_TYPE_INVALID, PAGES_EXCEEDED,
-    POINTER_MISSING, POINTER_TYPE_INVALID, SPACE_ADDRESSING, UNAUTHORIZED,
+    BOUNDARY_ALIGNMENT, CONVERSION, DECIMAL_DATA, DUPLICATE_IDENTIFICATION, LENGTH_INVALID,
+    LIMIT_EXCEEDED, NO_MESSAGE, OBJECT_DESTROYED, OBJECT_NOT_FOUND, OBJECT_TYPE_INVALID,
+    PAGES_EXCEEDED, POINTER_MISSING, POINTER_TYPE_INVALID, SIZE, SPACE_ADDRESSING, UNAUTHORIZED,
+    ZERO_DIVIDE,
 };
+pub use local::LocalEnd;
 pub use need::{Located, Named, Need, PointerKind, Sought};
 pub use object::{Body, Object, PrivateRow, RowList};
 pub use process::{Standing, Started, Status};
@@ -29,4 +32,5 @@ pub fn all_may_be_sent() {
     sends::<Standing>();
     sends::<Status>();
     sends::<Verdict>();
+    sends::<LocalEnd>();
 }

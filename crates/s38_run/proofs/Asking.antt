@@ -1,5 +1,5 @@
 -- What a process can ask, and how its reply brings it nearer to its end.
-use Rattle.std.proofs.Common.{◌≡◌, ◌≢◌, ◌+◌, ◌-◌, ◌<◌, ◌⊎◌, Bool, true, false, cond, List, [], ◌∷◌, ◌++◌, inl, inr, refl, sym, ◌∙◌, ap, subst, arith, nat_le}
+use Rattle.std.proofs.Common.{◌≡◌, ◌≢◌, ◌+◌, ◌-◌, ◌<◌, ◌≤◌, ◌⊎◌, Bool, true, false, cond, List, [], ◌∷◌, ◌++◌, inl, inr, refl, sym, ◌∙◌, ap, subst, arith, nat_le}
 use Rattle.std.proofs.lemmas.Bool.Decides.{nat_tests}
 use Rattle.std.specs.Prelude.{Option, Some, None, slice_get}
 use Rattle.s38_code.specs.declared.event.EndCause.{EndCause}
@@ -13,7 +13,8 @@ use Rattle.s38_code.specs.declared.reply.Reply.{Reply}
 use Rattle.s38_code.specs.declared.reply.Reply.TheVariants.{Done, Signal, MustWait}
 use Rattle.s38_rules.specs.declared.process.Status.{Status}
 use Rattle.s38_rules.specs.declared.process.Status.TheVariants.{Fresh, Running, Ending, Ended}
-use Rattle.s38_rules.specs.Process.{Doing, RanFrom, absorbed, acts, after_act, after_asked, after_end, after_event, after_start, asks, behind, ends_by_finish, event_of, is_finish, is_return, request_of, returns}
+use Rattle.s38_rules.specs.Process.{Doing, RanFrom, absorbed, acts, after_act, after_asked, after_end, after_event, after_start, alone_by, asks, behind, ends_by_finish, event_of, is_finish, is_return, request_of, returns, settled}
+use Rattle.s38_rules.proofs.Alone.{IsLater, Moves, settled_later, settled_still}
 use Rattle.s38_run.specs.Running.{left, left_by}
 
 -- a fresh process asks to start
@@ -57,15 +58,15 @@ of_status d (Ending c) e is h =
     inr (inl (rw n (omega arith), (c, sym (some_is _ _ h))))
 of_status d Ended e is h = cc
 
--- what a process asks
-pub asking : (d : Doing) (e : Event) → event_of d ≡ Some e → Asks d e
+-- what a process asks, behind its local instructions
+pub asking : (d : Doing) (e : Event) → event_of d ≡ Some e → Asks (settled d) e
 unfolding event_of
-asking d e h = of_status d d.status e refl h
+asking d e h = of_status (settled d) (settled d).status e refl h
 
 -- how it goes on is by what it asked
-pub absorbed_by : (d : Doing) (e : Event) (r : Reply) → event_of d ≡ Some e → absorbed d r ≡ after_event d e r
+pub absorbed_by : (d : Doing) (e : Event) (r : Reply) → event_of d ≡ Some e → absorbed d r ≡ after_event (settled d) e r
 unfolding absorbed
-absorbed_by d e r h = ap (λ o. after_asked d o r) h
+absorbed_by d e r h = ap (λ o. after_asked (settled d) o r) h
 
 left_at : (d : Doing) (s : Status) → d.status ≡ s → left d ≡ left_by d s
 left_at d s h = ap (left_by d) h
@@ -94,9 +95,27 @@ falls_by d e r w asks = elim asks as (λ _. left (after_event d e r) < left d) [
   ]
 ]
 
--- each reply but MustWait brings a process nearer to its end
+same_left : (d e : Doing) (s : Status) → d.status ≡ s → e.status ≡ s → e.budget ≡ d.budget → d.done ≤ e.done → left e ≤ left d
+same_left d e Fresh a b budget done = rw (left_at d Fresh a) (rw (left_at e Fresh b) (omega (arith, budget)))
+same_left d e Running a b budget done = rw (left_at d Running a) (rw (left_at e Running b) (omega (arith, budget, done)))
+same_left d e (Ending c) a b budget done = rw (left_at d (Ending c) a) (rw (left_at e (Ending c) b) (omega arith))
+same_left d e Ended a b budget done = rw (left_at d Ended a) (rw (left_at e Ended b) (omega arith))
+
+later_left : (d e : Doing) → IsLater d e → left e ≤ left d
+later_left d e h = elim h.status as (λ _. left e ≤ left d) [
+  | inl same ↦ same_left d e d.status refl same h.budget h.done
+  | inr ends ↦ rw (left_running d ends.0) (rw (left_at e (Ending ends.1.0) ends.1.1) (omega arith))
+]
+
+-- local instructions bring a process no further from its end
+settled_left : (d : Doing) → left (settled d) ≤ left d
+settled_left d = later_left d (settled d) (settled_later d)
+
+-- each reply but MustWait brings it nearer
 pub falls : (d : Doing) (e : Event) (r : Reply) → event_of d ≡ Some e → r ≢ MustWait → left (absorbed d r) < left d
-falls d e r h w = subst (λ (x : Doing). left x < left d) (sym (absorbed_by d e r h)) (falls_by d e r w (asking d e h))
+falls d e r h w =
+    let nearer : left (absorbed d r) < left (settled d) = subst (λ (x : Doing). left x < left (settled d)) (sym (absorbed_by d e r h)) (falls_by (settled d) e r w (asking d e h)) in
+    omega (arith, nearer, settled_left d)
 
 -- no process is fresh again
 start_leaves : (d : Doing) (r : Reply) → r ≢ MustWait → (after_start d r).status ≢ Fresh
@@ -124,7 +143,7 @@ leaves_by d e r w asks = elim asks as (λ _. (after_event d e r).status ≢ Fres
 ]
 
 pub leaves : (d : Doing) (e : Event) (r : Reply) → event_of d ≡ Some e → r ≢ MustWait → (absorbed d r).status ≢ Fresh
-leaves d e r h w = subst (λ (x : Doing). x.status ≢ Fresh) (sym (absorbed_by d e r h)) (leaves_by d e r w (asking d e h))
+leaves d e r h w = subst (λ (x : Doing). x.status ≢ Fresh) (sym (absorbed_by d e r h)) (leaves_by (settled d) e r w (asking d e h))
 
 -- a process ends only by asking for its end
 start_goes : (d : Doing) (r : Reply) → d.status ≡ Fresh → (after_start d r).status ≢ Ended
@@ -147,7 +166,7 @@ ended_by d e r asks = elim asks as (λ _. (after_event d e r).status ≡ Ended �
 ]
 
 pub ends_asking : (d : Doing) (e : Event) (r : Reply) → event_of d ≡ Some e → (absorbed d r).status ≡ Ended → is_finish e ≡ true
-ends_asking d e r h g = ended_by d e r (asking d e h) (subst (λ (x : Doing). x.status ≡ Ended) (absorbed_by d e r h) g)
+ends_asking d e r h g = ended_by (settled d) e r (asking d e h) (subst (λ (x : Doing). x.status ≡ Ended) (absorbed_by d e r h) g)
 
 start_asked : (d : Doing) (e : Event) → e ≡ Start → Asks d e → d.status ≡ Fresh
 start_asked d e s asks = elim asks as (λ _. d.status ≡ Fresh) [
@@ -163,7 +182,37 @@ start_asked d e s asks = elim asks as (λ _. d.status ≡ Fresh) [
 
 -- only a fresh process asks to start
 pub starts_fresh : (d : Doing) → event_of d ≡ Some Start → d.status ≡ Fresh
-starts_fresh d h = start_asked d Start refl (asking d Start h)
+starts_fresh d h = before_fresh d.status (settled d).status (settled_later d).status (start_asked (settled d) Start refl (asking d Start h))
+  where
+    apart : (c : EndCause) → Ending c ≡ Fresh → ⊥
+    apart c g = cc
+
+    before_fresh : (s t : Status) → Moves s t → t ≡ Fresh → s ≡ Fresh
+    before_fresh s t moves is = elim moves as (λ _. s ≡ Fresh) [ inl same ↦ sym same ∙ is | inr ends ↦ absurd (apart ends.1.0 (sym ends.1.1 ∙ is)) ]
+
+none_ended : (d : Doing) (s : Status) → d.status ≡ s → asks d s ≡ None → s ≡ Ended
+none_ended d Fresh h g = cc
+none_ended d Running h g = cc
+none_ended d (Ending c) h g = cc
+none_ended d Ended h g = refl
+
+asks_none : (d : Doing) → event_of d ≡ None → (settled d).status ≡ Ended
+unfolding event_of
+asks_none d h = none_ended (settled d) (settled d).status refl h
+
+-- only an ended one asks nothing
+pub none_asked : (d : Doing) → event_of d ≡ None → d.status ≡ Ended
+none_asked d h = before_ended d.status (settled d).status (settled_later d).status (asks_none d h)
+  where
+    apart : (c : EndCause) → Ending c ≡ Ended → ⊥
+    apart c g = cc
+
+    before_ended : (s t : Status) → Moves s t → t ≡ Ended → s ≡ Ended
+    before_ended s t moves is = elim moves as (λ _. s ≡ Ended) [ inl same ↦ sym same ∙ is | inr ends ↦ absurd (apart ends.1.0 (sym ends.1.1 ∙ is)) ]
+
+-- and it stays as it is
+pub none_settled : (d : Doing) → event_of d ≡ None → settled d ≡ d
+none_settled d h = settled_still d (ap (alone_by d) (none_asked d h))
 
 -- ---- entries of one process
 

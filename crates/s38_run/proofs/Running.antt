@@ -14,10 +14,11 @@ use Rattle.s38_rules.specs.declared.process.Status.TheVariants.{Fresh, Running, 
 use Rattle.s38_rules.specs.State.{State, ready}
 use Rattle.s38_rules.specs.Step.{step}
 use Rattle.s38_rules.specs.Legal.{IsSound, MayAsk, Run, after}
-use Rattle.s38_rules.specs.Process.{Doing, absorbed, asks, event_of}
+use Rattle.s38_rules.specs.Process.{Doing, absorbed, event_of}
+use Rattle.s38_rules.proofs.Alone.{absorbed_settled}
 use Rattle.s38_rules.proofs.Laws.{sound_after}
 use Rattle.s38_run.specs.Running.{OthersStay, RanOn, Rested, Turned, left}
-use Rattle.s38_run.proofs.Asking.{behind_more, ends_asking, ends_more, falls, leaves, ran_more, starts_fresh}
+use Rattle.s38_run.proofs.Asking.{behind_more, ends_asking, ends_more, falls, leaves, none_asked, none_settled, ran_more, starts_fresh}
 use Rattle.s38_run.proofs.Stepping.{goes}
 
 stays_on : (xs ys zs : List Standing) (at : ℕ) → OthersStay xs ys at → OthersStay ys zs at → OthersStay xs zs at
@@ -103,32 +104,22 @@ ran_on_none n m d sound awake fresh r = record {
 pub turned_on : (n : ℕ) (m0 : Run) (d0 : Doing) (m : Run) (d : Doing) (m' : Run) (d' : Doing) → n - 1 < length m.state.processes → RanOn n m0 d0 m d → Turned n m d m' d' → RanOn n m0 d0 m' d'
 turned_on n m0 d0 m d m' d' within ran turn =
     subst (λ (x : Run). RanOn n m0 d0 x d') (sym turn.machine)
-    (subst (λ (y : Doing). RanOn n m0 d0 (after m n turn.event) y) (sym turn.process)
+    (subst (λ (y : Doing). RanOn n m0 d0 (after m n turn.event) y) (sym (turn.process ∙ absorbed_settled d (step m.state n turn.event).reply))
     (ran_on_more n m0 d0 m d turn.event within ran turn.asks))
 
 -- and brings the process nearer to its end
 pub turned_falls : (n : ℕ) (m0 : Run) (d0 : Doing) (m : Run) (d : Doing) (m' : Run) (d' : Doing) → RanOn n m0 d0 m d → Turned n m d m' d' → left d' < left d
 turned_falls n m0 d0 m d m' d' ran turn =
     let to = goes m.state n turn.event ran.awake (λ h. ran.ready (starts_fresh d (turn.asks ∙ ap Some h))) in
-    subst (λ (y : Doing). left y < left d) (sym turn.process) (falls d turn.event (step m.state n turn.event).reply turn.asks to.answered)
+    subst (λ (y : Doing). left y < left d) (sym (turn.process ∙ absorbed_settled d (step m.state n turn.event).reply)) (falls d turn.event (step m.state n turn.event).reply turn.asks to.answered)
 
 rested_on : (n : ℕ) (m0 : Run) (d0 : Doing) (m : Run) (d : Doing) (m' : Run) (d' : Doing) → RanOn n m0 d0 m d → Rested m d m' d' → RanOn n m0 d0 m' d'
 rested_on n m0 d0 m d m' d' ran rest =
-    subst (λ (x : Run). RanOn n m0 d0 x d') (sym rest.machine) (subst (λ (y : Doing). RanOn n m0 d0 m y) (sym rest.process) ran)
-
-none_ended : (d : Doing) (s : Status) → d.status ≡ s → asks d s ≡ None → s ≡ Ended
-none_ended d Fresh h g = cc
-none_ended d Running h g = cc
-none_ended d (Ending c) h g = cc
-none_ended d Ended h g = refl
-
-asks_none : (d : Doing) → event_of d ≡ None → d.status ≡ Ended
-unfolding event_of
-asks_none d h = none_ended d d.status refl h
+    subst (λ (x : Run). RanOn n m0 d0 x d') (sym rest.machine) (subst (λ (y : Doing). RanOn n m0 d0 m y) (sym (rest.process ∙ none_settled d rest.none)) ran)
 
 -- a process that asks nothing has run whole
 pub rested_whole : (n : ℕ) (m0 : Run) (d0 : Doing) (m : Run) (d : Doing) (m' : Run) (d' : Doing) → RanOn n m0 d0 m d → Rested m d m' d' → RanOn n m0 d0 m' d' × (d'.status ≡ Ended)
-rested_whole n m0 d0 m d m' d' ran rest = (rested_on n m0 d0 m d m' d' ran rest, ap (λ (x : Doing). x.status) rest.process ∙ asks_none d rest.none)
+rested_whole n m0 d0 m d m' d' ran rest = (rested_on n m0 d0 m d m' d' ran rest, ap (λ (x : Doing). x.status) (rest.process ∙ none_settled d rest.none) ∙ none_asked d rest.none)
 
 -- a process of a job is within the machine's
 pub may_within : (m : Run) (n : ℕ) → IsSound m → MayAsk m.origin n → n - 1 < length m.state.processes

@@ -11,7 +11,7 @@ use Rattle.s38_rules.specs.declared.process.Status.TheVariants.{Fresh, Running, 
 use Rattle.s38_rules.specs.State.{ready}
 use Rattle.s38_rules.specs.Step.{step}
 use Rattle.s38_rules.specs.Legal.{Run, IsSound, after}
-use Rattle.s38_rules.specs.Process.{Doing, RanFrom, absorbed, behind, ends_by_finish, event_of, fresh}
+use Rattle.s38_rules.specs.Process.{Doing, RanFrom, absorbed, behind, ends_by_finish, event_of, fresh, settled}
 use Rattle.s38_rules.specs.Opening.{opened}
 use Rattle.s38_run.specs.Whole.{RanWhole}
 
@@ -53,18 +53,18 @@ pub record EachWholeOrNone (programs : List Program) (jobs : List Job) (m : Run)
   pub each : (k : ℕ) (x : Standing) (job : Job) (program : Program) → slice_get m.state.processes k ≡ Some x → slice_get jobs k ≡ Some job → slice_get programs k ≡ Some program
       → MatchBool x.ended (RanWhole program job.budget (entries_of (k + 1) m.history)) (entries_of (k + 1) m.history ≡ [])
 
--- one event was asked and answered
+-- one event was asked behind the local instructions, and answered
 pub record Turned (number : ℕ) (m : Run) (d : Doing) (m' : Run) (d' : Doing) : Type 0 where
   pub event : Event
   pub asks : event_of d ≡ Some event
   pub machine : m' ≡ after m number event
-  pub process : d' ≡ absorbed d (step m.state number event).reply
+  pub process : d' ≡ absorbed (settled d) (step m.state number event).reply
 
 -- or the process has ended before, and nothing was asked
 pub record Rested (m : Run) (d : Doing) (m' : Run) (d' : Doing) : Type 0 where
   pub none : event_of d ≡ None
   pub machine : m' ≡ m
-  pub process : d' ≡ d
+  pub process : d' ≡ settled d
 
 -- the process of a job has run from its start to its end
 pub record JobRan (number : ℕ) (program : Program) (budget : ℕ) (m m' : Run) : Type 0 where

@@ -1,0 +1,144 @@
+-- Packed digits, two at a time.
+use Rattle.std.proofs.Common.{◌≡◌, ℕ, zero, suc, ◌+◌, ◌-◌, ◌*◌, ◌/◌, ◌%◌, ◌^◌, ◌<◌, ◌≤◌, ◌&&◌, ◌||◌, ◌==◌, Bool, true, false, cond, List, get_or, length, nat_lt, refl, sym, ◌∙◌, ap, rules, arith, tests}
+use Rattle.std.proofs.lemmas.Bool.Decides.{nat_tests}
+use Rattle.std.proofs.Math.Nat.{pow-suc}
+use Rattle.std.specs.Prelude.{IsTrue, IfSome, Option, Some, None, slice_index, if◌then◌else◌}
+use Rattle.s38_base.specs.declared.attr.Attr.{Attr}
+use Rattle.s38_base.specs.declared.attr.Attr.TheVariants.{Packed}
+use Rattle.s38_base.specs.Scalar.{are_decimal, begins_right, digit_in, half_byte, half_bytes_before, number_from}
+use Rattle.s38_decimal.proofs.Powers.{tens_le}
+
+-- ---- the half bytes of byte k
+
+pub high_half : (bytes : List ℕ) (k : ℕ) → half_byte bytes (2 * k) ≡ slice_index bytes k / 16
+high_half bytes k =
+    let even : (2 * k % 2 == 0) ≡ true = grind (arith, nat_tests) in
+    rw even (ap (λ j. slice_index bytes j / 16) (omega arith))
+
+pub low_half : (bytes : List ℕ) (k : ℕ) → half_byte bytes (suc (2 * k)) ≡ slice_index bytes k % 16
+low_half bytes k =
+    let odd : (suc (2 * k) % 2 == 0) ≡ false = grind (arith, nat_tests) in
+    rw odd (ap (λ j. slice_index bytes j % 16) (omega arith))
+
+next_two : (k : ℕ) → 2 * (k + 1) ≡ suc (suc (2 * k))
+next_two k = omega arith
+
+-- ---- one byte more
+
+pub next_number : (bytes : List ℕ) (k number : ℕ) → number ≡ number_from 10 (half_byte bytes) (2 * k) → number * 100 + (slice_index bytes k / 16 * 10 + slice_index bytes k % 16) ≡ number_from 10 (half_byte bytes) (2 * (k + 1))
+next_number bytes k number is =
+    let two : number_from 10 (half_byte bytes) (2 * (k + 1)) ≡ (number_from 10 (half_byte bytes) (2 * k) * 10 + half_byte bytes (2 * k)) * 10 + half_byte bytes (suc (2 * k)) = ap (number_from 10 (half_byte bytes)) (next_two k) in
+    omega (arith, two, is, high_half bytes k, low_half bytes k)
+
+and_test : (a b : Bool) → a ≡ true → b ≡ true → (a && b) ≡ true
+and_test true b h g = g
+and_test false b h g = cc
+
+is_digit : (n : ℕ) → n ≤ 9 → nat_lt n 10 ≡ true
+is_digit n h = grind (arith, nat_tests)
+
+no_digit : (n : ℕ) → 9 < n → nat_lt n 10 ≡ false
+no_digit n h = grind (arith, nat_tests)
+
+pub next_decimal : (bytes : List ℕ) (k : ℕ) → are_decimal (half_byte bytes) (2 * k) ≡ true → slice_index bytes k / 16 ≤ 9 → slice_index bytes k % 16 ≤ 9 → are_decimal (half_byte bytes) (2 * (k + 1)) ≡ true
+next_decimal bytes k before high low =
+    ap (are_decimal (half_byte bytes)) (next_two k)
+    ∙ and_test (are_decimal (half_byte bytes) (suc (2 * k))) (nat_lt (half_byte bytes (suc (2 * k))) 10)
+    (and_test (are_decimal (half_byte bytes) (2 * k)) (nat_lt (half_byte bytes (2 * k)) 10) before (ap (λ n. nat_lt n 10) (high_half bytes k) ∙ is_digit (slice_index bytes k / 16) high))
+    (ap (λ n. nat_lt n 10) (low_half bytes k) ∙ is_digit (slice_index bytes k % 16) low)
+
+spoiled : (f : ℕ → ℕ) (k n : ℕ) → k < n → nat_lt (f k) 10 ≡ false → are_decimal f n ≡ false
+spoiled f k zero below bad = absurd (omega arith)
+spoiled f k (suc n) below bad = grind (arith, spoiled f k n)
+
+pub bad_high : (bytes : List ℕ) (k pairs : ℕ) → k < pairs → 9 < slice_index bytes k / 16 → are_decimal (half_byte bytes) (2 * pairs) ≡ false
+bad_high bytes k pairs below bad = spoiled (half_byte bytes) (2 * k) (2 * pairs) (omega arith) (ap (λ n. nat_lt n 10) (high_half bytes k) ∙ no_digit (slice_index bytes k / 16) bad)
+
+pub bad_low : (bytes : List ℕ) (k pairs : ℕ) → k < pairs → 9 < slice_index bytes k % 16 → are_decimal (half_byte bytes) (2 * pairs) ≡ false
+bad_low bytes k pairs below bad = spoiled (half_byte bytes) (suc (2 * k)) (2 * pairs) (omega arith) (ap (λ n. nat_lt n 10) (low_half bytes k) ∙ no_digit (slice_index bytes k % 16) bad)
+
+pub next_bound : (k number high low : ℕ) → number < 10 ^ (2 * k) → high ≤ 9 → low ≤ 9 → number * 100 + (high * 10 + low) < 10 ^ (2 * (k + 1))
+next_bound k number high low small h l =
+    let two : 10 ^ (2 * (k + 1)) ≡ 10 ^ (2 * k) * 10 * 10 = ap (λ n. 10 ^ n) (next_two k) ∙ pow-suc 10 (suc (2 * k)) ∙ ap (λ n. n * 10) (pow-suc 10 (2 * k)) in
+    omega (arith, two)
+
+-- ---- digits that begin behind the first half byte
+
+number_ext : (f g : ℕ → ℕ) (n : ℕ) → ((k : ℕ) → f k ≡ g k) → number_from 10 f n ≡ number_from 10 g n
+number_ext f g zero same = refl
+number_ext f g (suc n) same = omega (arith, number_ext f g n same, same n)
+
+decimal_ext : (f g : ℕ → ℕ) (n : ℕ) → ((k : ℕ) → f k ≡ g k) → are_decimal f n ≡ are_decimal g n
+decimal_ext f g zero same = refl
+decimal_ext f g (suc n) same = ap (λ b. b && nat_lt (f n) 10) (decimal_ext f g n same) ∙ ap (λ x. are_decimal g n && nat_lt x 10) (same n)
+
+number_behind : (f g : ℕ → ℕ) (n : ℕ) → f 0 ≡ 0 → ((k : ℕ) → f (suc k) ≡ g k) → number_from 10 f (suc n) ≡ number_from 10 g n
+number_behind f g zero first same = omega (arith, first)
+number_behind f g (suc n) first same = omega (arith, number_behind f g n first same, same n)
+
+decimal_behind : (f g : ℕ → ℕ) (n : ℕ) → f 0 ≡ 0 → ((k : ℕ) → f (suc k) ≡ g k) → are_decimal f (suc n) ≡ are_decimal g n
+decimal_behind f g zero first same = ap (λ x. true && nat_lt x 10) first
+decimal_behind f g (suc n) first same = ap (λ b. b && nat_lt (f (suc n)) 10) (decimal_behind f g n first same) ∙ ap (λ x. are_decimal g n && nat_lt x 10) (same n)
+
+pub number_below : (f : ℕ → ℕ) (n : ℕ) → are_decimal f n ≡ true → number_from 10 f n < 10 ^ n
+number_below f zero h = omega arith
+number_below f (suc n) h =
+    let both = parts (are_decimal f n) (nat_lt (f n) 10) h in
+    let digit : f n < 10 = grind (arith, nat_tests, both.1) in
+    omega (arith, number_below f n both.0, digit, pow-suc 10 n)
+  where
+    parts : (a b : Bool) → (a && b) ≡ true → (a ≡ true) × (b ≡ true)
+    parts true b h = (refl, h)
+    parts false b h = cc
+
+begins_zero : (digits fraction : ℕ) (bytes : List ℕ) → (digits % 2 == 1) ≡ false → IsTrue (begins_right (Packed digits fraction) bytes) → slice_index bytes 0 / 16 ≡ 0
+begins_zero digits fraction bytes even begins = by (digits % 2 == 1) (slice_index bytes 0 / 16 == 0) even begins (λ h. grind (arith, nat_tests))
+  where
+    by : (a b : Bool) → a ≡ false → IsTrue (a || b) → (b ≡ true → slice_index bytes 0 / 16 ≡ 0) → slice_index bytes 0 / 16 ≡ 0
+    by true b h g use_it = cc
+    by false true h g use_it = use_it refl
+    by false false h g use_it = cc
+
+-- the half bytes before the sign spell the digits
+pub record Spells (digits fraction : ℕ) (bytes : List ℕ) : Type 0 where
+  pub decimal : are_decimal (half_byte bytes) (2 * (length bytes - 1) + 1) ≡ are_decimal (digit_in (Packed digits fraction) bytes) digits
+  pub number : number_from 10 (half_byte bytes) (2 * (length bytes - 1) + 1) ≡ number_from 10 (digit_in (Packed digits fraction) bytes) digits
+
+spells_by : (test : Bool) (digits fraction : ℕ) (bytes : List ℕ) → (digits % 2 == 1) ≡ test → length bytes ≡ digits / 2 + 1 → IsTrue (begins_right (Packed digits fraction) bytes) → Spells digits fraction bytes
+spells_by true digits fraction bytes odd long begins =
+    let one : digits % 2 ≡ 1 = grind (arith, nat_tests) in
+    let count : 2 * (length bytes - 1) + 1 ≡ digits = omega (arith, one, long) in
+    let same : (k : ℕ) → half_byte bytes k ≡ digit_in (Packed digits fraction) bytes k = λ k. ap (half_byte bytes) (omega (arith, one)) in
+    record {
+      decimal = ap (are_decimal (half_byte bytes)) count ∙ decimal_ext (half_byte bytes) (digit_in (Packed digits fraction) bytes) digits same;
+      number = ap (number_from 10 (half_byte bytes)) count ∙ number_ext (half_byte bytes) (digit_in (Packed digits fraction) bytes) digits same;
+    }
+spells_by false digits fraction bytes even long begins =
+    let none : digits % 2 ≡ 0 = grind (arith, nat_tests) in
+    let count : 2 * (length bytes - 1) + 1 ≡ suc digits = omega (arith, none, long) in
+    let first : half_byte bytes 0 ≡ 0 = high_half bytes 0 ∙ begins_zero digits fraction bytes even begins in
+    let same : (k : ℕ) → half_byte bytes (suc k) ≡ digit_in (Packed digits fraction) bytes k = λ k. ap (half_byte bytes) (omega (arith, none)) in
+    record {
+      decimal = ap (are_decimal (half_byte bytes)) count ∙ decimal_behind (half_byte bytes) (digit_in (Packed digits fraction) bytes) digits first same;
+      number = ap (number_from 10 (half_byte bytes)) count ∙ number_behind (half_byte bytes) (digit_in (Packed digits fraction) bytes) digits first same;
+    }
+
+pub spells : (digits fraction : ℕ) (bytes : List ℕ) → length bytes ≡ digits / 2 + 1 → IsTrue (begins_right (Packed digits fraction) bytes) → Spells digits fraction bytes
+spells digits fraction bytes long begins = spells_by (digits % 2 == 1) digits fraction bytes refl long begins
+
+-- so what they give is what the digits give
+pub packed_value : (digits fraction : ℕ) (bytes : List ℕ) → Spells digits fraction bytes
+    → (if are_decimal (half_byte bytes) (2 * (length bytes - 1) + 1) then Some (number_from 10 (half_byte bytes) (2 * (length bytes - 1) + 1)) else None)
+    ≡ (if are_decimal (digit_in (Packed digits fraction) bytes) digits then Some (number_from 10 (digit_in (Packed digits fraction) bytes) digits) else None)
+packed_value digits fraction bytes h =
+    ap (λ (b : Bool). if b then Some (number_from 10 (half_byte bytes) (2 * (length bytes - 1) + 1)) else None) h.decimal
+    ∙ ap (λ (n : ℕ). if are_decimal (digit_in (Packed digits fraction) bytes) digits then Some n else None) h.number
+
+bounded : (b : Bool) (n m : ℕ) (o : Option ℕ) → (b ≡ true → n < m) → o ≡ (if b then Some n else None) → IfSome o (λ k. k < m)
+bounded true n m o small is = rw is (small refl)
+bounded false n m o small is = rw is tt
+
+pub packed_bound : (digits fraction : ℕ) (bytes : List ℕ) (o : Option ℕ) → o ≡ (if are_decimal (digit_in (Packed digits fraction) bytes) digits then Some (number_from 10 (digit_in (Packed digits fraction) bytes) digits) else None) → IfSome o (λ k. k < 10 ^ digits)
+packed_bound digits fraction bytes o is =
+    bounded (are_decimal (digit_in (Packed digits fraction) bytes) digits) (number_from 10 (digit_in (Packed digits fraction) bytes) digits) (10 ^ digits) o
+    (number_below (digit_in (Packed digits fraction) bytes) digits) is

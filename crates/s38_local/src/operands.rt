@@ -1,0 +1,112 @@
+ghost use Rattle.std.specs.Prelude.{◌≡◌, IfSome, MatchOption, Some, None};
+ghost use Rattle.std.specs.Option.{option_copied};
+ghost use Rattle.s38_rules.specs.Local.{number_of, whole_of, word_of};
+ghost use Rattle.s38_rules.specs.Variables.{attr_in, attr_of, attr_of_form, bytes_of, pointer_of, value_bytes, value_pointer};
+
+use s38_base::{Attr, Pointer};
+use s38_code::{Arg, Form, Row, Val};
+use s38_decimal::{Dec, read_scalar};
+
+fn attr_of_form(form: &Form) -> Attr
+    ensures { result ≡ attr_of_form form.now }
+{
+    match form {
+        Form::Local { attr, .. } => *attr,
+        Form::Parm { attr, .. } => *attr,
+        Form::Based { attr, .. } => *attr,
+        Form::Handler { .. } => Attr::Pointer,
+    }
+}
+
+fn attr_in(row: Option<&Row>) -> Attr
+    ensures { result ≡ attr_in (option_copied row.entry) }
+{
+    match row {
+        None => Attr::Pointer,
+        Some(row) => attr_of_form(&row.form),
+    }
+}
+
+/// The attribute of an item or a literal.
+pub fn attr_of(rows: &[Row], arg: Option<&Arg>) -> Attr
+    ensures { result ≡ attr_of rows.now (option_copied arg.entry) }
+{
+    match arg {
+        Some(Arg::Item(item)) => attr_in(rows.get(*item as usize)),
+        Some(Arg::Literal { attr, .. }) => *attr,
+        _ => Attr::Pointer,
+    }
+}
+
+/// The bytes of a variable.
+pub fn value_bytes(value: Option<&Val>) -> &[u8]
+    ensures { result.now ≡ value_bytes (option_copied value.entry) }
+{
+    match value {
+        Some(Val::Bytes(bytes)) => bytes.as_slice(),
+        _ => &[],
+    }
+}
+
+fn value_pointer(value: Option<&Val>) -> Option<Pointer>
+    ensures { result ≡ value_pointer (option_copied value.entry) }
+{
+    match value {
+        Some(Val::Ptr(pointer)) => *pointer,
+        _ => None,
+    }
+}
+
+/// The bytes of an item or a literal.
+pub fn bytes_of<'a>(values: &'a [Val], arg: Option<&'a Arg>) -> &'a [u8]
+    ensures { result.now ≡ bytes_of values.now (option_copied arg.entry) }
+{
+    match arg {
+        Some(Arg::Item(item)) => value_bytes(values.get(*item as usize)),
+        Some(Arg::Literal { bytes, .. }) => bytes.as_slice(),
+        _ => &[],
+    }
+}
+
+/// The pointer of an item.
+pub fn pointer_of(values: &[Val], arg: Option<&Arg>) -> Option<Pointer>
+    ensures { result ≡ pointer_of values.now (option_copied arg.entry) }
+{
+    match arg {
+        Some(Arg::Item(item)) => value_pointer(values.get(*item as usize)),
+        _ => None,
+    }
+}
+
+/// The number of an item or a literal; None where its bytes have no value.
+pub fn number_of(rows: &[Row], values: &[Val], arg: Option<&Arg>) -> Option<Dec>
+    ensures value { MatchOption result
+        (number_of rows.now values.now (option_copied arg.entry) ≡ None)
+        (λ number. number_of rows.now values.now (option_copied arg.entry) ≡ Some number.units) }
+    ensures attr { IfSome result (λ number. number.attr ≡ attr_of rows.now (option_copied arg.entry)) }
+{
+    match read_scalar(attr_of(rows, arg), bytes_of(values, arg)) {
+        Ok(number) => Some(number),
+        Err(_) => None,
+    }
+}
+
+/// A word of the row: a relation, or a kind of pointer.
+pub fn word_of(arg: Option<&Arg>) -> u32
+    ensures { result ≡ word_of (option_copied arg.entry) }
+{
+    match arg {
+        Some(Arg::Word(word)) => *word,
+        _ => 0,
+    }
+}
+
+/// A whole literal.
+pub fn whole_of(arg: Option<&Arg>) -> i64
+    ensures { result ≡ whole_of (option_copied arg.entry) }
+{
+    match arg {
+        Some(Arg::Whole(number)) => *number,
+        _ => 0,
+    }
+}

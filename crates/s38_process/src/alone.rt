@@ -1,0 +1,135 @@
+ghost use Rattle.std.specs.Prelude.{◌≡◌, ◌<◌, ◌≤◌, ◌+◌, ◌^◌, [], IfOk, IsSome, List, OnErr, OnOk, Some, is_some};
+ghost use Rattle.std.specs.Option.{option_copied};
+ghost use Rattle.s38_code.specs.declared.program.Program.{Program};
+ghost use Rattle.s38_code.specs.declared.reply.Val.{Val};
+ghost use Rattle.s38_rules.specs.Process.{after_local, alone, alone_by, alone_in, is_return, settled, step_alone, unhandled_by};
+ghost use Rattle.s38_process.specs.Standing.{doing};
+
+use crate::progress::Progress;
+use s38_base::{NoMemory, Op};
+use s38_code::{EndCause, Instruction, Program, Row, Val};
+use s38_local::{is_local, run_local};
+use s38_rules::{LocalEnd, Status};
+use std::alloc::Global;
+
+/// Whether an instruction ends the invocation.
+pub fn is_return(op: Op) -> bool
+    ensures { result ≡ is_return op }
+{
+    matches!(op, Op::Rtx)
+}
+
+fn alone_in<'a>(rows: &[Row], instruction: &'a Instruction) -> Option<&'a Instruction>
+    ensures { option_copied result ≡ alone_in rows.now (Some instruction.now) }
+{
+    if is_local(rows, instruction) && !is_return(instruction.op) {
+        Some(instruction)
+    } else {
+        None
+    }
+}
+
+/// The next instruction, where a running process does it by itself.
+fn alone(program: &Program, budget: u32, progress: Progress) -> Option<&Instruction>
+    ensures local { option_copied result ≡ alone (doing program.now budget [] progress) }
+    ensures room { IsSome result → progress.done < budget }
+    ensures place { IsSome result → progress.at + 1 < 2 ^ 64 }
+{
+    match progress.status {
+        Status::Running => {
+            if budget <= progress.done || program.code.len() <= progress.at {
+                return None;
+            }
+            let instruction = &program.code.as_slice()[progress.at];
+            alone_in(program.rows.as_slice(), instruction)
+        }
+        _ => None,
+    }
+}
+
+/// Why a process ends by an exception that no description takes.
+pub fn unhandled(done: u32, budget: u32, id: u16) -> EndCause
+    requires { done < budget }
+    ensures { result ≡ unhandled_by budget done id }
+{
+    if budget <= done + 1 {
+        EndCause::Budget
+    } else {
+        EndCause::Unhandled { id }
+    }
+}
+
+/// Where a process stands behind a local instruction.
+fn after_local(progress: Progress, budget: u32, end: LocalEnd) -> Progress
+    requires room { progress.done < budget }
+    requires place { progress.at + 1 < 2 ^ 64 }
+    ensures { (p : Program) (old new : List Val) → doing p budget new result ≡ after_local (doing p budget old progress) new end }
+{
+    let done = progress.done + 1;
+    match end {
+        LocalEnd::Next | LocalEnd::Return => Progress {
+            at: progress.at + 1,
+            done,
+            status: progress.status,
+        },
+        LocalEnd::Jump { at } => Progress {
+            at: at as usize,
+            done,
+            status: progress.status,
+        },
+        LocalEnd::Signal(exception) => Progress {
+            at: progress.at,
+            done,
+            status: Status::Ending(unhandled(progress.done, budget, exception.id)),
+        },
+    }
+}
+
+/// Does the next instruction, where the process does it by itself.
+#[tactic(auto, unfolding(s38_rules::specs::Process::step_alone))]
+fn step(
+    alloc: Global,
+    program: &Program,
+    budget: u32,
+    values: &mut [Val],
+    progress: &mut Progress,
+) -> Result<bool, NoMemory>
+    ensures more { IfOk result (λ more. more ≡ is_some (alone (doing program.now budget values.old progress.old))) }
+    ensures ok { OnOk result (doing program.now budget values.new progress.new ≡ step_alone (doing program.now budget values.old progress.old)) }
+    ensures values { OnErr result (values.new ≡ values.old) }
+    ensures progress { OnErr result (progress.new ≡ progress.old) }
+{
+    match alone(program, budget, *progress) {
+        None => Ok(false),
+        Some(instruction) => match run_local(alloc, instruction, program.rows.as_slice(), values) {
+            Err(fault) => Err(fault),
+            Ok(end) => {
+                *progress = after_local(*progress, budget, end);
+                Ok(true)
+            }
+        },
+    }
+}
+
+/// Does local instructions until the process asks something or ends. Where memory is refused it stands before the
+/// same event.
+pub fn settle(
+    alloc: Global,
+    program: &Program,
+    budget: u32,
+    values: &mut [Val],
+    progress: &mut Progress,
+) -> Result<(), NoMemory>
+    requires { progress.old.done ≤ budget }
+    ensures ok { OnOk result (doing program.now budget values.new progress.new ≡ settled (doing program.now budget values.old progress.old)) }
+    ensures same { settled (doing program.now budget values.new progress.new) ≡ settled (doing program.now budget values.old progress.old) }
+    ensures within { progress.new.done ≤ budget }
+{
+    'steps: loop {
+        match step(alloc, program, budget, values, progress) {
+            Err(fault) => return Err(fault),
+            Ok(false) => return Ok(()),
+            Ok(true) => {}
+        }
+    }
+}
