@@ -1,11 +1,12 @@
 -- Decks whose templates all make programs, and whole runs of their jobs.
-use Rattle.std.specs.Prelude.{◌≡◌, ◌<◌, ℕ, ◌+◌, IsTrue, List, [], ◌∷◌, Option, Some, None, is_some, length, slice_get}
+use Rattle.std.specs.Prelude.{◌≡◌, ◌<◌, ℕ, ◌+◌, IsTrue, List, [], ◌∷◌, Option, Some, None, Result, Ok, Err, is_some, length, slice_get}
 use Rattle.std.specs.Option.{option_map, option_and_then}
 use Rattle.s38_code.specs.declared.deck.Deck.{Deck}
 use Rattle.s38_code.specs.declared.deck.Job.{Job}
 use Rattle.s38_code.specs.declared.entry.Entry.{Entry}
 use Rattle.s38_code.specs.declared.program.Program.{Program}
 use Rattle.s38_code.specs.History.{entries_of}
+use Rattle.s38_code.specs.declared.program.CreateFault.{CreateFault}
 use Rattle.s38_create.specs.Created.{created}
 use Rattle.s38_rules.specs.State.{State}
 use Rattle.s38_rules.specs.Legal.{Leads}
@@ -14,10 +15,18 @@ use Rattle.s38_run.specs.Whole.{RanWhole}
 use Rattle.s38_template.specs.Grammar.{Spells}
 use Rattle.s38_template.specs.Places.{template_of}
 
+abbrev pub program_in : Result Program CreateFault → Option Program
+program_in (Ok program) = Some program
+program_in (Err fault) = None
+
+-- the program of a template's lines, if they make one
+abbrev pub program_of_lines : List (List ℕ) → Option Program
+program_of_lines lines = program_in (created lines)
+
 -- the programs of templates, if each makes one
 abbrev pub all_made : List (List (List ℕ)) → Option (List Program)
 all_made [] = Some []
-all_made (lines ∷ more) = option_and_then (λ p. option_map (λ ps. p ∷ ps) (all_made more)) (created lines)
+all_made (lines ∷ more) = option_and_then (λ p. option_map (λ ps. p ∷ ps) (all_made more)) (program_of_lines lines)
 
 -- the text spells the deck, and each of its templates makes a program
 pub record IsDeck (text : List ℕ) (deck : Deck) : Type 0 where
@@ -26,7 +35,7 @@ pub record IsDeck (text : List ℕ) (deck : Deck) : Type 0 where
 
 -- the program of the template that a job names
 abbrev pub program_of : Deck → Job → Option Program
-program_of deck job = option_and_then created (template_of deck job)
+program_of deck job = option_and_then program_of_lines (template_of deck job)
 
 -- the entries are the whole run of a job of the deck
 pub record IsRunOfJob (deck : Deck) (job : Job) (entries : List Entry) : Type 0 where

@@ -2,8 +2,7 @@ ghost use Rattle.std.specs.Prelude.{◌≡◌, ℕ, List, IfOk, Some, length, sl
 ghost use Rattle.std.specs.Option.{option_map};
 ghost use Rattle.s38_code.specs.declared.deck.Job.{Job};
 ghost use Rattle.s38_code.specs.declared.program.Program.{Program};
-ghost use Rattle.s38_create.specs.Created.{created};
-ghost use Rattle.s38.specs.Decks.{JobAt, all_made, program_of};
+ghost use Rattle.s38.specs.Decks.{JobAt, all_made, program_of, program_of_lines};
 ghost use Rattle.std.specs.BTreeMap.{get};
 ghost use Rattle.std.specs.Cmp.Lexicographic.{slice_cmp};
 ghost use Rattle.std.specs.Ordering.{nat_cmp};
@@ -19,7 +18,7 @@ use std::collections::BTreeMap;
 
 /// The program of a template, if it makes one.
 fn program(alloc: Global, template: &Template) -> Result<Option<Program>, NoMemory>
-    ensures { IfOk result (λ made. made ≡ created template.now) }
+    ensures { IfOk result (λ made. made ≡ program_of_lines template.now) }
 {
     match create(alloc, template) {
         Ok(program) => Ok(Some(program)),
@@ -30,7 +29,7 @@ fn program(alloc: Global, template: &Template) -> Result<Option<Program>, NoMemo
 
 /// The program of a template, where it can be shared.
 fn code(alloc: Global, template: &Template) -> Result<Option<Code>, NoMemory>
-    ensures { IfOk result (λ made. made ≡ created template.now) }
+    ensures { IfOk result (λ made. made ≡ program_of_lines template.now) }
 {
     match program(alloc, template) {
         Err(fault) => Err(fault),

@@ -24,21 +24,14 @@ fn prints(alloc: Global, deck: &[&str], logs: &[&str]) -> Result<bool, NoMemory>
 }
 
 /// Whether a program of these declarations and instructions, run by a user, makes these entries behind its start.
-fn makes(
-    alloc: Global,
-    user: &str,
-    code: &[&str],
-    entries: &[&str],
-) -> Result<bool, NoMemory> {
+fn makes(alloc: Global, user: &str, code: &[&str], entries: &[&str]) -> Result<bool, NoMemory> {
     let code = text_of(alloc, code)?;
     let entries_text = text_of(alloc, entries)?;
     let deck = format!(in alloc;
         "PROGRAM P\n{code}END\nSTAGE\nJOB A USER {user} RUN P CONTEXTS QGPL\n"
     )?;
     let count = entries.len() + 1;
-    let logs = format!(in alloc;
-        "JOB 1 A USER {user}\n1 START OK\n{entries_text}DONE {count}\n"
-    )?;
+    let logs = format!(in alloc; "JOB 1 A USER {user}\n1 START OK\n{entries_text}DONE {count}\n")?;
     let answer = run(alloc, &["serial"], deck.as_str(), (&[], &[]), logs.as_str())?;
     Ok(answer.status == 0 && answer.same_text)
 }
@@ -251,7 +244,8 @@ fn programs_over_spaces_and_pointers_answer(rt: HostRuntime) -> Result<(), Fail>
 }
 
 /// Declarations and instructions that make a space of 32 bytes and a pointer to it.
-const SPACE: &str = "DCL S PTR\nDCL A PTR\nDCL D PTR\nDCL N PTR\nDCL M CHAR:3\nDCL X BASED A 30 CHAR:3\nDCL U BASED A 8 PTR\nDCL V BASED S 0 CHAR:1\nDCL W BASED N 0 CHAR:1\nDCL I BASED D 0 CHAR:4\nDCL J BASED D 0 CHAR:5\nDCL K BASED D 1 CHAR:4\nDCL Y BASED A 8 CHAR:16\nDCL Z BASED A 0 CHAR:16\nDCL T BASED A 0 PTR\nDCL C PTR\nDCL Q PTR\nCRTS S,*NONE,SPACE/00/STORE,NONE,32\nSETSPPFP A,S\nSETDP D,A,CHAR:4\n";
+const SPACE: &str =
+    "DCL S PTR\nDCL A PTR\nDCL D PTR\nDCL N PTR\nDCL M CHAR:3\nDCL X BASED A 30 CHAR:3\nDCL U BASED A 8 PTR\nDCL V BASED S 0 CHAR:1\nDCL W BASED N 0 CHAR:1\nDCL I BASED D 0 CHAR:4\nDCL J BASED D 0 CHAR:5\nDCL K BASED D 1 CHAR:4\nDCL Y BASED A 8 CHAR:16\nDCL Z BASED A 0 CHAR:16\nDCL T BASED A 0 PTR\nDCL C PTR\nDCL Q PTR\nCRTS S,*NONE,SPACE/00/STORE,NONE,32\nSETSPPFP A,S\nSETDP D,A,CHAR:4\n";
 
 #[test]
 fn the_first_failed_rule_is_signalled(rt: HostRuntime) -> Result<(), Fail> {
@@ -289,7 +283,11 @@ fn the_first_failed_rule_is_signalled(rt: HostRuntime) -> Result<(), Fail> {
     for (code, entry) in cases {
         let signalled = !entry.ends_with('-');
         let end = if signalled { "UNHANDLED" } else { "RETURN" };
-        let id = if signalled { entry.split(' ').nth(1) } else { None };
+        let id = if signalled {
+            entry.split(' ').nth(1)
+        } else {
+            None
+        };
         let deck = format!(in rt.alloc();
             "PROGRAM P\n{SPACE}{code}\nEND\nSTAGE\nJOB A USER QSECOFR RUN P CONTEXTS QGPL\n"
         )?;
@@ -365,10 +363,7 @@ fn creation_keeps_to_names_rights_and_limits(rt: HostRuntime) -> Result<(), Fail
         (
             "QUSER",
             &["DCL Q PTR", "RSLVSP Q,*LIST,QUEUE/00/QLOCKED,INSERT"],
-            &[
-                "2 RSLVSP 0A01 0 AUTPTR+INSERT",
-                "3 FINISH UNHANDLED 0A01",
-            ],
+            &["2 RSLVSP 0A01 0 AUTPTR+INSERT", "3 FINISH UNHANDLED 0A01"],
         ),
     ];
     for (user, code, entries) in cases {
@@ -391,9 +386,7 @@ fn a_user_makes_as_many_queues_as_its_pages_allow(rt: HostRuntime) -> Result<(),
         };
         entries.push_str(entry.as_str())?;
     }
-    let deck = format!(in alloc;
-        "PROGRAM P\n{code}END\nSTAGE\nJOB A USER QUSER RUN P\n"
-    )?;
+    let deck = format!(in alloc; "PROGRAM P\n{code}END\nSTAGE\nJOB A USER QUSER RUN P\n")?;
     let logs = format!(in alloc;
         "JOB 1 A USER QUSER\n1 START OK\n{entries}103 FINISH UNHANDLED 1C04\nDONE 103\n"
     )?;
