@@ -14,6 +14,5 @@ mod strings;
 
 pub use dispatch::{is_local, run_local};
 
-
 #[cfg(test)]
 mod tests;

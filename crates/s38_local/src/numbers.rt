@@ -22,7 +22,12 @@ fn target_of(rows: &[Row], instruction: &Instruction) -> Target
 }
 
 /// What two numeric sources give.
-fn of_two(rows: &[Row], values: &[Val], instruction: &Instruction, to: Target) -> Result<i128, Exception>
+fn of_two(
+    rows: &[Row],
+    values: &[Val],
+    instruction: &Instruction,
+    to: Target,
+) -> Result<i128, Exception>
     requires { IsTrue (has_second instruction.now.op) }
     ensures exact { result ≡ of_two_sources rows.now values.now instruction.now to }
     ensures fits { IfOk result (λ units. IsTrue (fits to.attr units)) }
@@ -50,7 +55,12 @@ pub fn two_sources(rows: &[Row], values: &mut [Val], instruction: &Instruction) 
 }
 
 /// What one numeric source gives.
-fn of_one(rows: &[Row], values: &[Val], instruction: &Instruction, to: Target) -> Result<i128, Exception>
+fn of_one(
+    rows: &[Row],
+    values: &[Val],
+    instruction: &Instruction,
+    to: Target,
+) -> Result<i128, Exception>
     requires { IsTrue (has_one instruction.now.op) }
     ensures exact { result ≡ of_one_source rows.now values.now instruction.now to }
     ensures fits { IfOk result (λ units. IsTrue (fits to.attr units)) }

@@ -80,7 +80,11 @@ fn pointing(object: ObjNum, offset: Option<u32>) -> Result<Pointer, Exception>
 }
 
 /// The space pointer, moved by the number.
-fn pointer_given(rows: &[Row], values: &[Val], instruction: &Instruction) -> Result<Pointer, Exception>
+fn pointer_given(
+    rows: &[Row],
+    values: &[Val],
+    instruction: &Instruction,
+) -> Result<Pointer, Exception>
     ensures { result ≡ pointer_given rows.now values.now instruction.now }
 {
     let args = instruction.args.as_slice();
@@ -88,7 +92,10 @@ fn pointer_given(rows: &[Row], values: &[Val], instruction: &Instruction) -> Res
         None => Err(signal(POINTER_MISSING, 2)),
         Some(Pointer::Space { object, offset }) => match number_of(rows, values, args.get(2)) {
             None => Err(signal(DECIMAL_DATA, 3)),
-            Some(number) => pointing(object, moved_by(is_backwards(instruction.op), offset, number)),
+            Some(number) => pointing(
+                object,
+                moved_by(is_backwards(instruction.op), offset, number),
+            ),
         },
         Some(_) => Err(signal(POINTER_TYPE_INVALID, 2)),
     }

@@ -14,7 +14,9 @@ use crate::operands::{bytes_of, word_of};
 use s38_base::Op;
 use s38_code::{Instruction, Val};
 use s38_rules::{CONVERSION, LocalEnd};
-use s38_strings::{bits, cat, compare, copy_left, copy_left_pad, copy_right, from_hex, to_hex, xlate};
+use s38_strings::{
+    bits, cat, compare, copy_left, copy_left_pad, copy_right, from_hex, to_hex, xlate,
+};
 
 /// A branch by the order of two strings, as unsigned bytes over the shorter length.
 #[tactic(auto, unfolding(s38_rules::specs::Local::string_branch))]

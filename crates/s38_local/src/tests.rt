@@ -35,55 +35,76 @@ const P3: Attr = Attr::Packed {
     digits: 3,
     fraction: 0,
 };
+
 const PRICE: Attr = Attr::Packed {
     digits: 3,
     fraction: 1,
 };
+
 const Z3: Attr = Attr::Zoned {
     digits: 3,
     fraction: 0,
 };
+
 const B2: Attr = Attr::Binary { size: 2 };
+
 const C2: Attr = Attr::Chars { len: 2 };
+
 const C4: Attr = Attr::Chars { len: 4 };
+
 const P1: Attr = Attr::Packed {
     digits: 1,
     fraction: 0,
 };
+
 const OWN: Given = Given::Item(0);
+
 const EQ: Given = Given::Word(0);
+
 const ZERO: Given = Given::Number(P1, &[0x0F]);
+
 const ONE: Given = Given::Number(P1, &[0x1F]);
+
 const TWO: Given = Given::Number(P1, &[0x2F]);
+
 const SEVEN: Given = Given::Number(P1, &[0x7F]);
+
 const MINUS_SEVEN: Given = Given::Number(P1, &[0x7D]);
+
 const NEXT: LocalEnd = LocalEnd::Next;
+
 const JUMP: LocalEnd = LocalEnd::Jump { at: 9 };
+
 const SIZE: LocalEnd = LocalEnd::Signal(Exception {
     id: 0x0C0A,
     operand: 1,
     rule: Rule::Plain,
 });
+
 const BY_ZERO: LocalEnd = LocalEnd::Signal(Exception {
     id: 0x0C0B,
     operand: 3,
     rule: Rule::Plain,
 });
+
 const NO_NUMBER_1: LocalEnd = LocalEnd::Signal(Exception {
     id: 0x0C02,
     operand: 1,
     rule: Rule::Plain,
 });
+
 const NO_NUMBER_2: LocalEnd = LocalEnd::Signal(Exception {
     id: 0x0C02,
     operand: 2,
     rule: Rule::Plain,
 });
+
 const NO_NUMBER_3: LocalEnd = LocalEnd::Signal(Exception {
     id: 0x0C02,
     operand: 3,
     rule: Rule::Plain,
 });
+
 const NO_HEX: LocalEnd = LocalEnd::Signal(Exception {
     id: 0x0C01,
     operand: 2,
@@ -171,7 +192,11 @@ fn first_bad(alloc: Global, cases: &[Case]) -> Result<Option<usize>, Fail> {
 fn numbers(rt: HostRuntime) -> Result<(), Fail> {
     let to: &[Item] = &[(P3, &[0x12, 0x3F])];
     let full: &[Item] = &[(P3, &[0x99, 0x9F])];
-    let bad: &[Item] = &[(P3, &[0x12, 0x3F]), (P3, &[0x1A, 0x2F]), (P3, &[0x00, 0x0F])];
+    let bad: &[Item] = &[
+        (P3, &[0x12, 0x3F]),
+        (P3, &[0x1A, 0x2F]),
+        (P3, &[0x00, 0x0F]),
+    ];
     let cases: [Case; 28] = [
         (Op::Addn, false, to, &[OWN, ONE, TWO], NEXT, &[0x00, 0x3F]),
         (Op::Addn, false, to, &[OWN, OWN, OWN], NEXT, &[0x24, 0x6F]),
@@ -180,27 +205,153 @@ fn numbers(rt: HostRuntime) -> Result<(), Fail> {
         (Op::Mult, false, to, &[OWN, OWN, SEVEN], NEXT, &[0x86, 0x1F]),
         (Op::Mult, false, full, &[OWN, OWN, TWO], SIZE, &[0x99, 0x9F]),
         (Op::Div, true, to, &[OWN, SEVEN, TWO], NEXT, &[0x00, 0x4F]),
-        (Op::Div, true, to, &[OWN, MINUS_SEVEN, TWO], NEXT, &[0x00, 0x4D]),
+        (
+            Op::Div,
+            true,
+            to,
+            &[OWN, MINUS_SEVEN, TWO],
+            NEXT,
+            &[0x00, 0x4D],
+        ),
         (Op::Div, false, to, &[OWN, SEVEN, TWO], NEXT, &[0x00, 0x3F]),
-        (Op::Div, false, to, &[OWN, SEVEN, ZERO], BY_ZERO, &[0x12, 0x3F]),
-        (Op::Rem, false, to, &[OWN, MINUS_SEVEN, TWO], NEXT, &[0x00, 0x1D]),
-        (Op::Rem, false, to, &[OWN, SEVEN, ZERO], BY_ZERO, &[0x12, 0x3F]),
+        (
+            Op::Div,
+            false,
+            to,
+            &[OWN, SEVEN, ZERO],
+            BY_ZERO,
+            &[0x12, 0x3F],
+        ),
+        (
+            Op::Rem,
+            false,
+            to,
+            &[OWN, MINUS_SEVEN, TWO],
+            NEXT,
+            &[0x00, 0x1D],
+        ),
+        (
+            Op::Rem,
+            false,
+            to,
+            &[OWN, SEVEN, ZERO],
+            BY_ZERO,
+            &[0x12, 0x3F],
+        ),
         (Op::Neg, false, to, &[OWN, SEVEN], NEXT, &[0x00, 0x7D]),
         (Op::Neg, false, to, &[OWN, ZERO], NEXT, &[0x00, 0x0F]),
-        (Op::Neg, false, &[(B2, &[0x80, 0x00])], &[OWN, OWN], SIZE, &[0x80, 0x00]),
-        (Op::Cpynv, false, &[(Z3, &[0x00, 0x00, 0x00])], &[OWN, MINUS_SEVEN], NEXT, &[0xF0, 0xF0, 0xD7]),
-        (Op::Cpynv, false, &[(PRICE, &[0x00, 0x0F])], &[OWN, SEVEN], NEXT, &[0x07, 0x0F]),
-        (Op::Cpynv, false, to, &[OWN, Given::Number(PRICE, &[0x12, 0x9F])], NEXT, &[0x01, 0x2F]),
-        (Op::Cpynv, true, to, &[OWN, Given::Number(PRICE, &[0x12, 0x9F])], NEXT, &[0x01, 0x3F]),
-        (Op::Scale, false, to, &[OWN, SEVEN, Given::Whole(2)], NEXT, &[0x70, 0x0F]),
-        (Op::Scale, false, to, &[OWN, SEVEN, Given::Whole(-1)], NEXT, &[0x00, 0x0F]),
-        (Op::Scale, false, to, &[OWN, SEVEN, Given::Whole(3)], SIZE, &[0x12, 0x3F]),
-        (Op::Scale, false, to, &[OWN, SEVEN, Given::Whole(32)], SIZE, &[0x12, 0x3F]),
-        (Op::Addn, false, bad, &[OWN, Given::Item(1), Given::Item(1)], NO_NUMBER_2, &[0x12, 0x3F]),
-        (Op::Addn, false, bad, &[OWN, OWN, Given::Item(1)], NO_NUMBER_3, &[0x12, 0x3F]),
-        (Op::Div, false, bad, &[OWN, Given::Item(1), ZERO], NO_NUMBER_2, &[0x12, 0x3F]),
-        (Op::Div, false, &[(C2, &[0x12, 0x3F])], &[OWN, ONE, ONE], SIZE, &[0x12, 0x3F]),
-        (Op::Addn, false, to, &[Given::Item(7), ONE, ONE], SIZE, &[0x12, 0x3F]),
+        (
+            Op::Neg,
+            false,
+            &[(B2, &[0x80, 0x00])],
+            &[OWN, OWN],
+            SIZE,
+            &[0x80, 0x00],
+        ),
+        (
+            Op::Cpynv,
+            false,
+            &[(Z3, &[0x00, 0x00, 0x00])],
+            &[OWN, MINUS_SEVEN],
+            NEXT,
+            &[0xF0, 0xF0, 0xD7],
+        ),
+        (
+            Op::Cpynv,
+            false,
+            &[(PRICE, &[0x00, 0x0F])],
+            &[OWN, SEVEN],
+            NEXT,
+            &[0x07, 0x0F],
+        ),
+        (
+            Op::Cpynv,
+            false,
+            to,
+            &[OWN, Given::Number(PRICE, &[0x12, 0x9F])],
+            NEXT,
+            &[0x01, 0x2F],
+        ),
+        (
+            Op::Cpynv,
+            true,
+            to,
+            &[OWN, Given::Number(PRICE, &[0x12, 0x9F])],
+            NEXT,
+            &[0x01, 0x3F],
+        ),
+        (
+            Op::Scale,
+            false,
+            to,
+            &[OWN, SEVEN, Given::Whole(2)],
+            NEXT,
+            &[0x70, 0x0F],
+        ),
+        (
+            Op::Scale,
+            false,
+            to,
+            &[OWN, SEVEN, Given::Whole(-1)],
+            NEXT,
+            &[0x00, 0x0F],
+        ),
+        (
+            Op::Scale,
+            false,
+            to,
+            &[OWN, SEVEN, Given::Whole(3)],
+            SIZE,
+            &[0x12, 0x3F],
+        ),
+        (
+            Op::Scale,
+            false,
+            to,
+            &[OWN, SEVEN, Given::Whole(32)],
+            SIZE,
+            &[0x12, 0x3F],
+        ),
+        (
+            Op::Addn,
+            false,
+            bad,
+            &[OWN, Given::Item(1), Given::Item(1)],
+            NO_NUMBER_2,
+            &[0x12, 0x3F],
+        ),
+        (
+            Op::Addn,
+            false,
+            bad,
+            &[OWN, OWN, Given::Item(1)],
+            NO_NUMBER_3,
+            &[0x12, 0x3F],
+        ),
+        (
+            Op::Div,
+            false,
+            bad,
+            &[OWN, Given::Item(1), ZERO],
+            NO_NUMBER_2,
+            &[0x12, 0x3F],
+        ),
+        (
+            Op::Div,
+            false,
+            &[(C2, &[0x12, 0x3F])],
+            &[OWN, ONE, ONE],
+            SIZE,
+            &[0x12, 0x3F],
+        ),
+        (
+            Op::Addn,
+            false,
+            to,
+            &[Given::Item(7), ONE, ONE],
+            SIZE,
+            &[0x12, 0x3F],
+        ),
     ];
     assert_eq!(rt; first_bad(rt.alloc(), &cases)?, None);
     Ok(())
@@ -208,29 +359,173 @@ fn numbers(rt: HostRuntime) -> Result<(), Fail> {
 
 #[test]
 fn strings(rt: HostRuntime) -> Result<(), Fail> {
-    let to: &[Item] = &[(C4, b"1234"), (C2, &[0xC1, 0xF9]), (C4, &[0xC1, 0xC6, 0xF0, 0xC7])];
+    let to: &[Item] = &[
+        (C4, b"1234"),
+        (C2, &[0xC1, 0xF9]),
+        (C4, &[0xC1, 0xC6, 0xF0, 0xC7]),
+    ];
     let cases: [Case; 22] = [
-        (Op::Cpybla, false, to, &[OWN, Given::Text(b"AB")], NEXT, b"AB34"),
-        (Op::Cpybla, false, to, &[OWN, Given::Text(b"ABCDE")], NEXT, b"ABCD"),
-        (Op::Cpybra, false, to, &[OWN, Given::Text(b"AB")], NEXT, b"12AB"),
-        (Op::Cpybra, false, to, &[OWN, Given::Text(b"ABCDE")], NEXT, b"BCDE"),
-        (Op::Cpyblap, false, to, &[OWN, Given::Text(b"AB"), Given::Text(b"*")], NEXT, b"AB**"),
-        (Op::Cat, false, to, &[OWN, Given::Text(b"A"), Given::Text(b"B")], NEXT, &[0x41, 0x42, 0x40, 0x40]),
-        (Op::Cat, false, to, &[OWN, Given::Text(b"A"), OWN], NEXT, b"A123"),
+        (
+            Op::Cpybla,
+            false,
+            to,
+            &[OWN, Given::Text(b"AB")],
+            NEXT,
+            b"AB34",
+        ),
+        (
+            Op::Cpybla,
+            false,
+            to,
+            &[OWN, Given::Text(b"ABCDE")],
+            NEXT,
+            b"ABCD",
+        ),
+        (
+            Op::Cpybra,
+            false,
+            to,
+            &[OWN, Given::Text(b"AB")],
+            NEXT,
+            b"12AB",
+        ),
+        (
+            Op::Cpybra,
+            false,
+            to,
+            &[OWN, Given::Text(b"ABCDE")],
+            NEXT,
+            b"BCDE",
+        ),
+        (
+            Op::Cpyblap,
+            false,
+            to,
+            &[OWN, Given::Text(b"AB"), Given::Text(b"*")],
+            NEXT,
+            b"AB**",
+        ),
+        (
+            Op::Cat,
+            false,
+            to,
+            &[OWN, Given::Text(b"A"), Given::Text(b"B")],
+            NEXT,
+            &[0x41, 0x42, 0x40, 0x40],
+        ),
+        (
+            Op::Cat,
+            false,
+            to,
+            &[OWN, Given::Text(b"A"), OWN],
+            NEXT,
+            b"A123",
+        ),
         (Op::Cat, false, to, &[OWN, OWN, OWN], NEXT, b"1234"),
-        (Op::Xlate, false, to, &[OWN, OWN, Given::Text(b"31"), Given::Text(b"CA")], NEXT, b"A2C4"),
-        (Op::Xlate, false, to, &[OWN, Given::Text(b"43"), OWN, Given::Text(b"abcd")], NEXT, b"dc34"),
-        (Op::Xlate, false, to, &[OWN, OWN, Given::Text(b"3"), Given::Text(b"CA")], NEXT, b"1234"),
-        (Op::Cvthc, false, to, &[OWN, Given::Text(&[0x0A, 0xF9])], NEXT, &[0xF0, 0xC1, 0xC6, 0xF9]),
-        (Op::Cvthc, false, to, &[OWN, Given::Text(&[0x0A])], NEXT, b"1234"),
-        (Op::Cvtch, false, &[(C2, b"12")], &[OWN, Given::Text(&[0xF0, 0xC1, 0xC6, 0xF9])], NEXT, &[0x0A, 0xF9]),
-        (Op::Cvtch, false, &[(C2, b"12")], &[OWN, Given::Text(&[0xF0, 0xC1, 0xC6, 0xC7])], NO_HEX, b"12"),
-        (Op::And, false, &[(C2, &[0x0F, 0xFF])], &[OWN, OWN, Given::Text(&[0x55, 0x33])], NEXT, &[0x05, 0x33]),
-        (Op::Or, false, &[(C2, &[0x0F, 0xFF])], &[OWN, OWN, Given::Text(&[0x55, 0x33])], NEXT, &[0x5F, 0xFF]),
-        (Op::Xor, false, &[(C2, &[0x0F, 0xFF])], &[OWN, OWN, OWN], NEXT, &[0x00, 0x00]),
-        (Op::Not, false, &[(C2, &[0x0F, 0xFF])], &[OWN, OWN], NEXT, &[0xF0, 0x00]),
-        (Op::And, false, &[(C2, &[0x0F, 0xFF])], &[OWN, OWN, Given::Text(&[0x55])], NEXT, &[0x0F, 0xFF]),
-        (Op::Cpybla, false, to, &[Given::Item(7), Given::Text(b"AB")], NEXT, b"1234"),
+        (
+            Op::Xlate,
+            false,
+            to,
+            &[OWN, OWN, Given::Text(b"31"), Given::Text(b"CA")],
+            NEXT,
+            b"A2C4",
+        ),
+        (
+            Op::Xlate,
+            false,
+            to,
+            &[OWN, Given::Text(b"43"), OWN, Given::Text(b"abcd")],
+            NEXT,
+            b"dc34",
+        ),
+        (
+            Op::Xlate,
+            false,
+            to,
+            &[OWN, OWN, Given::Text(b"3"), Given::Text(b"CA")],
+            NEXT,
+            b"1234",
+        ),
+        (
+            Op::Cvthc,
+            false,
+            to,
+            &[OWN, Given::Text(&[0x0A, 0xF9])],
+            NEXT,
+            &[0xF0, 0xC1, 0xC6, 0xF9],
+        ),
+        (
+            Op::Cvthc,
+            false,
+            to,
+            &[OWN, Given::Text(&[0x0A])],
+            NEXT,
+            b"1234",
+        ),
+        (
+            Op::Cvtch,
+            false,
+            &[(C2, b"12")],
+            &[OWN, Given::Text(&[0xF0, 0xC1, 0xC6, 0xF9])],
+            NEXT,
+            &[0x0A, 0xF9],
+        ),
+        (
+            Op::Cvtch,
+            false,
+            &[(C2, b"12")],
+            &[OWN, Given::Text(&[0xF0, 0xC1, 0xC6, 0xC7])],
+            NO_HEX,
+            b"12",
+        ),
+        (
+            Op::And,
+            false,
+            &[(C2, &[0x0F, 0xFF])],
+            &[OWN, OWN, Given::Text(&[0x55, 0x33])],
+            NEXT,
+            &[0x05, 0x33],
+        ),
+        (
+            Op::Or,
+            false,
+            &[(C2, &[0x0F, 0xFF])],
+            &[OWN, OWN, Given::Text(&[0x55, 0x33])],
+            NEXT,
+            &[0x5F, 0xFF],
+        ),
+        (
+            Op::Xor,
+            false,
+            &[(C2, &[0x0F, 0xFF])],
+            &[OWN, OWN, OWN],
+            NEXT,
+            &[0x00, 0x00],
+        ),
+        (
+            Op::Not,
+            false,
+            &[(C2, &[0x0F, 0xFF])],
+            &[OWN, OWN],
+            NEXT,
+            &[0xF0, 0x00],
+        ),
+        (
+            Op::And,
+            false,
+            &[(C2, &[0x0F, 0xFF])],
+            &[OWN, OWN, Given::Text(&[0x55])],
+            NEXT,
+            &[0x0F, 0xFF],
+        ),
+        (
+            Op::Cpybla,
+            false,
+            to,
+            &[Given::Item(7), Given::Text(b"AB")],
+            NEXT,
+            b"1234",
+        ),
         (Op::Cpybla, false, to, &[OWN], NEXT, b"1234"),
     ];
     assert_eq!(rt; first_bad(rt.alloc(), &cases)?, None);
@@ -259,19 +554,50 @@ fn holding(alloc: Global, op: Op, a: Given, b: Given) -> Result<u32, Fail> {
 fn comparisons(rt: HostRuntime) -> Result<(), Fail> {
     let bad: &[Item] = &[(P3, &[0x1A, 0x2F])];
     let cases: [Case; 4] = [
-        (Op::Cmpnvb, false, bad, &[OWN, ONE, EQ, Given::Jump(9)], NO_NUMBER_1, &[0x1A, 0x2F]),
-        (Op::Cmpnvb, false, bad, &[ONE, OWN, EQ, Given::Jump(9)], NO_NUMBER_2, &[0x1A, 0x2F]),
+        (
+            Op::Cmpnvb,
+            false,
+            bad,
+            &[OWN, ONE, EQ, Given::Jump(9)],
+            NO_NUMBER_1,
+            &[0x1A, 0x2F],
+        ),
+        (
+            Op::Cmpnvb,
+            false,
+            bad,
+            &[ONE, OWN, EQ, Given::Jump(9)],
+            NO_NUMBER_2,
+            &[0x1A, 0x2F],
+        ),
         (Op::B, false, bad, &[Given::Jump(9)], JUMP, &[0x1A, 0x2F]),
         (Op::Rtx, false, bad, &[], LocalEnd::Return, &[0x1A, 0x2F]),
     ];
     assert_eq!(rt; first_bad(rt.alloc(), &cases)?, None);
     let alloc = rt.alloc();
     assert_eq!(rt; holding(alloc, Op::Cmpnvb, MINUS_SEVEN, ONE)?, 0b10_0110);
-    assert_eq!(rt; holding(alloc, Op::Cmpnvb, ONE, Given::Number(PRICE, &[0x01, 0x0F]))?, 0b11_0001);
+    assert_eq!(rt;
+        holding(alloc, Op::Cmpnvb, ONE, Given::Number(PRICE, &[0x01, 0x0F]))?,
+        0b11_0001
+    );
     assert_eq!(rt; holding(alloc, Op::Cmpnvb, TWO, ONE)?, 0b01_1010);
-    assert_eq!(rt; holding(alloc, Op::Cmpblab, Given::Text(b"AB"), Given::Text(b"A"))?, 0b11_0001);
-    assert_eq!(rt; holding(alloc, Op::Cmpblab, Given::Text(b"AB"), Given::Text(b"AC"))?, 0b10_0110);
-    assert_eq!(rt; holding(alloc, Op::Cmpblab, Given::Text(&[0xF0]), Given::Text(&[0x0F]))?, 0b01_1010);
+    assert_eq!(rt;
+        holding(alloc, Op::Cmpblab, Given::Text(b"AB"), Given::Text(b"A"))?,
+        0b11_0001
+    );
+    assert_eq!(rt;
+        holding(alloc, Op::Cmpblab, Given::Text(b"AB"), Given::Text(b"AC"))?,
+        0b10_0110
+    );
+    assert_eq!(rt;
+        holding(
+            alloc,
+            Op::Cmpblab,
+            Given::Text(&[0xF0]),
+            Given::Text(&[0x0F])
+        )?,
+        0b01_1010
+    );
     Ok(())
 }
 
@@ -279,10 +605,12 @@ const AT_TEN: Pointer = Pointer::Space {
     object: ObjNum(7),
     offset: 10,
 };
+
 const SYSTEM: Pointer = Pointer::System {
     object: ObjNum(7),
     rights: Rights(0),
 };
+
 const ITEM: Pointer = Pointer::Item {
     object: ObjNum(7),
     offset: 10,
@@ -355,14 +683,35 @@ fn pointers(rt: HostRuntime) -> Result<(), Fail> {
     let half = Given::Number(PRICE, &[0x01, 0x9F]);
     assert_eq!(rt; moves(alloc, Op::Addspp, there, TWO)?, (NEXT, at(12)));
     assert_eq!(rt; moves(alloc, Op::Addspp, there, half)?, (NEXT, at(11)));
-    assert_eq!(rt; moves(alloc, Op::Addspp, there, MINUS_SEVEN)?, (NEXT, at(3)));
+    assert_eq!(rt;
+        moves(alloc, Op::Addspp, there, MINUS_SEVEN)?,
+        (NEXT, at(3))
+    );
     assert_eq!(rt; moves(alloc, Op::Subspp, there, SEVEN)?, (NEXT, at(3)));
-    assert_eq!(rt; moves(alloc, Op::Addspp, there, limit)?, (NEXT, at(16_777_216)));
-    assert_eq!(rt; moves(alloc, Op::Addspp, at(11), limit)?, (signal(0x0601, 3), None));
-    assert_eq!(rt; moves(alloc, Op::Subspp, at(6), SEVEN)?, (signal(0x0601, 3), None));
-    assert_eq!(rt; moves(alloc, Op::Addspp, None, ONE)?, (signal(0x2401, 2), None));
-    assert_eq!(rt; moves(alloc, Op::Addspp, Some(SYSTEM), ONE)?, (signal(0x2402, 2), None));
-    assert_eq!(rt; moves(alloc, Op::Addspp, there, Given::Text(b"A"))?, (signal(0x0C02, 3), None));
+    assert_eq!(rt;
+        moves(alloc, Op::Addspp, there, limit)?,
+        (NEXT, at(16_777_216))
+    );
+    assert_eq!(rt;
+        moves(alloc, Op::Addspp, at(11), limit)?,
+        (signal(0x0601, 3), None)
+    );
+    assert_eq!(rt;
+        moves(alloc, Op::Subspp, at(6), SEVEN)?,
+        (signal(0x0601, 3), None)
+    );
+    assert_eq!(rt;
+        moves(alloc, Op::Addspp, None, ONE)?,
+        (signal(0x2401, 2), None)
+    );
+    assert_eq!(rt;
+        moves(alloc, Op::Addspp, Some(SYSTEM), ONE)?,
+        (signal(0x2402, 2), None)
+    );
+    assert_eq!(rt;
+        moves(alloc, Op::Addspp, there, Given::Text(b"A"))?,
+        (signal(0x0C02, 3), None)
+    );
     assert_eq!(rt; kinds(alloc, Some(SYSTEM))?, 0b0001);
     assert_eq!(rt; kinds(alloc, there)?, 0b0010);
     assert_eq!(rt; kinds(alloc, Some(ITEM))?, 0b0100);

@@ -137,13 +137,13 @@ later_same d = record { program = refl; budget = refl; done = omega arith; withi
 moves_on : (s t u : Status) → Moves s t → Moves t u → Moves s u
 moves_on s t u a b = elim b as (λ _. Moves s u) [
   | inl same ↦ elim a as (λ _. Moves s u) [
-      | inl before ↦ inl (same ∙ before)
-      | inr before ↦ inr (before.0, (before.1.0, same ∙ before.1.1))
-    ]
+    | inl before ↦ inl (same ∙ before)
+    | inr before ↦ inr (before.0, (before.1.0, same ∙ before.1.1))
+  ]
   | inr ends ↦ elim a as (λ _. Moves s u) [
-      | inl before ↦ inr (sym before ∙ ends.0, ends.1)
-      | inr before ↦ absurd (apart before.1.0 (sym before.1.1 ∙ ends.0))
-    ]
+    | inl before ↦ inr (sym before ∙ ends.0, ends.1)
+    | inr before ↦ absurd (apart before.1.0 (sym before.1.1 ∙ ends.0))
+  ]
 ]
   where
     apart : (c : EndCause) → Ending c ≡ Running → ⊥
