@@ -52,6 +52,14 @@ fn numbers_are_read(rt: HostRuntime) {
     }
 }
 
+/// Whether an operand is a literal of these bytes.
+fn is_literal_of(arg: &Option<Arg>, expected: &[u8]) -> bool {
+    match arg {
+        Some(Arg::Literal { bytes, .. }) => bytes.as_slice() == expected,
+        _ => false,
+    }
+}
+
 #[test]
 fn a_number_is_packed(rt: HostRuntime) -> Result<(), Fail> {
     let cases: [(&[u8], &[u8]); 5] = [
@@ -62,10 +70,8 @@ fn a_number_is_packed(rt: HostRuntime) -> Result<(), Fail> {
         (b"-123.45", &[0x12, 0x34, 0x5D]),
     ];
     for (text, expected) in cases {
-        match number_literal(rt.alloc(), text)? {
-            Some(Arg::Literal { bytes, .. }) => assert_eq!(rt; bytes.as_slice(), expected),
-            _ => assert!(rt; false, "{text:?}"),
-        }
+        let found = number_literal(rt.alloc(), text)?;
+        assert!(rt; is_literal_of(&found, expected), "{text:?}");
     }
     Ok(())
 }
@@ -252,6 +258,14 @@ fn an_operand_has_a_form(rt: HostRuntime) {
     }
 }
 
+/// Whether the numbers of a declaration are in their ranges; None where the text is no declaration.
+fn range_of(text: &str) -> Option<bool> {
+    match declaration(text.as_bytes()) {
+        Some(line) => Some(is_in_range(&line.declares)),
+        None => None,
+    }
+}
+
 #[test]
 fn lines_of_declarations_are_read(rt: HostRuntime) {
     let taken: [(&str, bool); 12] = [
@@ -269,8 +283,7 @@ fn lines_of_declarations_are_read(rt: HostRuntime) {
         ("DCL A EXCM 2A04 L", true),
     ];
     for (text, in_range) in taken {
-        let found = declaration(text.as_bytes()).map(|line| is_in_range(&line.declares));
-        assert_eq!(rt; found, Some(in_range), "{text}");
+        assert_eq!(rt; range_of(text), Some(in_range), "{text}");
     }
     for text in [
         "DCL A",
@@ -289,6 +302,6 @@ fn lines_of_declarations_are_read(rt: HostRuntime) {
         "dcl A PTR",
         "",
     ] {
-        assert!(rt; declaration(text.as_bytes()).is_none(), "{text}");
+        assert!(rt; range_of(text).is_none(), "{text}");
     }
 }
