@@ -3,4 +3,5 @@ pub mod LabelLemmas
 pub mod MapLemmas
 pub mod NumberLemmas
 pub mod Parts
+pub mod RefusalLemmas
 pub mod SaidLemmas

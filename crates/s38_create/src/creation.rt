@@ -117,3 +117,9 @@ pub fn create(alloc: Global, template: &Template) -> Result<Program, CreateFault
     }
     created_by(alloc, template, head_of(lines[0].as_slice()))
 }
+
+/// A template is refused at a place, and never for want of memory: what the definition answers is a program or
+/// `Bad`.
+pub fn refusals_have_a_place(template: &Template)
+    ensures { created template.now ≡ Err CreateFault.NoMemory → ⊥ }
+{}

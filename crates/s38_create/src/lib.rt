@@ -20,7 +20,7 @@ mod shapes;
 mod suits;
 mod ties;
 
-pub use creation::create;
+pub use creation::{create, refusals_have_a_place};
 
 #[cfg(test)]
 mod tests;

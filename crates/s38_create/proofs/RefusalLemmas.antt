@@ -1,0 +1,106 @@
+-- Creation refuses at a place, and never for want of memory.
+use Rattle.std.proofs.Common.{◌≡◌, ℕ, ◌+◌, Bool, true, false, cond, List, [], ◌∷◌, ◌++◌, length, Option, Some, None, Result, Ok, Err}
+use Rattle.s38_base.specs.declared.op.Op.{Op}
+use Rattle.s38_code.specs.Mnemonic.{op_of}
+use Rattle.s38_code.specs.WordsText.{before}
+use Rattle.s38_code.specs.declared.program.CreateFault.{CreateFault}
+use Rattle.s38_code.specs.declared.program.CreateFault.TheVariants.{Bad, NoMemory}
+use Rattle.s38_code.specs.declared.program.Instruction.{Instruction}
+use Rattle.s38_code.specs.declared.program.Program.{Program}
+use Rattle.s38_code.specs.declared.program.Row.{Row}
+use Rattle.s38_create.specs.Created.{code, created, created_by, created_inner, declarations, head_of, inner, is_ended, is_small, line_at, program, with_code, with_rows}
+use Rattle.s38_create.specs.Instruction.{by_op, by_saids, cause_of, checked, code_from, instruction_of, is_rounded, made_of, result_and_then, saids_of, unless}
+use Rattle.s38_create.specs.Names.{is_label}
+use Rattle.s38_create.specs.declared.head.Head.{Head}
+use Rattle.s38_create.specs.declared.said.Said.{Said}
+use Rattle.s38_odt.specs.Table.{and_then, more_rows, refused, row_of, rows_from, rows_of}
+
+-- it is not refused for want of memory
+abbrev Decided : {A : Type 0} → Result A CreateFault → Type 0
+Decided r = r ≡ Err NoMemory → ⊥
+
+bad-decided : {A : Type 0} (id number : ℕ) → Decided {A = A} (Err (Bad id number))
+bad-decided id number h = cc
+
+ok-decided : {A : Type 0} (x : A) → Decided (Ok x)
+ok-decided x h = cc
+
+-- ---- declarations
+
+and_then-decided : (r : Result (List Row) CreateFault) (next : List Row → Result (List Row) CreateFault) →
+    Decided r → ((rows : List Row) → Decided (next rows)) → Decided (and_then r next)
+and_then-decided (Err fault) next first later h = first h
+and_then-decided (Ok rows) next first later h = later rows h
+
+more_rows-decided : (rows : List Row) (r : Result Row ℕ) → Decided (more_rows rows r)
+more_rows-decided rows (Err cause) h = bad-decided {A = List Row} cause (length rows + 1) h
+more_rows-decided rows (Ok row) h = ok-decided (rows ++ row ∷ []) h
+
+rows_from-decided : (rows : List Row) (lines : List (List ℕ)) → Decided (rows_from rows lines)
+rows_from-decided rows [] h = ok-decided rows h
+rows_from-decided rows (line ∷ lines) h =
+    and_then-decided (more_rows rows (row_of rows line)) (λ more. rows_from more lines)
+    (more_rows-decided rows (row_of rows line)) (λ more. rows_from-decided more lines) h
+
+rows_of-decided : (lines : List (List ℕ)) → Decided (rows_of lines)
+unfolding rows_of
+rows_of-decided lines = rows_from-decided [] lines
+
+-- ---- instructions
+
+result_and_then-decided : {A B : Type 0} (f : A → Result B CreateFault) (r : Result A CreateFault) → ((x : A) → Decided (f x)) → Decided r → Decided (result_and_then f r)
+result_and_then-decided f (Ok x) later first h = later x h
+result_and_then-decided f (Err e) later first h = first (let same : e ≡ NoMemory = cc in cc)
+
+unless-decided : (cause : Option ℕ) (number : ℕ) (i : Instruction) → Decided (unless cause number i)
+unless-decided None number i h = ok-decided i h
+unless-decided (Some id) number i h = bad-decided {A = Instruction} id number h
+
+by_saids-decided : (rows : List Row) (number : ℕ) (op : Op) (round : Bool) (o : Option (List Said)) → Decided (by_saids rows number op round o)
+by_saids-decided rows number op round None h = bad-decided {A = Instruction} 0x2A04 number h
+by_saids-decided rows number op round (Some saids) h = unless-decided _ number (made_of op round saids) h
+
+by_op-decided : (rows : List Row) (code : List (List ℕ)) (number : ℕ) (line : List ℕ) (o : Option Op) → Decided (by_op rows code number line o)
+by_op-decided rows code number line None h = bad-decided {A = Instruction} 0x2A04 number h
+by_op-decided rows code number line (Some op) h = by_saids-decided rows number op (is_rounded line) (saids_of rows code line op) h
+
+instruction_of-decided : (rows : List Row) (code : List (List ℕ)) (number : ℕ) (line : List ℕ) → Decided (instruction_of rows code number line)
+unfolding instruction_of
+instruction_of-decided rows code number line = by_op-decided rows code number line (op_of (before 32 line))
+
+if-decided : {A : Type 0} (b : Bool) (r s : Result A CreateFault) → Decided r → Decided s → Decided (cond b r s)
+if-decided true r s first second h = first h
+if-decided false r s first second h = second h
+
+code_from-decided : (rows : List Row) (code : List (List ℕ)) (made : List Instruction) (lines : List (List ℕ)) → Decided (code_from rows code made lines)
+code_from-decided rows code made [] h = ok-decided made h
+code_from-decided rows code made (line ∷ lines) h =
+    if-decided (is_label line) (code_from rows code made lines)
+    (result_and_then (λ i. code_from rows code (made ++ i ∷ []) lines) (instruction_of rows code (length made + 1) line))
+    (code_from-decided rows code made lines)
+    (result_and_then-decided (λ i. code_from rows code (made ++ i ∷ []) lines) (instruction_of rows code (length made + 1) line)
+    (λ i. code_from-decided rows code (made ++ i ∷ []) lines) (instruction_of-decided rows code (length made + 1) line))
+    h
+
+-- ---- programs
+
+with_rows-decided : (lines : List (List ℕ)) (head : Head) (code : List (List ℕ)) (rows : List Row) → Decided (with_rows lines head code rows)
+with_rows-decided lines head code rows =
+    result_and_then-decided (λ made. Ok (program lines head rows made)) (code_from rows code [] code)
+    (λ made. ok-decided (program lines head rows made)) (code_from-decided rows code [] code)
+
+created_inner-decided : (lines : List (List ℕ)) (head : Head) (body : List (List ℕ)) → Decided (created_inner lines head body)
+created_inner-decided lines head body =
+    if-decided (is_small body) (result_and_then (with_rows lines head (code body)) (rows_of (declarations body))) (Err (Bad 0x2A04 0))
+    (result_and_then-decided (with_rows lines head (code body)) (rows_of (declarations body)) (with_rows-decided lines head (code body)) (rows_of-decided (declarations body)))
+    (bad-decided {A = Program} 0x2A04 0)
+
+created_by-decided : (lines : List (List ℕ)) (o : Option Head) → Decided (created_by lines o)
+created_by-decided lines None h = bad-decided {A = Program} 0x2A04 0 h
+created_by-decided lines (Some head) h = created_inner-decided lines head (inner lines) h
+
+pub created-decided : (lines : List (List ℕ)) → created lines ≡ Err NoMemory → ⊥
+unfolding created
+created-decided lines =
+    if-decided (is_ended lines) (created_by lines (head_of (line_at lines 0))) (Err (Bad 0x2A04 0))
+    (created_by-decided lines (head_of (line_at lines 0))) (bad-decided {A = Program} 0x2A04 0)
