@@ -395,3 +395,108 @@ fn a_user_makes_as_many_queues_as_its_pages_allow(rt: HostRuntime) -> Result<(),
     assert!(rt; answer.same_text);
     Ok(())
 }
+
+#[test]
+fn programs_compute_among_their_variables(rt: HostRuntime) -> Result<(), Fail> {
+    let cases: [(&str, &[&str], &[&str]); 4] = [
+        (
+            "a result that its receiver cannot hold is signalled",
+            &[
+                "DCL V PKD:3:0 INIT 999",
+                "DCL W PKD:2:0 INIT 98",
+                "ADDN W,W,1",
+                "ADDN V,V,1",
+            ],
+            &["2 FINISH UNHANDLED 0C0A"],
+        ),
+        (
+            "a divisor of zero is signalled",
+            &["DCL V PKD:3:0 INIT 7", "DIV V,V,0"],
+            &["2 FINISH UNHANDLED 0C0B"],
+        ),
+        (
+            "a loop puts its counts into a queue, and its strings are joined",
+            &[
+                "DCL Q PTR",
+                "DCL N ZND:2:0",
+                "DCL T CHAR:2",
+                "DCL M CHAR:4",
+                "CRTQ Q,*NONE,QUEUE/00/Q,NONE,FIFO,0,8",
+                "LABEL AGAIN",
+                "ADDN N,N,1",
+                "CMPNVB N,3,LO,AGAIN",
+                "CVTHC M,X'C1F0'",
+                "ENQ Q,*NONE,M",
+                "DEQ M,Q,ANY,*NONE,NOWAIT",
+                "CAT M,N,'AB'",
+                "ENQ Q,*NONE,M",
+                "DEQ M,Q,ANY,*NONE,NOWAIT",
+                "RTX",
+                "ENQ Q,*NONE,'LOST'",
+            ],
+            &[
+                "2 CRTQ OK S6/00",
+                "3 ENQ OK",
+                "4 DEQ OK C3F1C6F0",
+                "5 ENQ OK",
+                "6 DEQ OK F0F3C1C2",
+                "7 FINISH RETURN",
+            ],
+        ),
+        (
+            "a space pointer is moved, and tells its kind",
+            &[
+                "DCL S PTR",
+                "DCL A PTR",
+                "DCL D PTR",
+                "CRTS S,*NONE,SPACE/00/S,NONE,64",
+                "SETSPPFP A,S",
+                "ADDSPP A,A,48",
+                "SUBSPP A,A,16.9",
+                "SETDP D,A,CHAR:32",
+                "CMPPTRT D,DTA,HERE",
+                "DESS S",
+                "LABEL HERE",
+                "SUBSPP A,A,33",
+            ],
+            &[
+                "2 CRTS OK S6/00",
+                "3 SETSPPFP OK A6+0",
+                "4 SETDP OK D6+32",
+                "5 FINISH UNHANDLED 0601",
+            ],
+        ),
+    ];
+    for (name, code, entries) in cases {
+        assert!(rt; makes(rt.alloc(), "QSECOFR", code, entries)?, "{name}");
+    }
+    Ok(())
+}
+
+#[test]
+fn templates_that_are_refused_make_a_bad_deck(rt: HostRuntime) -> Result<(), Fail> {
+    let cases: [&str; 8] = [
+        "B NOWHERE",
+        "DCL A PKD:32:0",
+        "DCL A CHAR:2 INIT 'ABC'",
+        "DCL A PTR\nDCL B BASED A 0 PKD:3:0\nADDN B,B,1",
+        "DCL A PKD:20:0\nMULT A,A,A\nMULT A,A,1",
+        "DCL P PTR\nCRTQ P,*NONE,SPACE/00/Q,NONE,FIFO,0,8",
+        "DCL P PTR\nCRTQ P,*NONE,QUEUE/00/Q,NONE,LIFO,0,8",
+        "DCL P PTR\nLOCK P,LSRD,NOWAIT",
+    ];
+    for code in cases {
+        let deck = format!(in rt.alloc();
+            "PROGRAM P\n{code}\nEND\nSTAGE\nJOB A USER QSECOFR RUN P\n"
+        )?;
+        let answer = run(
+            rt.alloc(),
+            &["serial"],
+            deck.as_str(),
+            (&[], &[]),
+            "BAD DECK 0 2\n",
+        )?;
+        assert!(rt; answer.status == 2 && answer.same_text, "{code}");
+    }
+    Ok(())
+}
