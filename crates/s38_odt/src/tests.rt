@@ -1,6 +1,6 @@
 //! Declarations that are refused, and those that are taken with the bytes with which they begin.
 
-use crate::{definition_table, rows};
+use crate::{Odt, definition_table, rows};
 use s38_base::{Bytes, NoMemory, Seq};
 use s38_code::{CreateFault, Form};
 use std::alloc::Global;
@@ -13,6 +13,36 @@ fn lines(alloc: Global, text: &str) -> Result<Seq<Bytes>, NoMemory> {
         lines.push(Seq::from_slice(alloc, line)?)?;
     }
     Ok(lines)
+}
+
+/// The table of a text's declarations.
+fn table_of(alloc: Global, text: &str) -> Result<Odt, CreateFault> {
+    let Ok(lines) = lines(alloc, text) else {
+        return Err(CreateFault::NoMemory);
+    };
+    if lines.len() > 1024 {
+        return Err(CreateFault::NoMemory);
+    }
+    definition_table(alloc, lines.as_slice())
+}
+
+/// Whether a text's declarations are refused with this cause and number.
+fn is_refused(alloc: Global, text: &str, id: u16, number: u32) -> bool {
+    match table_of(alloc, text) {
+        Ok(_) => false,
+        Err(fault) => fault == CreateFault::Bad { id, number },
+    }
+}
+
+/// Whether a table has one row, a variable that begins with these bytes.
+fn begins(table: &Odt, bytes: &[u8]) -> bool {
+    match table.rows() {
+        [row] => match &row.form {
+            Form::Local { first, .. } => first.as_slice() == bytes,
+            _ => false,
+        },
+        _ => false,
+    }
 }
 
 #[test]
@@ -54,13 +84,7 @@ fn the_first_bad_declaration_is_told(rt: HostRuntime) -> Result<(), Fail> {
         ("RTX", 0x2A02, 1),
     ];
     for (text, id, number) in cases {
-        match rows(rt.alloc(), lines(rt.alloc(), text)?.as_slice()) {
-            Err(CreateFault::Bad { id: i, number: n }) => assert!(rt;
-                i == id && n == number,
-                "{text}"
-            ),
-            _ => assert!(rt; false, "{text}"),
-        }
+        assert!(rt; is_refused(rt.alloc(), text, id, number), "{text}");
     }
     Ok(())
 }
@@ -91,24 +115,16 @@ fn a_variable_begins_with_its_bytes(rt: HostRuntime) -> Result<(), Fail> {
         ),
     ];
     for (text, bytes) in cases {
-        match rows(rt.alloc(), lines(rt.alloc(), text)?.as_slice())?.as_slice() {
-            [row] => match &row.form {
-                Form::Local { first, .. } => assert_eq!(rt; first.as_slice(), bytes, "{text}"),
-                _ => assert!(rt; false, "{text}"),
-            },
-            _ => assert!(rt; false, "{text}"),
-        }
+        let table = table_of(rt.alloc(), text)?;
+        assert!(rt; begins(&table, bytes), "{text}");
     }
     Ok(())
 }
 
 #[test]
 fn names_are_found(rt: HostRuntime) -> Result<(), Fail> {
-    let text = lines(
-        rt.alloc(),
-        "DCL C CHAR:1\nDCL P PTR\nDCL A BASED P 16777216 PTR",
-    )?;
-    let table = definition_table(rt.alloc(), text.as_slice())?;
+    let text = "DCL C CHAR:1\nDCL P PTR\nDCL A BASED P 16777216 PTR";
+    let table = table_of(rt.alloc(), text)?;
     assert_eq!(rt; table.item(b"C"), Some(0));
     assert_eq!(rt; table.item(b"A"), Some(2));
     assert_eq!(rt; table.item(b"B"), None);
