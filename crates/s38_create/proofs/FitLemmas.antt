@@ -1,15 +1,14 @@
 -- Instructions that creation makes fit their rows.
-use Rattle.std.proofs.Common.{◌≡◌, ◌≤◌, ◌+◌, ◌&&◌, ℕ, Bool, true, false, cond, List, [], ◌∷◌, ◌++◌, map, length, length-append, append-nil, Option, Some, None, Result, Ok, Err, refl, sym, ◌∙◌, ap, subst, arith, leb-true}
+use Rattle.std.proofs.Common.{◌≡◌, ◌≤◌, ◌+◌, ℕ, Bool, true, false, cond, List, [], ◌∷◌, ◌++◌, map, length, length-append, Option, Some, None, Result, Ok, Err, refl, sym, ◌∙◌, ap, subst, arith, leb-true}
 use Rattle.std.specs.Bool.{nat_le}
 use Rattle.std.specs.List.{All, list_all}
-use Rattle.std.specs.Option.{is_some}
 use Rattle.std.proofs.lemmas.List.Elements.{All-append, All-cons, All-nil}
 use Rattle.std.proofs.lemmas.List.Folds.{list_all-map}
 use Rattle.s38_base.specs.declared.op.Op.{Op}
 use Rattle.s38_code.specs.Built.{is_built}
 use Rattle.s38_code.specs.Class.{classes}
 use Rattle.s38_code.specs.Mnemonic.{op_of}
-use Rattle.s38_code.specs.Tie.{made_kind, may_round, tie_of}
+use Rattle.s38_code.specs.Tie.{made_kind, tie_of}
 use Rattle.s38_code.specs.WordsText.{before}
 use Rattle.s38_code.specs.declared.program.CreateFault.{CreateFault}
 use Rattle.s38_code.specs.declared.program.CreateFault.TheVariants.{Bad}

@@ -1,5 +1,5 @@
 -- Operands that suit the rows of numbers are numbers.
-use Rattle.std.proofs.Common.{◌≡◌, ◌&&◌, ◌||◌, ℕ, Bool, true, false, List, [], ◌∷◌, Option, Some, None, refl}
+use Rattle.std.proofs.Common.{◌≡◌, ◌&&◌, ◌||◌, true, false, List, [], ◌∷◌, Option, Some, None, refl}
 use Rattle.std.specs.Option.{unwrap_or}
 use Rattle.s38_base.specs.Scalar.{is_numeric}
 use Rattle.s38_base.specs.declared.attr.Attr.{Attr}

@@ -8,12 +8,12 @@ use Rattle.s38_code.specs.declared.program.CreateFault.TheVariants.{Bad, NoMemor
 use Rattle.s38_code.specs.declared.program.Instruction.{Instruction}
 use Rattle.s38_code.specs.declared.program.Program.{Program}
 use Rattle.s38_code.specs.declared.program.Row.{Row}
-use Rattle.s38_create.specs.Created.{code, created, created_by, created_inner, declarations, head_of, inner, is_ended, is_small, line_at, program, with_code, with_rows}
-use Rattle.s38_create.specs.Instruction.{by_op, by_saids, cause_of, checked, code_from, instruction_of, is_rounded, made_of, result_and_then, saids_of, unless}
+use Rattle.s38_create.specs.Created.{code, created, created_by, created_inner, declarations, head_of, inner, is_ended, is_small, line_at, program, with_rows}
+use Rattle.s38_create.specs.Instruction.{by_op, by_saids, code_from, instruction_of, is_rounded, made_of, result_and_then, saids_of, unless}
 use Rattle.s38_create.specs.Names.{is_label}
 use Rattle.s38_create.specs.declared.head.Head.{Head}
 use Rattle.s38_create.specs.declared.said.Said.{Said}
-use Rattle.s38_odt.specs.Table.{and_then, more_rows, refused, row_of, rows_from, rows_of}
+use Rattle.s38_odt.specs.Table.{and_then, more_rows, row_of, rows_from, rows_of}
 
 -- it is not refused for want of memory
 abbrev Decided : {A : Type 0} → Result A CreateFault → Type 0

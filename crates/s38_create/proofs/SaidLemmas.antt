@@ -1,12 +1,12 @@
 -- What words say: literals have the bytes of their attribute, and jumps stay in the code.
-use Rattle.std.proofs.Common.{inl, inr, ◌≡◌, ◌⊎◌, ◌≤◌, ◌+◌, ◌/◌, ◌&&◌, ℕ, Bool, true, false, cond, List, [], ◌∷◌, ◌++◌, length, Option, Some, None, refl, sym, ◌∙◌, ap, subst, arith, eq-eqb, le-leb}
+use Rattle.std.proofs.Common.{inl, inr, ◌≡◌, ◌+◌, ◌/◌, ◌&&◌, ℕ, Bool, true, List, [], ◌∷◌, ◌++◌, length, Option, Some, None, refl, ◌∙◌, ap, subst, arith, eq-eqb, le-leb}
 use Rattle.std.specs.List.{list_all}
 use Rattle.std.specs.Bool.{nat_le}
-use Rattle.std.specs.Option.{option_map, option_and_then, option_or}
+use Rattle.std.specs.Option.{option_map, option_or}
 use Rattle.std.proofs.lemmas.List.Folds.{list_all-append}
 use Rattle.std.proofs.lemmas.List.FromFn.{length-map-range_with_len}
 use Rattle.s38_base.specs.Scalar.{image_of, packed_byte}
-use Rattle.s38_base.specs.declared.attr.Attr.TheVariants.{Packed, Chars}
+use Rattle.s38_base.specs.declared.attr.Attr.TheVariants.{Chars}
 use Rattle.s38_code.specs.WordsLiteral.{number_literal, packed_number, text_from, text_literal, text_of}
 use Rattle.s38_code.specs.WordsNumber.{number_of}
 use Rattle.s38_code.specs.declared.class.Class.{Class}
@@ -24,7 +24,7 @@ use Rattle.s38_odt.specs.Table.{place_in}
 use Rattle.s38_create.proofs.LabelLemmas.{label_in-bound}
 use Rattle.s38_create.proofs.Parts.{if-some, and_then-some, map-some, or-some}
 use Rattle.s38_create.specs.Names.{instruction_count, label_in}
-use Rattle.s38_create.specs.Said.{arg_of, bytes_said, given, is_argument, item_said, label_said, name_said, number_said, power_of, said_of, saids_from, size_arg, star_said, word_said}
+use Rattle.s38_create.specs.Said.{arg_of, bytes_said, given, is_argument, item_said, label_said, number_said, power_of, said_of, saids_from, size_arg, star_said, word_said}
 use Rattle.s38_create.specs.WellFormed.{is_filled, lands_in}
 use Rattle.s38_create.specs.declared.said.Said.{Said}
 use Rattle.s38_create.specs.declared.said.Said.TheVariants as says

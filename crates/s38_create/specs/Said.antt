@@ -1,7 +1,6 @@
 -- What a word says at an operand's place, by the class that stands there.
 use Rattle.std.specs.Prelude.{ℕ, ℤ, pos, min, Bool, true, false, List, [], ◌∷◌, ◌++◌, codes, unsigned_abs, nat_le, is_some, Option, Some, None, if◌then◌else◌}
 use Rattle.std.specs.Option.{option_map, option_and_then, option_or}
-use Rattle.s38_base.specs.declared.attr.Attr.{Attr}
 use Rattle.s38_code.specs.WordsAttribute.{attr_of, attrs_of}
 use Rattle.s38_code.specs.WordsLiteral.{number_literal, text_literal}
 use Rattle.s38_code.specs.WordsName.{code_of, declared_name, id_of}

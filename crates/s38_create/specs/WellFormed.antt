@@ -1,5 +1,5 @@
 -- What a caller may rely on in a program that was created.
-use Rattle.std.specs.Prelude.{◌≤◌, ℕ, Bool, true, false, IsTrue, ◌==◌, List, length, nat_le}
+use Rattle.std.specs.Prelude.{◌≤◌, ℕ, Bool, true, IsTrue, ◌==◌, List, length, nat_le}
 use Rattle.std.specs.List.{All, list_all}
 use Rattle.s38_base.specs.Scalar.{length_of}
 use Rattle.s38_code.specs.Built.{is_built}

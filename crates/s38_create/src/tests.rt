@@ -33,146 +33,146 @@ fn answer_to(alloc: Global, code: &str) -> Result<String, Fail> {
     answer(alloc, text.as_str())
 }
 
+/// Lines whose words are not those of a row.
+const NOT_THE_ROWS: &str = "FOO
+ADDN
+ADDN N,N
+ADDN N,N,N,N
+ADDN N,'A',N
+ADDN  N,N,N
+ADDN (R)N,N,N
+ADDN N, N,N
+CPYBLA (R) C,C
+CPYBLA C,5
+SCALE N,N,007
+SCALE N,N,1.5
+CMPNVB N,N,WHAT,X
+CMPPTRT P,EQ,X
+B 5
+RTX N
+ENQ P,*NONE,5
+ENQ P,*LIST,'A'
+ENQ P,*NONE,'a'
+ENQ 5,*NONE,'A'
+RSLVSP P,*NONE,QUEUE/00/Q,NONE
+RSLVSP P,*LIST,QUEUE/0/Q,NONE
+RSLVSP P,*LIST,WHAT/00/Q,NONE
+RSLVSP P,*LIST,QUEUE/00/Q,UPDATE+INSERT
+SETDP P,P,PKD:3:0+BIN:2
+CRTQ P,*NONE,QUEUE/00/Q,NONE,FIFO,0,-5
+CRTQ P,*NONE,QUEUE/00/Q,NONE,FIFO,00,8
+CRTQ P,*NONE,QUEUE/00/Q,NONE,ANY,0,8
+END";
+
 #[test]
 fn words_that_are_not_the_rows(rt: HostRuntime) -> Result<(), Fail> {
-    let lines = [
-        "FOO",
-        "ADDN",
-        "ADDN N,N",
-        "ADDN N,N,N,N",
-        "ADDN N,'A',N",
-        "ADDN  N,N,N",
-        "ADDN (R)N,N,N",
-        "ADDN N, N,N",
-        "CPYBLA (R) C,C",
-        "CPYBLA C,5",
-        "SCALE N,N,007",
-        "SCALE N,N,1.5",
-        "CMPNVB N,N,WHAT,X",
-        "CMPPTRT P,EQ,X",
-        "B 5",
-        "RTX ",
-        "RTX N",
-        "ENQ P,*NONE,5",
-        "ENQ P,*LIST,'A'",
-        "ENQ P,*NONE,'a'",
-        "ENQ 5,*NONE,'A'",
-        "RSLVSP P,*NONE,QUEUE/00/Q,NONE",
-        "RSLVSP P,*LIST,QUEUE/0/Q,NONE",
-        "RSLVSP P,*LIST,WHAT/00/Q,NONE",
-        "RSLVSP P,*LIST,QUEUE/00/Q,UPDATE+INSERT",
-        "SETDP P,P,PKD:3:0+BIN:2",
-        "CRTQ P,*NONE,QUEUE/00/Q,NONE,FIFO,0,-5",
-        "CRTQ P,*NONE,QUEUE/00/Q,NONE,FIFO,00,8",
-        "CRTQ P,*NONE,QUEUE/00/Q,NONE,ANY,0,8",
-        "END",
-        "",
-    ];
-    for line in lines {
+    for line in NOT_THE_ROWS.lines() {
         let answer = answer_to(rt.alloc(), line)?;
         assert_eq!(rt; answer.as_str(), "2A04 1", "at {line}");
     }
     Ok(())
 }
+
+/// Instructions and words that this machine does not have yet.
+const NOT_BUILT: &str = "DEQ C,P,EQ,*NONE,NOWAIT
+DEQ C,P,ANY,'A',NOWAIT
+DEQ C,P,ANY,*NONE,WAIT
+CRTQ P,*NONE,QUEUE/00/Q,NONE,LIFO,0,8
+CRTQ P,*NONE,QUEUE/00/Q,NONE,KEYED,4,8
+CRTQ P,*NONE,QUEUE/00/Q,NONE,FIFO,4,8
+CMPPTRT E,NONE,L
+SUBSPP E,P,16
+CPYBLA C,B
+CALLI L
+SIGEXCP 2401
+RETEXCPD C
+MODEXCPD X,ON
+CRTCTX P,CONTEXT/00/C,NONE
+GRANT P,*PUBLIC,ALL
+CALLX P,C
+LOCK P,LENR,WAIT
+CRTDS P,*NONE,DATASPACE/00/D,NONE,PKD:9:0
+COMMIT P
+DESCTX P";
 
 #[test]
 fn what_is_not_built(rt: HostRuntime) -> Result<(), Fail> {
-    let lines = [
-        "DEQ C,P,EQ,*NONE,NOWAIT",
-        "DEQ C,P,ANY,'A',NOWAIT",
-        "DEQ C,P,ANY,*NONE,WAIT",
-        "CRTQ P,*NONE,QUEUE/00/Q,NONE,LIFO,0,8",
-        "CRTQ P,*NONE,QUEUE/00/Q,NONE,KEYED,4,8",
-        "CRTQ P,*NONE,QUEUE/00/Q,NONE,FIFO,4,8",
-        "CALLI L",
-        "SIGEXCP 2401",
-        "RETEXCPD C",
-        "MODEXCPD X,ON",
-        "CRTCTX P,CONTEXT/00/C,NONE",
-        "GRANT P,*PUBLIC,ALL",
-        "CALLX P,C",
-        "LOCK P,LENR,WAIT",
-        "CRTDS P,*NONE,DATASPACE/00/D,NONE,PKD:9:0",
-        "COMMIT P",
-        "DESCTX P",
-    ];
-    for line in lines {
+    for line in NOT_BUILT.lines() {
         let answer = answer_to(rt.alloc(), line)?;
         assert_eq!(rt; answer.as_str(), "2A04 1", "at {line}");
     }
     Ok(())
 }
 
+/// Lines whose operands are not the row's by their attributes.
+const NOT_FITTING: &str = "ADDN C,N,N
+ADDN N,P,N
+CPYBLA P,C
+CPYBLA C,P
+CMPNVB N,N,FIRST,X
+CMPBLAB C,C,ANY,X
+SCALE N,N,32
+SCALE N,N,-32
+SCALE N,N,9999999999999999999999999999999
+AND C,C,D
+NOT C,D
+CVTHC C,C
+CVTHC C,D
+CVTCH D,C
+CPYBLAP C,C,C
+CPYBLAP C,C,''
+XLATE C,C,C,D
+ADDSPP P,P,P
+SETDP P,P,PTR
+SETDP P,P,CHAR:0
+SETDP P,P,CHAR:70000
+CPYBWP P,C
+CPYBWP C,P
+CPYBWP E,F
+CPYBWP P,B
+ENQ C,*NONE,'A'
+ENQ P,*NONE,P
+ENQ P,Q,'A'
+DEQ P,P,ANY,*NONE,NOWAIT
+RSLVSP P,C,QUEUE/00/Q,NONE
+CRTQ P,*NONE,SPACE/00/Q,NONE,FIFO,0,8
+CRTS P,*NONE,QUEUE/00/Q,NONE,16
+CRTS P,*NONE,SPACE/00/Q,NONE,C
+CRTQ P,*NONE,QUEUE/00/Q,NONE,FIFO,0,0
+CRTQ P,*NONE,QUEUE/00/Q,NONE,FIFO,0,4097
+CRTQ P,*NONE,QUEUE/00/Q,NONE,FIFO,0,99999999999999999999999999";
+
 #[test]
 fn operands_that_do_not_fit(rt: HostRuntime) -> Result<(), Fail> {
-    let lines = [
-        "ADDN C,N,N",
-        "ADDN N,P,N",
-        "CPYBLA P,C",
-        "CPYBLA C,P",
-        "CMPNVB N,N,FIRST,X",
-        "CMPBLAB C,C,ANY,X",
-        "SCALE N,N,32",
-        "SCALE N,N,-32",
-        "SCALE N,N,9999999999999999999999999999999",
-        "AND C,C,D",
-        "NOT C,D",
-        "CVTHC C,C",
-        "CVTHC C,D",
-        "CVTCH D,C",
-        "CPYBLAP C,C,C",
-        "CPYBLAP C,C,''",
-        "XLATE C,C,C,D",
-        "ADDSPP P,P,P",
-        "SETDP P,P,PTR",
-        "SETDP P,P,CHAR:0",
-        "SETDP P,P,CHAR:70000",
-        "CPYBWP P,C",
-        "CPYBWP C,P",
-        "CPYBWP E,F",
-        "CPYBWP P,B",
-        "ENQ C,*NONE,'A'",
-        "ENQ P,*NONE,P",
-        "ENQ P,Q,'A'",
-        "DEQ P,P,ANY,*NONE,NOWAIT",
-        "RSLVSP P,C,QUEUE/00/Q,NONE",
-        "CRTQ P,*NONE,SPACE/00/Q,NONE,FIFO,0,8",
-        "CRTS P,*NONE,QUEUE/00/Q,NONE,16",
-        "CRTS P,*NONE,SPACE/00/Q,NONE,C",
-        "CRTQ P,*NONE,QUEUE/00/Q,NONE,FIFO,0,0",
-        "CRTQ P,*NONE,QUEUE/00/Q,NONE,FIFO,0,4097",
-        "CRTQ P,*NONE,QUEUE/00/Q,NONE,FIFO,0,99999999999999999999999999",
-    ];
-    for line in lines {
+    for line in NOT_FITTING.lines() {
         let answer = answer_to(rt.alloc(), line)?;
         assert_eq!(rt; answer.as_str(), "2A05 1", "at {line}");
     }
     Ok(())
 }
 
+/// Lines and what is answered to them: an earlier cause stands before a later one, wherever its operand stands.
+const CAUSES: &str = "ADDN X,N,N = 2A07 1
+ENQ P,*NONE,X = 2A07 1
+RSLVSP P,X,QUEUE/00/Q,NONE = 2A07 1
+MULT N,M,J = 2A06 1
+MULT N,M,K = OK
+B NOWHERE = 2A08 1
+DEQ X,P,EQ,*NONE,NOWAIT = 2A04 1
+DEQ C,P,ANY,X,NOWAIT = 2A04 1
+FOO X = 2A04 1
+ADDN X,N,'A' = 2A04 1
+ADDN C,X,N = 2A07 1
+CMPNVB C,X,EQ,NOWHERE = 2A07 1
+CMPNVB C,N,EQ,NOWHERE = 2A05 1
+CMPNVB U,V,FIRST,NOWHERE = 2A05 1
+CMPNVB U,V,EQ,NOWHERE = 2A06 1
+CMPNVB N,N,EQ,NOWHERE = 2A08 1";
+
 #[test]
 fn the_first_cause_is_answered(rt: HostRuntime) -> Result<(), Fail> {
-    let cases = [
-        ("ADDN X,N,N", "2A07 1"),
-        ("ENQ P,*NONE,X", "2A07 1"),
-        ("RSLVSP P,X,QUEUE/00/Q,NONE", "2A07 1"),
-        ("MULT N,M,J", "2A06 1"),
-        ("MULT N,M,K", "OK"),
-        ("CMPNVB U,V,EQ,L\nLABEL L", "2A06 1"),
-        ("B NOWHERE", "2A08 1"),
-        // an earlier cause stands before a later one, wherever its operand stands
-        ("DEQ X,P,EQ,*NONE,NOWAIT", "2A04 1"),
-        ("DEQ C,P,ANY,X,NOWAIT", "2A04 1"),
-        ("FOO X", "2A04 1"),
-        ("ADDN X,N,'A'", "2A04 1"),
-        ("ADDN C,X,N", "2A07 1"),
-        ("CMPNVB C,X,EQ,NOWHERE", "2A07 1"),
-        ("CMPNVB C,N,EQ,NOWHERE", "2A05 1"),
-        ("CMPNVB U,V,FIRST,NOWHERE", "2A05 1"),
-        ("CMPNVB U,V,EQ,NOWHERE", "2A06 1"),
-        ("CMPNVB N,N,EQ,NOWHERE", "2A08 1"),
-    ];
-    for (code, wanted) in cases {
+    for case in CAUSES.lines() {
+        let (code, wanted) = case.split_once(" = ").ok_or("no answer")?;
         let answer = answer_to(rt.alloc(), code)?;
         assert_eq!(rt; answer.as_str(), wanted, "at {code}");
     }
@@ -194,6 +194,8 @@ fn the_first_bad_place_is_answered(rt: HostRuntime) -> Result<(), Fail> {
         ),
         ("PROGRAM P\nDCL A PARM 1 PTR\nEND", "2A03 1"),
         ("PROGRAM P\nRTX\nDCL Q PTR\nEND", "2A04 2"),
+        ("PROGRAM P\nRTX\n\nEND", "2A04 2"),
+        ("PROGRAM P\nRTX \nEND", "2A04 1"),
         ("", "2A04 0"),
         ("END", "2A04 0"),
         ("PROGRAM P", "2A04 0"),
@@ -209,47 +211,47 @@ fn the_first_bad_place_is_answered(rt: HostRuntime) -> Result<(), Fail> {
     Ok(())
 }
 
+/// Good lines of each row, behind a label L.
+const GOOD: &str = "ADDN N,N,-1.5
+ADDN (R) N,S,007
+DIV (R) N,N,2
+SCALE N,N,-31
+CMPNVB N,5,NH,L
+CPYBLA N,'ABC'
+CPYBLAP C,C,X'40'
+CAT D,C,''
+XLATE C,C,'A','B'
+CVTHC D,C
+CVTCH C,D
+XOR C,C,'ABC'
+CMPBLAB C,N,EQ,L
+B L
+RTX
+CMPPTRT P,NONE,L
+ADDSPP P,Q,N
+SUBSPP Q,P,16
+RSLVSP P,*MACHINE,CONTEXT/00/QGPL,ALL
+RSLVSP P,Q,CBLOCK/FF/9X,OBJCTL+UPDATE
+RSLVSP P,*LIST,QUEUE/00/QLOCKED,NONE
+SETSPPFP P,Q
+SETSPFP P,E
+SETDP P,Q,CHAR:20
+CPYBWP P,E
+CPYBWP G,P
+CPYBWP B,B
+CRTQ P,Q,QUEUE/00/Q,ALL,FIFO,0,4096
+CRTS P,*NONE,SPACE/00/S,NONE,N
+CRTS P,*NONE,SPACE/00/S,NONE,32
+MODS P,48
+DESQ P
+DESS P
+ENQ P,'A',X'C1C2'
+ENQ P,*NONE,F
+DEQ N,P,ANY,*NONE,NOWAIT";
+
 #[test]
 fn good_instructions_are_accepted(rt: HostRuntime) -> Result<(), Fail> {
-    let lines = [
-        "ADDN N,N,-1.5",
-        "ADDN (R) N,S,007",
-        "DIV (R) N,N,2",
-        "SCALE N,N,-31",
-        "CMPNVB N,5,NH,L",
-        "CPYBLA N,'ABC'",
-        "CPYBLAP C,C,X'40'",
-        "CAT D,C,''",
-        "XLATE C,C,'A','B'",
-        "CVTHC D,C",
-        "CVTCH C,D",
-        "XOR C,C,'ABC'",
-        "CMPBLAB C,N,EQ,L",
-        "B L",
-        "RTX",
-        "CMPPTRT E,NONE,L",
-        "ADDSPP P,Q,N",
-        "SUBSPP E,P,16",
-        "RSLVSP P,*MACHINE,CONTEXT/00/QGPL,ALL",
-        "RSLVSP P,Q,CBLOCK/FF/9X,OBJCTL+UPDATE",
-        "RSLVSP P,*LIST,QUEUE/00/QLOCKED,NONE",
-        "SETSPPFP P,Q",
-        "SETSPFP P,E",
-        "SETDP P,Q,CHAR:20",
-        "CPYBWP P,E",
-        "CPYBWP G,P",
-        "CPYBWP B,B",
-        "CRTQ P,Q,QUEUE/00/Q,ALL,FIFO,0,4096",
-        "CRTS P,*NONE,SPACE/00/S,NONE,N",
-        "CRTS P,*NONE,SPACE/00/S,NONE,32",
-        "MODS P,48",
-        "DESQ P",
-        "DESS P",
-        "ENQ P,'A',X'C1C2'",
-        "ENQ P,*NONE,F",
-        "DEQ N,P,ANY,*NONE,NOWAIT",
-    ];
-    for line in lines {
+    for line in GOOD.lines() {
         let code = format!(in rt.alloc(); "LABEL L\n{line}")?;
         let answer = answer_to(rt.alloc(), code.as_str())?;
         assert_eq!(rt; answer.as_str(), "OK", "at {line}");

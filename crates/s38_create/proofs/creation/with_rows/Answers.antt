@@ -1,4 +1,3 @@
-use Rattle.std.proofs.Common.{rules}
 use Rattle.s38_create.proofs.FitLemmas.{program-well_formed}
 use Rattle.s38_create.proofs.creation.with_rows.Goals as goal
 

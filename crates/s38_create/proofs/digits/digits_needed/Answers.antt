@@ -1,9 +1,7 @@
-use Rattle.std.proofs.Common.{◌≡◌, ◌||◌, Bool, true, false, sym, ◌∙◌, ap, arith, rules}
+use Rattle.std.proofs.Common.{◌≡◌, ◌||◌, true, ◌∙◌, ap, arith}
 use Rattle.std.proofs.lemmas.Grind.{common_steps}
 use Rattle.s38_base.specs.Scalar.{is_numeric}
-use Rattle.s38_base.specs.declared.op.Op.TheVariants.{Cmpnvb}
 use Rattle.s38_create.proofs.NumberLemmas.{first-numbers, second-source}
-use Rattle.s38_create.specs.Ties.{fits}
 use Rattle.s38_decimal.specs.Need.{has_one, has_second}
 use Rattle.s38_create.proofs.digits.digits_needed.Goals as goal
 use Rattle.s38_create.proofs.digits.digits_needed.Goals.{in-Cmpnvb, in_default}

@@ -1,7 +1,4 @@
-use Rattle.std.proofs.Common.{◌≡◌, ℕ, List, ◌∙◌, ap, arith}
-use Rattle.std.specs.Ordering.{nat_cmp}
-use Rattle.std.specs.Cmp.Lexicographic.{slice_cmp}
-use Rattle.std.specs.BTreeMap.{get}
+use Rattle.std.proofs.Common.{ap, arith}
 use Rattle.std.specs.Option.{option_or}
 use Rattle.s38_create.proofs.LabelLemmas.{get-empty}
 use Rattle.s38_create.specs.Names.{label_from, label_in}
