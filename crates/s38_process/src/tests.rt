@@ -212,7 +212,7 @@ fn numbers(alloc: Global, code: Vec<Instruction>) -> Result<Code, Fail> {
         },
     ]?;
     let made = Program {
-        template: Template::new(Seq::new(alloc)),
+        template: Template::new(alloc, Seq::new(alloc))?,
         rows: Seq::from_vec(rows),
         code: Seq::from_vec(code),
         adopts: false,
