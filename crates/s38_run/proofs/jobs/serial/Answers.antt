@@ -1,7 +1,13 @@
-use Rattle.std.proofs.Common.{◌+◌, length, refl, arith}
+use Rattle.std.proofs.Common.{◌+◌, length, refl, sym, subst, arith}
 use Rattle.std.proofs.lemmas.Option.{slice_get_read}
-use Rattle.s38_run.proofs.JobLaws.{between_falls, between_more, between_none, places}
+use Rattle.s38_rules.specs.Legal.{Run}
+use Rattle.s38_run.specs.Running.{IsBetween}
+use Rattle.s38_run.proofs.JobLaws.{between_begun, between_falls, between_more, between_none, places}
 use Rattle.s38_run.proofs.jobs.serial.Goals as goal
+
+pub loop-at-init : goal.loop-at-init
+loop-at-init c =
+    subst (λ (m : Run). IsBetween c.args.programs.now c.args.jobs.now m) (sym c.requires.begun) (between_begun c.args.programs.now c.args.jobs.now)
 
 pub loop-at-smaller : goal.loop-at-smaller
 loop-at-smaller c =
