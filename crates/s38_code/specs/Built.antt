@@ -1,7 +1,7 @@
 -- Which instructions this machine has.
 use Rattle.std.specs.Prelude.{Bool, true, false, ◌||◌}
 use Rattle.s38_base.specs.declared.op.Op.{Op}
-use Rattle.s38_base.specs.declared.op.Op.TheVariants.{Addn, Subn, Mult, Div, Rem, Neg, Cpynv, Scale, Cmpnvb, Cpybla, Cpybra, Cpyblap, Cat, Xlate, Cvthc, Cvtch, And, Or, Xor, Not, Cmpblab, B, Rtx, Cmpptrt, Addspp, Subspp, Rslvsp, Setsppfp, Setspfp, Setdp, Cpybwp, Crts, Mods, Crtq, Enq, Deq, Dess, Desq}
+use Rattle.s38_base.specs.declared.op.Op.TheVariants.{Addn, Subn, Mult, Div, Rem, Neg, Cpynv, Scale, Cmpnvb, Cpybla, Cpybra, Cpyblap, Cat, Xlate, Cvthc, Cvtch, And, Or, Xor, Not, Cmpblab, B, Rtx, Cmpptrt, Addspp, Subspp, Rslvsp, Setsppfp, Setspfp, Setdp, Cpybwp, Crtpg, Crts, Mods, Crtq, Enq, Deq, Despg, Dess, Desq}
 
 -- of those that touch variables alone
 unfoldable pub is_local_built : Op → Bool
@@ -40,11 +40,13 @@ is_shared_built Setsppfp = true
 is_shared_built Setspfp = true
 is_shared_built Setdp = true
 is_shared_built Cpybwp = true
+is_shared_built Crtpg = true
 is_shared_built Crts = true
 is_shared_built Mods = true
 is_shared_built Crtq = true
 is_shared_built Enq = true
 is_shared_built Deq = true
+is_shared_built Despg = true
 is_shared_built Dess = true
 is_shared_built Desq = true
 is_shared_built _ = false

@@ -51,9 +51,11 @@ pub fn is_shared_built(op: Op) -> bool
             | Op::Setspfp
             | Op::Setdp
             | Op::Cpybwp
+            | Op::Crtpg
             | Op::Crtq
             | Op::Crts
             | Op::Mods
+            | Op::Despg
             | Op::Desq
             | Op::Dess
             | Op::Enq

@@ -8,6 +8,7 @@ mod code;
 mod deck;
 mod entry;
 mod event;
+mod made;
 mod mnemonics;
 mod operand;
 mod program;
@@ -22,6 +23,7 @@ pub use code::Code;
 pub use deck::{Deck, Job, Jobs, Names, Template, Templates};
 pub use entry::Entry;
 pub use event::{EndCause, Event, Request};
+pub use made::{Checked, CheckedTemplate, Made};
 pub use mnemonics::mnemonic;
 pub use operand::{Operand, Operands};
 pub use program::{Arg, Args, CreateFault, Form, Instruction, Instructions, Program, Row, Rows};
@@ -41,6 +43,7 @@ pub fn all_may_be_sent() {
     sends::<Code>();
     sends::<Program>();
     sends::<Deck>();
+    sends::<CheckedTemplate>();
     sends::<StepFault>();
 }
 

@@ -4,7 +4,6 @@ use Rattle.std.proofs.lemmas.Bool.Decides.{nat_tests}
 use Rattle.std.specs.Prelude.{Option, Some, None, slice_get}
 use Rattle.s38_code.specs.declared.event.EndCause.{EndCause}
 use Rattle.s38_code.specs.declared.program.Instruction.{Instruction}
-use Rattle.s38_code.specs.declared.program.Program.{Program}
 use Rattle.s38_code.specs.declared.program.Row.{Row}
 use Rattle.s38_code.specs.declared.reply.Reply.{Reply}
 use Rattle.s38_code.specs.declared.reply.Val.{Val}
@@ -13,7 +12,7 @@ use Rattle.s38_rules.specs.declared.local.LocalEnd.TheVariants.{Next, Jump, Retu
 use Rattle.s38_rules.specs.declared.process.Status.{Status}
 use Rattle.s38_rules.specs.declared.process.Status.TheVariants.{Fresh, Running, Ending, Ended}
 use Rattle.s38_rules.specs.Local.{run}
-use Rattle.s38_rules.specs.Process.{Doing, absorbed, after_asked, after_local, alone, alone_by, alone_in, asks_now, event_of, settled, step_alone, stepped, steps_alone}
+use Rattle.s38_rules.specs.Process.{Doing, absorbed, after_asked, after_local, alone, alone_by, alone_in, asks_now, code_in, event_of, rows_in, settled, step_alone, stepped, steps_alone}
 
 -- it stays where it stands, or is running and comes to its end
 abbrev pub Moves : Status → Status → Type 0
@@ -21,7 +20,7 @@ Moves s t = (t ≡ s) ⊎ ((s ≡ Running) × ((c : EndCause) × (t ≡ Ending c
 
 -- the same process, after local instructions
 pub record IsLater (d e : Doing) : Type 0 where
-  pub program : e.program ≡ d.program
+  pub made : e.made ≡ d.made
   pub budget : e.budget ≡ d.budget
   pub done : d.done ≤ e.done
   pub within : d.done ≤ d.budget → e.done ≤ e.budget
@@ -29,7 +28,7 @@ pub record IsLater (d e : Doing) : Type 0 where
 
 -- after one of them
 pub record IsNext (d e : Doing) : Type 0 where
-  pub program : e.program ≡ d.program
+  pub made : e.made ≡ d.made
   pub budget : e.budget ≡ d.budget
   pub done : e.done ≡ d.done + 1
   pub room : d.done < d.budget
@@ -43,7 +42,7 @@ acts_room false d o i test h = grind (arith, nat_tests)
 
 alone_running : (d : Doing) (s : Status) (i : Instruction) → alone_by d s ≡ Some i → (s ≡ Running) × (d.done < d.budget)
 alone_running d Fresh i h = cc
-alone_running d Running i h = (refl, acts_room (nat_le d.budget d.done) d (alone_in d.program.rows (slice_get d.program.code d.at)) i refl h)
+alone_running d Running i h = (refl, acts_room (nat_le d.budget d.done) d (alone_in (rows_in d.made) (slice_get (code_in d.made) d.at)) i refl h)
 alone_running d (Ending c) i h = cc
 alone_running d Ended i h = cc
 
@@ -56,17 +55,17 @@ spent_by d Ended spent = refl
 -- ---- one step
 
 after_is_next : (d : Doing) (values : List Val) (e : LocalEnd) → d.status ≡ Running → d.done < d.budget → IsNext d (after_local d values e)
-after_is_next d values Next running room = record { program = refl; budget = refl; done = refl; room = room; status = inl refl }
-after_is_next d values (Jump at) running room = record { program = refl; budget = refl; done = refl; room = room; status = inl refl }
-after_is_next d values Return running room = record { program = refl; budget = refl; done = refl; room = room; status = inl refl }
-after_is_next d values (Signal x) running room = record { program = refl; budget = refl; done = refl; room = room; status = inr (running, (_, refl)) }
+after_is_next d values Next running room = record { made = refl; budget = refl; done = refl; room = room; status = inl refl }
+after_is_next d values (Jump at) running room = record { made = refl; budget = refl; done = refl; room = room; status = inl refl }
+after_is_next d values Return running room = record { made = refl; budget = refl; done = refl; room = room; status = inl refl }
+after_is_next d values (Signal x) running room = record { made = refl; budget = refl; done = refl; room = room; status = inr (running, (_, refl)) }
 
 -- a local instruction counts
 pub step_next : (d : Doing) (i : Instruction) → alone d ≡ Some i → IsNext d (step_alone d)
 unfolding step_alone
 step_next d i h =
     let at = alone_running d d.status i h in
-    let ran = run d.program.rows d.values i in
+    let ran = run (rows_in d.made) d.values i in
     rw h (after_is_next d ran.values ran.end at.0 at.1)
 
 -- without one the process stays
@@ -132,7 +131,7 @@ absorbed_settled d r = ap (λ e. after_asked e (event_of (settled d)) r) (settle
 -- ---- what stays meanwhile
 
 pub later_same : (d : Doing) → IsLater d d
-later_same d = record { program = refl; budget = refl; done = omega arith; within = λ h. h; status = inl refl }
+later_same d = record { made = refl; budget = refl; done = omega arith; within = λ h. h; status = inl refl }
 
 moves_on : (s t u : Status) → Moves s t → Moves t u → Moves s u
 moves_on s t u a b = elim b as (λ _. Moves s u) [
@@ -151,7 +150,7 @@ moves_on s t u a b = elim b as (λ _. Moves s u) [
 
 later_on : (d e f : Doing) → IsNext d e → IsLater e f → IsLater d f
 later_on d e f a b = record {
-  program = b.program ∙ a.program;
+  made = b.made ∙ a.made;
   budget = b.budget ∙ a.budget;
   done = omega (arith, a.done, b.done);
   within = λ h. b.within (omega (arith, a.done, a.room, a.budget));

@@ -3,7 +3,7 @@ use Rattle.std.proofs.Common.{◌≡◌, ℕ, ◌+◌, Bool, true, false, List, 
 use Rattle.std.proofs.lemmas.List.{append-nil}
 use Rattle.std.specs.Prelude.{Option, Some, None}
 use Rattle.s38_base.specs.declared.op.Op.{Op}
-use Rattle.s38_base.specs.declared.op.Op.TheVariants.{Cpybwp, Crtq, Crts, Mods, Desq, Dess, Enq, Deq}
+use Rattle.s38_base.specs.declared.op.Op.TheVariants.{Cpybwp, Crtpg, Crtq, Crts, Mods, Despg, Desq, Dess, Enq, Deq}
 use Rattle.s38_base.specs.declared.id.Id.{Id}
 use Rattle.s38_base.specs.declared.id.Kind.{Kind}
 use Rattle.s38_memory.specs.declared.cell.Cell.{Cell}
@@ -16,11 +16,13 @@ use Rattle.s38_code.specs.declared.reply.Reply.TheVariants.{MustWait}
 use Rattle.s38_code.specs.declared.reply.Val.{Val}
 use Rattle.s38_code.specs.declared.reply.Val.TheVariants as vals
 use Rattle.s38_code.specs.History.{IsAnswered, entry_after}
+use Rattle.s38_code.specs.declared.program.Program.{Program}
 use Rattle.s38_rules.specs.declared.process.Standing.{Standing}
 use Rattle.s38_rules.specs.State.{State, standing, waits}
 use Rattle.s38_rules.specs.declared.object.Body.{Body}
+use Rattle.s38_rules.specs.Computed.{receiver_at}
 use Rattle.s38_rules.specs.Operands.{deliver, delivered, put_value, place}
-use Rattle.s38_rules.specs.Effect.{effect, effect_of, value_of, change_of, cells_put, created, start_at, end_at, cpybwp_change, crtq_change, crts_change, mods_change, destruction_change, enq_change, deq_change}
+use Rattle.s38_rules.specs.Effect.{effect, effect_of, value_of, change_of, cells_put, created, created_program, start_at, end_at, cpybwp_change, crtpg_change, crtq_change, crts_change, mods_change, destruction_change, enq_change, deq_change}
 use Rattle.s38_rules.specs.declared.verdict.Verdict.{Verdict}
 use Rattle.s38_rules.specs.declared.verdict.Verdict.TheVariants.{Permit, Wait, Refuse}
 use Rattle.s38_rules.specs.Verdict.{verdict_of}
@@ -95,28 +97,34 @@ created_keeps : (s : State) (p : ℕ) (ops : List Operand) (kind : Kind) (body :
 created_keeps s p ops kind body None = refl
 created_keeps s p ops kind body (Some id) = refl
 
+created_program_keeps : (s : State) (p : ℕ) (ops : List Operand) (program : Option Program) → (created_program s p ops program).processes ≡ s.processes
+created_program_keeps s p ops None = refl
+created_program_keeps s p ops (Some program) = created_keeps s p ops _ _ _
+
 change_keeps : (s : State) (p : ℕ) (op : Op) (ops : List Operand) → (change_of s p op ops).processes ≡ s.processes
-unfolding change_of cpybwp_change crtq_change crts_change mods_change destruction_change enq_change deq_change
+unfolding change_of cpybwp_change crtpg_change crtq_change crts_change mods_change destruction_change enq_change deq_change
 change_keeps s p Cpybwp ops = cells_keep s (place ops 1) _
+change_keeps s p Crtpg ops = created_program_keeps s p ops _
 change_keeps s p Crtq ops = created_keeps s p ops _ _ _
 change_keeps s p Crts ops = created_keeps s p ops _ _ _
 change_keeps s p Mods ops = refl
+change_keeps s p Despg ops = refl
 change_keeps s p Desq ops = refl
 change_keeps s p Dess ops = refl
 change_keeps s p Enq ops = refl
 change_keeps s p Deq ops = refl
 change_keeps s p _ ops = refl
 
-pub act_keeps : (s : State) (p depth : ℕ) (op : Op) (ops : List Operand) → (effect s p depth op ops).state.processes ≡ s.processes
+pub act_keeps : (s : State) (p depth : ℕ) (op : Op) (round : Bool) (ops : List Operand) → (effect s p depth op round ops).state.processes ≡ s.processes
 unfolding effect
-act_keeps s p depth op ops =
-    delivered_keeps (change_of s p op ops) (place ops 1) (value_of s p depth op ops) ∙ change_keeps s p op ops
+act_keeps s p depth op round ops =
+    delivered_keeps (change_of s p op ops) (receiver_at op ops) (value_of s p depth op round ops) ∙ change_keeps s p op ops
 
 -- an effect neither makes a process nor takes one away
 pub effect_keeps : (s : State) (p : ℕ) (e : Event) → length (effect_of s p e).state.processes ≡ length s.processes
 unfolding effect_of
 effect_keeps s p Start = start_keeps s p (standing s p)
-effect_keeps s p (Act depth request) = ap length (act_keeps s p depth request.op request.operands)
+effect_keeps s p (Act depth request) = ap length (act_keeps s p depth request.op request.round request.operands)
 effect_keeps s p (Finish cause) = end_keeps s p (standing s p)
 
 verdict_keeps : (s : State) (p : ℕ) (e : Event) (v : Verdict) → length (by_verdict s p e v).state.processes ≡ length s.processes

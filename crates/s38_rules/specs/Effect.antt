@@ -1,5 +1,5 @@
 -- What a permitted event does: the new state, and the values that come back.
-use Rattle.std.specs.Prelude.{ℕ, ◌-◌, ◌*◌, ◌/◌, true, List, [], ◌∷◌, ◌++◌, length, map, max, min, take, replicate, Option, Some, None, if◌then◌else◌}
+use Rattle.std.specs.Prelude.{ℕ, Bool, ◌-◌, ◌*◌, ◌/◌, true, List, [], ◌∷◌, ◌++◌, length, map, max, min, take, replicate, Option, Some, None, if◌then◌else◌}
 use Rattle.std.specs.Option.{option_map}
 use Rattle.s38_base.specs.declared.attr.Attr.{Attr}
 use Rattle.s38_base.specs.declared.id.Id.{Id}
@@ -9,7 +9,7 @@ use Rattle.s38_base.specs.declared.id.ObjNum.{ObjNum}
 use Rattle.s38_base.specs.declared.pointer.Pointer.{Pointer}
 use Rattle.s38_base.specs.declared.pointer.Pointer.TheVariants as pointers
 use Rattle.s38_base.specs.declared.op.Op.{Op}
-use Rattle.s38_base.specs.declared.op.Op.TheVariants.{Rslvsp, Setsppfp, Setspfp, Setdp, Cpybwp, Crtq, Crts, Mods, Desq, Dess, Enq, Deq}
+use Rattle.s38_base.specs.declared.op.Op.TheVariants.{Rslvsp, Setsppfp, Setspfp, Setdp, Cpybwp, Crtpg, Crtq, Crts, Mods, Despg, Desq, Dess, Enq, Deq}
 use Rattle.s38_memory.specs.declared.cell.Cell.{Cell}
 use Rattle.s38_memory.specs.Tagged.{resized}
 use Rattle.s38_queues.specs.MessageQueue.{MessageQueue, message, with_message, without_message}
@@ -20,6 +20,7 @@ use Rattle.s38_code.specs.declared.event.Event.{Event}
 use Rattle.s38_code.specs.declared.event.Event.TheVariants.{Start, Act, Finish}
 use Rattle.s38_code.specs.declared.operand.Operand.{Operand}
 use Rattle.s38_code.specs.declared.operand.Operand.TheVariants as operands
+use Rattle.s38_code.specs.declared.program.Program.{Program}
 use Rattle.s38_code.specs.declared.reply.Val.{Val}
 use Rattle.s38_code.specs.declared.reply.Val.TheVariants as vals
 use Rattle.s38_rules.specs.declared.need.Located.{Located}
@@ -34,6 +35,8 @@ use Rattle.s38_rules.specs.Spaces.{first_pointer, object_of, offset_of, start_of
 use Rattle.s38_rules.specs.Users.{user_of}
 use Rattle.s38_rules.specs.Operands.{Done, delivered, is_in_space, place, pointer_at, bytes_at, rights_at, room_at, id_at, attr_at, count_at, source_cells, target, whole_at}
 use Rattle.s38_rules.specs.Needs.{resolved}
+use Rattle.s38_rules.specs.Computed.{computed, receiver_at, value_in}
+use Rattle.s38_rules.specs.Programs.{program_in, template_at}
 use Rattle.s38_rules.specs.Verdict.{profile_id, context_id, of_kind}
 
 -- bytes cut to a length, or filled to it on the right
@@ -85,16 +88,17 @@ oldest (m ∷ ms) = m.text
 unfoldable pub deq_value : State → List Operand → Val
 deq_value s ops = vals.Bytes (fitted (room_at ops 1) 64 (oldest (queue_at s (target s ops 2)).messages))
 
-unfoldable pub value_of : State → ℕ → ℕ → Op → List Operand → Option Val
-value_of s process depth Rslvsp ops = Some (rslvsp_value s process depth ops)
-value_of s process depth Setsppfp ops = Some (setsppfp_value s ops)
-value_of s process depth Setspfp ops = Some (setspfp_value s ops)
-value_of s process depth Setdp ops = Some (setdp_value s ops)
-value_of s process depth Cpybwp ops = cpybwp_value s ops
-value_of s process depth Crtq ops = Some (creation_value s ops)
-value_of s process depth Crts ops = Some (creation_value s ops)
-value_of s process depth Deq ops = Some (deq_value s ops)
-value_of s process depth _ ops = None
+unfoldable pub value_of : State → ℕ → ℕ → Op → Bool → List Operand → Option Val
+value_of s process depth Rslvsp round ops = Some (rslvsp_value s process depth ops)
+value_of s process depth Setsppfp round ops = Some (setsppfp_value s ops)
+value_of s process depth Setspfp round ops = Some (setspfp_value s ops)
+value_of s process depth Setdp round ops = Some (setdp_value s ops)
+value_of s process depth Cpybwp round ops = cpybwp_value s ops
+value_of s process depth Crtpg round ops = Some (creation_value s ops)
+value_of s process depth Crtq round ops = Some (creation_value s ops)
+value_of s process depth Crts round ops = Some (creation_value s ops)
+value_of s process depth Deq round ops = Some (deq_value s ops)
+value_of s process depth op round ops = value_in (computed s op round ops)
 
 -- ---- what an instruction changes
 
@@ -134,6 +138,14 @@ longest_at ops = max 1 (min 4096 (whole_at ops 7))
 abbrev pub new_queue : ℕ → MessageQueue
 new_queue longest = record { order = Fifo; key_len = 0; longest = longest; messages = [] }
 
+abbrev pub created_program : State → ℕ → List Operand → Option Program → State
+created_program s process ops None = s
+created_program s process ops (Some program) = created s process ops kinds.Program (bodies.Program program) (id_at ops 3)
+
+-- the program of the template that is named
+unfoldable pub crtpg_change : State → ℕ → List Operand → State
+crtpg_change s process ops = created_program s process ops (program_in (template_at s ops))
+
 unfoldable pub crtq_change : State → ℕ → List Operand → State
 crtq_change s process ops = created s process ops kinds.Queue (bodies.Queue (new_queue (longest_at ops))) (id_at ops 3)
 
@@ -159,18 +171,21 @@ deq_change s ops = on_queue s (target s ops 2) (λ q. without_message q 0)
 
 unfoldable pub change_of : State → ℕ → Op → List Operand → State
 change_of s process Cpybwp ops = cpybwp_change s ops
+change_of s process Crtpg ops = crtpg_change s process ops
 change_of s process Crtq ops = crtq_change s process ops
 change_of s process Crts ops = crts_change s process ops
 change_of s process Mods ops = mods_change s ops
+change_of s process Despg ops = destruction_change s ops
 change_of s process Desq ops = destruction_change s ops
 change_of s process Dess ops = destruction_change s ops
 change_of s process Enq ops = enq_change s ops
 change_of s process Deq ops = deq_change s ops
 change_of s process _ ops = s
 
--- the value is that of the state before the change, and goes to the first operand after it
-unfoldable pub effect : State → ℕ → ℕ → Op → List Operand → Done
-effect s process depth op ops = delivered (change_of s process op ops) (place ops 1) (value_of s process depth op ops)
+-- the value is that of the state before the change, and goes to its receiver after it
+unfoldable pub effect : State → ℕ → ℕ → Op → Bool → List Operand → Done
+effect s process depth op round ops =
+    delivered (change_of s process op ops) (receiver_at op ops) (value_of s process depth op round ops)
 
 -- ---- start and end
 
@@ -197,5 +212,5 @@ end_at s process (Some x) = stand s process (record x { ended = true })
 
 unfoldable pub effect_of : State → ℕ → Event → Done
 effect_of s process Start = record { state = start_at s process (standing s process); values = [] }
-effect_of s process (Act depth request) = effect s process depth request.op request.operands
+effect_of s process (Act depth request) = effect s process depth request.op request.round request.operands
 effect_of s process (Finish cause) = record { state = end_at s process (standing s process); values = [] }

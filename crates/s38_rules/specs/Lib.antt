@@ -1,5 +1,6 @@
 pub mod Authority
 pub mod Compute
+pub mod Computed
 pub mod Effect
 pub mod Legal
 pub mod Local
@@ -7,6 +8,7 @@ pub mod Needs
 pub mod Opening
 pub mod Operands
 pub mod Process
+pub mod Programs
 pub mod Spaces
 pub mod State
 pub mod Step

@@ -8,7 +8,7 @@ use Rattle.s38_base.specs.declared.words.Category.{Category}
 use Rattle.s38_base.specs.declared.words.Category.TheVariants.{Read, Change, Control}
 use Rattle.s38_base.specs.Ids.{same_kind}
 use Rattle.s38_base.specs.declared.op.Op.{Op}
-use Rattle.s38_base.specs.declared.op.Op.TheVariants.{Rslvsp, Setsppfp, Setspfp, Setdp, Crtq, Crts, Mods, Desq, Dess, Enq, Deq}
+use Rattle.s38_base.specs.declared.op.Op.TheVariants.{Addspp, Subspp, Rslvsp, Setsppfp, Setspfp, Setdp, Crtpg, Crtq, Crts, Mods, Despg, Desq, Dess, Enq, Deq}
 use Rattle.s38_code.specs.declared.operand.Operand.{Operand}
 use Rattle.s38_rules.specs.declared.need.Need.{Need}
 use Rattle.s38_rules.specs.declared.need.Located.{Located}
@@ -17,7 +17,7 @@ use Rattle.s38_rules.specs.declared.need.Named.TheVariants.{Written, Implied}
 use Rattle.s38_rules.specs.declared.need.PointerKind.{PointerKind}
 use Rattle.s38_rules.specs.declared.need.PointerKind.TheVariants as pointer_kinds
 use Rattle.s38_rules.specs.declared.need.Sought.{Sought}
-use Rattle.s38_rules.specs.declared.need.Sought.TheVariants.{Any, Of, Container}
+use Rattle.s38_rules.specs.declared.need.Sought.TheVariants.{Any, Of, Container, Ignored}
 use Rattle.s38_rules.specs.declared.object.Object.{Object}
 use Rattle.s38_rules.specs.State.{State, object, found, kind_of}
 use Rattle.s38_rules.specs.Users.{acting, contexts_of}
@@ -118,14 +118,22 @@ mods_needs = on_object 1 (Of kinds.Space) 64 (Some Change)
 unfoldable pub destruction_needs : Sought → List Need
 destruction_needs sought = on_object 1 sought 128 (Some Control)
 
+-- a space pointer, whose object is not looked at
+unfoldable pub offset_needs : List Need
+offset_needs = need 2 Written pointer_kinds.Space Ignored 0 None
+
 unfoldable pub needs : State → ℕ → ℕ → Op → List Operand → List Need
+needs s process depth Addspp ops = offset_needs
+needs s process depth Subspp ops = offset_needs
 needs s process depth Rslvsp ops = rslvsp_needs s process depth ops
 needs s process depth Setsppfp ops = setsppfp_needs
 needs s process depth Setspfp ops = setspfp_needs
 needs s process depth Setdp ops = setdp_needs
+needs s process depth Crtpg ops = creation_needs ops
 needs s process depth Crtq ops = creation_needs ops
 needs s process depth Crts ops = creation_needs ops
 needs s process depth Mods ops = mods_needs
+needs s process depth Despg ops = destruction_needs (Of kinds.Program)
 needs s process depth Desq ops = destruction_needs (Of kinds.Queue)
 needs s process depth Dess ops = destruction_needs (Of kinds.Space)
 needs s process depth Enq ops = enq_needs

@@ -7,6 +7,7 @@ use Rattle.s38_base.specs.declared.id.Kind.{Kind}
 use Rattle.s38_base.specs.declared.id.Kind.TheVariants as kinds
 use Rattle.s38_queues.specs.declared.message.Order.TheVariants.{Fifo}
 use Rattle.s38_code.specs.declared.deck.Job.{Job}
+use Rattle.s38_code.specs.declared.made.CheckedTemplate.{CheckedTemplate}
 use Rattle.s38_rules.specs.declared.object.Object.{Object}
 use Rattle.s38_rules.specs.declared.object.Body.{Body}
 use Rattle.s38_rules.specs.declared.object.Body.TheVariants as bodies
@@ -51,9 +52,10 @@ opening = machine_context ∷ officer ∷ general_context ∷ plain_user ∷ loc
 abbrev pub standings : List Job → List Standing
 standings jobs = map (λ job. record { job = job; started = None; ended = false }) jobs
 
-abbrev pub state_of : List Object → ℕ → ℕ → List Job → State
-state_of objects next ceiling jobs = record { objects = objects; next = next; ceiling = ceiling; processes = standings jobs; waiting = [] }
+abbrev pub state_of : List Object → ℕ → ℕ → List CheckedTemplate → List Job → State
+state_of objects next ceiling templates jobs =
+    record { objects = objects; next = next; ceiling = ceiling; templates = templates; processes = standings jobs; waiting = [] }
 
--- the state in which a deck's jobs find the machine
-abbrev pub opened : List Job → State
-opened jobs = state_of opening 6 5 jobs
+-- the state in which a deck's jobs find the machine, with the deck's templates
+abbrev pub opened : List CheckedTemplate → List Job → State
+opened templates jobs = state_of opening 6 5 templates jobs

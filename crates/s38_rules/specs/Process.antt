@@ -16,6 +16,8 @@ use Rattle.s38_code.specs.declared.event.Event.TheVariants.{Start, Act, Finish}
 use Rattle.s38_code.specs.declared.event.EndCause.{EndCause}
 use Rattle.s38_code.specs.declared.event.EndCause.TheVariants as causes
 use Rattle.s38_code.specs.declared.event.Request.{Request}
+use Rattle.s38_code.specs.declared.made.Made.{Made}
+use Rattle.s38_code.specs.declared.made.Made.TheVariants.{Accepted, Refused}
 use Rattle.s38_code.specs.declared.operand.Operand.{Operand}
 use Rattle.s38_code.specs.declared.operand.Operand.TheVariants as operands
 use Rattle.s38_code.specs.declared.program.Arg.{Arg}
@@ -23,7 +25,6 @@ use Rattle.s38_code.specs.declared.program.Arg.TheVariants as args
 use Rattle.s38_code.specs.declared.program.Form.{Form}
 use Rattle.s38_code.specs.declared.program.Form.TheVariants as forms
 use Rattle.s38_code.specs.declared.program.Instruction.{Instruction}
-use Rattle.s38_code.specs.declared.program.Program.{Program}
 use Rattle.s38_code.specs.declared.program.Row.{Row}
 use Rattle.s38_code.specs.declared.reply.Reply.{Reply}
 use Rattle.s38_code.specs.declared.reply.Reply.TheVariants as replies
@@ -38,7 +39,8 @@ use Rattle.s38_rules.specs.Variables.{form_in, is_based, value_bytes, value_poin
 use Rattle.s38_strings.specs.Copies.{copied_left, copied_right}
 
 pub record Doing : Type 0 where
-  pub program : Program
+  -- what creation made of the job's template
+  pub made : Made
   -- the value of each declared variable
   pub values : List Val
   -- the place of the next instruction
@@ -47,6 +49,16 @@ pub record Doing : Type 0 where
   pub done : ℕ
   pub budget : ℕ
   pub status : Status
+
+-- ---- the program; a template that was refused has none
+
+abbrev pub rows_in : Made → List Row
+rows_in (Accepted program) = program.rows
+rows_in (Refused id number) = []
+
+abbrev pub code_in : Made → List Instruction
+code_in (Accepted program) = program.code
+code_in (Refused id number) = []
 
 -- ---- variables
 
@@ -122,10 +134,10 @@ returns d = Finish (if nat_le d.budget (d.done + 1) then causes.Budget else caus
 -- running past the last instruction is a return
 abbrev pub acts : Doing → Option Instruction → Event
 acts d None = returns d
-acts d (Some i) = if is_return i.op then returns d else Act 1 (request_of d.program.rows d.values i)
+acts d (Some i) = if is_return i.op then returns d else Act 1 (request_of (rows_in d.made) d.values i)
 
 abbrev pub runs : Doing → Event
-runs d = if nat_le d.budget d.done then Finish causes.Budget else acts d (slice_get d.program.code d.at)
+runs d = if nat_le d.budget d.done then Finish causes.Budget else acts d (slice_get (code_in d.made) d.at)
 
 abbrev pub asks : Doing → Status → Option Event
 asks d Fresh = Some Start
@@ -148,7 +160,7 @@ alone_in rows None = None
 alone_in rows (Some i) = if is_local rows i && not (is_return i.op) then Some i else None
 
 abbrev pub alone_by : Doing → Status → Option Instruction
-alone_by d Running = if nat_le d.budget d.done then None else alone_in d.program.rows (slice_get d.program.code d.at)
+alone_by d Running = if nat_le d.budget d.done then None else alone_in (rows_in d.made) (slice_get (code_in d.made) d.at)
 alone_by d _ = None
 
 -- the next instruction of a running process that has budget left, where the instruction is local
@@ -167,7 +179,7 @@ after_run d ran = after_local d ran.values ran.end
 
 abbrev pub stepped : Doing → Option Instruction → Doing
 stepped d None = d
-stepped d (Some i) = after_run d (run d.program.rows d.values i)
+stepped d (Some i) = after_run d (run (rows_in d.made) d.values i)
 
 -- behind its next instruction, where that is local
 unfoldable pub step_alone : Doing → Doing
@@ -250,8 +262,8 @@ place_behind (Some i) vs at = if is_taken vs then unwrap_or (label_in i.args) (a
 
 abbrev pub after_act : Doing → Reply → Doing
 after_act d (replies.Done vs) =
-    let i = slice_get d.program.code d.at in
-    record d { values = received_by d.program.rows i vs d.values; at = place_behind i vs d.at; done = d.done + 1 }
+    let i = slice_get (code_in d.made) d.at in
+    record d { values = received_by (rows_in d.made) i vs d.values; at = place_behind i vs d.at; done = d.done + 1 }
 after_act d (replies.Signal x) = record d { done = d.done + 1; status = Ending (unhandled d x.id) }
 after_act d replies.MustWait = d
 
@@ -260,8 +272,13 @@ after_end d replies.MustWait = d
 after_end d (replies.Done vs) = record d { status = Ended }
 after_end d (replies.Signal x) = record d { status = Ended }
 
+-- a process whose template was refused ends once it has started
+abbrev pub begun_by : Made → Status
+begun_by (Accepted program) = Running
+begun_by (Refused id number) = Ending (causes.Create id number)
+
 abbrev pub after_start : Doing → Reply → Doing
-after_start d (replies.Done vs) = record d { status = Running }
+after_start d (replies.Done vs) = record d { status = begun_by d.made }
 after_start d (replies.Signal x) = record d { status = Ending (causes.Start x.id) }
 after_start d replies.MustWait = d
 
@@ -279,8 +296,8 @@ unfoldable pub absorbed : Doing → Reply → Doing
 absorbed d reply = after_asked (settled d) (event_of d) reply
 
 -- a process that has not started
-abbrev pub fresh : Program → ℕ → Doing
-fresh program budget = record { program = program; values = first_values program.rows; at = 0; done = 0; budget = budget; status = Fresh }
+abbrev pub fresh : Made → ℕ → Doing
+fresh made budget = record { made = made; values = first_values (rows_in made); at = 0; done = 0; budget = budget; status = Fresh }
 
 -- ---- runs
 

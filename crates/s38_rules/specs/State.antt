@@ -6,6 +6,7 @@ use Rattle.s38_base.specs.declared.id.Id.{Id}
 use Rattle.s38_base.specs.declared.id.Kind.{Kind}
 use Rattle.s38_base.specs.declared.id.Kind.TheVariants as kinds
 use Rattle.s38_base.specs.Ids.{same_id}
+use Rattle.s38_code.specs.declared.made.CheckedTemplate.{CheckedTemplate}
 use Rattle.s38_memory.specs.declared.cell.Cell.{Cell}
 use Rattle.s38_queues.specs.MessageQueue.{MessageQueue}
 use Rattle.s38_queues.specs.declared.message.Order.TheVariants.{Fifo}
@@ -22,6 +23,8 @@ pub record State : Type 0 where
   pub next : ℕ
   -- up to which number objects may be given without asking the store
   pub ceiling : ℕ
+  -- the deck's templates, in order, each with what creation makes of it
+  pub templates : List CheckedTemplate
   -- that of job k is at place k - 1
   pub processes : List Standing
   -- which processes wait

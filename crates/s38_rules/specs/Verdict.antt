@@ -3,7 +3,7 @@ use Rattle.std.specs.Prelude.{ℕ, ◌+◌, ◌/◌, ◌%◌, ◌^◌, ◌==◌,
 use Rattle.bitflags.specs.Sets.{without}
 use Rattle.s38_base.specs.declared.attr.Attr.{Attr}
 use Rattle.s38_base.specs.declared.exception.Exception.{Exception}
-use Rattle.s38_base.specs.declared.exception.Rule.TheVariants.{Plain, Missing}
+use Rattle.s38_base.specs.declared.exception.Rule.TheVariants.{Plain, Missing, Creation}
 use Rattle.s38_base.specs.declared.id.Id.{Id}
 use Rattle.s38_base.specs.declared.id.Kind.{Kind}
 use Rattle.s38_base.specs.declared.id.Kind.TheVariants as kinds
@@ -12,16 +12,19 @@ use Rattle.s38_base.specs.declared.pointer.Pointer.TheVariants as pointers
 use Rattle.s38_base.specs.Ids.{same_kind}
 use Rattle.s38_base.specs.Scalar.{length_of}
 use Rattle.s38_base.specs.declared.op.Op.{Op}
-use Rattle.s38_base.specs.declared.op.Op.TheVariants.{Rslvsp, Setdp, Cpybwp, Crtq, Crts, Mods, Enq, Deq}
+use Rattle.s38_base.specs.declared.op.Op.TheVariants.{Rslvsp, Setdp, Cpybwp, Crtpg, Crtq, Crts, Mods, Enq, Deq}
 use Rattle.s38_memory.specs.declared.cell.Cell.{Cell}
 use Rattle.s38_memory.specs.Tagged.{is_aligned, is_within}
 use Rattle.s38_queues.specs.MessageQueue.{MessageQueue, image_size, message_size}
 use Rattle.s38_code.specs.declared.deck.Job.{Job}
+use Rattle.s38_code.specs.declared.made.CheckedTemplate.{CheckedTemplate}
+use Rattle.s38_code.specs.declared.made.Made.{Made}
+use Rattle.s38_code.specs.declared.made.Made.TheVariants.{Accepted, Refused}
 use Rattle.s38_code.specs.declared.event.Event.{Event}
 use Rattle.s38_code.specs.declared.event.Event.TheVariants.{Start, Act, Finish}
 use Rattle.s38_code.specs.declared.operand.Operand.{Operand}
 use Rattle.s38_code.specs.declared.operand.Operand.TheVariants as operands
-use Rattle.s38_rules.specs.declared.exceptions.TheConstants.{POINTER_MISSING, POINTER_TYPE_INVALID, OBJECT_DESTROYED, OBJECT_TYPE_INVALID, OBJECT_NOT_FOUND, UNAUTHORIZED, LENGTH_INVALID, NO_MESSAGE, LIMIT_EXCEEDED, SPACE_ADDRESSING, BOUNDARY_ALIGNMENT, DECIMAL_DATA, DUPLICATE_IDENTIFICATION, PAGES_EXCEEDED}
+use Rattle.s38_rules.specs.declared.exceptions.TheConstants.{POINTER_MISSING, POINTER_TYPE_INVALID, OBJECT_DESTROYED, OBJECT_TYPE_INVALID, OBJECT_NOT_FOUND, UNAUTHORIZED, LENGTH_INVALID, NO_MESSAGE, LIMIT_EXCEEDED, SPACE_ADDRESSING, BOUNDARY_ALIGNMENT, DECIMAL_DATA, DUPLICATE_IDENTIFICATION, PAGES_EXCEEDED, TEMPLATE_MISSING}
 use Rattle.s38_rules.specs.declared.need.Need.{Need}
 use Rattle.s38_rules.specs.declared.need.Located.{Located}
 use Rattle.s38_rules.specs.declared.need.Named.{Named}
@@ -29,7 +32,7 @@ use Rattle.s38_rules.specs.declared.need.Named.TheVariants.{Written, Implied}
 use Rattle.s38_rules.specs.declared.need.PointerKind.{PointerKind}
 use Rattle.s38_rules.specs.declared.need.PointerKind.TheVariants as pointer_kinds
 use Rattle.s38_rules.specs.declared.need.Sought.{Sought}
-use Rattle.s38_rules.specs.declared.need.Sought.TheVariants.{Any, Of, Container}
+use Rattle.s38_rules.specs.declared.need.Sought.TheVariants.{Any, Of, Container, Ignored}
 use Rattle.s38_rules.specs.declared.object.Object.{Object}
 use Rattle.s38_rules.specs.declared.object.Body.{Body}
 use Rattle.s38_rules.specs.declared.object.Body.TheVariants as bodies
@@ -42,6 +45,8 @@ use Rattle.s38_rules.specs.Users.{acting, user_of}
 use Rattle.s38_rules.specs.Authority.{available, has_rights}
 use Rattle.s38_rules.specs.Operands.{place, pointer_at, is_given, rights_at, room_at, size_at, word_at, id_at, attr_at, count_at, number_at, target}
 use Rattle.s38_rules.specs.Needs.{needs, resolved}
+use Rattle.s38_rules.specs.Computed.{computed, failure_in}
+use Rattle.s38_rules.specs.Programs.{size_in, template_at}
 
 -- ---- failures
 
@@ -111,9 +116,14 @@ abbrev pub is_sought : Sought → Object → Bool
 is_sought Any o = true
 is_sought (Of kind) o = same_kind kind (kind_of o.body)
 is_sought Container o = same_kind kinds.Context (kind_of o.body) && not (o.number.0 == 1)
+is_sought Ignored o = true
+
+abbrev pub is_looked_at : Sought → Bool
+is_looked_at Ignored = false
+is_looked_at _ = true
 
 abbrev pub object_rule : Need → Option Object → Option Exception
-object_rule need None = Some (plain OBJECT_DESTROYED need.place)
+object_rule need None = fails (is_looked_at need.sought) OBJECT_DESTROYED need.place
 object_rule need (Some o) = fails (not (is_sought need.sought o)) OBJECT_TYPE_INVALID need.place
 
 abbrev pub pointer_rule : State → Need → Option Pointer → Option Exception
@@ -217,6 +227,23 @@ creation_limits s process pages =
 unfoldable pub crtq_conditions : State → ℕ → List Operand → Option Exception
 crtq_conditions s process ops = first (name_rule s kinds.Queue ops) (creation_limits s process 1)
 
+-- ---- programs
+
+abbrev pub refused_in : Made → Option Exception
+refused_in (Accepted program) = None
+refused_in (Refused id number) = Some (record { id = id; operand = 5; rule = Creation number })
+
+-- the deck has the template, and creation makes a program of it
+abbrev pub template_rule : Option CheckedTemplate → Option Exception
+template_rule None = Some (plain TEMPLATE_MISSING 5)
+template_rule (Some template) = refused_in template.made
+
+unfoldable pub crtpg_conditions : State → ℕ → List Operand → Option Exception
+crtpg_conditions s process ops =
+    first (name_rule s kinds.Program ops)
+    (first (template_rule (template_at s ops))
+    (first (creation_limits s process 1) (fails (nat_lt body_limit (size_in (template_at s ops))) LIMIT_EXCEEDED 0)))
+
 -- ---- spaces
 
 -- a multiple of 16, of 16 to 1,048,576 bytes
@@ -279,26 +306,27 @@ deq_conditions s ops =
     (first (fails (is_given ops 4) LENGTH_INVALID 4)
     (fails (length (queue_at s (target s ops 2)).messages == 0) NO_MESSAGE 2))
 
--- ---- the table
+-- ---- the table; a computation signals what its sources and its receiver ask
 
-unfoldable pub conditions : State → ℕ → ℕ → Op → List Operand → Option Exception
-conditions s process depth Rslvsp ops = rslvsp_conditions s process depth ops
-conditions s process depth Setdp ops = setdp_conditions s ops
-conditions s process depth Cpybwp ops = cpybwp_conditions ops
-conditions s process depth Crtq ops = crtq_conditions s process ops
-conditions s process depth Crts ops = crts_conditions s process ops
-conditions s process depth Mods ops = mods_conditions s ops
-conditions s process depth Enq ops = enq_conditions s ops
-conditions s process depth Deq ops = deq_conditions s ops
-conditions s process depth _ ops = None
+unfoldable pub conditions : State → ℕ → ℕ → Op → Bool → List Operand → Option Exception
+conditions s process depth Rslvsp round ops = rslvsp_conditions s process depth ops
+conditions s process depth Setdp round ops = setdp_conditions s ops
+conditions s process depth Cpybwp round ops = cpybwp_conditions ops
+conditions s process depth Crtpg round ops = crtpg_conditions s process ops
+conditions s process depth Crtq round ops = crtq_conditions s process ops
+conditions s process depth Crts round ops = crts_conditions s process ops
+conditions s process depth Mods round ops = mods_conditions s ops
+conditions s process depth Enq round ops = enq_conditions s ops
+conditions s process depth Deq round ops = deq_conditions s ops
+conditions s process depth op round ops = failure_in (computed s op round ops)
 
 -- the first rule that an instruction fails: address rules, then rights, then its conditions and limits
-unfoldable pub refusal : State → ℕ → ℕ → Op → List Operand → Option Exception
-refusal s process depth op ops =
+unfoldable pub refusal : State → ℕ → ℕ → Op → Bool → List Operand → Option Exception
+refusal s process depth op round ops =
     let wanted = needs s process depth op ops in
     first (address_rules s ops wanted)
     (first (first_of (rights_rule s (acting s process depth) ops) wanted)
-    (conditions s process depth op ops))
+    (conditions s process depth op round ops))
 
 -- ---- events
 
@@ -333,5 +361,5 @@ start_verdict s (Some x) = if is_early s.processes x.job.stage then Wait else of
 -- a start waits for the earlier stages; an instruction is refused by the first rule that fails; an end never
 unfoldable pub verdict_of : State → ℕ → Event → Verdict
 verdict_of s process Start = start_verdict s (standing s process)
-verdict_of s process (Act depth request) = of_failure s (refusal s process depth request.op request.operands)
+verdict_of s process (Act depth request) = of_failure s (refusal s process depth request.op request.round request.operands)
 verdict_of s process (Finish cause) = Permit

@@ -30,5 +30,7 @@ pub const PAGES_EXCEEDED: u16 = 0x1C04;
 pub const SIZE: u16 = 0x0C0A;
 /// The divisor is zero.
 pub const ZERO_DIVIDE: u16 = 0x0C0B;
+/// The deck has no template of the name.
+pub const TEMPLATE_MISSING: u16 = 0x2A01;
 /// A byte is no hexadecimal character.
 pub const CONVERSION: u16 = 0x0C01;

@@ -27,6 +27,8 @@ pub enum Sought {
     Of(Kind),
     /// Contexts but the machine's: new objects are put there.
     Container,
+    /// The pointer alone is used, and no object is looked at.
+    Ignored,
 }
 
 /// What an instruction needs of an operand: the kinds of pointer and of object, rights on the object, and
