@@ -1,6 +1,7 @@
 //! The deck's templates, from which programs are made.
 ghost use Rattle.std.specs.Prelude.{◌≡◌, find, nat_lt, sum_by};
 ghost use Rattle.std.specs.Option.{option_copied, option_map};
+ghost use Rattle.s38_machine.specs.Rooms.{room_after, room_behind};
 ghost use Rattle.s38_rules.specs.Programs.{is_named, line_size, program_by, program_in, size_in, template_at, template_in};
 
 use crate::operands::place;
@@ -18,12 +19,7 @@ fn is_named(template: &CheckedTemplate, name: &Name) -> bool
 fn find_named<'a>(templates: &'a [CheckedTemplate], name: &Name) -> Option<&'a CheckedTemplate>
     ensures { option_copied result ≡ find (is_named name.now) templates.now }
 {
-    for template in templates {
-        if is_named(template, name) {
-            return Some(template);
-        }
-    }
-    None
+    templates.iter().find(|template| is_named(template, name))
 }
 
 fn template_in<'a>(
@@ -64,18 +60,32 @@ pub fn program_in(template: Option<&CheckedTemplate>) -> Option<&Code>
     }
 }
 
+/// What is left of a room behind a line and its line feed; None once a line did not fit.
+fn room_behind(room: Option<u32>, line: &[u8]) -> Option<u32>
+    ensures { result ≡ room_behind room line.now }
+{
+    let room = room?;
+    if (room as usize) <= line.len() {
+        return None;
+    }
+    Some(room - (line.len() as u32 + 1))
+}
+
+fn room_after(lines: &[Bytes], room: Option<u32>) -> Option<u32>
+    ensures { result ≡ room_after room lines.now }
+{
+    let mut left = room;
+    for line in lines {
+        left = room_behind(left, line.as_slice());
+    }
+    left
+}
+
 /// Whether lines, each with its line feed, are longer than so many bytes.
 fn are_longer(lines: &[Bytes], limit: u32) -> bool
     ensures { result ≡ nat_lt limit (sum_by line_size lines.now) }
 {
-    let mut left = limit as usize;
-    for line in lines {
-        if left <= line.len() {
-            return true;
-        }
-        left -= line.len() + 1;
-    }
-    false
+    room_after(lines, Some(limit)).is_none()
 }
 
 /// Whether the image of the program that a template makes is longer than so many bytes.
