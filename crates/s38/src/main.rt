@@ -8,6 +8,8 @@ mod programs;
 mod rows;
 #[cfg(test)]
 mod rows_computed;
+#[cfg(test)]
+mod rows_created;
 mod run;
 mod tell;
 #[cfg(test)]

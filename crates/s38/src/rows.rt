@@ -6,7 +6,7 @@ use std::alloc::Global;
 use std::test::Fail;
 
 /// The lines, each ended by a line feed.
-fn text_of(alloc: Global, lines: &[&str]) -> Result<String, NoMemory> {
+pub fn text_of(alloc: Global, lines: &[&str]) -> Result<String, NoMemory> {
     let mut text = String::new(alloc);
     for line in lines {
         text.push_str(line)?;
