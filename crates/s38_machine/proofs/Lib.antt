@@ -2,4 +2,5 @@ pub mod EventLaws
 pub mod LogLaws
 pub mod NumberLaws
 pub mod QueueLaws
+pub mod StringLaws
 pub mod VerdictLaws
