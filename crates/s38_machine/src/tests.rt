@@ -132,7 +132,7 @@ fn played(
     jobs: &[Job],
     cases: &[(u32, Asked, &str)],
 ) -> Result<(Machine, usize), Fail> {
-    let mut machine = Machine::start(alloc, jobs)?;
+    let mut machine = Machine::start(alloc, Seq::new(alloc), jobs)?;
     let mut good = 0;
     for case in cases {
         let (process, asked, text) = *case;
