@@ -220,7 +220,6 @@ fn is_hex_chunk(space: &Tagged, at: u32, len: u16) -> bool
     }
 }
 
-#[tactic(auto, using(crate::proofs::StringLaws::hex_by_chunk))]
 fn is_hex_piece(space: &Tagged, at: u32, len: u16) -> bool
     requires near { at + len ≤ 16777216 }
     requires within { is_within at len space.now ≡ true }
@@ -229,7 +228,7 @@ fn is_hex_piece(space: &Tagged, at: u32, len: u16) -> bool
     if len <= CHUNK {
         return is_hex_chunk(space, at, len);
     }
-    is_hex_chunk(space, at, CHUNK) && is_hex_piece(space, at + u32::from(CHUNK), len - CHUNK)
+    is_hex_chunk(space, at, CHUNK) && is_hex_piece(space, at + CHUNK as u32, len - CHUNK)
 }
 
 fn are_hex_in(space: &Tagged, at: u64, len: u16) -> bool
