@@ -1,5 +1,5 @@
 -- Lengths and fractions of numbers, what has no value, and a pointer that is moved by a number.
-use Rattle.std.proofs.Common.{◌≡◌, ℕ, ◌<◌, ◌≤◌, ◌==◌, ◌/◌, ◌+◌, ◌^◌, Bool, true, false, ◌&&◌, List, [], length, refl, ap, ◌∙◌, arith, IsTrue, nat_le}
+use Rattle.std.proofs.Common.{◌≡◌, ℕ, ◌<◌, ◌≤◌, ◌==◌, ◌/◌, ◌+◌, ◌^◌, Bool, true, false, ◌&&◌, List, [], length, refl, ap, ◌∙◌, arith, rules, IsTrue, nat_le}
 use Rattle.std.specs.Prelude.{ℤ, Option, Some, None, Result, IfSome, MatchOption}
 use Rattle.std.specs.Option.{option_map}
 use Rattle.std.proofs.lemmas.Bool.Decides.{nat_tests}
@@ -34,6 +34,11 @@ no_value Pointer = refl
 pub no_number : (a : Attr) (bytes : List ℕ) → is_numeric a ≡ false → value_of a bytes ≡ None
 unfolding value_of
 no_number a bytes h = rw h refl
+
+-- what holds a number is numeric
+pub fits_numeric : (a : Attr) (z : ℤ) → IsTrue (fits a z) → IsTrue (is_numeric a)
+unfolding fits
+fits_numeric a z h = search rules
 
 -- at most 31 digits stand behind the point
 pub fraction_small : (a : Attr) (z : ℤ) → IsTrue (fits a z) → fraction_of a < 39

@@ -80,12 +80,7 @@ fn power_of(power: Option<&Operand>) -> i64
 }
 
 /// What two numeric sources give.
-fn two_numbers(
-    world: &World,
-    op: Op,
-    round: bool,
-    operands: &[Operand],
-) -> Result<i128, Exception>
+fn two_numbers(world: &World, op: Op, round: bool, operands: &[Operand]) -> Result<i128, Exception>
     requires { IsTrue (has_second op) }
     ensures exact { result ≡ two_numbers op (target_of round operands.now) (number_attr operands.now 2) (number_at world.now operands.now 2) (number_attr operands.now 3) (number_at world.now operands.now 3) }
     ensures fits { IfOk result (λ units. IsTrue (fits (receiver_attr (operand operands.now 1)) units)) }
@@ -100,12 +95,7 @@ fn two_numbers(
 }
 
 /// What one numeric source gives.
-fn one_number(
-    world: &World,
-    op: Op,
-    round: bool,
-    operands: &[Operand],
-) -> Result<i128, Exception>
+fn one_number(world: &World, op: Op, round: bool, operands: &[Operand]) -> Result<i128, Exception>
     requires { IsTrue (has_one op) }
     ensures exact { result ≡ one_number op (target_of round operands.now) (number_attr operands.now 2) (number_at world.now operands.now 2) (power_of (operand operands.now 3)) }
     ensures fits { IfOk result (λ units. IsTrue (fits (receiver_attr (operand operands.now 1)) units)) }
@@ -179,12 +169,7 @@ fn size_before(world: &World, op: Op, operands: &[Operand]) -> usize
 }
 
 /// The bytes that the receiver holds before; of a variable those are neither known nor needed.
-fn before(
-    alloc: Global,
-    world: &World,
-    op: Op,
-    operands: &[Operand],
-) -> Result<Bytes, NoMemory>
+fn before(alloc: Global, world: &World, op: Op, operands: &[Operand]) -> Result<Bytes, NoMemory>
     ensures { IfOk result (λ made. made ≡ before world.now op operands.now (operand operands.now 1)) }
 {
     match place(operands, 1) {
@@ -274,12 +259,7 @@ fn is_double(long: usize, short: usize) -> bool
 // ---- failures; they are found without memory
 
 #[tactic(auto, unfolding(s38_rules::specs::Computed::two_sources))]
-fn two_failure(
-    world: &World,
-    op: Op,
-    round: bool,
-    operands: &[Operand],
-) -> Option<Exception>
+fn two_failure(world: &World, op: Op, round: bool, operands: &[Operand]) -> Option<Exception>
     requires { IsTrue (has_second op) }
     ensures { result ≡ failure_in (Some (two_sources world.now op round operands.now)) }
 {
@@ -290,12 +270,7 @@ fn two_failure(
 }
 
 #[tactic(auto, unfolding(s38_rules::specs::Computed::one_source))]
-fn one_failure(
-    world: &World,
-    op: Op,
-    round: bool,
-    operands: &[Operand],
-) -> Option<Exception>
+fn one_failure(world: &World, op: Op, round: bool, operands: &[Operand]) -> Option<Exception>
     requires { IsTrue (has_one op) }
     ensures { result ≡ failure_in (Some (one_source world.now op round operands.now)) }
 {
@@ -366,6 +341,7 @@ pub fn computed_failure(
 // ---- values
 
 /// A number in bytes.
+#[tactic(auto, using(crate::proofs::NumberLaws::fits_numeric))]
 fn number_value(alloc: Global, attr: Attr, units: i128) -> Result<Val, NoMemory>
     requires { IsTrue (fits attr units) }
     ensures { IfOk result (λ made. made ≡ Val.Bytes (image_of attr units)) }
