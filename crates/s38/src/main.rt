@@ -6,6 +6,8 @@ mod outcome;
 mod programs;
 #[cfg(test)]
 mod rows;
+#[cfg(test)]
+mod rows_computed;
 mod run;
 mod tell;
 #[cfg(test)]

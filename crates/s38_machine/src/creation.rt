@@ -11,7 +11,7 @@ use crate::numbers::{count_at, number_at};
 use crate::objects::{found, object, owner_in};
 use crate::operands::id_at;
 use crate::processes::user_of;
-use crate::programs::{size_in, template_at};
+use crate::programs::{is_larger, template_at};
 use crate::reads::target;
 use crate::world::World;
 use s38_base::{Exception, Id, Kind, ObjNum, Rule, UserNum};
@@ -160,7 +160,7 @@ pub fn crtpg_conditions(world: &World, process: u32, operands: &[Operand]) -> Op
         return Some(failure);
     }
     fails(
-        u128::from(BODY_LIMIT) < size_in(template),
+        is_larger(template, BODY_LIMIT),
         LIMIT_EXCEEDED,
         0,
     )

@@ -1,18 +1,29 @@
 //! The deck's templates, from which programs are made.
-ghost use Rattle.std.specs.Prelude.{◌≡◌, ◌+◌, drop, length, sum_by};
+ghost use Rattle.std.specs.Prelude.{◌≡◌, find, nat_lt, sum_by};
 ghost use Rattle.std.specs.Option.{option_copied, option_map};
-ghost use Rattle.std.specs.Str.{bytes_eq};
-ghost use Rattle.s38_rules.specs.Programs.{is_named, line_size, program_by, program_in, program_size, size_in, size_of, template_at, template_in};
+ghost use Rattle.s38_rules.specs.Programs.{is_named, line_size, program_by, program_in, size_in, template_at, template_in};
 
 use crate::operands::place;
 use crate::world::World;
 use s38_base::{Bytes, Name};
-use s38_code::{CheckedTemplate, Code, Made, Operand, Program};
+use s38_code::{CheckedTemplate, Code, Made, Operand};
 
 fn is_named(template: &CheckedTemplate, name: &Name) -> bool
     ensures { result ≡ is_named name.now template.now }
 {
     template.name.as_bytes() == name.as_bytes()
+}
+
+/// The first template of a name.
+fn find_named<'a>(templates: &'a [CheckedTemplate], name: &Name) -> Option<&'a CheckedTemplate>
+    ensures { option_copied result ≡ find (is_named name.now) templates.now }
+{
+    for template in templates {
+        if is_named(template, name) {
+            return Some(template);
+        }
+    }
+    None
 }
 
 fn template_in<'a>(
@@ -22,7 +33,7 @@ fn template_in<'a>(
     ensures { option_copied result ≡ template_in templates.now (option_copied operand.entry) }
 {
     match operand {
-        Some(Operand::Text(name)) => templates.iter().find(|template| is_named(template, name)),
+        Some(Operand::Text(name)) => find_named(templates, name),
         _ => None,
     }
 }
@@ -53,24 +64,26 @@ pub fn program_in(template: Option<&CheckedTemplate>) -> Option<&Code>
     }
 }
 
-/// The size of a program's image: its text, each line with its line feed.
-fn program_size(program: &Program) -> u128
-    ensures { result ≡ program_size program.now }
+/// Whether lines, each with its line feed, are longer than so many bytes.
+fn are_longer(lines: &[Bytes], limit: u32) -> bool
+    ensures { result ≡ nat_lt limit (sum_by line_size lines.now) }
 {
-    program
-        .template
-        .lines()
-        .iter()
-        .map(|line| line.len() as u128 + 1)
-        .sum()
+    let mut left = limit as usize;
+    for line in lines {
+        if left <= line.len() {
+            return true;
+        }
+        left -= line.len() + 1;
+    }
+    false
 }
 
-/// The size of the image of the program that a template makes, 0 without one.
-pub fn size_in(template: Option<&CheckedTemplate>) -> u128
-    ensures { result ≡ size_in (option_copied template.entry) }
+/// Whether the image of the program that a template makes is longer than so many bytes.
+pub fn is_larger(template: Option<&CheckedTemplate>, limit: u32) -> bool
+    ensures { result ≡ nat_lt limit (size_in (option_copied template.entry)) }
 {
     match program_in(template) {
-        None => 0,
-        Some(code) => program_size(code.program()),
+        None => false,
+        Some(code) => are_longer(code.program().template.lines(), limit),
     }
 }
