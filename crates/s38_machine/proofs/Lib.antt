@@ -3,4 +3,5 @@ pub mod LogLaws
 pub mod NumberLaws
 pub mod QueueLaws
 pub mod RoomLaws
+pub mod StringLaws
 pub mod VerdictLaws

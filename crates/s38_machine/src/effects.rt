@@ -13,8 +13,8 @@ ghost use Rattle.s38_rules.specs.Verdict.{conditions, verdict_of};
 ghost use Rattle.s38_machine.specs.Events.{receiver_of, value_of_event};
 
 use crate::changes::change;
-use crate::deliveries::put;
 use crate::computations::receiver_at;
+use crate::deliveries::put;
 use crate::processes::standing;
 use crate::starts::started_as;
 use crate::world::World;

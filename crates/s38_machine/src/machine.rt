@@ -11,11 +11,11 @@ ghost use Rattle.s38_rules.specs.Step.{by_verdict, step};
 ghost use Rattle.s38_rules.specs.Legal.{IsSound, MayAsk, after, after_by, begun};
 ghost use Rattle.s38_rules.specs.Opening.{opened};
 
+use crate::computations::receiver_at;
 use crate::deliveries::parted;
 use crate::effects::apply;
 use crate::log::Log;
 use crate::opening::opened;
-use crate::computations::receiver_at;
 use crate::processes::{ready, waits};
 use crate::values::value_of;
 use crate::verdicts::verdict_of;
@@ -62,7 +62,15 @@ fn act_values(
         ≡ (delivered s (receiver_at request.now.op request.now.operands) (value_of world.now process depth request.now.op request.now.round request.now.operands)).state) }
 {
     let operands = request.operands.as_slice();
-    let value = value_of(alloc, world, process, depth, request.op, request.round, operands)?;
+    let value = value_of(
+        alloc,
+        world,
+        process,
+        depth,
+        request.op,
+        request.round,
+        operands,
+    )?;
     parted(alloc, receiver_at(request.op, operands), value)
 }
 
