@@ -1,5 +1,5 @@
 -- What creation makes of a template: a program, or a refusal with its cause and its place.
-use Rattle.std.specs.Prelude.{ℕ, List, Result, Ok, Err, Unit}
+use Rattle.std.specs.Prelude.{ℕ, List, Result, Ok, Err}
 use Rattle.s38_code.specs.declared.made.Made.{Made}
 use Rattle.s38_code.specs.declared.made.Made.TheVariants.{Accepted, Refused}
 use Rattle.s38_code.specs.declared.program.CreateFault.{CreateFault}
