@@ -30,10 +30,10 @@ use Rattle.s38_create.specs.declared.said.Said.{Said}
 
 -- where no cause stands against it, the operands are the row's
 cause_of-none : (rows : List Row) (i : Instruction) (declared placed : Bool) → cause_of rows i declared placed ≡ None →
-    (are_words_built rows i.op i.args ≡ true) × (fits rows i.op i.args ≡ true) × (digits_needed rows i.op i.args ≤ 38)
+    (are_words_built i.op i.args ≡ true) × (fits rows i.op i.args ≡ true) × (digits_needed rows i.op i.args ≤ 38)
 unfolding cause_of
 cause_of-none rows i declared placed h =
-    let words = no-cause (are_words_built rows i.op i.args) 0x2A04 _ h in
+    let words = no-cause (are_words_built i.op i.args) 0x2A04 _ h in
     let named = no-cause declared 0x2A07 _ words.1 in
     let fitting = no-cause (fits rows i.op i.args) 0x2A05 _ named.1 in
     let few = no-cause (nat_le (digits_needed rows i.op i.args) 38) 0x2A06 _ fitting.1 in

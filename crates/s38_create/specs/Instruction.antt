@@ -1,21 +1,18 @@
 -- An instruction: its mnemonic, perhaps (R), and behind a blank its operands, parted by commas; and the causes for
 -- which a line makes none.
-use Rattle.std.specs.Prelude.{ℕ, ◌+◌, Bool, true, false, not, ◌&&◌, ◌||◌, ◌==◌, List, [], ◌∷◌, ◌++◌, map, length, codes, nat_le, is_some, Option, Some, None, Result, Ok, Err, slice_get, if◌then◌else◌}
-use Rattle.std.specs.List.{list_all, list_any}
+use Rattle.std.specs.Prelude.{ℕ, ◌+◌, Bool, true, not, ◌&&◌, ◌||◌, ◌==◌, List, [], ◌∷◌, ◌++◌, map, length, codes, nat_le, is_some, Option, Some, None, Result, Ok, Err, if◌then◌else◌}
+use Rattle.std.specs.List.{list_all}
 use Rattle.std.specs.Option.{option_and_then, option_or}
 use Rattle.s38_base.specs.declared.op.Op.{Op}
 use Rattle.s38_base.specs.declared.op.Op.TheVariants.{Deq, Crtq}
-use Rattle.s38_code.specs.Built.{is_built, is_local_built}
+use Rattle.s38_code.specs.Built.{is_built}
 use Rattle.s38_code.specs.Class.{classes}
 use Rattle.s38_code.specs.Mnemonic.{op_of}
 use Rattle.s38_code.specs.Tie.{may_round}
 use Rattle.s38_code.specs.WordsText.{before, behind, rest_after}
 use Rattle.s38_code.specs.declared.program.Arg.{Arg}
-use Rattle.s38_code.specs.declared.program.Arg.TheVariants.{Item}
 use Rattle.s38_code.specs.declared.program.CreateFault.{CreateFault}
 use Rattle.s38_code.specs.declared.program.CreateFault.TheVariants.{Bad}
-use Rattle.s38_code.specs.declared.program.Form.{Form}
-use Rattle.s38_code.specs.declared.program.Form.TheVariants.{Based}
 use Rattle.s38_code.specs.declared.program.Instruction.{Instruction}
 use Rattle.s38_code.specs.declared.program.Row.{Row}
 use Rattle.s38_create.specs.Names.{is_label}
@@ -62,26 +59,10 @@ takes_any args = (word_at args 2 == 6) && (nothing_at args 3 && (word_at args 4 
 abbrev pub is_plain_queue : List Arg → Bool
 is_plain_queue args = (word_at args 4 == 0) && is_natural_to 0 (whole_at args 5)
 
-abbrev pub is_based : Form → Bool
-is_based (Based base offset attr) = true
-is_based _ = false
-
-abbrev pub is_based_row : Option Row → Bool
-is_based_row None = false
-is_based_row (Some row) = is_based row.form
-
-abbrev pub lies_in_space : List Row → Arg → Bool
-lies_in_space rows (Item i) = is_based_row (slice_get rows i)
-lies_in_space rows _ = false
-
--- a computation has no operand in a space
-abbrev pub is_alone : List Row → Op → List Arg → Bool
-is_alone rows op args = not (is_local_built op && list_any (lies_in_space rows) args)
-
-unfoldable pub are_words_built : List Row → Op → List Arg → Bool
-are_words_built rows Deq args = takes_any args
-are_words_built rows Crtq args = is_plain_queue args
-are_words_built rows op args = is_alone rows op args
+unfoldable pub are_words_built : Op → List Arg → Bool
+are_words_built Deq args = takes_any args
+are_words_built Crtq args = is_plain_queue args
+are_words_built op args = true
 
 -- ---- causes
 
@@ -89,7 +70,7 @@ are_words_built rows op args = is_alone rows op args
 -- that are not the row's, too many digits, a missing label
 unfoldable pub cause_of : List Row → Instruction → Bool → Bool → Option ℕ
 cause_of rows i declared placed =
-    if not (are_words_built rows i.op i.args) then Some 0x2A04
+    if not (are_words_built i.op i.args) then Some 0x2A04
     else (if not declared then Some 0x2A07
     else (if not (fits rows i.op i.args) then Some 0x2A05
     else (if not (nat_le (digits_needed rows i.op i.args) 38) then Some 0x2A06

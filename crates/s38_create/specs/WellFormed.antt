@@ -28,7 +28,7 @@ lands_in count _ = true
 -- an instruction among so many, over these declarations
 pub record InstructionFits (rows : List Row) (count : ℕ) (instruction : Instruction) : Type 0 where
   pub built : IsTrue (is_built instruction.op)
-  pub words : IsTrue (are_words_built rows instruction.op instruction.args)
+  pub words : IsTrue (are_words_built instruction.op instruction.args)
   pub rounded : IsTrue (rounds_right instruction.round instruction.op)
   -- an operand for each class, which suits it
   pub suited : IsTrue (all_suit rows (classes instruction.op) instruction.args)

@@ -4,6 +4,7 @@
 mod attributes;
 mod by_class;
 mod causes;
+mod check;
 mod creation;
 mod digits;
 mod forms;
@@ -20,6 +21,7 @@ mod shapes;
 mod suits;
 mod ties;
 
+pub use check::checked;
 pub use creation::{create, refusals_have_a_place};
 
 #[cfg(test)]

@@ -1,14 +1,14 @@
 //! Tables of templates: which are refused, at which place and for which cause, and what good ones make.
 
-use crate::create;
+use crate::{checked, create};
 use s38_base::{NoMemory, Seq};
-use s38_code::{Arg, CreateFault, Form, Program, Template, mnemonic};
+use s38_code::{Arg, CreateFault, Form, Made, Program, Template, mnemonic};
 use std::alloc::Global;
 use std::test::Fail;
 
 /// Declarations of every form: pointers, bytes, numbers, and items in a space.
 const DECLARED: &str =
-    "DCL P PTR\nDCL Q PTR\nDCL C CHAR:3\nDCL D CHAR:6\nDCL N PKD:3:0\nDCL M PKD:20:0\nDCL S BIN:2\nDCL U PKD:31:0\nDCL V PKD:31:31\nDCL J PKD:19:0\nDCL K PKD:18:0\nDCL B BASED P 0 CHAR:32\nDCL E BASED P 0 PTR\nDCL F BASED P 8 CHAR:20\nDCL G BASED P 0 CHAR:16";
+    "DCL P PTR\nDCL Q PTR\nDCL C CHAR:3\nDCL D CHAR:6\nDCL N PKD:3:0\nDCL M PKD:20:0\nDCL S BIN:2\nDCL U PKD:31:0\nDCL V PKD:31:31\nDCL J PKD:19:0\nDCL K PKD:18:0\nDCL B BASED P 0 CHAR:32\nDCL E BASED P 0 PTR\nDCL F BASED P 8 CHAR:20\nDCL G BASED P 0 CHAR:16\nDCL W BASED P 4 PKD:3:0";
 
 /// The template of a text's lines.
 fn template(alloc: Global, text: &str) -> Result<Template, NoMemory> {
@@ -62,6 +62,10 @@ SETDP P,P,PKD:3:0+BIN:2
 CRTQ P,*NONE,QUEUE/00/Q,NONE,FIFO,0,-5
 CRTQ P,*NONE,QUEUE/00/Q,NONE,FIFO,00,8
 CRTQ P,*NONE,QUEUE/00/Q,NONE,ANY,0,8
+CRTPG P,*NONE,PROGRAM/00/X,NONE
+CRTPG P,*NONE,PROGRAM/00/X,NONE,'T'
+CRTPG P,*NONE,PROGRAM/00/X,NONE,1T
+CRTPG P,*NONE,PROGRAM/00/X,NONE,T,T
 END";
 
 #[test]
@@ -80,9 +84,6 @@ DEQ C,P,ANY,*NONE,WAIT
 CRTQ P,*NONE,QUEUE/00/Q,NONE,LIFO,0,8
 CRTQ P,*NONE,QUEUE/00/Q,NONE,KEYED,4,8
 CRTQ P,*NONE,QUEUE/00/Q,NONE,FIFO,4,8
-CMPPTRT E,NONE,L
-SUBSPP E,P,16
-CPYBLA C,B
 CALLI L
 SIGEXCP 2401
 RETEXCPD C
@@ -137,6 +138,9 @@ DEQ P,P,ANY,*NONE,NOWAIT
 RSLVSP P,C,QUEUE/00/Q,NONE
 CRTQ P,*NONE,SPACE/00/Q,NONE,FIFO,0,8
 CRTS P,*NONE,QUEUE/00/Q,NONE,16
+CRTPG P,*NONE,QUEUE/00/X,NONE,T
+CRTPG C,*NONE,PROGRAM/00/X,NONE,T
+DESPG C
 CRTS P,*NONE,SPACE/00/Q,NONE,C
 CRTQ P,*NONE,QUEUE/00/Q,NONE,FIFO,0,0
 CRTQ P,*NONE,QUEUE/00/Q,NONE,FIFO,0,4097
@@ -242,12 +246,24 @@ CPYBWP B,B
 CRTQ P,Q,QUEUE/00/Q,ALL,FIFO,0,4096
 CRTS P,*NONE,SPACE/00/S,NONE,N
 CRTS P,*NONE,SPACE/00/S,NONE,32
+CRTPG P,*NONE,PROGRAM/00/X,NONE,T
+CRTPG E,Q,PROGRAM/7F/X,ALL,SETUP
 MODS P,48
+DESPG P
 DESQ P
 DESS P
 ENQ P,'A',X'C1C2'
 ENQ P,*NONE,F
-DEQ N,P,ANY,*NONE,NOWAIT";
+DEQ N,P,ANY,*NONE,NOWAIT
+ADDN W,N,W
+MULT (R) N,W,2
+CMPNVB W,W,EQ,L
+CPYBLA C,B
+CAT F,B,G
+CMPBLAB B,F,EQ,L
+CMPPTRT E,NONE,L
+ADDSPP P,E,W
+SUBSPP E,P,16";
 
 #[test]
 fn good_instructions_are_accepted(rt: HostRuntime) -> Result<(), Fail> {
@@ -327,6 +343,26 @@ fn a_program_keeps_its_head_its_lines_and_its_code(rt: HostRuntime) -> Result<()
             matches!(&row.form, Form::Local { first, .. } if first.as_slice() == [0x00, 0x7F].as_slice())
         );
     }
+    Ok(())
+}
+
+#[test]
+fn a_template_is_accepted_or_refused(rt: HostRuntime) -> Result<(), Fail> {
+    let good = template(rt.alloc(), "PROGRAM P\nRTX\nEND")?;
+    let Made::Accepted(code) = checked(rt.alloc(), &good)? else {
+        return Err("refused".into());
+    };
+    assert_eq!(rt; code.program().code.len(), 1);
+    let bad = template(rt.alloc(), "PROGRAM P\nRTX\nB NOWHERE\nEND")?;
+    assert!(rt;
+        matches!(
+            checked(rt.alloc(), &bad)?,
+            Made::Refused {
+                id: 0x2A08,
+                number: 2
+            }
+        )
+    );
     Ok(())
 }
 

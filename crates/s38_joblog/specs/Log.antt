@@ -55,3 +55,7 @@ log_text history jobs = flat_map (job_text history) (enumerate_from 1 jobs)
 -- the last line of a run
 abbrev pub last_line : ℕ → List ℕ
 last_line count = codes "DONE " ++ (decimal count ++ 10 ∷ [])
+
+-- the line of a text that is no deck: its first bad line, and the code
+abbrev pub bad_line : ℕ → ℕ → List ℕ
+bad_line line code = codes "BAD DECK " ++ (decimal line ++ (codes " " ++ (decimal code ++ 10 ∷ [])))

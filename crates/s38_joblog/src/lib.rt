@@ -1,11 +1,13 @@
-//! The text of a history.
+//! The text of a history, and that of templates that were checked.
 #![tactic(auto)]
 
+mod check;
 mod log;
 mod text;
 mod words;
 
-pub use log::{last_line, log_text};
+pub use check::check_text;
+pub use log::{bad_line, last_line, log_text};
 
 #[cfg(test)]
 mod tests;

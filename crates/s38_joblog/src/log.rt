@@ -1,6 +1,6 @@
 ghost use Rattle.std.specs.Prelude.{◌≡◌, ◌+◌, ◌<◌, ◌++◌, [], codes, map, length, slice_set, IfOk, OnOk};
 ghost use Rattle.std.specs.List.{enumerate_from, flat_map, slice_index_or};
-ghost use Rattle.s38_joblog.specs.Log.{done_text, entry_line, event_name, job_line, last_line, lines_of, log_text, result_text};
+ghost use Rattle.s38_joblog.specs.Log.{bad_line, done_text, entry_line, event_name, job_line, last_line, lines_of, log_text, result_text};
 ghost use Rattle.s38_joblog.specs.Grouped.{AreGrouped, Gains};
 ghost use Rattle.s38_joblog.specs.Words.{value_text};
 
@@ -165,6 +165,19 @@ pub fn last_line(alloc: Global, count: u64) -> Result<Vec<u8>, NoMemory>
     let mut text = Text::new(alloc);
     text.add(b"DONE ")?;
     text.add_number(count)?;
+    text.add(b"\n")?;
+    Ok(text.into_bytes())
+}
+
+/// The line of a text that is no deck: the number of its first bad line, and the code.
+pub fn bad_line(alloc: Global, line: u32, code: u8) -> Result<Vec<u8>, NoMemory>
+    ensures { IfOk result (λ text. text.items ≡ bad_line line code) }
+{
+    let mut text = Text::new(alloc);
+    text.add(b"BAD DECK ")?;
+    text.add_number(u64::from(line))?;
+    text.add(b" ")?;
+    text.add_number(u64::from(code))?;
     text.add(b"\n")?;
     Ok(text.into_bytes())
 }

@@ -1,10 +1,13 @@
 //! The exact text of every kind of result, value, detail and cause.
 
-use crate::{last_line, log_text};
+use crate::{bad_line, check_text, last_line, log_text};
 use s38_base::{
     Attr, Exception, LockState, Name, NoMemory, ObjNum, Op, Pointer, Rights, Rule, Seq, Special,
 };
-use s38_code::{Code, EndCause, Entry, Event, Job, Program, Reply, Request, Template, Val};
+use s38_code::{
+    CheckedTemplate, Code, EndCause, Entry, Event, Job, Made, Program, Reply, Request, Template,
+    Val,
+};
 use std::alloc::Global;
 use std::test::Fail;
 
@@ -47,6 +50,18 @@ fn with_value(alloc: Global, value: Val) -> Result<Reply, NoMemory> {
     let mut values = Seq::new(alloc);
     values.push(value)?;
     Ok(Reply::Done(values))
+}
+
+/// A program without code.
+fn empty_program(alloc: Global) -> Result<Code, NoMemory> {
+    let program = Program {
+        template: Template::new(alloc, Seq::new(alloc))?,
+        rows: Seq::new(alloc),
+        code: Seq::new(alloc),
+        adopts: false,
+        propagates: false,
+    };
+    Code::new(alloc, program)
 }
 
 /// Whether one entry is logged as this name and result.
@@ -140,14 +155,7 @@ fn values_are_written(rt: HostRuntime) -> Result<(), Fail> {
             "{line}"
         );
     }
-    let program = Program {
-        template: Template::new(alloc, Seq::new(alloc))?,
-        rows: Seq::new(alloc),
-        code: Seq::new(alloc),
-        adopts: false,
-        propagates: false,
-    };
-    let code = Val::Code(Code::new(alloc, program)?);
+    let code = Val::Code(empty_program(alloc)?);
     assert!(rt;
         is_logged(
             alloc,
@@ -358,5 +366,29 @@ fn ends_are_written(rt: HostRuntime) -> Result<(), Fail> {
         )?
     );
     assert_eq!(rt; last_line(alloc, 10)?.as_slice(), b"DONE 10\n".as_slice());
+    assert_eq!(rt;
+        bad_line(alloc, 2097153, 6)?.as_slice(),
+        b"BAD DECK 2097153 6\n".as_slice()
+    );
+    Ok(())
+}
+
+#[test]
+fn templates_are_written(rt: HostRuntime) -> Result<(), Fail> {
+    let alloc = rt.alloc();
+    let mut templates = Vec::new(alloc);
+    templates.push(CheckedTemplate {
+        name: Name::parse(b"P")?,
+        made: Made::Accepted(empty_program(alloc)?),
+    })?;
+    templates.push(CheckedTemplate {
+        name: Name::parse(b"POST12")?,
+        made: Made::Refused {
+            id: 0x2A08,
+            number: 16384,
+        },
+    })?;
+    let text = check_text(alloc, templates.as_slice())?;
+    assert_eq!(rt; text.as_slice(), b"P OK\nPOST12 2A08 16384\n".as_slice());
     Ok(())
 }
