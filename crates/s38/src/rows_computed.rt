@@ -103,7 +103,36 @@ fn numbers_in_a_space_are_read_and_written_there(rt: HostRuntime) -> Result<(), 
 
 #[test]
 fn bytes_and_pointers_in_a_space(rt: HostRuntime) -> Result<(), Fail> {
-    let cases: [(&str, &[&str], &[&str]); 3] = [
+    let cases: [(&str, &[&str], &[&str]); 4] = [
+        (
+            "a short copy into a long item ends the pointers where it goes alone",
+            &[
+                "DCL S PTR",
+                "DCL A PTR",
+                "DCL T BASED A 0 PTR",
+                "DCL U BASED A 16 PTR",
+                "DCL W BASED A 0 CHAR:32",
+                SPACE,
+                "RSLVSP T,*LIST,QUEUE/00/QLOCKED,INSERT",
+                "CPYBWP U,T",
+                "CPYBLA W,'A'",
+                "CPYBWP T,U",
+                "CPYBRA W,'A'",
+                "ENQ T,*NONE,'A'",
+                "ENQ U,*NONE,'A'",
+            ],
+            &[
+                SPACE_MADE,
+                "4 RSLVSP OK",
+                "5 CPYBWP OK",
+                "6 CPYBLA OK",
+                "7 CPYBWP OK",
+                "8 CPYBRA OK",
+                "9 ENQ OK",
+                "10 ENQ 2401 1",
+                "11 FINISH UNHANDLED 2401",
+            ],
+        ),
         (
             "a byte copied into part of a cell ends its pointer",
             &[

@@ -13,9 +13,9 @@ use Rattle.s38_machine.specs.Events.{receiver_of, value_of_event}
 
 -- the kept part of an event's value
 abbrev pub Keeps : State → ℕ → Event → Option Val → Type 0
-Keeps w p event value = (s : State) → (delivered s (receiver_of event) value).state ≡ (delivered s (receiver_of event) (value_of_event w p event)).state
+Keeps w p event value = (s : State) (shift : ℕ) → (delivered s shift (receiver_of event) value).state ≡ (delivered s shift (receiver_of event) (value_of_event w p event)).state
 
 pub of_act : (w : State) (p depth : ℕ) (request : Request) (event : Event) (value : Option Val)
     → event ≡ Act depth request → Keeps w p event value
-    → (s : State) → (delivered s (receiver_at request.op request.operands) value).state ≡ (delivered s (receiver_at request.op request.operands) (value_of w p depth request.op request.round request.operands)).state
+    → (s : State) (shift : ℕ) → (delivered s shift (receiver_at request.op request.operands) value).state ≡ (delivered s shift (receiver_at request.op request.operands) (value_of w p depth request.op request.round request.operands)).state
 of_act w p depth request event value same keeps = subst (λ (e : Event). Keeps w p e value) same keeps

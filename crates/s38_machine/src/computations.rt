@@ -8,7 +8,8 @@ ghost use Rattle.s38_decimal.specs.Need.{has_one, has_second};
 ghost use Rattle.s38_memory.specs.Tagged.{bytes_in, is_within};
 ghost use Rattle.s38_strings.specs.Hex.{are_hex, is_hex};
 ghost use Rattle.s38_rules.specs.Compute.{numbers_compared, one_number, pointer_moved, two_numbers};
-ghost use Rattle.s38_rules.specs.Computed.{before, computed, failure_in, given_len, is_branch, is_copy, number_attr, number_branch, one_source, pointer_branch, pointer_offset, power_of, receiver_at, receiver_attr, string, string_branch, target_of, two_sources, value_in};
+ghost use Rattle.s38_rules.specs.Computed.{before, computed, copied_len, failure_in, held, is_branch, is_copy, number_attr, number_branch, one_source, pointer_branch, pointer_offset, power_of, receiver_at, receiver_attr, shift_at, string, string_branch, target_of, two_sources, value_in};
+ghost use Rattle.s38_rules.specs.Process.{copies_left, copies_right};
 ghost use Rattle.s38_rules.specs.Operands.{bytes_of, number_at, place as operand, pointer_at, word_at};
 ghost use Rattle.s38_rules.specs.Spaces.{bytes_there};
 ghost use Rattle.s38_machine.specs.Stored.{cells_or};
@@ -133,17 +134,40 @@ fn pointer_given(world: &World, op: Op, operands: &[Operand]) -> Result<Pointer,
 
 // ---- what a string instruction reads
 
+fn copies_left(op: Op) -> bool
+    ensures { result ≡ copies_left op }
+{
+    matches!(op, Op::Cpybla | Op::Xlate)
+}
+
+fn copies_right(op: Op) -> bool
+    ensures { result ≡ copies_right op }
+{
+    matches!(op, Op::Cpybra)
+}
+
 fn is_copy(op: Op) -> bool
     ensures { result ≡ is_copy op }
 {
-    matches!(op, Op::Cpybla | Op::Cpybra | Op::Xlate)
+    copies_left(op) || copies_right(op)
 }
 
-/// How many bytes go to a variable: a copy gives those that are copied alone.
-fn given_len(op: Op, room: usize, source: usize) -> usize
-    ensures { result ≡ given_len op room source }
+/// How many bytes behind the beginning of its receiver a copy at the right goes.
+pub fn shift_at(world: &World, op: Op, operands: &[Operand]) -> u16
+    ensures { result ≡ shift_at world.now op operands.now }
 {
-    if is_copy(op) { room.min(source) } else { room }
+    if copies_right(op) {
+        (room_at(operands, 1) as usize).saturating_sub(size_at(world, operands, 2)) as u16
+    } else {
+        0
+    }
+}
+
+/// How many bytes are copied.
+fn copied_len(world: &World, operands: &[Operand]) -> usize
+    ensures { result ≡ copied_len world.now operands.now }
+{
+    (room_at(operands, 1) as usize).min(size_at(world, operands, 2))
 }
 
 fn zeros(alloc: Global, len: usize) -> Result<Bytes, NoMemory>
@@ -154,28 +178,45 @@ fn zeros(alloc: Global, len: usize) -> Result<Bytes, NoMemory>
     Ok(Seq::from_vec(made))
 }
 
-/// How many bytes the receiver holds before.
-fn size_before(world: &World, op: Op, operands: &[Operand]) -> usize
-    ensures { result ≡ length (before world.now op operands.now (operand operands.now 1)) }
+/// How many bytes the receiver holds.
+fn size_held(world: &World, operands: &[Operand]) -> usize
+    ensures { result ≡ length (held world.now operands.now (operand operands.now 1)) }
 {
     match place(operands, 1) {
         Some(Operand::InSpace { .. }) => size_at(world, operands, 1),
-        _ => given_len(
-            op,
-            room_at(operands, 1) as usize,
-            size_at(world, operands, 2),
-        ),
+        _ => room_at(operands, 1) as usize,
     }
 }
 
-/// The bytes that the receiver holds before; of a variable those are neither known nor needed.
-fn before(alloc: Global, world: &World, op: Op, operands: &[Operand]) -> Result<Bytes, NoMemory>
-    ensures { IfOk result (λ made. made ≡ before world.now op operands.now (operand operands.now 1)) }
+/// The bytes that the receiver holds; of a variable those are neither known nor needed.
+fn held(alloc: Global, world: &World, operands: &[Operand]) -> Result<Bytes, NoMemory>
+    ensures { IfOk result (λ made. made ≡ held world.now operands.now (operand operands.now 1)) }
 {
     match place(operands, 1) {
         Some(Operand::InSpace { .. }) => bytes_at(alloc, world, operands, 1),
-        _ => zeros(alloc, size_before(world, op, operands)),
+        _ => zeros(alloc, room_at(operands, 1) as usize),
     }
+}
+
+/// How many bytes the result has.
+fn size_before(world: &World, op: Op, operands: &[Operand]) -> usize
+    ensures { result ≡ length (before world.now op operands.now (operand operands.now 1)) }
+{
+    if is_copy(op) {
+        copied_len(world, operands)
+    } else {
+        size_held(world, operands)
+    }
+}
+
+/// What the result is written over.
+fn before(alloc: Global, world: &World, op: Op, operands: &[Operand]) -> Result<Bytes, NoMemory>
+    ensures { IfOk result (λ made. made ≡ before world.now op operands.now (operand operands.now 1)) }
+{
+    if is_copy(op) {
+        return zeros(alloc, copied_len(world, operands));
+    }
+    held(alloc, world, operands)
 }
 
 // ---- hexadecimal characters, without memory

@@ -1,5 +1,5 @@
 //! How the value of an instruction comes to its receiver: to a variable with the reply, into a space at once.
-ghost use Rattle.std.specs.Prelude.{◌≡◌, ◌∷◌, [], IfOk};
+ghost use Rattle.std.specs.Prelude.{◌≡◌, ◌∷◌, ℕ, [], IfOk};
 ghost use Rattle.std.specs.Option.{option_copied};
 ghost use Rattle.s38_rules.specs.State.{State};
 ghost use Rattle.s38_rules.specs.Operands.{delivered, put_value};
@@ -25,8 +25,8 @@ pub fn parted(
     receiver: Option<&Operand>,
     value: Option<Val>,
 ) -> Result<(Vals, Option<Val>), NoMemory>
-    ensures values { IfOk result (λ parts. (s : State) → parts.0 ≡ (delivered s (option_copied receiver.entry) value).values) }
-    ensures kept { IfOk result (λ parts. (s : State) → (delivered s (option_copied receiver.entry) parts.1).state ≡ (delivered s (option_copied receiver.entry) value).state) }
+    ensures values { IfOk result (λ parts. (s : State) (shift : ℕ) → parts.0 ≡ (delivered s shift (option_copied receiver.entry) value).values) }
+    ensures kept { IfOk result (λ parts. (s : State) (shift : ℕ) → (delivered s shift (option_copied receiver.entry) parts.1).state ≡ (delivered s shift (option_copied receiver.entry) value).state) }
 {
     match value {
         None => Ok((Seq::new(alloc), None)),
@@ -49,15 +49,15 @@ fn put_value(world: &mut World, number: ObjNum, at: u64, value: &Val)
     }
 }
 
-/// A value goes into the space of its receiver; it takes no memory.
-pub fn put(world: &mut World, receiver: Option<&Operand>, value: Option<Val>)
-    ensures { world.new ≡ (delivered world.old (option_copied receiver.entry) value).state }
+/// A value goes into the space of its receiver, so many bytes behind its beginning; it takes no memory.
+pub fn put(world: &mut World, shift: u16, receiver: Option<&Operand>, value: Option<Val>)
+    ensures { world.new ≡ (delivered world.old shift (option_copied receiver.entry) value).state }
 {
     match value {
         None => {}
         Some(value) => match receiver {
             Some(Operand::InSpace { base, offset, .. }) => {
-                let at = start_of(*base, *offset);
+                let at = start_of(*base, *offset) + u64::from(shift);
                 put_value(world, target_of(*base), at, &value);
             }
             _ => {}

@@ -1,5 +1,5 @@
 //! A permitted event takes effect.
-ghost use Rattle.std.specs.Prelude.{◌≡◌, ◌<◌, true, Some, IfOk, OnOk, OnErr, length, slice_get, slice_set};
+ghost use Rattle.std.specs.Prelude.{◌≡◌, ◌<◌, ℕ, true, Some, IfOk, OnOk, OnErr, length, slice_get, slice_set};
 ghost use Rattle.std.specs.Option.{option_map};
 ghost use Rattle.s38_code.specs.declared.reply.Val.{Val};
 ghost use Rattle.s38_rules.specs.declared.process.Standing.{Standing};
@@ -13,7 +13,7 @@ ghost use Rattle.s38_rules.specs.Verdict.{conditions, verdict_of};
 ghost use Rattle.s38_machine.specs.Events.{receiver_of, value_of_event};
 
 use crate::changes::change;
-use crate::computations::receiver_at;
+use crate::computations::{receiver_at, shift_at};
 use crate::deliveries::put;
 use crate::processes::standing;
 use crate::starts::started_as;
@@ -34,12 +34,13 @@ fn act(
     value: Option<Val>,
 ) -> Result<(), NoMemory>
     requires conditions { conditions world.old process depth request.now.op request.now.round request.now.operands ≡ None }
-    requires value { (s : State) → (delivered s (receiver_at request.now.op request.now.operands) value).state
-        ≡ (delivered s (receiver_at request.now.op request.now.operands) (value_of world.old process depth request.now.op request.now.round request.now.operands)).state }
+    requires value { (s : State) (shift : ℕ) → (delivered s shift (receiver_at request.now.op request.now.operands) value).state
+        ≡ (delivered s shift (receiver_at request.now.op request.now.operands) (value_of world.old process depth request.now.op request.now.round request.now.operands)).state }
     ensures ok { OnOk result (world.new ≡ (effect world.old process depth request.now.op request.now.round request.now.operands).state) }
     ensures err { OnErr result (world.new ≡ world.old) }
 {
     let operands = request.operands.as_slice();
+    let shift = shift_at(world, request.op, operands);
     match change(
         alloc,
         world,
@@ -50,7 +51,7 @@ fn act(
         operands,
     ) {
         Ok(()) => {
-            put(world, receiver_at(request.op, operands), value);
+            put(world, shift, receiver_at(request.op, operands), value);
             Ok(())
         }
         Err(fault) => Err(fault),
@@ -119,7 +120,7 @@ fn take_effect(
     value: Option<Val>,
 ) -> Result<(), NoMemory>
     requires permit { verdict_of world.old process event.now ≡ Verdict.Permit }
-    requires value { (s : State) → (delivered s (receiver_of event.now) value).state ≡ (delivered s (receiver_of event.now) (value_of_event world.old process event.now)).state }
+    requires value { (s : State) (shift : ℕ) → (delivered s shift (receiver_of event.now) value).state ≡ (delivered s shift (receiver_of event.now) (value_of_event world.old process event.now)).state }
     ensures ok { OnOk result (world.new ≡ (effect_of world.old process event.now).state) }
     ensures err { OnErr result (world.new ≡ world.old) }
 {
@@ -144,7 +145,7 @@ pub fn apply(
     value: Option<Val>,
 ) -> Result<(), NoMemory>
     requires permit { verdict_of world.old process event.now ≡ Verdict.Permit }
-    requires value { (s : State) → (delivered s (receiver_of event.now) value).state ≡ (delivered s (receiver_of event.now) (value_of_event world.old process event.now)).state }
+    requires value { (s : State) (shift : ℕ) → (delivered s shift (receiver_of event.now) value).state ≡ (delivered s shift (receiver_of event.now) (value_of_event world.old process event.now)).state }
     ensures ok { OnOk result (world.new ≡ awake (effect_of world.old process event.now).state) }
     ensures err { OnErr result (world.new ≡ world.old) }
     ensures kept { length world.new.processes ≡ length world.old.processes }

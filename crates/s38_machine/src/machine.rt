@@ -1,4 +1,4 @@
-ghost use Rattle.std.specs.Prelude.{◌≡◌, ◌<◌, ◌≤◌, IfOk, IsErrOf, OnErr, length};
+ghost use Rattle.std.specs.Prelude.{◌≡◌, ◌<◌, ◌≤◌, ℕ, IfOk, IsErrOf, OnErr, length};
 ghost use Rattle.s38_code.specs.declared.event.Event.{Event};
 ghost use Rattle.s38_rules.specs.State.{State, ready};
 ghost use Rattle.s38_rules.specs.Computed.{receiver_at};
@@ -58,8 +58,8 @@ fn act_values(
     request: &Request,
 ) -> Result<(Vals, Option<Val>), NoMemory>
     ensures values { IfOk result (λ parts. parts.0 ≡ (effect world.now process depth request.now.op request.now.round request.now.operands).values) }
-    ensures kept { IfOk result (λ parts. (s : State) → (delivered s (receiver_at request.now.op request.now.operands) parts.1).state
-        ≡ (delivered s (receiver_at request.now.op request.now.operands) (value_of world.now process depth request.now.op request.now.round request.now.operands)).state) }
+    ensures kept { IfOk result (λ parts. (s : State) (shift : ℕ) → (delivered s shift (receiver_at request.now.op request.now.operands) parts.1).state
+        ≡ (delivered s shift (receiver_at request.now.op request.now.operands) (value_of world.now process depth request.now.op request.now.round request.now.operands)).state) }
 {
     let operands = request.operands.as_slice();
     let value = value_of(
@@ -83,8 +83,8 @@ fn parted_values(
     event: &Event,
 ) -> Result<(Vals, Option<Val>), NoMemory>
     ensures values { IfOk result (λ parts. parts.0 ≡ (effect_of world.now process event.now).values) }
-    ensures kept { IfOk result (λ parts. (s : State) → (delivered s (receiver_of event.now) parts.1).state
-        ≡ (delivered s (receiver_of event.now) (value_of_event world.now process event.now)).state) }
+    ensures kept { IfOk result (λ parts. (s : State) (shift : ℕ) → (delivered s shift (receiver_of event.now) parts.1).state
+        ≡ (delivered s shift (receiver_of event.now) (value_of_event world.now process event.now)).state) }
 {
     match event {
         Event::Act { depth, request } => act_values(alloc, world, process, *depth, request),

@@ -20,7 +20,7 @@ use Rattle.s38_code.specs.declared.program.Program.{Program}
 use Rattle.s38_rules.specs.declared.process.Standing.{Standing}
 use Rattle.s38_rules.specs.State.{State, standing, waits}
 use Rattle.s38_rules.specs.declared.object.Body.{Body}
-use Rattle.s38_rules.specs.Computed.{receiver_at}
+use Rattle.s38_rules.specs.Computed.{receiver_at, shift_at}
 use Rattle.s38_rules.specs.Operands.{deliver, delivered, put_value, place}
 use Rattle.s38_rules.specs.Effect.{effect, effect_of, value_of, change_of, cells_put, created, created_program, start_at, end_at, cpybwp_change, crtpg_change, crtq_change, crts_change, mods_change, destruction_change, enq_change, deq_change}
 use Rattle.s38_rules.specs.declared.verdict.Verdict.{Verdict}
@@ -81,13 +81,13 @@ put_keeps s n at (vals.Ptr p) = refl
 put_keeps s n at (vals.Branch b) = refl
 put_keeps s n at (vals.Code c) = refl
 
-deliver_keeps : (s : State) (receiver : Option Operand) (v : Val) → (deliver s receiver v).state.processes ≡ s.processes
-deliver_keeps s (Some (InSpace base offset attr)) v = put_keeps s _ _ v
-deliver_keeps s _ v = refl
+deliver_keeps : (s : State) (shift : ℕ) (receiver : Option Operand) (v : Val) → (deliver s shift receiver v).state.processes ≡ s.processes
+deliver_keeps s shift (Some (InSpace base offset attr)) v = put_keeps s _ _ v
+deliver_keeps s shift _ v = refl
 
-delivered_keeps : (s : State) (receiver : Option Operand) (v : Option Val) → (delivered s receiver v).state.processes ≡ s.processes
-delivered_keeps s receiver None = refl
-delivered_keeps s receiver (Some v) = deliver_keeps s receiver v
+delivered_keeps : (s : State) (shift : ℕ) (receiver : Option Operand) (v : Option Val) → (delivered s shift receiver v).state.processes ≡ s.processes
+delivered_keeps s shift receiver None = refl
+delivered_keeps s shift receiver (Some v) = deliver_keeps s shift receiver v
 
 cells_keep : (s : State) (receiver : Option Operand) (piece : List Cell) → (cells_put s receiver piece).processes ≡ s.processes
 cells_keep s (Some (InSpace base offset attr)) piece = refl
@@ -118,7 +118,7 @@ change_keeps s p _ ops = refl
 pub act_keeps : (s : State) (p depth : ℕ) (op : Op) (round : Bool) (ops : List Operand) → (effect s p depth op round ops).state.processes ≡ s.processes
 unfolding effect
 act_keeps s p depth op round ops =
-    delivered_keeps (change_of s p op ops) (receiver_at op ops) (value_of s p depth op round ops) ∙ change_keeps s p op ops
+    delivered_keeps (change_of s p op ops) (shift_at s op ops) (receiver_at op ops) (value_of s p depth op round ops) ∙ change_keeps s p op ops
 
 -- an effect neither makes a process nor takes one away
 pub effect_keeps : (s : State) (p : ℕ) (e : Event) → length (effect_of s p e).state.processes ≡ length s.processes

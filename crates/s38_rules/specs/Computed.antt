@@ -1,6 +1,6 @@
 -- A computation that the machine does, since an operand lies in a space: what it reads at its operands, and what
 -- it gives to its receiver, or the exception that it signals. All sources are read before anything is written.
-use Rattle.std.specs.Prelude.{ℕ, ◌==◌, Bool, true, false, ◌||◌, ℤ, pos, List, replicate, min, Option, Some, None, Result, Ok, Err, if◌then◌else◌}
+use Rattle.std.specs.Prelude.{ℕ, ◌-◌, ◌==◌, Bool, true, false, ◌||◌, ℤ, pos, List, replicate, min, Option, Some, None, Result, Ok, Err, if◌then◌else◌}
 use Rattle.s38_base.specs.declared.attr.Attr.{Attr}
 use Rattle.s38_base.specs.declared.attr.Attr.TheVariants as attrs
 use Rattle.s38_base.specs.declared.exception.Exception.{Exception}
@@ -15,6 +15,7 @@ use Rattle.s38_code.specs.declared.reply.Val.TheVariants as vals
 use Rattle.s38_decimal.specs.declared.dec.Target.{Target}
 use Rattle.s38_rules.specs.Compute.{holds, kind_word, numbers_compared, one_number, pointer_moved, string_given, two_numbers}
 use Rattle.s38_rules.specs.Local.{bytes_order}
+use Rattle.s38_rules.specs.Process.{copies_left, copies_right}
 use Rattle.s38_rules.specs.Operands.{bytes_at, bytes_of, number_at, place, pointer_at, room_at, scalar_attr, size_at, word_at}
 use Rattle.s38_rules.specs.State.{State}
 
@@ -72,19 +73,20 @@ pointer_branch s ops = Ok (vals.Branch (kind_word (pointer_at s ops 1) == word_a
 
 -- a copy leaves the rest of its receiver
 abbrev pub is_copy : Op → Bool
-is_copy Cpybla = true
-is_copy Cpybra = true
-is_copy Xlate = true
-is_copy _ = false
+is_copy op = copies_left op || copies_right op
 
--- how many bytes go to a variable: a copy gives those that are copied alone
-abbrev pub given_len : Op → ℕ → ℕ → ℕ
-given_len op room source = if is_copy op then min room source else room
+-- what the receiver holds; what stands in a variable the machine neither knows nor needs
+abbrev pub held : State → List Operand → Option Operand → List ℕ
+held s ops (Some (operands.InSpace base offset attr)) = bytes_of s (place ops 1)
+held s ops _ = replicate (room_at ops 1) 0
 
--- what the receiver holds before; what stands in a variable the machine neither knows nor needs
+-- how many bytes are copied
+abbrev pub copied_len : State → List Operand → ℕ
+copied_len s ops = min (room_at ops 1) (size_at s ops 2)
+
+-- what the result is written over: a copy gives the bytes that are copied alone
 abbrev pub before : State → Op → List Operand → Option Operand → List ℕ
-before s op ops (Some (operands.InSpace base offset attr)) = bytes_of s (place ops 1)
-before s op ops _ = replicate (given_len op (room_at ops 1) (size_at s ops 2)) 0
+before s op ops receiver = if is_copy op then replicate (copied_len s ops) 0 else held s ops receiver
 
 abbrev pub bytes_value : Result (List ℕ) Exception → Result Val Exception
 bytes_value (Err x) = Err x
@@ -155,3 +157,7 @@ is_branch _ = false
 -- the operand that gets the value; the value of a branch comes back with the reply
 abbrev pub receiver_at : Op → List Operand → Option Operand
 receiver_at op ops = if is_branch op then None else place ops 1
+
+-- a copy at the right goes so many bytes behind the beginning of its receiver
+abbrev pub shift_at : State → Op → List Operand → ℕ
+shift_at s op ops = if copies_right op then room_at ops 1 - size_at s ops 2 else 0

@@ -35,7 +35,7 @@ use Rattle.s38_rules.specs.Spaces.{first_pointer, object_of, offset_of, start_of
 use Rattle.s38_rules.specs.Users.{user_of}
 use Rattle.s38_rules.specs.Operands.{Done, delivered, is_in_space, place, pointer_at, bytes_at, rights_at, room_at, id_at, attr_at, count_at, source_cells, target, whole_at}
 use Rattle.s38_rules.specs.Needs.{resolved}
-use Rattle.s38_rules.specs.Computed.{computed, receiver_at, value_in}
+use Rattle.s38_rules.specs.Computed.{computed, receiver_at, shift_at, value_in}
 use Rattle.s38_rules.specs.Programs.{program_in, template_at}
 use Rattle.s38_rules.specs.Verdict.{profile_id, context_id, of_kind}
 
@@ -185,7 +185,7 @@ change_of s process _ ops = s
 -- the value is that of the state before the change, and goes to its receiver after it
 unfoldable pub effect : State → ℕ → ℕ → Op → Bool → List Operand → Done
 effect s process depth op round ops =
-    delivered (change_of s process op ops) (receiver_at op ops) (value_of s process depth op round ops)
+    delivered (change_of s process op ops) (shift_at s op ops) (receiver_at op ops) (value_of s process depth op round ops)
 
 -- ---- start and end
 

@@ -161,14 +161,16 @@ put_value s n at (vals.Bytes bytes) = on_space s n (with_bytes at bytes)
 put_value s n at (vals.Ptr p) = on_space s n (with_pointer at p)
 put_value s n at _ = s
 
--- a value goes to its receiver: one in a space takes it there, a variable of the process gets it with the reply
-abbrev pub deliver : State → Option Operand → Val → Done
-deliver s (Some (operands.InSpace base offset attr)) v = record { state = put_value s (target_of base) (start_of base offset) v; values = [] }
-deliver s _ v = record { state = s; values = v ∷ [] }
+-- a value goes to its receiver: one in a space takes it there, so many bytes behind its beginning, and a variable of
+-- the process gets it with the reply
+abbrev pub deliver : State → ℕ → Option Operand → Val → Done
+deliver s shift (Some (operands.InSpace base offset attr)) v =
+    record { state = put_value s (target_of base) (start_of base offset + shift) v; values = [] }
+deliver s shift _ v = record { state = s; values = v ∷ [] }
 
-abbrev pub delivered : State → Option Operand → Option Val → Done
-delivered s receiver None = record { state = s; values = [] }
-delivered s receiver (Some v) = deliver s receiver v
+abbrev pub delivered : State → ℕ → Option Operand → Option Val → Done
+delivered s shift receiver None = record { state = s; values = [] }
+delivered s shift receiver (Some v) = deliver s shift receiver v
 
 abbrev pub is_in_space : Option Operand → Bool
 is_in_space (Some (operands.InSpace base offset attr)) = true
