@@ -1,5 +1,5 @@
 //! What a pointer says.
-ghost use Rattle.std.specs.Prelude.{◌≡◌};
+ghost use Rattle.std.specs.Prelude.{◌≡◌, ◌<◌, ◌^◌};
 ghost use Rattle.s38_rules.specs.Spaces.{carried_by, is_pointer_attr, object_of, offset_of, same_attr, start_of, target_of};
 ghost use Rattle.s38_rules.specs.Verdict.{carried_in};
 
@@ -59,7 +59,8 @@ pub fn target_of(pointer: Option<Pointer>) -> ObjNum
 
 /// The first byte of an item that lies so far behind its base.
 pub fn start_of(base: Option<Pointer>, offset: u32) -> u64
-    ensures { result ≡ start_of base offset }
+    ensures start { result ≡ start_of base offset }
+    ensures small { result < 2 ^ 33 }
 {
     match base {
         None => u64::from(offset),
