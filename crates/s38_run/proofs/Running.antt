@@ -3,14 +3,13 @@ use Rattle.std.proofs.Common.{◌≡◌, ◌≢◌, ℕ, ◌-◌, ◌<◌, ◌==
 use Rattle.std.proofs.lemmas.List.{append-nil}
 use Rattle.std.proofs.lemmas.List.Elements.{filter-append}
 use Rattle.std.proofs.lemmas.Bool.Decides.{nat_tests}
-use Rattle.std.specs.Prelude.{Some, None}
+use Rattle.std.specs.Prelude.{Some}
 use Rattle.s38_code.specs.declared.entry.Entry.{Entry}
 use Rattle.s38_code.specs.declared.event.Event.{Event}
 use Rattle.s38_code.specs.declared.event.Event.TheVariants.{Start}
 use Rattle.s38_code.specs.History.{entries_of, entry_after, is_of}
 use Rattle.s38_rules.specs.declared.process.Standing.{Standing}
-use Rattle.s38_rules.specs.declared.process.Status.{Status}
-use Rattle.s38_rules.specs.declared.process.Status.TheVariants.{Fresh, Running, Ending, Ended}
+use Rattle.s38_rules.specs.declared.process.Status.TheVariants.{Fresh, Ended}
 use Rattle.s38_rules.specs.State.{State, ready}
 use Rattle.s38_rules.specs.Step.{step}
 use Rattle.s38_rules.specs.Legal.{IsSound, MayAsk, Run, after}
