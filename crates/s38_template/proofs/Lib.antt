@@ -1,6 +1,8 @@
 pub mod Complete
 pub mod Ends
+pub mod LineForms
 pub mod JobText
+pub mod Numbers
 pub mod Options
 pub mod Sets
 pub mod Sound
