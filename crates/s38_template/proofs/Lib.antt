@@ -4,6 +4,7 @@ pub mod LineForms
 pub mod JobText
 pub mod Numbers
 pub mod Options
+pub mod Printed
 pub mod Sets
 pub mod Sound
 pub mod Standing

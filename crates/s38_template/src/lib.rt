@@ -10,16 +10,18 @@ mod line;
 mod names;
 mod place;
 mod places;
+mod print;
 mod read;
 mod reader;
 mod said;
 mod seen;
 mod step;
-//TMP#[cfg(test)]
-//TMPmod tests;
+#[cfg(test)]
+mod tests;
 
 pub use fault::DeckFault;
 pub use places::{each_job_has_its_template, template_places};
+pub use print::{a_printed_deck_is_read, print_deck, print_template};
 pub use read::{one_deck, read_deck};
 pub use s38_code::Deck;
 
