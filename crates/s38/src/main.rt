@@ -6,6 +6,10 @@ mod command;
 mod outcome;
 #[cfg(test)]
 mod rows;
+#[cfg(test)]
+mod rows_computed;
+#[cfg(test)]
+mod rows_created;
 mod run;
 mod tell;
 mod templates;

@@ -6,7 +6,7 @@ use std::alloc::Global;
 use std::test::Fail;
 
 /// The lines, each ended by a line feed.
-fn text_of(alloc: Global, lines: &[&str]) -> Result<String, NoMemory> {
+pub fn text_of(alloc: Global, lines: &[&str]) -> Result<String, NoMemory> {
     let mut text = String::new(alloc);
     for line in lines {
         text.push_str(line)?;
@@ -16,7 +16,7 @@ fn text_of(alloc: Global, lines: &[&str]) -> Result<String, NoMemory> {
 }
 
 /// Whether a deck runs to its end with these logs.
-fn prints(alloc: Global, deck: &[&str], logs: &[&str]) -> Result<bool, NoMemory> {
+pub fn prints(alloc: Global, deck: &[&str], logs: &[&str]) -> Result<bool, NoMemory> {
     let deck = text_of(alloc, deck)?;
     let logs = text_of(alloc, logs)?;
     let answer = run(alloc, &["serial"], deck.as_str(), (&[], &[]), logs.as_str())?;
@@ -24,13 +24,17 @@ fn prints(alloc: Global, deck: &[&str], logs: &[&str]) -> Result<bool, NoMemory>
 }
 
 /// Whether a program of these declarations and instructions, run by a user, makes these entries behind its start.
-fn makes(alloc: Global, user: &str, code: &[&str], entries: &[&str]) -> Result<bool, NoMemory> {
+pub fn makes(alloc: Global, user: &str, code: &[&str], entries: &[&str]) -> Result<bool, NoMemory> {
     let code = text_of(alloc, code)?;
     let entries_text = text_of(alloc, entries)?;
     let deck = format!(in alloc;
         "PROGRAM P\n{code}END\nSTAGE\nJOB A USER {user} RUN P CONTEXTS QGPL\n"
     )?;
-    let count = entries.len() + 1;
+    let count = entries_text
+        .bytes()
+        .filter(|byte| *byte == b'\n')
+        .count()
+        + 1;
     let logs = format!(in alloc; "JOB 1 A USER {user}\n1 START OK\n{entries_text}DONE {count}\n")?;
     let answer = run(alloc, &["serial"], deck.as_str(), (&[], &[]), logs.as_str())?;
     Ok(answer.status == 0 && answer.same_text)

@@ -1,6 +1,6 @@
 -- A receiver is taken out of the variables while its bytes are written. Where it is a source too, its own bytes
 -- are kept beside.
-use Rattle.std.specs.Prelude.{ℕ, ◌==◌, Bool, false, ◌||◌, List, [], Option, Some, None, Result, Ok, Err, slice_get, if◌then◌else◌}
+use Rattle.std.specs.Prelude.{ℕ, ◌==◌, Bool, false, ◌||◌, List, [], Option, Some, Result, Ok, Err, slice_get, if◌then◌else◌}
 use Rattle.s38_base.specs.declared.exception.Exception.{Exception}
 use Rattle.s38_base.specs.declared.op.Op.{Op}
 use Rattle.s38_code.specs.declared.program.Arg.{Arg}

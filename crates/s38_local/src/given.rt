@@ -73,9 +73,9 @@ fn has_room_for(op: Op, a: Attr, to: Attr, power: i8) -> bool
     to.is_numeric() && need(op, a, a, to, power) <= 38
 }
 
-/// What an instruction with one numeric source gives.
+/// What an instruction with one numeric source gives; the power is that of SCALE.
 #[tactic(auto, unfolding(s38_rules::specs::Compute::one_computed))]
-fn one_computed(op: Op, to: Target, a: Dec, power: i64) -> Result<i128, DecimalFault>
+pub fn one_computed(op: Op, to: Target, a: Dec, power: i64) -> Result<i128, DecimalFault>
     requires { IsTrue (has_one op) }
     ensures exact { result ≡ one_computed op to a.attr a.units power }
     ensures fits { IfOk result (λ units. IsTrue (fits to.attr units)) }

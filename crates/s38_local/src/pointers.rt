@@ -1,19 +1,22 @@
-ghost use Rattle.std.specs.Prelude.{◌≡◌, ◌<◌, ◌^◌, unsigned_abs};
+ghost use Rattle.std.specs.Prelude.{◌≡◌, ◌<◌, ◌^◌, MatchOption, None, Some, unsigned_abs};
+ghost use Rattle.std.specs.Option.{option_copied};
+ghost use Rattle.s38_base.specs.declared.attr.Attr.{Attr};
 ghost use Rattle.s38_decimal.specs.Values.{exact_of, whole_part_of};
 ghost use Rattle.s38_rules.specs.Compute.{is_backwards, kind_word, moved, offset_in, pointer_moved, pointing};
-ghost use Rattle.s38_rules.specs.Local.{pointer_branch, pointer_offset, pointer_given};
+ghost use Rattle.s38_rules.specs.Local.{number_of, pointer_branch, pointer_offset, pointer_given};
+ghost use Rattle.s38_rules.specs.Variables.{attr_of};
 
 use crate::branches::jump;
 use crate::given::signal;
 use crate::operands::{number_of, pointer_of, word_of};
 use crate::receivers::receive_pointer;
 use s38_base::{Exception, ObjNum, Op, Pointer};
-use s38_code::{Instruction, Row, Val};
+use s38_code::{Arg, Instruction, Row, Val};
 use s38_decimal::{Dec, whole_part};
 use s38_rules::{DECIMAL_DATA, LocalEnd, POINTER_MISSING, POINTER_TYPE_INVALID, SPACE_ADDRESSING};
 
 /// The number of the word for a pointer's kind: SYS, SPC, DTA and NONE from 0 on.
-fn kind_word(pointer: Option<Pointer>) -> u32
+pub fn kind_word(pointer: Option<Pointer>) -> u32
     ensures { result ≡ kind_word pointer }
 {
     match pointer {
@@ -79,6 +82,40 @@ fn pointing(object: ObjNum, offset: Option<u32>) -> Result<Pointer, Exception>
     }
 }
 
+/// A space pointer, moved by the whole part of a number; None stands for a number without value.
+pub fn pointer_moved(
+    op: Op,
+    pointer: Option<Pointer>,
+    number: Option<Dec>,
+) -> Result<Pointer, Exception>
+    ensures { MatchOption number
+        ((attr : Attr) → result ≡ pointer_moved op pointer attr None)
+        (λ n. result ≡ pointer_moved op pointer n.attr (Some n.units)) }
+{
+    match pointer {
+        None => Err(signal(POINTER_MISSING, 2)),
+        Some(Pointer::Space { object, offset }) => match number {
+            None => Err(signal(DECIMAL_DATA, 3)),
+            Some(number) => pointing(object, moved_by(is_backwards(op), offset, number)),
+        },
+        Some(_) => Err(signal(POINTER_TYPE_INVALID, 2)),
+    }
+}
+
+/// A space pointer, moved by what is read.
+#[tactic(auto, using(crate::proofs::NumberLaws::moved_by_read))]
+fn moved_by_source(
+    op: Op,
+    pointer: Option<Pointer>,
+    rows: &[Row],
+    values: &[Val],
+    source: Option<&Arg>,
+) -> Result<Pointer, Exception>
+    ensures { result ≡ pointer_moved op pointer (attr_of rows.now (option_copied source.entry)) (number_of rows.now values.now (option_copied source.entry)) }
+{
+    pointer_moved(op, pointer, number_of(rows, values, source))
+}
+
 /// The space pointer, moved by the number.
 fn pointer_given(
     rows: &[Row],
@@ -88,17 +125,8 @@ fn pointer_given(
     ensures { result ≡ pointer_given rows.now values.now instruction.now }
 {
     let args = instruction.args.as_slice();
-    match pointer_of(values, args.get(1)) {
-        None => Err(signal(POINTER_MISSING, 2)),
-        Some(Pointer::Space { object, offset }) => match number_of(rows, values, args.get(2)) {
-            None => Err(signal(DECIMAL_DATA, 3)),
-            Some(number) => pointing(
-                object,
-                moved_by(is_backwards(instruction.op), offset, number),
-            ),
-        },
-        Some(_) => Err(signal(POINTER_TYPE_INVALID, 2)),
-    }
+    let pointer = pointer_of(values, args.get(1));
+    moved_by_source(instruction.op, pointer, rows, values, args.get(2))
 }
 
 /// An instruction that moves a space pointer.

@@ -10,7 +10,7 @@ use Rattle.s38_rules.specs.State.{State, charge_beside, object, owner_in, queue_
 use Rattle.s38_base.specs.declared.id.Kind.{Kind}
 use Rattle.s38_base.specs.declared.id.Kind.TheVariants as kinds
 use Rattle.s38_rules.specs.Operands.{count_at, id_at, target}
-use Rattle.s38_rules.specs.Verdict.{first, fails, of_failure, refusal, conditions, deq_conditions, verdict_of, creation_limits, crtq_conditions, crts_conditions, mods_conditions, is_space_length, is_taken, last_number, length_rule, most_objects, name_rule, number_rule, pages_for_length, pages_rule}
+use Rattle.s38_rules.specs.Verdict.{first, fails, of_failure, refusal, conditions, deq_conditions, verdict_of, creation_limits, crtpg_conditions, crtq_conditions, crts_conditions, mods_conditions, is_space_length, is_taken, last_number, length_rule, most_objects, name_rule, number_rule, pages_for_length, pages_rule}
 
 -- where the first of two failures is none, both are
 pub first_none : (a b : Option Exception) → first a b ≡ None → (a ≡ None) × (b ≡ None)
@@ -30,7 +30,7 @@ of_failure_permit s None h = refl
 of_failure_permit s (Some x) h = cc
 
 -- a permitted instruction meets its conditions
-pub permitted_conditions : (s : State) (p depth : ℕ) (request : Request) → verdict_of s p (Act depth request) ≡ Permit → conditions s p depth request.op request.operands ≡ None
+pub permitted_conditions : (s : State) (p depth : ℕ) (request : Request) → verdict_of s p (Act depth request) ≡ Permit → conditions s p depth request.op request.round request.operands ≡ None
 unfolding verdict_of refusal
 permitted_conditions s p depth request h =
     (first_none _ _ (first_none _ _ (of_failure_permit s _ h)).1).1
@@ -58,6 +58,14 @@ name_free s kind ops h = fails_none _ _ _ h
 
 length_good : (s : State) (ops : List Operand) (k : ℕ) → length_rule s ops k ≡ None → is_space_length (count_at s ops k) ≡ true
 length_good s ops k h = not_false _ (fails_none _ _ _ (first_none _ _ h).1)
+
+-- a program that may be made has a free name and a number
+pub crtpg_free : (s : State) (p : ℕ) (ops : List Operand) → crtpg_conditions s p ops ≡ None
+    → (is_taken s (target s ops 2) kinds.Program (id_at ops 3) ≡ false) × (s.next ≤ 2 ^ 62)
+unfolding crtpg_conditions
+crtpg_free s p ops h =
+    let rest = (first_none _ _ (first_none _ _ h).1).1 in
+    (name_free s kinds.Program ops (first_none _ _ h).0, limits_number s p 1 (first_none _ _ rest).0)
 
 -- a queue that may be made has a free name and a number
 pub crtq_free : (s : State) (p : ℕ) (ops : List Operand) → crtq_conditions s p ops ≡ None

@@ -2,7 +2,7 @@
 ghost use Rattle.std.specs.Prelude.{◌≡◌, ◌+◌, ◌<◌, ◌^◌, filter, length};
 ghost use Rattle.std.specs.Option.{option_copied};
 ghost use Rattle.s38_rules.specs.State.{cells_of};
-ghost use Rattle.s38_rules.specs.Verdict.{address_rule, address_rules, address_rules_from, base_rule, first_of, is_base, is_pointer, is_sought, item_rule, named_rule, needs_rule, object_rule, place_rule, pointer_rule, space_rule, stands_at};
+ghost use Rattle.s38_rules.specs.Verdict.{address_rule, address_rules, address_rules_from, base_rule, first_of, is_base, is_looked_at, is_pointer, is_sought, item_rule, named_rule, needs_rule, object_rule, place_rule, pointer_rule, space_rule, stands_at};
 ghost use Rattle.s38_machine.specs.Stored.{cells_or};
 
 use crate::failures::{fails, plain};
@@ -110,14 +110,21 @@ fn is_sought(sought: Sought, object_used: &Object) -> bool
         Sought::Any => true,
         Sought::Of(needed) => needed.code() == kind.code(),
         Sought::Container => Kind::Context.code() == kind.code() && object_used.number.0 != 1,
+        Sought::Ignored => true,
     }
+}
+
+fn is_looked_at(sought: Sought) -> bool
+    ensures { result ≡ is_looked_at sought }
+{
+    !matches!(sought, Sought::Ignored)
 }
 
 fn object_rule(need: &Need, object_used: Option<&Object>) -> Option<Exception>
     ensures { result ≡ object_rule need.now (option_copied object_used.entry) }
 {
     match object_used {
-        None => Some(plain(OBJECT_DESTROYED, need.place)),
+        None => fails(is_looked_at(need.sought), OBJECT_DESTROYED, need.place),
         Some(object_used) => fails(
             !is_sought(need.sought, object_used),
             OBJECT_TYPE_INVALID,

@@ -7,7 +7,8 @@ ghost use Rattle.s38_memory.specs.Tagged.{resized};
 ghost use Rattle.s38_objects.specs.Held.{with_changed};
 ghost use Rattle.s38_rules.specs.State.{ceiling_for, found, object_in, on_queue, queue_at, queue_in, with_object, with_queue};
 ghost use Rattle.s38_rules.specs.Operands.{bytes_at, count_at, delivered, id_at, put_value, size_at, target};
-ghost use Rattle.s38_rules.specs.Effect.{cells_put, change_of, cpybwp_change, created, crtq_change, crts_change, deq_change, destruction_change, enq_change, longest_at, made_object, maker_rows, mods_change};
+ghost use Rattle.s38_rules.specs.Effect.{cells_put, change_of, cpybwp_change, created, created_program, crtpg_change, crtq_change, crts_change, deq_change, destruction_change, enq_change, longest_at, made_object, maker_rows, mods_change};
+ghost use Rattle.s38_rules.specs.Programs.{program_in, template_at};
 ghost use Rattle.s38_rules.specs.Verdict.{conditions, is_space_length, is_taken, put_failure};
 ghost use Rattle.s38_memory.specs.Cell.{IsCell};
 
@@ -15,10 +16,11 @@ use crate::creation::{of_kind, space_length};
 use crate::operands::{id_at, place, rights_word, whole_at};
 use crate::pointers::{start_of, target_of};
 use crate::processes::user_of;
+use crate::programs::{program_in, template_at};
 use crate::reads::{bytes_at, source_cells, target};
 use crate::world::World;
-use s38_base::{Id, Kind, NoMemory, ObjNum, Op, Rights, Seq, UserNum};
-use s38_code::Operand;
+use s38_base::{Id, Kind, NoMemory, ObjNum, Op, Rights, Seq, Twin, UserNum};
+use s38_code::{Code, Operand};
 use s38_memory::{Cell, Tagged};
 use s38_objects::Objects;
 use s38_queues::{Order, Queue};
@@ -130,6 +132,47 @@ fn create(
             let id = of_kind(kind, id);
             create_named(alloc, world, process, operands, id, body)
         }
+    }
+}
+
+/// The program of the template that operand 5 names, to be held by an object too.
+fn program_copy(
+    alloc: Global,
+    world: &World,
+    operands: &[Operand],
+) -> Result<Option<Code>, NoMemory>
+    ensures { IfOk result (λ made. made ≡ program_in (template_at world.now operands.now)) }
+{
+    match program_in(template_at(world, operands)) {
+        None => Ok(None),
+        Some(code) => Ok(Some(code.twin(alloc)?)),
+    }
+}
+
+/// An object of the program that a template makes.
+#[tactic(auto, unfolding(s38_rules::specs::Effect::crtpg_change))]
+fn crtpg(
+    alloc: Global,
+    world: &mut World,
+    process: u32,
+    operands: &[Operand],
+) -> Result<(), NoMemory>
+    requires small { world.old.next ≤ 2 ^ 62 }
+    requires free { is_taken world.old (target world.old operands.now 2) Kind.Program (id_at operands.now 3) ≡ false }
+    ensures ok { OnOk result (world.new ≡ crtpg_change world.old process operands.now) }
+    ensures err { OnErr result (world.new ≡ world.old) }
+{
+    match program_copy(alloc, world, operands) {
+        Ok(Some(code)) => create(
+            alloc,
+            world,
+            process,
+            operands,
+            Kind::Program,
+            Body::Program(code),
+        ),
+        Ok(None) => Ok(()),
+        Err(fault) => Err(fault),
     }
 }
 
@@ -332,25 +375,27 @@ fn deq(world: &mut World, operands: &[Operand])
 }
 
 /// What a permitted instruction changes; where memory is refused nothing changes.
-#[tactic(auto, using(crate::proofs::VerdictLaws::deq_full, crate::proofs::VerdictLaws::crtq_free, crate::proofs::VerdictLaws::crts_free, crate::proofs::VerdictLaws::mods_length), unfolding(s38_rules::specs::Effect::change_of, s38_rules::specs::Verdict::conditions, s38_rules::specs::Verdict::enq_conditions))]
+#[tactic(auto, using(crate::proofs::VerdictLaws::deq_full, crate::proofs::VerdictLaws::crtpg_free, crate::proofs::VerdictLaws::crtq_free, crate::proofs::VerdictLaws::crts_free, crate::proofs::VerdictLaws::mods_length), unfolding(s38_rules::specs::Effect::change_of, s38_rules::specs::Verdict::conditions, s38_rules::specs::Verdict::enq_conditions))]
 pub fn change(
     alloc: Global,
     world: &mut World,
     process: u32,
     depth: u16,
     op: Op,
+    round: bool,
     operands: &[Operand],
 ) -> Result<(), NoMemory>
-    requires { conditions world.old process depth op operands.now ≡ None }
+    requires { conditions world.old process depth op round operands.now ≡ None }
     ensures ok { OnOk result (world.new ≡ change_of world.old process op operands.now) }
     ensures err { OnErr result (world.new ≡ world.old) }
 {
     match op {
         Op::Cpybwp => cpybwp(alloc, world, operands),
+        Op::Crtpg => crtpg(alloc, world, process, operands),
         Op::Crtq => crtq(alloc, world, process, operands),
         Op::Crts => crts(alloc, world, process, operands),
         Op::Mods => mods(world, operands),
-        Op::Desq | Op::Dess => {
+        Op::Despg | Op::Desq | Op::Dess => {
             destroy(world, operands);
             Ok(())
         }

@@ -5,7 +5,10 @@ ghost use Rattle.s38_queues.specs.MessageQueue.{MessageQueue, image_size};
 ghost use Rattle.s38_rules.specs.Verdict.{carried_rights, conditions, cpybwp_conditions, deq_conditions, enq_conditions, is_unaligned, put_failure, rslvsp_conditions, setdp_conditions};
 
 use crate::authority::available;
-use crate::creation::{crtq_conditions, crts_conditions, mods_conditions};
+use crate::computations::computed_failure;
+use crate::creation::{
+    BODY_LIMIT, crtpg_conditions, crtq_conditions, crts_conditions, mods_conditions,
+};
 use crate::failures::{fails, missing, plain};
 use crate::needs::resolved;
 use crate::objects::{object, space_at};
@@ -22,9 +25,6 @@ use s38_rules::{
     BOUNDARY_ALIGNMENT, LENGTH_INVALID, LIMIT_EXCEEDED, Located, NO_MESSAGE, OBJECT_NOT_FOUND,
     SPACE_ADDRESSING,
 };
-
-/// The greatest image of an object's body, in bytes.
-const BODY_LIMIT: u32 = 1_048_576;
 
 /// The relation that each message meets.
 const ANY: u32 = 6;
@@ -155,19 +155,21 @@ pub fn conditions(
     process: u32,
     depth: u16,
     op: Op,
+    round: bool,
     operands: &[Operand],
 ) -> Option<Exception>
-    ensures { result ≡ conditions world.now process depth op operands.now }
+    ensures { result ≡ conditions world.now process depth op round operands.now }
 {
     match op {
         Op::Rslvsp => rslvsp_conditions(world, process, depth, operands),
         Op::Setdp => setdp_conditions(world, operands),
         Op::Cpybwp => cpybwp_conditions(operands),
+        Op::Crtpg => crtpg_conditions(world, process, operands),
         Op::Crtq => crtq_conditions(world, process, operands),
         Op::Crts => crts_conditions(world, process, operands),
         Op::Mods => mods_conditions(world, operands),
         Op::Enq => enq_conditions(world, operands),
         Op::Deq => deq_conditions(world, operands),
-        _ => None,
+        _ => computed_failure(world, op, round, operands),
     }
 }

@@ -4,20 +4,21 @@ ghost use Rattle.std.specs.Prelude.{◌≡◌, ◌+◌, nat_lt, true};
 ghost use Rattle.std.specs.Option.{option_copied};
 ghost use Rattle.s38_rules.specs.Operands.{count_at};
 ghost use Rattle.s38_rules.specs.State.{charge_beside, object, owner_in};
-ghost use Rattle.s38_rules.specs.Verdict.{creation_limits, crtq_conditions, crts_conditions, is_space_length, is_taken, length_rule, limit_in, limit_of, mods_conditions, name_rule, number_rule, of_kind, pages_for_length, pages_rule};
+ghost use Rattle.s38_rules.specs.Verdict.{creation_limits, crtpg_conditions, crtq_conditions, crts_conditions, is_space_length, is_taken, length_rule, limit_in, limit_of, mods_conditions, name_rule, number_rule, of_kind, pages_for_length, pages_rule, refused_in, template_rule};
 
 use crate::failures::{fails, plain};
 use crate::numbers::{count_at, number_at};
 use crate::objects::{found, object, owner_in};
 use crate::operands::id_at;
 use crate::processes::user_of;
+use crate::programs::{is_larger, template_at};
 use crate::reads::target;
 use crate::world::World;
-use s38_base::{Exception, Id, Kind, ObjNum, UserNum};
-use s38_code::Operand;
+use s38_base::{Exception, Id, Kind, ObjNum, Rule, UserNum};
+use s38_code::{CheckedTemplate, Made, Operand};
 use s38_rules::{
     Body, DECIMAL_DATA, DUPLICATE_IDENTIFICATION, LENGTH_INVALID, LIMIT_EXCEEDED, Object,
-    PAGES_EXCEEDED,
+    PAGES_EXCEEDED, TEMPLATE_MISSING,
 };
 
 /// The greatest number of an object.
@@ -116,6 +117,53 @@ fn creation_limits(world: &World, process: u32, pages: u64) -> Option<Exception>
         return Some(failure);
     }
     number_rule(world)
+}
+
+/// The greatest image of an object's body, in bytes.
+pub const BODY_LIMIT: u32 = 1_048_576;
+
+fn refused_in(made: &Made) -> Option<Exception>
+    ensures { result ≡ refused_in made.now }
+{
+    match made {
+        Made::Accepted(_) => None,
+        Made::Refused { id, number } => Some(Exception {
+            id: *id,
+            operand: 5,
+            rule: Rule::Creation { number: *number },
+        }),
+    }
+}
+
+/// The deck has the template, and creation makes a program of it.
+fn template_rule(template: Option<&CheckedTemplate>) -> Option<Exception>
+    ensures { result ≡ template_rule (option_copied template.entry) }
+{
+    match template {
+        None => Some(plain(TEMPLATE_MISSING, 5)),
+        Some(template) => refused_in(&template.made),
+    }
+}
+
+#[tactic(auto, unfolding(s38_rules::specs::Verdict::crtpg_conditions))]
+pub fn crtpg_conditions(world: &World, process: u32, operands: &[Operand]) -> Option<Exception>
+    ensures { result ≡ crtpg_conditions world.now process operands.now }
+{
+    if let Some(failure) = name_rule(world, Kind::Program, operands) {
+        return Some(failure);
+    }
+    let template = template_at(world, operands);
+    if let Some(failure) = template_rule(template) {
+        return Some(failure);
+    }
+    if let Some(failure) = creation_limits(world, process, 1) {
+        return Some(failure);
+    }
+    fails(
+        is_larger(template, BODY_LIMIT),
+        LIMIT_EXCEEDED,
+        0,
+    )
 }
 
 #[tactic(auto, unfolding(s38_rules::specs::Verdict::crtq_conditions))]

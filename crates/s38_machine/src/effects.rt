@@ -5,15 +5,16 @@ ghost use Rattle.s38_code.specs.declared.reply.Val.{Val};
 ghost use Rattle.s38_rules.specs.declared.process.Standing.{Standing};
 ghost use Rattle.s38_rules.specs.declared.verdict.Verdict.{Verdict};
 ghost use Rattle.s38_rules.specs.State.{State, standing};
-ghost use Rattle.s38_rules.specs.Operands.{delivered, place as operand};
+ghost use Rattle.s38_rules.specs.Computed.{receiver_at};
+ghost use Rattle.s38_rules.specs.Operands.{delivered};
 ghost use Rattle.s38_rules.specs.Effect.{effect, effect_of, end_at, start_at, started_as, value_of};
 ghost use Rattle.s38_rules.specs.Step.{awake};
 ghost use Rattle.s38_rules.specs.Verdict.{conditions, verdict_of};
 ghost use Rattle.s38_machine.specs.Events.{receiver_of, value_of_event};
 
 use crate::changes::change;
+use crate::computations::receiver_at;
 use crate::deliveries::put;
-use crate::operands::place;
 use crate::processes::standing;
 use crate::starts::started_as;
 use crate::world::World;
@@ -32,16 +33,24 @@ fn act(
     request: &Request,
     value: Option<Val>,
 ) -> Result<(), NoMemory>
-    requires conditions { conditions world.old process depth request.now.op request.now.operands ≡ None }
-    requires value { (s : State) → (delivered s (operand request.now.operands 1) value).state
-        ≡ (delivered s (operand request.now.operands 1) (value_of world.old process depth request.now.op request.now.operands)).state }
-    ensures ok { OnOk result (world.new ≡ (effect world.old process depth request.now.op request.now.operands).state) }
+    requires conditions { conditions world.old process depth request.now.op request.now.round request.now.operands ≡ None }
+    requires value { (s : State) → (delivered s (receiver_at request.now.op request.now.operands) value).state
+        ≡ (delivered s (receiver_at request.now.op request.now.operands) (value_of world.old process depth request.now.op request.now.round request.now.operands)).state }
+    ensures ok { OnOk result (world.new ≡ (effect world.old process depth request.now.op request.now.round request.now.operands).state) }
     ensures err { OnErr result (world.new ≡ world.old) }
 {
     let operands = request.operands.as_slice();
-    match change(alloc, world, process, depth, request.op, operands) {
+    match change(
+        alloc,
+        world,
+        process,
+        depth,
+        request.op,
+        request.round,
+        operands,
+    ) {
         Ok(()) => {
-            put(world, place(operands, 1), value);
+            put(world, receiver_at(request.op, operands), value);
             Ok(())
         }
         Err(fault) => Err(fault),

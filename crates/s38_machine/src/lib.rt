@@ -4,6 +4,7 @@
 mod addresses;
 mod authority;
 mod changes;
+mod computations;
 mod conditions;
 mod creation;
 mod deliveries;
@@ -18,6 +19,7 @@ mod opening;
 mod operands;
 mod pointers;
 mod processes;
+mod programs;
 mod queues;
 mod reads;
 mod rights;

@@ -1,7 +1,8 @@
 ghost use Rattle.std.specs.Prelude.{◌≡◌, ◌<◌, ◌≤◌, IfOk, IsErrOf, OnErr, length};
 ghost use Rattle.s38_code.specs.declared.event.Event.{Event};
 ghost use Rattle.s38_rules.specs.State.{State, ready};
-ghost use Rattle.s38_rules.specs.Operands.{delivered, place};
+ghost use Rattle.s38_rules.specs.Computed.{receiver_at};
+ghost use Rattle.s38_rules.specs.Operands.{delivered};
 ghost use Rattle.s38_machine.specs.Events.{receiver_of, value_of_event};
 ghost use Rattle.s38_rules.specs.Verdict.{verdict_of};
 ghost use Rattle.s38_rules.specs.Effect.{effect, effect_of, value_of};
@@ -10,17 +11,17 @@ ghost use Rattle.s38_rules.specs.Step.{by_verdict, step};
 ghost use Rattle.s38_rules.specs.Legal.{IsSound, MayAsk, after, after_by, begun};
 ghost use Rattle.s38_rules.specs.Opening.{opened};
 
+use crate::computations::receiver_at;
 use crate::deliveries::parted;
 use crate::effects::apply;
 use crate::log::Log;
 use crate::opening::opened;
-use crate::operands::place;
 use crate::processes::{ready, waits};
 use crate::values::value_of;
 use crate::verdicts::verdict_of;
 use crate::world::World;
 use s38_base::{Exception, NoMemory, Seq, Twin};
-use s38_code::{Entry, Event, Job, Reply, Request, StepFault, Stepper, Val, Vals};
+use s38_code::{Checked, Entry, Event, Job, Reply, Request, StepFault, Stepper, Val, Vals};
 use s38_rules::Verdict;
 use std::alloc::Global;
 use std::marker::Model;
@@ -56,13 +57,21 @@ fn act_values(
     depth: u16,
     request: &Request,
 ) -> Result<(Vals, Option<Val>), NoMemory>
-    ensures values { IfOk result (λ parts. parts.0 ≡ (effect world.now process depth request.now.op request.now.operands).values) }
-    ensures kept { IfOk result (λ parts. (s : State) → (delivered s (place request.now.operands 1) parts.1).state
-        ≡ (delivered s (place request.now.operands 1) (value_of world.now process depth request.now.op request.now.operands)).state) }
+    ensures values { IfOk result (λ parts. parts.0 ≡ (effect world.now process depth request.now.op request.now.round request.now.operands).values) }
+    ensures kept { IfOk result (λ parts. (s : State) → (delivered s (receiver_at request.now.op request.now.operands) parts.1).state
+        ≡ (delivered s (receiver_at request.now.op request.now.operands) (value_of world.now process depth request.now.op request.now.round request.now.operands)).state) }
 {
     let operands = request.operands.as_slice();
-    let value = value_of(alloc, world, process, depth, request.op, operands)?;
-    parted(alloc, place(operands, 1), value)
+    let value = value_of(
+        alloc,
+        world,
+        process,
+        depth,
+        request.op,
+        request.round,
+        operands,
+    )?;
+    parted(alloc, receiver_at(request.op, operands), value)
 }
 
 /// The values of the reply to a permitted event, and what goes into the space of its receiver.
@@ -84,11 +93,11 @@ fn parted_values(
 }
 
 impl Machine {
-    /// A machine with the objects that it begins with, for these jobs.
-    pub fn start(alloc: Global, jobs: &[Job]) -> Result<Machine, NoMemory>
-        ensures { IfOk result (λ machine. machine ≡ begun (opened jobs.now)) }
+    /// A machine with the objects that it begins with, the templates of a deck, each checked, and its jobs.
+    pub fn start(alloc: Global, templates: Checked, jobs: &[Job]) -> Result<Machine, NoMemory>
+        ensures { IfOk result (λ machine. machine ≡ begun (opened templates jobs.now)) }
     {
-        let world = opened(alloc, jobs)?;
+        let world = opened(alloc, templates, jobs)?;
         let log = Log::new(alloc, jobs.len())?;
         let origin = Snapshot::of(&world);
         Ok(Machine {

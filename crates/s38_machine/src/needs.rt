@@ -248,13 +248,22 @@ fn creation_needs(operands: &[Operand]) -> Needs
 }
 
 /// What an instruction needs of its operands, in their order.
-#[tactic(auto, unfolding(s38_rules::specs::Needs::needs, s38_rules::specs::Needs::enq_needs, s38_rules::specs::Needs::deq_needs, s38_rules::specs::Needs::setsppfp_needs, s38_rules::specs::Needs::setspfp_needs, s38_rules::specs::Needs::setdp_needs, s38_rules::specs::Needs::mods_needs, s38_rules::specs::Needs::destruction_needs))]
+#[tactic(auto, unfolding(s38_rules::specs::Needs::needs, s38_rules::specs::Needs::enq_needs, s38_rules::specs::Needs::deq_needs, s38_rules::specs::Needs::setsppfp_needs, s38_rules::specs::Needs::setspfp_needs, s38_rules::specs::Needs::setdp_needs, s38_rules::specs::Needs::mods_needs, s38_rules::specs::Needs::destruction_needs, s38_rules::specs::Needs::offset_needs))]
 pub fn needs_of(world: &World, process: u32, depth: u16, op: Op, operands: &[Operand]) -> Needs
     ensures { result ≡ needs world.now process depth op operands.now }
 {
+    let program = Sought::Of(Kind::Program);
     let queue = Sought::Of(Kind::Queue);
     let space = Sought::Of(Kind::Space);
     match op {
+        Op::Addspp | Op::Subspp => need(
+            2,
+            Named::Written,
+            PointerKind::Space,
+            Sought::Ignored,
+            Rights(0),
+            None,
+        ),
         Op::Rslvsp => rslvsp_needs(world, process, depth, operands),
         Op::Setsppfp => on_object(2, space, Rights::SPACE, None),
         Op::Setspfp => need(
@@ -273,9 +282,11 @@ pub fn needs_of(world: &World, process: u32, depth: u16, op: Op, operands: &[Ope
             Rights(0),
             None,
         ),
+        Op::Crtpg => creation_needs(operands),
         Op::Crtq => creation_needs(operands),
         Op::Crts => creation_needs(operands),
         Op::Mods => on_object(1, space, Rights::OBJMGT, Some(Category::Change)),
+        Op::Despg => on_object(1, program, Rights::OBJCTL, Some(Category::Control)),
         Op::Desq => on_object(1, queue, Rights::OBJCTL, Some(Category::Control)),
         Op::Dess => on_object(1, space, Rights::OBJCTL, Some(Category::Control)),
         Op::Enq => on_object(1, queue, Rights::INSERT, Some(Category::Change)),

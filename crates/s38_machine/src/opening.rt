@@ -6,7 +6,7 @@ ghost use Rattle.s38_rules.specs.Opening.{general_context, locked_queue, machine
 
 use crate::world::World;
 use s38_base::{Id, Kind, Name, NoMemory, ObjNum, Rights, Seq, Special, Twin};
-use s38_code::Job;
+use s38_code::{Checked, Job};
 use s38_objects::Objects;
 use s38_queues::{Order, Queue};
 use s38_rules::{Body, Object, PrivateRow, RowList, Standing};
@@ -142,14 +142,15 @@ fn standings(alloc: Global, jobs: &[Job]) -> Result<Vec<Standing>, NoMemory>
     Ok(made)
 }
 
-/// The state in which the jobs find the machine.
-pub fn opened(alloc: Global, jobs: &[Job]) -> Result<World, NoMemory>
-    ensures { IfOk result (λ world. world ≡ opened jobs.now) }
+/// The state in which the jobs find the machine, with the deck's templates.
+pub fn opened(alloc: Global, templates: Checked, jobs: &[Job]) -> Result<World, NoMemory>
+    ensures { IfOk result (λ world. world ≡ opened templates jobs.now) }
 {
     let objects = opening(alloc)?;
     let processes = standings(alloc, jobs)?;
     Ok(World {
         objects,
+        templates,
         processes,
         waiting: Vec::new(alloc),
     })

@@ -9,15 +9,31 @@ use s38_code::{EndCause, Event, Job, Operand, Request, Stepper};
 use std::alloc::Global;
 use std::test::Fail;
 
-/// What a process asks, of the queue that the machine begins with.
-#[derive(Clone, Copy, PartialEq, Eq, Debug)]
+/// What a process asks, of the queue that the machine begins with, or of a space that is made first.
+#[derive(Clone, Copy)]
 enum Asked {
     Start,
     Find,
     Put(&'static [u8]),
     /// A message, into this many bytes.
     Take(u16),
+    /// An instruction, and whether it rounds.
+    Do(Op, bool, &'static [Given]),
     End,
+}
+
+/// An operand, as far as computations have them.
+#[derive(Clone, Copy)]
+enum Given {
+    /// An item in the space, so far behind its first byte.
+    At(u32, Attr),
+    Value(Attr, &'static [u8]),
+    Into(Attr),
+    Object(u64),
+    Whole(i64),
+    Word(u32),
+    Space(&'static [u8]),
+    Nothing,
 }
 
 fn job(alloc: Global, user: &[u8], stage: u16) -> Result<Job, Fail> {
@@ -94,12 +110,58 @@ fn deq(alloc: Global, len: u16) -> Result<Event, Fail> {
     ))
 }
 
+fn operand(alloc: Global, given: Given) -> Result<Operand, Fail> {
+    Ok(match given {
+        Given::At(offset, attr) => Operand::InSpace {
+            base: Some(Pointer::Space {
+                object: ObjNum(6),
+                offset: 0,
+            }),
+            offset,
+            attr,
+        },
+        Given::Value(attr, bytes) => Operand::Value {
+            attr,
+            bytes: Seq::from_slice(alloc, bytes)?,
+        },
+        Given::Into(attr) => Operand::Receiver { attr },
+        Given::Object(number) => Operand::Ptr(Some(Pointer::System {
+            object: ObjNum(number),
+            rights: Rights(0),
+        })),
+        Given::Whole(number) => Operand::Whole(number),
+        Given::Word(word) => Operand::Word(word),
+        Given::Space(name) => Operand::Ident(Id {
+            kind: Kind::Space,
+            sub: 0,
+            name: Name::parse(name)?,
+        }),
+        Given::Nothing => Operand::Nothing,
+    })
+}
+
+fn instruction(alloc: Global, op: Op, round: bool, given: &[Given]) -> Result<Event, Fail> {
+    let mut operands = Seq::new(alloc);
+    for one in given {
+        operands.push(operand(alloc, *one)?)?;
+    }
+    Ok(Event::Act {
+        depth: 1,
+        request: Request {
+            op,
+            round,
+            operands,
+        },
+    })
+}
+
 fn event(alloc: Global, asked: Asked) -> Result<Event, Fail> {
     match asked {
         Asked::Start => Ok(Event::Start),
         Asked::Find => rslvsp(alloc),
         Asked::Put(text) => enq(alloc, text),
         Asked::Take(len) => deq(alloc, len),
+        Asked::Do(op, round, given) => instruction(alloc, op, round, given),
         Asked::End => Ok(Event::Finish {
             cause: EndCause::Return,
         }),
@@ -132,7 +194,7 @@ fn played(
     jobs: &[Job],
     cases: &[(u32, Asked, &str)],
 ) -> Result<(Machine, usize), Fail> {
-    let mut machine = Machine::start(alloc, jobs)?;
+    let mut machine = Machine::start(alloc, Seq::new(alloc), jobs)?;
     let mut good = 0;
     for case in cases {
         let (process, asked, text) = *case;
@@ -237,5 +299,294 @@ fn processes_are_answered(rt: HostRuntime) -> Result<(), Fail> {
             "at {k}"
         );
     }
+    Ok(())
+}
+
+const P3: Attr = Attr::Packed {
+    digits: 3,
+    fraction: 0,
+};
+
+const PTR: Attr = Attr::Pointer;
+
+const C1: Attr = Attr::Chars { len: 1 };
+
+const C2: Attr = Attr::Chars { len: 2 };
+
+const C4: Attr = Attr::Chars { len: 4 };
+
+const X: Given = Given::At(0, P3);
+
+const Y: Given = Given::At(2, P3);
+
+/// An item whose bytes have no value.
+const BAD: Given = Given::At(6, P3);
+
+const P: Given = Given::At(16, PTR);
+
+const Q: Given = Given::At(32, PTR);
+
+/// An item that the space does not have.
+const OUTSIDE: Given = Given::At(100, P3);
+
+const DONE: &str = "Done(Seq { items: [] })";
+
+/// The first process starts, and makes a space of 64 bytes.
+const BEGINNING: [(u32, Asked, &str); 2] = [
+    (1, Asked::Start, DONE),
+    (
+        1,
+        Asked::Do(
+            Op::Crts,
+            false,
+            &[
+                Given::Into(PTR),
+                Given::Nothing,
+                Given::Space(b"S"),
+                Given::Word(0),
+                Given::Value(P3, &[0x06, 0x4F]),
+            ],
+        ),
+        "Done(Seq { items: [Ptr(Some(System { object: ObjNum(6), rights: Rights(0) }))] })",
+    ),
+];
+
+/// How many instructions are answered as they have to be, once there is a space.
+fn computed(
+    alloc: Global,
+    cases: &[(Op, bool, &'static [Given], &'static str)],
+) -> Result<usize, Fail> {
+    let mut asked = Vec::from_slice(alloc, &BEGINNING)?;
+    for case in cases {
+        let (op, round, given, answer) = *case;
+        asked.push((1, Asked::Do(op, round, given), answer))?;
+    }
+    let (_, good) = played(alloc, jobs(alloc)?.as_slice(), asked.as_slice())?;
+    Ok(good.saturating_sub(BEGINNING.len()))
+}
+
+#[test]
+fn numbers_are_computed_in_a_space(rt: HostRuntime) -> Result<(), Fail> {
+    let cases: [(Op, bool, &[Given], &str); 14] = [
+        (
+            Op::Cpybla,
+            false,
+            &[Given::At(0, C2), Given::Value(C2, &[0x01, 0x2F])],
+            DONE,
+        ),
+        (
+            Op::Cpybla,
+            false,
+            &[Given::At(2, C2), Given::Value(C2, &[0x00, 0x5F])],
+            DONE,
+        ),
+        (Op::Addn, false, &[Given::At(4, P3), X, Y], DONE),
+        (
+            Op::Cpybla,
+            false,
+            &[Given::Into(C2), Given::At(4, C2)],
+            "Done(Seq { items: [Bytes(Seq { items: [1, 127] })] })",
+        ),
+        (Op::Addn, false, &[X, X, X], DONE),
+        (
+            Op::Cpynv,
+            false,
+            &[Given::Into(P3), X],
+            "Done(Seq { items: [Bytes(Seq { items: [2, 79] })] })",
+        ),
+        (
+            Op::Div,
+            false,
+            &[Given::Into(P3), X, Y],
+            "Done(Seq { items: [Bytes(Seq { items: [0, 79] })] })",
+        ),
+        (
+            Op::Div,
+            true,
+            &[Given::Into(P3), X, Y],
+            "Done(Seq { items: [Bytes(Seq { items: [0, 95] })] })",
+        ),
+        (
+            Op::Scale,
+            false,
+            &[Given::Into(P3), X, Given::Whole(2)],
+            "Signal(Exception { id: 3082, operand: 1, rule: Plain })",
+        ),
+        (
+            Op::Cpybla,
+            false,
+            &[Given::At(6, C2), Given::Value(C2, &[0x1A, 0x2F])],
+            DONE,
+        ),
+        (
+            Op::Addn,
+            false,
+            &[Given::Into(P3), BAD, X],
+            "Signal(Exception { id: 3074, operand: 2, rule: Plain })",
+        ),
+        (
+            Op::Addn,
+            false,
+            &[X, X, BAD],
+            "Signal(Exception { id: 3074, operand: 3, rule: Plain })",
+        ),
+        (
+            Op::Cmpnvb,
+            false,
+            &[X, Y, Given::Word(3)],
+            "Done(Seq { items: [Branch(true)] })",
+        ),
+        (
+            Op::Cmpnvb,
+            false,
+            &[X, Y, Given::Word(2)],
+            "Done(Seq { items: [Branch(false)] })",
+        ),
+    ];
+    assert_eq!(rt; computed(rt.alloc(), &cases)?, cases.len());
+    Ok(())
+}
+
+#[test]
+fn bytes_are_computed_in_a_space(rt: HostRuntime) -> Result<(), Fail> {
+    let cases: [(Op, bool, &[Given], &str); 10] = [
+        (
+            Op::Cpybla,
+            false,
+            &[
+                Given::At(0, C4),
+                Given::Value(C4, &[0xF0, 0xC1, 0xF2, 0xD0]),
+            ],
+            DONE,
+        ),
+        (
+            Op::Cpybla,
+            false,
+            &[Given::Into(C4), Given::At(1, C2)],
+            "Done(Seq { items: [Bytes(Seq { items: [193, 242] })] })",
+        ),
+        (
+            Op::Cpybra,
+            false,
+            &[Given::At(4, C4), Given::At(0, C2)],
+            DONE,
+        ),
+        (
+            Op::Cat,
+            false,
+            &[
+                Given::Into(Attr::Chars { len: 7 }),
+                Given::At(4, C4),
+                Given::At(1, C2),
+            ],
+            "Done(Seq { items: [Bytes(Seq { items: [0, 0, 240, 193, 193, 242, 64] })] })",
+        ),
+        (
+            Op::Cvtch,
+            false,
+            &[Given::Into(C2), Given::At(0, C4)],
+            "Signal(Exception { id: 3073, operand: 2, rule: Plain })",
+        ),
+        (
+            Op::Cvtch,
+            false,
+            &[Given::At(8, C1), Given::At(0, C2)],
+            DONE,
+        ),
+        (
+            Op::Cvthc,
+            false,
+            &[Given::Into(C2), Given::At(8, C1)],
+            "Done(Seq { items: [Bytes(Seq { items: [240, 193] })] })",
+        ),
+        (
+            Op::Xor,
+            false,
+            &[Given::At(0, C2), Given::At(0, C2), Given::At(0, C2)],
+            DONE,
+        ),
+        (
+            Op::Cmpblab,
+            false,
+            &[Given::At(0, C4), Given::Value(C1, &[0x01]), Given::Word(2)],
+            "Done(Seq { items: [Branch(true)] })",
+        ),
+        (
+            Op::Cpybla,
+            false,
+            &[Given::Into(C4), Given::At(62, C4)],
+            "Signal(Exception { id: 1537, operand: 2, rule: Plain })",
+        ),
+    ];
+    assert_eq!(rt; computed(rt.alloc(), &cases)?, cases.len());
+    Ok(())
+}
+
+#[test]
+fn pointers_are_computed_in_a_space(rt: HostRuntime) -> Result<(), Fail> {
+    let cases: [(Op, bool, &[Given], &str); 11] = [
+        (Op::Setsppfp, false, &[P, Given::Object(6)], DONE),
+        (
+            Op::Addspp,
+            false,
+            &[Q, P, Given::Value(P3, &[0x01, 0x0F])],
+            DONE,
+        ),
+        (
+            Op::Addspp,
+            false,
+            &[Given::Into(PTR), Q, Given::Value(P3, &[0x00, 0x5F])],
+            "Done(Seq { items: [Ptr(Some(Space { object: ObjNum(6), offset: 15 }))] })",
+        ),
+        (
+            Op::Subspp,
+            false,
+            &[Given::Into(PTR), Q, Given::Value(P3, &[0x01, 0x1F])],
+            "Signal(Exception { id: 1537, operand: 3, rule: Plain })",
+        ),
+        (
+            Op::Addspp,
+            false,
+            &[Given::Into(PTR), Q, OUTSIDE],
+            "Signal(Exception { id: 1537, operand: 3, rule: Plain })",
+        ),
+        (
+            Op::Addspp,
+            false,
+            &[Given::Into(PTR), Given::Object(6), OUTSIDE],
+            "Signal(Exception { id: 9218, operand: 2, rule: Plain })",
+        ),
+        (
+            Op::Cmpptrt,
+            false,
+            &[P, Given::Word(1)],
+            "Done(Seq { items: [Branch(true)] })",
+        ),
+        (
+            Op::Cpybla,
+            false,
+            &[Given::At(20, C1), Given::Value(C1, &[0x01])],
+            DONE,
+        ),
+        (
+            Op::Cmpptrt,
+            false,
+            &[P, Given::Word(1)],
+            "Done(Seq { items: [Branch(false)] })",
+        ),
+        (
+            Op::Cmpptrt,
+            false,
+            &[P, Given::Word(3)],
+            "Done(Seq { items: [Branch(true)] })",
+        ),
+        (
+            Op::Addspp,
+            false,
+            &[Given::Into(PTR), P, OUTSIDE],
+            "Signal(Exception { id: 9217, operand: 2, rule: Plain })",
+        ),
+    ];
+    assert_eq!(rt; computed(rt.alloc(), &cases)?, cases.len());
     Ok(())
 }

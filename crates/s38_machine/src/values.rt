@@ -3,6 +3,7 @@ ghost use Rattle.std.specs.Prelude.{◌≡◌, IfOk};
 ghost use Rattle.s38_rules.specs.Effect.{cpybwp_value, creation_value, deq_value, fitted, pointer_made, pointer_to, rslvsp_value, setdp_value, setspfp_value, setsppfp_value, value_of};
 ghost use Rattle.std.specs.Option.{option_copied};
 
+use crate::computations::computed_value;
 use crate::needs::resolved;
 use crate::objects::object;
 use crate::operands::{attr_at, id_at, is_in_space, place, rights_word, room_at};
@@ -138,9 +139,10 @@ pub fn value_of(
     process: u32,
     depth: u16,
     op: Op,
+    round: bool,
     operands: &[Operand],
 ) -> Result<Option<Val>, NoMemory>
-    ensures { IfOk result (λ made. made ≡ value_of world.now process depth op operands.now) }
+    ensures { IfOk result (λ made. made ≡ value_of world.now process depth op round operands.now) }
 {
     match op {
         Op::Rslvsp => Ok(Some(rslvsp_value(world, process, depth, operands))),
@@ -148,9 +150,10 @@ pub fn value_of(
         Op::Setspfp => Ok(Some(setspfp_value(world, operands))),
         Op::Setdp => Ok(Some(setdp_value(world, operands))),
         Op::Cpybwp => cpybwp_value(alloc, world, operands),
+        Op::Crtpg => Ok(Some(creation_value(world, operands))),
         Op::Crtq => Ok(Some(creation_value(world, operands))),
         Op::Crts => Ok(Some(creation_value(world, operands))),
         Op::Deq => Ok(Some(deq_value(alloc, world, operands)?)),
-        _ => Ok(None),
+        _ => computed_value(alloc, world, op, round, operands),
     }
 }

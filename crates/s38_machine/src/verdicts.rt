@@ -26,9 +26,10 @@ fn refusal(
     process: u32,
     depth: u16,
     op: Op,
+    round: bool,
     operands: &[Operand],
 ) -> Option<Exception>
-    ensures { result ≡ refusal world.now process depth op operands.now }
+    ensures { result ≡ refusal world.now process depth op round operands.now }
 {
     let needs = needs_of(world, process, depth, op, operands);
     if let Some(failure) = address_rules(world, operands, needs.as_slice()) {
@@ -38,7 +39,7 @@ fn refusal(
     if let Some(failure) = rights_failure(world, &users, operands, needs.as_slice()) {
         return Some(failure);
     }
-    conditions(world, process, depth, op, operands)
+    conditions(world, process, depth, op, round, operands)
 }
 
 fn absent(object_found: Option<&Object>, operand: u8) -> Option<Exception>
@@ -132,13 +133,14 @@ fn start_verdict(world: &World, standing: Option<&Standing>) -> Verdict
 }
 
 fn act_verdict(world: &World, process: u32, depth: u16, request: &Request) -> Verdict
-    ensures { result ≡ of_failure world.now (refusal world.now process depth request.now.op request.now.operands) }
+    ensures { result ≡ of_failure world.now (refusal world.now process depth request.now.op request.now.round request.now.operands) }
 {
     let failure = refusal(
         world,
         process,
         depth,
         request.op,
+        request.round,
         request.operands.as_slice(),
     );
     of_failure(world, failure)

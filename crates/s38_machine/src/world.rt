@@ -1,11 +1,13 @@
+use s38_code::Checked;
 use s38_objects::Objects;
 use s38_rules::Standing;
 use std::marker::Model;
 
-/// The objects and the processes. Contracts see it as the machine's state.
+/// The objects, the deck's templates and the processes. Contracts see it as the machine's state.
 #[derive(Drop)]
 pub struct World {
     pub objects: Objects,
+    pub templates: Checked,
     pub processes: Vec<Standing>,
     pub waiting: Vec<u32>,
 }
@@ -19,6 +21,7 @@ impl Model for World {
       objects = w.objects.objects;
       next = w.objects.next;
       ceiling = w.objects.ceiling;
+      templates = w.templates;
       processes = w.processes.items;
       waiting = w.waiting.items;
     } };

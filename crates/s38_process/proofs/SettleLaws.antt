@@ -1,5 +1,5 @@
 -- One turn of the loop in which a process does local instructions.
-use Rattle.std.proofs.Common.{◌≡◌, ℕ, Bool, true, false, refl, sym, ◌∙◌, ap}
+use Rattle.std.proofs.Common.{◌≡◌, Bool, true, false, refl, sym, ◌∙◌, ap}
 use Rattle.std.specs.Prelude.{Option, Some, None, is_some}
 use Rattle.s38_code.specs.declared.program.Instruction.{Instruction}
 use Rattle.s38_rules.specs.Process.{Doing, alone, settled, step_alone}

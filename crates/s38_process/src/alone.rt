@@ -1,13 +1,14 @@
-ghost use Rattle.std.specs.Prelude.{◌≡◌, ◌<◌, ◌≤◌, ◌+◌, ◌^◌, [], IfOk, IsSome, List, OnErr, OnOk, Some, is_some};
+ghost use Rattle.std.specs.Prelude.{◌≡◌, ◌<◌, ◌≤◌, ◌+◌, ◌^◌, [], IfOk, IsSome, List, OnErr, OnOk, Some, is_some, slice_get};
 ghost use Rattle.std.specs.Option.{option_copied};
-ghost use Rattle.s38_code.specs.declared.program.Program.{Program};
+ghost use Rattle.s38_code.specs.declared.made.Made.{Made};
 ghost use Rattle.s38_code.specs.declared.reply.Val.{Val};
 ghost use Rattle.s38_rules.specs.Process.{after_local, alone, alone_by, alone_in, is_return, settled, step_alone, unhandled_by};
 ghost use Rattle.s38_process.specs.Standing.{doing};
 
+use crate::made::{code_of, rows_of};
 use crate::progress::Progress;
 use s38_base::{NoMemory, Op};
-use s38_code::{EndCause, Instruction, Program, Row, Val};
+use s38_code::{EndCause, Instruction, Made, Row, Val};
 use s38_local::{is_local, run_local};
 use s38_rules::{LocalEnd, Status};
 use std::alloc::Global;
@@ -29,19 +30,29 @@ fn alone_in<'a>(rows: &[Row], instruction: &'a Instruction) -> Option<&'a Instru
     }
 }
 
+/// The instruction at a place, where a process does it by itself.
+fn alone_at<'a>(rows: &[Row], code: &'a [Instruction], at: usize) -> Option<&'a Instruction>
+    ensures local { option_copied result ≡ alone_in rows.now (slice_get code.now at) }
+    ensures place { IsSome result → at + 1 < 2 ^ 64 }
+{
+    if code.len() <= at {
+        return None;
+    }
+    alone_in(rows, &code[at])
+}
+
 /// The next instruction, where a running process does it by itself.
-fn alone(program: &Program, budget: u32, progress: Progress) -> Option<&Instruction>
-    ensures local { option_copied result ≡ alone (doing program.now budget [] progress) }
+fn alone(made: &Made, budget: u32, progress: Progress) -> Option<&Instruction>
+    ensures local { option_copied result ≡ alone (doing made.now budget [] progress) }
     ensures room { IsSome result → progress.done < budget }
     ensures place { IsSome result → progress.at + 1 < 2 ^ 64 }
 {
     match progress.status {
         Status::Running => {
-            if budget <= progress.done || program.code.len() <= progress.at {
+            if budget <= progress.done {
                 return None;
             }
-            let instruction = &program.code.as_slice()[progress.at];
-            alone_in(program.rows.as_slice(), instruction)
+            alone_at(rows_of(made), code_of(made), progress.at)
         }
         _ => None,
     }
@@ -63,7 +74,7 @@ pub fn unhandled(done: u32, budget: u32, id: u16) -> EndCause
 fn after_local(progress: Progress, budget: u32, end: LocalEnd) -> Progress
     requires room { progress.done < budget }
     requires place { progress.at + 1 < 2 ^ 64 }
-    ensures { (p : Program) (old new : List Val) → doing p budget new result ≡ after_local (doing p budget old progress) new end }
+    ensures { (made : Made) (old new : List Val) → doing made budget new result ≡ after_local (doing made budget old progress) new end }
 {
     let done = progress.done + 1;
     match end {
@@ -89,19 +100,19 @@ fn after_local(progress: Progress, budget: u32, end: LocalEnd) -> Progress
 #[tactic(auto, unfolding(s38_rules::specs::Process::step_alone))]
 fn step(
     alloc: Global,
-    program: &Program,
+    made: &Made,
     budget: u32,
     values: &mut [Val],
     progress: &mut Progress,
 ) -> Result<bool, NoMemory>
-    ensures more { IfOk result (λ more. more ≡ is_some (alone (doing program.now budget values.old progress.old))) }
-    ensures ok { OnOk result (doing program.now budget values.new progress.new ≡ step_alone (doing program.now budget values.old progress.old)) }
+    ensures more { IfOk result (λ more. more ≡ is_some (alone (doing made.now budget values.old progress.old))) }
+    ensures ok { OnOk result (doing made.now budget values.new progress.new ≡ step_alone (doing made.now budget values.old progress.old)) }
     ensures values { OnErr result (values.new ≡ values.old) }
     ensures progress { OnErr result (progress.new ≡ progress.old) }
 {
-    match alone(program, budget, *progress) {
+    match alone(made, budget, *progress) {
         None => Ok(false),
-        Some(instruction) => match run_local(alloc, instruction, program.rows.as_slice(), values) {
+        Some(instruction) => match run_local(alloc, instruction, rows_of(made), values) {
             Err(fault) => Err(fault),
             Ok(end) => {
                 *progress = after_local(*progress, budget, end);
@@ -115,18 +126,18 @@ fn step(
 /// same event.
 pub fn settle(
     alloc: Global,
-    program: &Program,
+    made: &Made,
     budget: u32,
     values: &mut [Val],
     progress: &mut Progress,
 ) -> Result<(), NoMemory>
     requires { progress.old.done ≤ budget }
-    ensures ok { OnOk result (doing program.now budget values.new progress.new ≡ settled (doing program.now budget values.old progress.old)) }
-    ensures same { settled (doing program.now budget values.new progress.new) ≡ settled (doing program.now budget values.old progress.old) }
+    ensures ok { OnOk result (doing made.now budget values.new progress.new ≡ settled (doing made.now budget values.old progress.old)) }
+    ensures same { settled (doing made.now budget values.new progress.new) ≡ settled (doing made.now budget values.old progress.old) }
     ensures within { progress.new.done ≤ budget }
 {
     'steps: loop {
-        match step(alloc, program, budget, values, progress) {
+        match step(alloc, made, budget, values, progress) {
             Err(fault) => return Err(fault),
             Ok(false) => return Ok(()),
             Ok(true) => {}

@@ -2,6 +2,7 @@
 #![tactic(auto)]
 
 mod alone;
+mod made;
 mod process;
 mod progress;
 mod request;

@@ -2,14 +2,15 @@ ghost use Rattle.std.specs.Prelude.{◌≡◌, ◌<◌, ◌+◌, IfOk, OnOk, OnE
 ghost use Rattle.std.specs.Option.{option_copied};
 ghost use Rattle.s38_process.specs.Asked.{asked, is_acting};
 ghost use Rattle.s38_rules.specs.declared.process.Status.{Status};
-ghost use Rattle.s38_rules.specs.Process.{absorbed, acts, after_act, after_asked, after_end, after_event, after_start, asks_now, event_of, fresh, place_behind, received_by, returns, runs, settled, unhandled};
+ghost use Rattle.s38_rules.specs.Process.{absorbed, acts, after_act, after_asked, after_end, after_event, after_start, asks_now, code_in, event_of, fresh, place_behind, received_by, returns, rows_in, runs, settled, unhandled};
 
 use crate::alone::{is_return, settle, unhandled};
+use crate::made::{begun_by, code_of, rows_of};
 use crate::progress::Progress;
 use crate::request::request_of;
 use crate::variables::{first_values, place_behind, receive};
 use s38_base::{NoMemory, twins};
-use s38_code::{Code, EndCause, Event, Instruction, Job, Reply, Val, classes};
+use s38_code::{EndCause, Event, Instruction, Job, Made, Reply, Val, classes};
 use s38_rules::Status;
 use std::alloc::Global;
 use std::marker::Model;
@@ -23,11 +24,12 @@ pub enum Next {
     Ended,
 }
 
-/// A process of a job. Contracts see its program, the values of its variables, and where it stands.
+/// A process of a job. Contracts see what creation made of its template, the values of its variables, and where
+/// it stands.
 #[derive(Drop)]
 pub struct Process {
     alloc: Global,
-    program: Code,
+    made: Made,
     values: Vec<Val>,
     budget: u32,
     progress: Progress,
@@ -40,20 +42,20 @@ impl Model for Process {
 
     ghost Value = { Doing };
 
-    ghost view = { λ p. doing p.program p.budget p.values.items p.progress };
+    ghost view = { λ p. doing p.made p.budget p.values.items p.progress };
 
     ghost invariant = { λ p. p.progress.done ≤ p.budget };
 }
 
 impl Process {
-    /// A process that has not started.
-    pub fn begin(alloc: Global, job: &Job, program: Code) -> Result<Process, NoMemory>
-        ensures { IfOk result (λ process. process ≡ fresh program job.now.budget) }
+    /// A process that has not started, over what creation made of the job's template.
+    pub fn begin(alloc: Global, job: &Job, made: Made) -> Result<Process, NoMemory>
+        ensures { IfOk result (λ process. process ≡ fresh made job.now.budget) }
     {
-        let values = first_values(alloc, program.program().rows.as_slice())?;
+        let values = first_values(alloc, rows_of(&made))?;
         Ok(Process {
             alloc,
-            program,
+            made,
             values,
             budget: job.budget,
             progress: Progress {
@@ -71,7 +73,7 @@ impl Process {
     {
         settle(
             self.alloc,
-            self.program.program(),
+            &self.made,
             self.budget,
             self.values.as_mut_slice(),
             &mut self.progress,
@@ -80,9 +82,9 @@ impl Process {
 
     /// The instruction that comes next.
     fn instruction(&self) -> Option<&Instruction>
-        ensures { option_copied result ≡ slice_get self.now.program.code self.now.at }
+        ensures { option_copied result ≡ slice_get (code_in self.now.made) self.now.at }
     {
-        self.program.program().code.as_slice().get(self.progress.at)
+        code_of(&self.made).get(self.progress.at)
     }
 
     fn returns(&self) -> Event
@@ -102,7 +104,7 @@ impl Process {
         if is_return(instruction.op) {
             return Ok(self.returns());
         }
-        let rows = self.program.program().rows.as_slice();
+        let rows = rows_of(&self.made);
         Ok(Event::Act {
             depth: 1,
             request: request_of(self.alloc, rows, self.values.as_slice(), instruction)?,
@@ -154,7 +156,7 @@ impl Process {
         ensures { self.new ≡ after_start self.old reply.now }
     {
         match reply {
-            Reply::Done(_) => self.progress.status = Status::Running,
+            Reply::Done(_) => self.progress.status = begun_by(&self.made),
             Reply::Signal(exception) => {
                 self.progress.status = Status::Ending(EndCause::Start { id: exception.id });
             }
@@ -187,16 +189,15 @@ impl Process {
 
     fn take_values(&mut self, given: Vec<Val>)
         requires room { self.old.done < self.old.budget }
-        requires within { self.old.at < length self.old.program.code }
-        ensures { self.new ≡ (let i = slice_get self.old.program.code self.old.at in record self.old { values = received_by self.old.program.rows i given.items self.old.values; at = place_behind i given.items self.old.at; done = self.old.done + 1 }) }
+        requires within { self.old.at < length (code_in self.old.made) }
+        ensures { self.new ≡ (let i = slice_get (code_in self.old.made) self.old.at in record self.old { values = received_by (rows_in self.old.made) i given.items self.old.values; at = place_behind i given.items self.old.at; done = self.old.done + 1 }) }
     {
-        let program = self.program.program();
-        let instruction = &program.code.as_slice()[self.progress.at];
+        let instruction = &code_of(&self.made)[self.progress.at];
         let next = place_behind(instruction, given.as_slice(), self.progress.at);
         receive(
             instruction.op,
             &mut self.values,
-            program.rows.as_slice(),
+            rows_of(&self.made),
             classes(instruction.op),
             instruction.args.as_slice(),
             given,
@@ -216,7 +217,7 @@ impl Process {
 
     fn go_on_from_act(&mut self, reply: &Reply) -> Result<(), NoMemory>
         requires room { self.old.done < self.old.budget }
-        requires within { self.old.at < length self.old.program.code }
+        requires within { self.old.at < length (code_in self.old.made) }
         ensures ok { OnOk result (self.new ≡ after_act self.old reply.now) }
         ensures err { OnErr result (self.new ≡ self.old) }
     {

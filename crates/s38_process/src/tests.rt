@@ -1,10 +1,16 @@
-//! Processes of programs that are made by hand: what they do alone, what they ask, reply by reply, and why they
-//! end.
+//! Processes of programs that are made by hand, and of templates that were refused: what they do alone, what they
+//! ask, reply by reply, and why they end.
 
 use crate::Process;
-use crate::variables::receive;
+use crate::alone::settle;
+use crate::made::rows_of;
+use crate::progress::Progress;
+use crate::variables::{first_values, receive};
 use s38_base::{Attr, Exception, Name, ObjNum, Op, Pointer, Rights, Rule, Seq};
-use s38_code::{Arg, Class, Code, Form, Instruction, Job, Program, Reply, Row, Template, Val};
+use s38_code::{
+    Arg, Class, Code, Form, Instruction, Job, Made, Program, Reply, Row, Template, Val,
+};
+use s38_rules::Status;
 use std::alloc::Global;
 use std::test::Fail;
 
@@ -55,15 +61,19 @@ fn enq(alloc: Global) -> Result<Instruction, Fail> {
     Ok(instruction(Op::Enq, args))
 }
 
-fn program(alloc: Global, code: Vec<Instruction>) -> Result<Code, Fail> {
-    let made = Program {
+fn made_of(alloc: Global, rows: Vec<Row>, code: Vec<Instruction>) -> Result<Made, Fail> {
+    let program = Program {
         template: Template::new(alloc, Seq::new(alloc))?,
-        rows: Seq::from_vec(rows(alloc)?),
+        rows: Seq::from_vec(rows),
         code: Seq::from_vec(code),
         adopts: false,
         propagates: false,
     };
-    Ok(Code::new(alloc, made)?)
+    Ok(Made::Accepted(Code::new(alloc, program)?))
+}
+
+fn program(alloc: Global, code: Vec<Instruction>) -> Result<Made, Fail> {
+    made_of(alloc, rows(alloc)?, code)
 }
 
 fn done(alloc: Global) -> Reply {
@@ -172,6 +182,33 @@ fn a_process_ends_for_its_cause(rt: HostRuntime) -> Result<(), Fail> {
     Ok(())
 }
 
+/// A process whose template was refused starts, and then ends by that, whatever its budget.
+#[test]
+fn a_process_of_a_refused_template_ends(rt: HostRuntime) -> Result<(), Fail> {
+    let alloc = rt.alloc();
+    let create = "Step(Finish { cause: Create { id: 10759, number: 3 } })";
+    let start = "Step(Finish { cause: Start { id: 9221 } })";
+    let cases = [
+        (100, done(alloc), create),
+        (1, done(alloc), create),
+        (100, refused(), start),
+        (1, refused(), start),
+    ];
+    for (budget, reply, text) in &cases {
+        let made = Made::Refused {
+            id: 0x2A07,
+            number: 3,
+        };
+        let mut process = Process::begin(alloc, &job(alloc, *budget)?, made)?;
+        let waits = asks(alloc, &mut process, "Step(Start)", &Reply::MustWait)?;
+        let starts = asks(alloc, &mut process, "Step(Start)", reply)?;
+        let ends = asks(alloc, &mut process, text, &done(alloc))?;
+        let ended = asks(alloc, &mut process, "Ended", &done(alloc))?;
+        assert!(rt; waits && starts && ends && ended, "{text} at {budget}");
+    }
+    Ok(())
+}
+
 const DIGITS: Attr = Attr::Packed {
     digits: 3,
     fraction: 0,
@@ -186,7 +223,7 @@ fn number(alloc: Global, image: [u8; 2]) -> Result<Arg, Fail> {
 }
 
 /// A pointer Q, a number X that begins as 0, and a number T in a space behind Q.
-fn numbers(alloc: Global, code: Vec<Instruction>) -> Result<Code, Fail> {
+fn numbers(alloc: Global, code: Vec<Instruction>) -> Result<Made, Fail> {
     let rows = vec![in alloc;
         Row {
             name: Name::parse(b"Q")?,
@@ -211,14 +248,7 @@ fn numbers(alloc: Global, code: Vec<Instruction>) -> Result<Code, Fail> {
             }
         },
     ]?;
-    let made = Program {
-        template: Template::new(alloc, Seq::new(alloc))?,
-        rows: Seq::from_vec(rows),
-        code: Seq::from_vec(code),
-        adopts: false,
-        propagates: false,
-    };
-    Ok(Code::new(alloc, made)?)
+    made_of(alloc, rows, code)
 }
 
 /// X grows by a number.
@@ -297,6 +327,42 @@ fn local_instructions_are_done_alone(rt: HostRuntime) -> Result<(), Fail> {
             "{text} at {budget}"
         );
     }
+    Ok(())
+}
+
+/// Whether a process of a budget of 10 stops behind ten local instructions, at a place, with X of this image.
+fn stops_behind_ten(
+    alloc: Global,
+    code: Vec<Instruction>,
+    place: usize,
+    image: [u8; 2],
+) -> Result<bool, Fail> {
+    let made = numbers(alloc, code)?;
+    let mut values = first_values(alloc, rows_of(&made))?;
+    let mut progress = Progress {
+        at: 0,
+        done: 0,
+        status: Status::Running,
+    };
+    settle(alloc, &made, 10, values.as_mut_slice(), &mut progress)?;
+    let counted = match values.as_slice().get(1) {
+        Some(Val::Bytes(bytes)) => bytes.as_slice() == image.as_slice(),
+        _ => false,
+    };
+    Ok(counted && progress.at == place && progress.done == 10)
+}
+
+#[test]
+fn a_loop_stops_at_the_budget(rt: HostRuntime) -> Result<(), Fail> {
+    let alloc = rt.alloc();
+    let mut ten = Vec::new(alloc);
+    for _ in 0..10 {
+        ten.push(add(alloc, [0x00, 0x1F])?)?;
+    }
+    ten.push(go_to(alloc, 0)?)?;
+    let one = vec![in alloc; add(alloc, [0x00, 0x1F])?, go_to(alloc, 0)?]?;
+    assert!(rt; stops_behind_ten(alloc, ten, 10, [0x01, 0x0F])?);
+    assert!(rt; stops_behind_ten(alloc, one, 0, [0x00, 0x5F])?);
     Ok(())
 }
 

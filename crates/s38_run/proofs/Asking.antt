@@ -8,12 +8,14 @@ use Rattle.s38_code.specs.declared.event.Event.{Event}
 use Rattle.s38_code.specs.declared.event.Event.TheVariants.{Start, Act, Finish}
 use Rattle.s38_code.specs.declared.event.Request.{Request}
 use Rattle.s38_code.specs.declared.entry.Entry.{Entry}
+use Rattle.s38_code.specs.declared.made.Made.{Made}
+use Rattle.s38_code.specs.declared.made.Made.TheVariants.{Accepted, Refused}
 use Rattle.s38_code.specs.declared.program.Instruction.{Instruction}
 use Rattle.s38_code.specs.declared.reply.Reply.{Reply}
 use Rattle.s38_code.specs.declared.reply.Reply.TheVariants.{Done, Signal, MustWait}
 use Rattle.s38_rules.specs.declared.process.Status.{Status}
 use Rattle.s38_rules.specs.declared.process.Status.TheVariants.{Fresh, Running, Ending, Ended}
-use Rattle.s38_rules.specs.Process.{Doing, RanFrom, absorbed, acts, after_act, after_asked, after_end, after_event, after_start, alone_by, asks, behind, ends_by_finish, event_of, is_finish, is_return, request_of, returns, settled}
+use Rattle.s38_rules.specs.Process.{Doing, RanFrom, absorbed, acts, after_act, after_asked, after_end, after_event, after_start, alone_by, asks, begun_by, behind, code_in, ends_by_finish, event_of, is_finish, is_return, request_of, returns, rows_in, settled}
 use Rattle.s38_rules.proofs.Alone.{IsLater, Moves, settled_later, settled_still}
 use Rattle.s38_run.specs.Running.{left, left_by}
 
@@ -35,7 +37,7 @@ Asks d e = Starts d e ⊎ (Ends d e ⊎ Acts d e)
 left_running : (d : Doing) → d.status ≡ Running → left d ≡ d.budget - d.done + 2
 left_running d h = ap (left_by d) h
 
-of_act : (d : Doing) (b : Bool) (i : Instruction) (e : Event) → d.status ≡ Running → d.done < d.budget → cond b (returns d) (Act 1 (request_of d.program.rows d.values i)) ≡ e → Asks d e
+of_act : (d : Doing) (b : Bool) (i : Instruction) (e : Event) → d.status ≡ Running → d.done < d.budget → cond b (returns d) (Act 1 (request_of (rows_in d.made) d.values i)) ≡ e → Asks d e
 of_act d true i e running room h = inr (inl (rw (left_running d running) (omega arith), (_, sym h)))
 of_act d false i e running room h = inr (inr (running, room, (_, sym h)))
 
@@ -43,7 +45,7 @@ of_next : (d : Doing) (i : Option Instruction) (e : Event) → d.status ≡ Runn
 of_next d None e running room h = inr (inl (rw (left_running d running) (omega arith), (_, sym h)))
 of_next d (Some i) e running room h = of_act d (is_return i.op) i e running room h
 
-of_runs : (d : Doing) (b : Bool) (e : Event) → nat_le d.budget d.done ≡ b → d.status ≡ Running → cond b (Finish causes.Budget) (acts d (slice_get d.program.code d.at)) ≡ e → Asks d e
+of_runs : (d : Doing) (b : Bool) (e : Event) → nat_le d.budget d.done ≡ b → d.status ≡ Running → cond b (Finish causes.Budget) (acts d (slice_get (code_in d.made) d.at)) ≡ e → Asks d e
 of_runs d true e test running h = inr (inl (rw (left_running d running) (omega arith), (causes.Budget, sym h)))
 of_runs d false e test running h = of_next d _ e running (grind (arith, nat_tests)) h
 
@@ -81,8 +83,13 @@ act_falls d (Done vs) w running room = rw running (omega arith)
 act_falls d (Signal x) w running room = rw (left_running d running) (omega arith)
 act_falls d MustWait w running room = absurd (w refl)
 
+-- also where its template was refused
+begun_left : (d : Doing) (made : Made) → left (record d { status = begun_by made }) < d.budget + 3
+begun_left d (Accepted program) = omega arith
+begun_left d (Refused id number) = omega arith
+
 start_falls : (d : Doing) (r : Reply) → r ≢ MustWait → d.status ≡ Fresh → left (after_start d r) < left d
-start_falls d (Done vs) w is = let n : left d ≡ d.budget + 3 = left_at d Fresh is in rw n (omega arith)
+start_falls d (Done vs) w is = let n : left d ≡ d.budget + 3 = left_at d Fresh is in rw n (begun_left d d.made)
 start_falls d (Signal x) w is = let n : left d ≡ d.budget + 3 = left_at d Fresh is in rw n (omega arith)
 start_falls d MustWait w is = absurd (w refl)
 
@@ -118,8 +125,12 @@ falls d e r h w =
     omega (arith, nearer, settled_left d)
 
 -- no process is fresh again
+begun_leaves : (made : Made) → begun_by made ≢ Fresh
+begun_leaves (Accepted program) = λ h. cc
+begun_leaves (Refused id number) = λ h. cc
+
 start_leaves : (d : Doing) (r : Reply) → r ≢ MustWait → (after_start d r).status ≢ Fresh
-start_leaves d (Done vs) w = λ h. cc
+start_leaves d (Done vs) w = begun_leaves d.made
 start_leaves d (Signal x) w = λ h. cc
 start_leaves d MustWait w = absurd (w refl)
 
@@ -146,8 +157,12 @@ pub leaves : (d : Doing) (e : Event) (r : Reply) → event_of d ≡ Some e → r
 leaves d e r h w = subst (λ (x : Doing). x.status ≢ Fresh) (sym (absorbed_by d e r h)) (leaves_by (settled d) e r w (asking d e h))
 
 -- a process ends only by asking for its end
+begun_goes : (made : Made) → begun_by made ≢ Ended
+begun_goes (Accepted program) = λ h. cc
+begun_goes (Refused id number) = λ h. cc
+
 start_goes : (d : Doing) (r : Reply) → d.status ≡ Fresh → (after_start d r).status ≢ Ended
-start_goes d (Done vs) is = λ h. cc
+start_goes d (Done vs) is = begun_goes d.made
 start_goes d (Signal x) is = λ h. cc
 start_goes d MustWait is = λ h. cc
 

@@ -7,7 +7,8 @@ use Rattle.std.specs.Prelude.{MatchBool, Option, Some, nat_lt, slice_get, slice_
 use Rattle.std.specs.List.{list_any}
 use Rattle.s38_code.specs.declared.deck.Job.{Job}
 use Rattle.s38_code.specs.declared.entry.Entry.{Entry}
-use Rattle.s38_code.specs.declared.program.Program.{Program}
+use Rattle.s38_code.specs.declared.made.CheckedTemplate.{CheckedTemplate}
+use Rattle.s38_code.specs.declared.made.Made.{Made}
 use Rattle.s38_code.specs.History.{entries_of}
 use Rattle.s38_rules.specs.declared.process.Standing.{Standing}
 use Rattle.s38_rules.specs.State.{State, is_early, ready, ready_in, runs_before, standing, waits}
@@ -119,11 +120,11 @@ ready_open s k x at r =
     first_false false h = refl
 
 -- the whole run of the job that ran
-ran_whole : (n : ℕ) (program : Program) (budget : ℕ) (m m' : Run) → JobRan n program budget m m' → entries_of n m.history ≡ [] → RanWhole program budget (entries_of n m'.history)
-ran_whole n program budget m m' job none =
+ran_whole : (n : ℕ) (one : Made) (budget : ℕ) (m m' : Run) → JobRan n one budget m m' → entries_of n m.history ≡ [] → RanWhole one budget (entries_of n m'.history)
+ran_whole n one budget m m' job none =
     let own : entries_of n m'.history ≡ job.ran.own = job.ran.added ∙ ap (λ es. es ++ job.ran.own) none in
     record {
-      by_program = subst (λ es. RanFrom (fresh program budget) es) (sym own) job.ran.asked;
+      by_program = subst (λ es. RanFrom (fresh one budget) es) (sym own) job.ran.asked;
       whole = ap ends_by_finish own ∙ (job.ran.ended job.ended).1;
     }
 
@@ -135,33 +136,33 @@ closed_yes : (b : Bool) (A B : Type 0) → b ≡ true → A → MatchBool b A B
 closed_yes true A B e h = h
 closed_yes false A B e h = cc
 
-abbrev Here : List Program → List Job → Run → ℕ → Type 0
-Here programs jobs m k = (x : Standing) (job : Job) (program : Program) → slice_get m.state.processes k ≡ Some x → slice_get jobs k ≡ Some job → slice_get programs k ≡ Some program
-    → MatchBool x.ended (RanWhole program job.budget (entries_of (k + 1) m.history)) (entries_of (k + 1) m.history ≡ [])
+abbrev Here : List Made → List Job → Run → ℕ → Type 0
+Here made jobs m k = (x : Standing) (job : Job) (one : Made) → slice_get m.state.processes k ≡ Some x → slice_get jobs k ≡ Some job → slice_get made k ≡ Some one
+    → MatchBool x.ended (RanWhole one job.budget (entries_of (k + 1) m.history)) (entries_of (k + 1) m.history ≡ [])
 
 -- of the process that ran: its whole run stands in the history
-here_ran : (programs : List Program) (jobs : List Job) (m m' : Run) (at : ℕ) (x0 : Standing) (job : Job) (program : Program)
-    → EachWholeOrNone programs jobs m → JobRan (at + 1) program job.budget m m' → slice_get m.state.processes at ≡ Some x0 → x0.ended ≡ false
-    → slice_get jobs at ≡ Some job → slice_get programs at ≡ Some program → Here programs jobs m' at
-here_ran programs jobs m m' at x0 job program each ran x0_at x0_open job_at program_at x job' program' x_at job'_at program'_at =
+here_ran : (made : List Made) (jobs : List Job) (m m' : Run) (at : ℕ) (x0 : Standing) (job : Job) (one : Made)
+    → EachWholeOrNone made jobs m → JobRan (at + 1) one job.budget m m' → slice_get m.state.processes at ≡ Some x0 → x0.ended ≡ false
+    → slice_get jobs at ≡ Some job → slice_get made at ≡ Some one → Here made jobs m' at
+here_ran made jobs m m' at x0 job one each ran x0_at x0_open job_at one_at x job' one' x_at job'_at one'_at =
     let index : at + 1 - 1 ≡ at = omega arith in
-    let none = open_none x0.ended (RanWhole program job.budget (entries_of (at + 1) m.history)) (entries_of (at + 1) m.history) x0_open (each.each at x0 job program x0_at job_at program_at) in
-    let whole = ran_whole (at + 1) program job.budget m m' ran none in
+    let none = open_none x0.ended (RanWhole one job.budget (entries_of (at + 1) m.history)) (entries_of (at + 1) m.history) x0_open (each.each at x0 job one x0_at job_at one_at) in
+    let whole = ran_whole (at + 1) one job.budget m m' ran none in
     let ended : x.ended ≡ true = ap (λ (y : Standing). y.ended) (sym (at_get m'.state.processes at x x_at)) ∙ subst (λ i. (get_or m'.state.processes i x).ended ≡ true) index ((ran.ran.ended ran.ended).0.is x) in
     closed_yes x.ended _ _ ended
-    (subst (λ (j : Job). RanWhole program' j.budget (entries_of (at + 1) m'.history)) (some_same (slice_get jobs at) job job' job_at job'_at)
-    (subst (λ (p : Program). RanWhole p job.budget (entries_of (at + 1) m'.history)) (some_same (slice_get programs at) program program' program_at program'_at) whole))
+    (subst (λ (j : Job). RanWhole one' j.budget (entries_of (at + 1) m'.history)) (some_same (slice_get jobs at) job job' job_at job'_at)
+    (subst (λ (p : Made). RanWhole p job.budget (entries_of (at + 1) m'.history)) (some_same (slice_get made at) one one' one_at one'_at) whole))
 
 same_place : (xs ys : List Standing) (at k : ℕ) (x : Standing) → OthersStay xs ys at → k ≢ at → slice_get ys k ≡ Some x → slice_get xs k ≡ Some x
 same_place xs ys at k x stay ne h =
     slice_get-get_or xs k x (omega (arith, slice_get_within ys k x h, stay.count)) ∙ ap Some (sym (stay.same k x ne) ∙ at_get ys k x h)
 
 -- of the others: as before
-here_other : (programs : List Program) (jobs : List Job) (m m' : Run) (at : ℕ) (d0 d : Doing) (k : ℕ) → k ≢ at → EachWholeOrNone programs jobs m → RanOn (at + 1) m d0 m' d → Here programs jobs m' k
-here_other programs jobs m m' at d0 d k ne each ran x job program x_at job_at program_at =
+here_other : (made : List Made) (jobs : List Job) (m m' : Run) (at : ℕ) (d0 d : Doing) (k : ℕ) → k ≢ at → EachWholeOrNone made jobs m → RanOn (at + 1) m d0 m' d → Here made jobs m' k
+here_other made jobs m m' at d0 d k ne each ran x job one x_at job_at one_at =
     let same = ran.others (k + 1) (λ g. ne (omega (arith, g))) in
     let was = same_place m.state.processes m'.state.processes (at + 1 - 1) k x ran.stay (λ g. ne (omega (arith, g))) x_at in
-    subst (λ es. MatchBool x.ended (RanWhole program job.budget es) (es ≡ [])) (sym same) (each.each k x job program was job_at program_at)
+    subst (λ es. MatchBool x.ended (RanWhole one job.budget es) (es ≡ [])) (sym same) (each.each k x job one was job_at one_at)
 
 same_or_not : (a b : ℕ) → (a ≡ b) ⊎ (a ≢ b)
 same_or_not a b = by_test (a == b) refl
@@ -170,33 +171,33 @@ same_or_not a b = by_test (a == b) refl
     by_test true e = inl (grind (arith, nat_tests))
     by_test false e = inr (λ g. absurd (grind (arith, nat_tests)))
 
-at_place : (programs : List Program) (jobs : List Job) (m m' : Run) (at : ℕ) (x0 : Standing) (job : Job) (program : Program)
-    → EachWholeOrNone programs jobs m → JobRan (at + 1) program job.budget m m' → slice_get m.state.processes at ≡ Some x0 → x0.ended ≡ false
-    → slice_get jobs at ≡ Some job → slice_get programs at ≡ Some program → (k : ℕ) → (k ≡ at) ⊎ (k ≢ at) → Here programs jobs m' k
-at_place programs jobs m m' at x0 job program each ran x0_at x0_open job_at program_at k (inl e) =
-    subst (λ i. Here programs jobs m' i) (sym e) (here_ran programs jobs m m' at x0 job program each ran x0_at x0_open job_at program_at)
-at_place programs jobs m m' at x0 job program each ran x0_at x0_open job_at program_at k (inr n) =
-    here_other programs jobs m m' at (fresh program job.budget) ran.doing k n each ran.ran
+at_place : (made : List Made) (jobs : List Job) (m m' : Run) (at : ℕ) (x0 : Standing) (job : Job) (one : Made)
+    → EachWholeOrNone made jobs m → JobRan (at + 1) one job.budget m m' → slice_get m.state.processes at ≡ Some x0 → x0.ended ≡ false
+    → slice_get jobs at ≡ Some job → slice_get made at ≡ Some one → (k : ℕ) → (k ≡ at) ⊎ (k ≢ at) → Here made jobs m' k
+at_place made jobs m m' at x0 job one each ran x0_at x0_open job_at one_at k (inl e) =
+    subst (λ i. Here made jobs m' i) (sym e) (here_ran made jobs m m' at x0 job one each ran x0_at x0_open job_at one_at)
+at_place made jobs m m' at x0 job one each ran x0_at x0_open job_at one_at k (inr n) =
+    here_other made jobs m m' at (fresh one job.budget) ran.doing k n each ran.ran
 
-between_at : (programs : List Program) (jobs : List Job) (m m' : Run) (at : ℕ) (x0 : Standing) (job : Job) (program : Program)
-    → IsBetween programs jobs m → JobRan (at + 1) program job.budget m m' → slice_get m.state.processes at ≡ Some x0 → ready m.state (at + 1) ≡ true
-    → slice_get jobs at ≡ Some job → slice_get programs at ≡ Some program → IsBetween programs jobs m'
-between_at programs jobs m m' at x0 job program between ran x0_at r job_at program_at =
+between_at : (templates : List CheckedTemplate) (made : List Made) (jobs : List Job) (m m' : Run) (at : ℕ) (x0 : Standing) (job : Job) (one : Made)
+    → IsBetween templates made jobs m → JobRan (at + 1) one job.budget m m' → slice_get m.state.processes at ≡ Some x0 → ready m.state (at + 1) ≡ true
+    → slice_get jobs at ≡ Some job → slice_get made at ≡ Some one → IsBetween templates made jobs m'
+between_at templates made jobs m m' at x0 job one between ran x0_at r job_at one_at =
     let x0_open = ready_open m.state at x0 x0_at r in
     record {
       sound = ran.ran.sound;
       origin = ran.ran.origin ∙ between.origin;
       awake = ran.ran.awake;
-      each = record { each = λ k. at_place programs jobs m m' at x0 job program between.each ran x0_at x0_open job_at program_at k (same_or_not k at) };
+      each = record { each = λ k. at_place made jobs m m' at x0 job one between.each ran x0_at x0_open job_at one_at k (same_or_not k at) };
     }
 
 -- one more job has run
-pub between_more : (programs : List Program) (jobs : List Job) (m m' : Run) (at : ℕ) (job : Job) (program : Program)
-    → IsBetween programs jobs m → JobRan (at + 1) program job.budget m m' → at < length m.state.processes → ready m.state (at + 1) ≡ true
-    → slice_get jobs at ≡ Some job → slice_get programs at ≡ Some program → IsBetween programs jobs m'
-between_more programs jobs m m' at job program between ran lt r job_at program_at =
-    elim (slice_get_cases m.state.processes at).1 as (λ _. IsBetween programs jobs m') [
-      | inl w ↦ between_at programs jobs m m' at w.0 job program between ran w.2 r job_at program_at
+pub between_more : (templates : List CheckedTemplate) (made : List Made) (jobs : List Job) (m m' : Run) (at : ℕ) (job : Job) (one : Made)
+    → IsBetween templates made jobs m → JobRan (at + 1) one job.budget m m' → at < length m.state.processes → ready m.state (at + 1) ≡ true
+    → slice_get jobs at ≡ Some job → slice_get made at ≡ Some one → IsBetween templates made jobs m'
+between_more templates made jobs m m' at job one between ran lt r job_at one_at =
+    elim (slice_get_cases m.state.processes at).1 as (λ _. IsBetween templates made jobs m') [
+      | inl w ↦ between_at templates made jobs m m' at w.0 job one between ran w.2 r job_at one_at
       | inr w ↦ absurd (omega (arith, w.0, lt))
     ]
 
@@ -204,9 +205,9 @@ open_at : (s : State) (at : ℕ) → at < length s.processes → ready s (at + 1
 open_at s at lt r d = ready_open s at (get_or s.processes at d) (slice_get-get_or s.processes at d lt) r
 
 -- and fewer are left
-pub between_falls : (n : ℕ) (program : Program) (budget : ℕ) (m m' : Run) (at : ℕ) → n ≡ at + 1 → JobRan n program budget m m' → at < length m.state.processes → ready m.state (at + 1) ≡ true
+pub between_falls : (n : ℕ) (one : Made) (budget : ℕ) (m m' : Run) (at : ℕ) → n ≡ at + 1 → JobRan n one budget m m' → at < length m.state.processes → ready m.state (at + 1) ≡ true
     → unended m'.state.processes < unended m.state.processes
-between_falls n program budget m m' at e ran lt r =
+between_falls n one budget m m' at e ran lt r =
     let index : n - 1 ≡ at = omega arith in
     fewer_unended m.state.processes m'.state.processes at lt
     (subst (λ i. OthersStay m.state.processes m'.state.processes i) index ran.ran.stay)
@@ -224,20 +225,20 @@ open_is : (b : Bool) (A B : Type 0) → b ≡ false → B → MatchBool b A B
 open_is true A B e h = cc
 open_is false A B e h = h
 
-pub between_begun : (programs : List Program) (jobs : List Job) → IsBetween programs jobs (begun (opening.opened jobs))
-between_begun programs jobs = record {
-  sound = sound_begun (opening.opened jobs);
+pub between_begun : (templates : List CheckedTemplate) (made : List Made) (jobs : List Job) → IsBetween templates made jobs (begun (opening.opened templates jobs))
+between_begun templates made jobs = record {
+  sound = sound_begun (opening.opened templates jobs);
   origin = refl;
   awake = refl;
-  each = record { each = λ k x job program at job_at program_at. open_is x.ended _ _ (fresh_open jobs k x at) refl };
+  each = record { each = λ k x job one at job_at one_at. open_is x.ended _ _ (fresh_open jobs k x at) refl };
 }
 
 closed_is : (b : Bool) (A B : Type 0) → b ≡ true → MatchBool b A B → A
 closed_is true A B e h = h
 closed_is false A B e h = cc
 
-pub places : (programs : List Program) (jobs : List Job) (m : Run) → IsBetween programs jobs m → length m.state.processes ≡ length jobs
-places programs jobs m between =
+pub places : (templates : List CheckedTemplate) (made : List Made) (jobs : List Job) (m : Run) → IsBetween templates made jobs m → length m.state.processes ≡ length jobs
+places templates made jobs m between =
     between.sound.kept ∙ ap (λ (s : State). length s.processes) between.origin ∙ length-map jobs _
 
 there_is : {A : Type 0} (xs : List A) (k : ℕ) → k < length xs → (x : A) × (slice_get xs k ≡ Some x)
@@ -246,17 +247,17 @@ there_is (x ∷ xs) zero h = (x, refl)
 there_is (x ∷ xs) (suc k) h = there_is xs k (omega arith)
 
 -- where no job is ready, each has run whole
-pub between_none : (programs : List Program) (jobs : List Job) (m : Run) → IsBetween programs jobs m → ((k : ℕ) → k < length jobs → ready m.state (k + 1) ≡ false) → AllRan programs jobs m.history
+pub between_none : (templates : List CheckedTemplate) (made : List Made) (jobs : List Job) (m : Run) → IsBetween templates made jobs m → ((k : ℕ) → k < length jobs → ready m.state (k + 1) ≡ false) → AllRan made jobs m.history
 unfolding NoneReady
-between_none programs jobs m between none = record {
-  each = λ k job program job_at program_at.
-      let count = places programs jobs m between in
+between_none templates made jobs m between none = record {
+  each = λ k job one job_at one_at.
+      let count = places templates made jobs m between in
       let x = there_is m.state.processes k (omega (arith, count, slice_get_within jobs k job job_at)) in
       let ended = all_ended m.state between.awake (λ i lt. none i (omega (arith, count))) k x.0 x.1 in
-      closed_is x.0.ended _ _ ended (between.each.each k x.0 job program x.1 job_at program_at);
+      closed_is x.0.ended _ _ ended (between.each.each k x.0 job one x.1 job_at one_at);
 }
 
-pub may_run : (programs : List Program) (jobs : List Job) (m : Run) (at n : ℕ) → n ≡ at + 1 → IsBetween programs jobs m → at < length jobs → MayAsk m.origin n
-may_run programs jobs m at n e between lt =
-    let count = places programs jobs m between in
+pub may_run : (templates : List CheckedTemplate) (made : List Made) (jobs : List Job) (m : Run) (at n : ℕ) → n ≡ at + 1 → IsBetween templates made jobs m → at < length jobs → MayAsk m.origin n
+may_run templates made jobs m at n e between lt =
+    let count = places templates made jobs m between in
     record { first = omega arith; last = omega (arith, count, between.sound.kept) }

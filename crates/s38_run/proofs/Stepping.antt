@@ -51,7 +51,7 @@ effect_stays : (s : State) (p : ℕ) (e : Event) → OthersStay s.processes (eff
 unfolding effect_of
 effect_stays s p Start = start_stays s p (standing s p)
 effect_stays s p (Act depth request) =
-    subst (λ (xs : List Standing). OthersStay s.processes xs (p - 1)) (sym (act_keeps s p depth request.op request.operands)) (same_stays s.processes (p - 1))
+    subst (λ (xs : List Standing). OthersStay s.processes xs (p - 1)) (sym (act_keeps s p depth request.op request.round request.operands)) (same_stays s.processes (p - 1))
 effect_stays s p (Finish cause) = end_stays s p (standing s p)
 
 end_ends : (s : State) (p : ℕ) (o : Option Standing) → slice_get s.processes (p - 1) ≡ o → p - 1 < length s.processes → HasEnded (end_at s p o).processes (p - 1)
@@ -97,7 +97,7 @@ goes_start s p (Some x) w r =
 goes_verdict : (s : State) (p : ℕ) (e : Event) → s.waiting ≡ [] → (e ≡ Start → ready s p ≡ true) → GoesTo s p e (by_verdict s p e (verdict_of s p e))
 unfolding verdict_of
 goes_verdict s p Start w r = goes_start s p (standing s p) w (r refl)
-goes_verdict s p (Act depth request) w r = goes_failure s p (Act depth request) (refusal s p depth request.op request.operands) w refl
+goes_verdict s p (Act depth request) w r = goes_failure s p (Act depth request) (refusal s p depth request.op request.round request.operands) w refl
 goes_verdict s p (Finish cause) w r = goes_permit s p (Finish cause)
 
 -- where nobody waits, and a process starts only where it is ready, each event is answered and entered

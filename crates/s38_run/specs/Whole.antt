@@ -1,16 +1,17 @@
--- Whole runs: each job's entries are what its program asks after the replies before them, up to its end.
+-- Whole runs: each job's entries are what its program asks after the replies before them, up to its end; where its
+-- template was refused, the end is by that.
 use Rattle.std.specs.Prelude.{◌≡◌, ℕ, ◌+◌, IsTrue, List, Some, slice_get}
 use Rattle.s38_code.specs.declared.deck.Job.{Job}
 use Rattle.s38_code.specs.declared.entry.Entry.{Entry}
-use Rattle.s38_code.specs.declared.program.Program.{Program}
+use Rattle.s38_code.specs.declared.made.Made.{Made}
 use Rattle.s38_code.specs.History.{entries_of}
 use Rattle.s38_rules.specs.Process.{RanFrom, fresh, ends_by_finish}
 
 -- the entries of one process, from its start to its end
-pub record RanWhole (program : Program) (budget : ℕ) (entries : List Entry) : Type 0 where
-  pub by_program : RanFrom (fresh program budget) entries
+pub record RanWhole (made : Made) (budget : ℕ) (entries : List Entry) : Type 0 where
+  pub by_program : RanFrom (fresh made budget) entries
   pub whole : IsTrue (ends_by_finish entries)
 
--- each job ran whole, by the program at its place
-pub record AllRan (programs : List Program) (jobs : List Job) (history : List Entry) : Type 0 where
-  pub each : (k : ℕ) (job : Job) (program : Program) → slice_get jobs k ≡ Some job → slice_get programs k ≡ Some program → RanWhole program job.budget (entries_of (k + 1) history)
+-- each job ran whole, by what creation made of its template, at its place
+pub record AllRan (made : List Made) (jobs : List Job) (history : List Entry) : Type 0 where
+  pub each : (k : ℕ) (job : Job) (one : Made) → slice_get jobs k ≡ Some job → slice_get made k ≡ Some one → RanWhole one job.budget (entries_of (k + 1) history)

@@ -7,7 +7,7 @@ ghost use Rattle.s38_run.specs.Whole.{AllRan};
 
 use crate::one::run_process;
 use s38_base::{NoMemory, Twin};
-use s38_code::{Code, Job};
+use s38_code::{Job, Made};
 use s38_machine::Machine;
 use s38_process::Process;
 use std::alloc::Global;
@@ -32,39 +32,40 @@ fn run_job(
     alloc: Global,
     machine: &mut Machine,
     job: &Job,
-    program: &Code,
+    made: &Made,
     number: u32,
 ) -> Result<(), NoMemory>
     requires sound { IsSound machine.old }
     requires awake { machine.old.state.waiting ≡ [] }
     requires ready { ready machine.old.state number ≡ true }
     requires may { MayAsk machine.old.origin number }
-    ensures { OnOk result (JobRan number program.now job.now.budget machine.old machine.new) }
+    ensures { OnOk result (JobRan number made.now job.now.budget machine.old machine.new) }
 {
-    let code = program.twin(alloc)?;
-    match Process::begin(alloc, job, code) {
+    let own = made.twin(alloc)?;
+    match Process::begin(alloc, job, own) {
         Err(fault) => Err(fault),
         Ok(mut process) => run_process(machine, &mut process, number),
     }
 }
 
-/// Runs the jobs, each by the program at its place: the first that is ready each time, until none is.
+/// Runs the jobs, each by what creation made of its template, at its place: the first that is ready each time, until
+/// none is.
 pub fn serial(
     alloc: Global,
     machine: Machine,
     jobs: &[Job],
-    programs: &[Code],
+    made: &[Made],
 ) -> Result<Machine, NoMemory>
-    requires begun { machine ≡ begun (opened jobs.now) }
-    requires programs { length programs.now ≡ length jobs.now }
+    requires begun { machine ≡ begun (opened machine.state.templates jobs.now) }
+    requires made { length made.now ≡ length jobs.now }
     requires few { length jobs.now < 2 ^ 32 - 1 }
     ensures sound { IfOk result IsSound }
-    ensures origin { IfOk result (λ machine. machine.origin ≡ opened jobs.now) }
-    ensures ran { IfOk result (λ machine. AllRan programs.now jobs.now machine.history) }
+    ensures origin { IfOk result (λ m. m.origin ≡ opened machine.state.templates jobs.now) }
+    ensures ran { IfOk result (λ m. AllRan made.now jobs.now m.history) }
 {
     let mut machine = machine;
     while let Some(at) = first_ready(&machine, jobs.len()) {
-        match run_job(alloc, &mut machine, &jobs[at], &programs[at], at as u32 + 1) {
+        match run_job(alloc, &mut machine, &jobs[at], &made[at], at as u32 + 1) {
             Ok(()) => {}
             Err(fault) => return Err(fault),
         }
