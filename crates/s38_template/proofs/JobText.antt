@@ -1,5 +1,6 @@
 -- The line of a job says what is read of it, and is read as the job that it says.
-use Rattle.std.proofs.Common.{◌≡◌, ℕ, ◌<◌, Bool, true, not, ◌&&◌, cond, ◌==◌, nat_lt, nat_le, nat_eq, List, [], ◌∷◌, ◌++◌, length, drop, Option, Some, None, codes, sym, ap, subst, ◌∙◌, refl, arith, inl, inr}
+use Rattle.std.proofs.Common.{◌≡◌, ◌⊎◌, ℕ, ◌<◌, ◌≤◌, Bool, true, not, ◌&&◌, cond, ◌==◌, nat_lt, nat_le, nat_eq, List, [], ◌∷◌, ◌++◌, length, drop, Option, Some, None, codes, sym, ap, subst, ◌∙◌, refl, arith, inl, inr}
+use Rattle.std.specs.Prelude.{decimal}
 use Rattle.std.proofs.lemmas.Bool.{cases_Bool, and_parts, and_from, or_cases, ne_eqb, eqb-true, leb-true, not_from_false}
 use Rattle.std.proofs.lemmas.Bool.Decides.{Decides-eqb}
 use Rattle.std.proofs.lemmas.List.{append-nil}
@@ -8,18 +9,18 @@ use Rattle.std.proofs.lemmas.Option.{same_Some, cond_some}
 use Rattle.std.proofs.lemmas.Slice.Eq.{starts_is}
 use Rattle.std.specs.List.{list_all, slice_split, onto_first, flat_map, starts_with}
 use Rattle.s38_base.specs.NameText.{is_name, is_name_byte, are_name_bytes}
+use Rattle.s38_code.specs.DeclarationLine.{count_of}
 use Rattle.s38_code.specs.declared.deck.Job.{Job}
+use Rattle.s38_template.specs.declared.said.JobSaid.{JobSaid}
 use Rattle.s38_template.specs.Cut.{cut, after}
-use Rattle.s38_template.specs.Grammar.{is_own_name, with_blank, contexts_part, job_word, job_line, is_job, begins_with_letter}
-use Rattle.s38_template.specs.Reading.{is_blank, names_in, name_in, own_name_in, contexts_in, run_from, run_in, worded, head_in, job_in}
+use Rattle.s38_template.specs.Grammar.{Says, budget_part, contexts_part, is_budget, is_job, job_text, with_blank}
+use Rattle.s38_template.specs.Lines.{begins_with_letter, budget_from, budget_in, contexts_in, head_in, is_blank, is_own_name, job_in, job_word, name_in, names_in, own_name_in, run_from, run_in, terms_from, terms_in, worded}
+use Rattle.s38_template.specs.Reading.{job_of}
+use Rattle.s38_template.proofs.Numbers.{count_said, count_read, free_decimal}
 use Rattle.s38_template.proofs.Options.{map_some, then_some, all_weaker}
-use Rattle.s38_template.proofs.Texts.{is_free, cut_at, cut_none, cut_joins}
-use Rattle.s38_template.proofs.Words.{split_at, split_none}
+use Rattle.s38_template.proofs.Texts.{is_free, cut_at, cut_none, cut_joins, split_at, split_none}
 
--- ---- tests and words
-
-test_some : {A : Type 0} (b : Bool) (x : A) → b ≡ true → cond b (Some x) None ≡ Some x
-test_some b x e = rw e refl
+-- ---- words
 
 pub after_joins : (word text rest : List ℕ) → after word text ≡ Some rest → text ≡ word ++ rest
 after_joins word text rest e =
@@ -39,6 +40,9 @@ free_name name h =
     let q = and_parts (nat_le (length name) 30) (are_name_bytes name) p.1 in
     all_weaker is_name_byte (λ c. not (c == 32)) free_name_byte name q.1
 
+own_is_name : (name : List ℕ) → is_own_name name ≡ true → is_name name ≡ true
+own_is_name name h = (and_parts (begins_with_letter name) (is_name name) h).1
+
 -- ---- contexts
 
 -- names parted by blanks
@@ -49,13 +53,13 @@ names_text (name ∷ names) = name ++ flat_map with_blank names
 names_split : (name : List ℕ) (names : List (List ℕ)) → list_all is_name (name ∷ names) ≡ true → slice_split is_blank (names_text (name ∷ names)) ≡ name ∷ names
 names_split name [] h =
     let p = and_parts (is_name name) true h in
-    ap (slice_split is_blank) (append-nil name) ∙ split_none name (cut_none 32 name (free_name name p.0))
+    ap (slice_split is_blank) (append-nil name) ∙ split_none 32 name (cut_none 32 name (free_name name p.0))
 names_split name (next ∷ names) h =
     let p = and_parts (is_name name) (list_all is_name (next ∷ names)) h in
     let rest : List ℕ = names_text (next ∷ names) in
-    split_at (name ++ 32 ∷ rest) (name, rest) (cut_at 32 name rest (free_name name p.0)) ∙ ap (λ l. name ∷ l) (names_split next names p.1)
+    split_at 32 (name ++ 32 ∷ rest) (name, rest) (cut_at 32 name rest (free_name name p.0)) ∙ ap (λ l. name ∷ l) (names_split next names p.1)
 
-pub names_read : (name : List ℕ) (names : List (List ℕ)) → list_all is_name (name ∷ names) ≡ true → names_in (names_text (name ∷ names)) ≡ Some (name ∷ names)
+names_read : (name : List ℕ) (names : List (List ℕ)) → list_all is_name (name ∷ names) ≡ true → names_in (names_text (name ∷ names)) ≡ Some (name ∷ names)
 names_read name names h = rw (names_split name names h) (rw h refl)
 
 blank_joins : (cs : List ℕ) (parts : List (List ℕ)) → 0 < length parts → cs ≡ names_text parts → 32 ∷ cs ≡ names_text ([] ∷ parts)
@@ -79,54 +83,112 @@ parts_print : (rest : List ℕ) (parts : List (List ℕ)) → 0 < length parts �
 parts_print rest [] n h = absurd (omega arith)
 parts_print rest (name ∷ names) n h = ap (λ l. codes " CONTEXTS " ++ l) h
 
--- ---- the template and the contexts
+record AreContexts (text : List ℕ) (contexts : List (List ℕ)) : Type 0 where
+  pub said : 32 ∷ text ≡ contexts_part contexts
+  pub names : list_all is_name contexts ≡ true
 
-pub record IsRun (text : List ℕ) (run : List ℕ × List (List ℕ)) : Type 0 where
-  pub said : text ≡ run.0 ++ contexts_part run.1
-  pub name : is_name run.0 ≡ true
-  pub contexts : list_all is_name run.1 ≡ true
+contexts_said : (text : List ℕ) (contexts : List (List ℕ)) → contexts_in text ≡ Some contexts → AreContexts text contexts
+unfolding contexts_in
+contexts_said text contexts e =
+    then_some names_in (after (codes "CONTEXTS ") text) contexts e (λ rest a en.
+    let g = cond_some (list_all is_name (slice_split is_blank rest)) (slice_split is_blank rest) contexts en in
+    let R : List (List ℕ) → Type 0 = λ l. list_all is_name l ≡ true in
+    record {
+      said = ap (λ l. 32 ∷ l) (after_joins (codes "CONTEXTS ") text rest a) ∙ parts_print rest (slice_split is_blank rest) (omega (arith, length-slice_split is_blank rest)) (split_joins rest) ∙ ap contexts_part g.1;
+      names = subst R g.1 g.0;
+    })
 
-run_from_says : (text : List ℕ) (o : Option (List ℕ × List ℕ)) (run : List ℕ × List (List ℕ)) → cut 32 text ≡ o → run_from text o ≡ Some run → IsRun text run
+contexts_read : (first : List ℕ) (contexts : List (List ℕ)) → list_all is_name (first ∷ contexts) ≡ true → contexts_in (codes "CONTEXTS " ++ names_text (first ∷ contexts)) ≡ Some (first ∷ contexts)
+unfolding contexts_in
+contexts_read first contexts h = names_read first contexts h
+
+-- ---- the budget and the contexts
+
+-- how the budget of a job may be written
+pub record IsPart (part : List ℕ) (budget : ℕ) : Type 0 where
+  pub is : (part ≡ budget_part budget) ⊎ ((budget ≡ 1000000) × (part ≡ []))
+
+pub record AreTerms (text : List ℕ) (budget : ℕ) (contexts : List (List ℕ)) : Type 0 where
+  pub part : List ℕ
+  pub is_part : budget ≤ 10000000 → IsPart part budget
+  pub said : budget ≤ 10000000 → text ≡ part ++ contexts_part contexts
+  pub names : list_all is_name contexts ≡ true
+
+budget_said_from : (text : List ℕ) (o : Option (List ℕ × List ℕ)) (budget : ℕ) (contexts : List (List ℕ)) → cut 32 text ≡ o → budget_from text o ≡ Some (budget, contexts) → AreTerms (codes " BUDGET " ++ text) budget contexts
+budget_said_from text None budget contexts c e =
+    map_some (λ (n : ℕ). (n, [])) (count_of text) (budget, contexts) e (λ n eq back.
+    let P : ℕ × List (List ℕ) → Type 0 = λ t. AreTerms (codes " BUDGET " ++ text) t.0 t.1 in
+    let made : AreTerms (codes " BUDGET " ++ text) n [] = record {
+      part = budget_part n;
+      is_part = λ _. record { is = inl refl };
+      said = λ h. ap (λ t. codes " BUDGET " ++ t) (count_said text n eq h ∙ sym (append-nil (decimal n)));
+      names = refl;
+    } in
+    subst P back made)
+budget_said_from text (Some p) budget contexts c e =
+    then_some _ (count_of p.0) (budget, contexts) e (λ n eq e1. then_some _ (contexts_in p.1) (budget, contexts) e1 (λ list ec back.
+    let P : ℕ × List (List ℕ) → Type 0 = λ t. AreTerms (codes " BUDGET " ++ text) t.0 t.1 in
+    let k = contexts_said p.1 list ec in
+    let made : AreTerms (codes " BUDGET " ++ text) n list = record {
+      part = budget_part n;
+      is_part = λ _. record { is = inl refl };
+      said = λ h. ap (λ t. codes " BUDGET " ++ t) (cut_joins 32 text p c ∙ ap (λ t. p.0 ++ t) k.said ∙ ap (λ t. t ++ contexts_part list) (count_said p.0 n eq h));
+      names = k.names;
+    } in
+    subst P (same_Some _ (budget, contexts) back) made))
+
+budget_said : (text : List ℕ) (budget : ℕ) (contexts : List (List ℕ)) → budget_in text ≡ Some (budget, contexts) → AreTerms (codes " BUDGET " ++ text) budget contexts
+unfolding budget_in
+budget_said text budget contexts e = budget_said_from text (cut 32 text) budget contexts refl e
+
+terms_said_from : (text : List ℕ) (o : Option (List ℕ)) (budget : ℕ) (contexts : List (List ℕ)) → after (codes "BUDGET ") text ≡ o → terms_from text o ≡ Some (budget, contexts) → AreTerms (32 ∷ text) budget contexts
+terms_said_from text None budget contexts a e =
+    map_some (λ (list : List (List ℕ)). (1000000, list)) (contexts_in text) (budget, contexts) e (λ list eq back.
+    let P : ℕ × List (List ℕ) → Type 0 = λ t. AreTerms (32 ∷ text) t.0 t.1 in
+    let k = contexts_said text list eq in
+    let made : AreTerms (32 ∷ text) 1000000 list = record { part = []; is_part = λ _. record { is = inr (refl, refl) }; said = λ h. k.said; names = k.names } in
+    subst P back made)
+terms_said_from text (Some rest) budget contexts a e =
+    let P : List ℕ → Type 0 = λ t. AreTerms (32 ∷ t) budget contexts in
+    subst P (sym (after_joins (codes "BUDGET ") text rest a)) (budget_said rest budget contexts e)
+
+terms_said : (text : List ℕ) (budget : ℕ) (contexts : List (List ℕ)) → terms_in text ≡ Some (budget, contexts) → AreTerms (32 ∷ text) budget contexts
+unfolding terms_in
+terms_said text budget contexts e = terms_said_from text (after (codes "BUDGET ") text) budget contexts refl e
+
+-- ---- the template, the budget and the contexts
+
+pub record IsRun (text : List ℕ) (run : List ℕ × ℕ × List (List ℕ)) : Type 0 where
+  pub rest : List ℕ
+  pub said : text ≡ run.0 ++ rest
+  pub own : is_own_name run.0 ≡ true
+  pub terms : AreTerms rest run.1 run.2
+
+run_from_says : (text : List ℕ) (o : Option (List ℕ × List ℕ)) (run : List ℕ × ℕ × List (List ℕ)) → cut 32 text ≡ o → run_from text o ≡ Some run → IsRun text run
 run_from_says text None run c e =
-    map_some (λ (name : List ℕ). (name, [])) (name_in text) run e (λ name eq back.
-    let h = cond_some (is_name text) text name eq in
-    let P : List ℕ × List (List ℕ) → Type 0 = IsRun text in
-    let Q : List ℕ → Type 0 = λ n. is_name n ≡ true in
-    let r : IsRun text (name, []) = record { said = h.1 ∙ sym (append-nil name); name = subst Q h.1 h.0; contexts = refl } in
+    map_some (λ (name : List ℕ). (name, 1000000, [])) (own_name_in text) run e (λ name eq back.
+    let h = cond_some (is_own_name text) text name eq in
+    let P : List ℕ × ℕ × List (List ℕ) → Type 0 = IsRun text in
+    let Q : List ℕ → Type 0 = λ n. is_own_name n ≡ true in
+    let terms : AreTerms [] 1000000 [] = record { part = []; is_part = λ _. record { is = inr (refl, refl) }; said = λ _. refl; names = refl } in
+    let r : IsRun text (name, 1000000, []) = record { rest = []; said = h.1 ∙ sym (append-nil name); own = subst Q h.1 h.0; terms = terms } in
     subst P back r)
 run_from_says text (Some p) run c e =
-    then_some _ (name_in p.0) run e (λ name eq e1. then_some _ (contexts_in p.1) run e1 (λ contexts ec back. then_some names_in (after (codes "CONTEXTS ") p.1) contexts ec (λ rest a en.
-    let h = cond_some (is_name p.0) p.0 name eq in
-    let g = cond_some (list_all is_name (slice_split is_blank rest)) (slice_split is_blank rest) contexts en in
-    let P : List ℕ × List (List ℕ) → Type 0 = IsRun text in
-    let Q : List ℕ → Type 0 = λ n. is_name n ≡ true in
-    let R : List (List ℕ) → Type 0 = λ l. list_all is_name l ≡ true in
-    let behind : 32 ∷ p.1 ≡ contexts_part contexts =
-    ap (λ l. 32 ∷ l) (after_joins (codes "CONTEXTS ") p.1 rest a)
-    ∙ parts_print rest (slice_split is_blank rest) (omega (arith, length-slice_split is_blank rest)) (split_joins rest)
-    ∙ ap contexts_part g.1
-    in
-    let r : IsRun text (name, contexts) = record {
-      said = cut_joins 32 text p c ∙ ap (λ b. p.0 ++ b) behind ∙ ap (λ n. n ++ contexts_part contexts) h.1;
-      name = subst Q h.1 h.0;
-      contexts = subst R g.1 g.0;
+    then_some _ (own_name_in p.0) run e (λ name eq e1. then_some _ (terms_in p.1) run e1 (λ terms et back.
+    let h = cond_some (is_own_name p.0) p.0 name eq in
+    let P : List ℕ × ℕ × List (List ℕ) → Type 0 = IsRun text in
+    let Q : List ℕ → Type 0 = λ n. is_own_name n ≡ true in
+    let r : IsRun text (name, terms.0, terms.1) = record {
+      rest = 32 ∷ p.1;
+      said = cut_joins 32 text p c ∙ ap (λ n. n ++ 32 ∷ p.1) h.1;
+      own = subst Q h.1 h.0;
+      terms = terms_said p.1 terms.0 terms.1 et;
     } in
-    subst P (same_Some _ run back) r)))
+    subst P (same_Some _ run back) r))
 
-pub run_says : (text : List ℕ) (run : List ℕ × List (List ℕ)) → run_in text ≡ Some run → IsRun text run
+run_says : (text : List ℕ) (run : List ℕ × ℕ × List (List ℕ)) → run_in text ≡ Some run → IsRun text run
 unfolding run_in
 run_says text run e = run_from_says text (cut 32 text) run refl e
-
-run_alone : (name : List ℕ) → is_name name ≡ true → run_in name ≡ Some (name, [])
-unfolding run_in
-run_alone name n = rw (cut_none 32 name (free_name name n)) (rw n refl)
-
-pub run_read : (name : List ℕ) (contexts : List (List ℕ)) → is_name name ≡ true → list_all is_name contexts ≡ true → run_in (name ++ contexts_part contexts) ≡ Some (name, contexts)
-unfolding run_in
-run_read name [] n h = ap run_in (append-nil name) ∙ run_alone name n
-run_read name (first ∷ contexts) n h =
-    let rest : List ℕ = codes "CONTEXTS " ++ names_text (first ∷ contexts) in
-    rw (cut_at 32 name rest (free_name name n)) (rw n (rw (names_read first contexts h) refl))
 
 -- ---- the line
 
@@ -153,39 +215,89 @@ unfolding head_in worded
 head_read job user run j u =
     rw (cut_at 32 job (codes "USER " ++ (user ++ (codes " RUN " ++ run))) (free_name job j)) (rw (cut_at 32 user (codes "RUN " ++ run) (free_name user u)) refl)
 
+-- what a line of a job with a budget in its range says
 pub record SaysJob (stage : ℕ) (line : List ℕ) (job : Job) : Type 0 where
-  pub said : line ≡ job_line job
+  pub says : Says line job
   pub fits : is_job job ≡ true
   pub staged : job.stage ≡ stage
 
-pub job_says : (stage : ℕ) (line : List ℕ) (job : Job) → job_in stage line ≡ Some job → SaysJob stage line job
+part_says : (line part : List ℕ) (job : Job) → line ≡ job_text part job → IsPart part job.budget → Says line job
+part_says line part job e p = elim p.is [
+  | inl b ↦ inl (e ∙ ap (λ t. job_text t job) b)
+  | inr b ↦ inr (b.0, e ∙ ap (λ t. job_text t job) b.1)
+]
+
+pub job_says : (stage : ℕ) (line : List ℕ) (said : JobSaid) → job_in line ≡ Some said → is_budget said.budget ≡ true → SaysJob stage line (job_of stage said)
 unfolding job_in
-job_says stage line job e =
-    then_some _ (head_in line) job e (λ head h e1. then_some _ (own_name_in head.0) job e1 (λ name n e2. then_some _ (name_in head.1) job e2 (λ user u e3. then_some _ (run_in head.2) job e3 (λ run r back.
+job_says stage line said e b =
+    then_some _ (head_in line) said e (λ head h e1. then_some _ (own_name_in head.0) said e1 (λ name n e2. then_some _ (name_in head.1) said e2 (λ user u e3. then_some _ (run_in head.2) said e3 (λ run r back.
     let hn = cond_some (is_own_name head.0) head.0 name n in
     let hu = cond_some (is_name head.1) head.1 user u in
     let hr = run_says head.2 run r in
-    let made : Job = record { name = name; user = user; template = run.0; budget = 1000000; contexts = run.1; stage = stage } in
+    let made : JobSaid = record { name = name; user = user; template = run.0; budget = run.1; contexts = run.2 } in
+    let same : made ≡ said = same_Some made said back in
     let N : List ℕ → Type 0 = λ t. is_own_name t ≡ true in
     let U : List ℕ → Type 0 = λ t. is_name t ≡ true in
-    let says : SaysJob stage line made = record {
-      said = head_says line head h ∙ ap (λ t. head_line (t, head.1, head.2)) hn.1 ∙ ap (λ t. head_line (name, t, head.2)) hu.1 ∙ ap (λ t. head_line (name, user, t)) hr.said;
-      fits = and_from _ _ (subst N hn.1 hn.0) (and_from _ _ (subst U hu.1 hu.0) (and_from _ _ hr.name (and_from _ _ hr.contexts refl)));
+    let B : JobSaid → Type 0 = λ s. is_budget s.budget ≡ true in
+    let in_range : is_budget run.1 ≡ true = subst B (sym same) b in
+    let few : run.1 ≤ 10000000 = leb-true run.1 10000000 (and_parts (nat_le 1 run.1) (nat_le run.1 10000000) in_range).1 in
+    let line_is : line ≡ job_text hr.terms.part (job_of stage made) =
+    head_says line head h ∙ ap (λ t. head_line (t, head.1, head.2)) hn.1 ∙ ap (λ t. head_line (name, t, head.2)) hu.1 ∙ ap (λ t. head_line (name, user, t)) (hr.said ∙ ap (λ t. run.0 ++ t) (hr.terms.said few))
+    in
+    let says : SaysJob stage line (job_of stage made) = record {
+      says = part_says line hr.terms.part (job_of stage made) line_is (hr.terms.is_part few);
+      fits = and_from _ _ (subst N hn.1 hn.0) (and_from _ _ (subst U hu.1 hu.0) (and_from _ _ hr.own (and_from _ _ hr.terms.names in_range)));
       staged = refl;
     } in
-    let P : Job → Type 0 = SaysJob stage line in
-    subst P (same_Some made job back) says))))
+    let P : JobSaid → Type 0 = λ s. SaysJob stage line (job_of stage s) in
+    subst P same says))))
 
-same_job : (job : Job) (stage : ℕ) → job.budget ≡ 1000000 → job.stage ≡ stage → Some (record job { budget = 1000000; stage = stage }) ≡ Some job
-same_job job stage b e = sym (ap (λ n. Some (record job { budget = n })) b ∙ ap (λ n. Some (record job { budget = 1000000; stage = n })) e)
+-- ---- the line of a job is read
 
-pub job_read : (stage : ℕ) (job : Job) → is_job job ≡ true → job.stage ≡ stage → job_in stage (job_line job) ≡ Some job
+abbrev pub said_of : Job → JobSaid
+said_of job = record { name = job.name; user = job.user; template = job.template; budget = job.budget; contexts = job.contexts }
+
+run_alone : (name : List ℕ) → is_own_name name ≡ true → run_in name ≡ Some (name, 1000000, [])
+unfolding run_in
+run_alone name n = rw (cut_none 32 name (free_name name (own_is_name name n))) (rw n refl)
+
+run_on : (name rest : List ℕ) (budget : ℕ) (contexts : List (List ℕ)) → is_own_name name ≡ true → terms_in rest ≡ Some (budget, contexts) → run_in (name ++ 32 ∷ rest) ≡ Some (name, budget, contexts)
+unfolding run_in
+run_on name rest budget contexts n t = rw (cut_at 32 name rest (free_name name (own_is_name name n))) (rw n (rw t refl))
+
+terms_default : (first : List ℕ) (contexts : List (List ℕ)) → list_all is_name (first ∷ contexts) ≡ true → terms_in (codes "CONTEXTS " ++ names_text (first ∷ contexts)) ≡ Some (1000000, first ∷ contexts)
+unfolding terms_in
+terms_default first contexts h = rw (contexts_read first contexts h) refl
+
+terms_alone : (n : ℕ) → 0 < n → n ≤ 10000000 → terms_in (codes "BUDGET " ++ decimal n) ≡ Some (n, [])
+unfolding terms_in budget_in
+terms_alone n some h = rw (cut_none 32 (decimal n) (free_decimal n h)) (rw (count_read n some h) refl)
+
+terms_all : (n : ℕ) (first : List ℕ) (contexts : List (List ℕ)) → 0 < n → n ≤ 10000000 → list_all is_name (first ∷ contexts) ≡ true → terms_in (codes "BUDGET " ++ (decimal n ++ contexts_part (first ∷ contexts))) ≡ Some (n, first ∷ contexts)
+unfolding terms_in budget_in
+terms_all n first contexts some h names =
+    rw (cut_at 32 (decimal n) (codes "CONTEXTS " ++ names_text (first ∷ contexts)) (free_decimal n h)) (rw (count_read n some h) (rw (contexts_read first contexts names) refl))
+
+run_default : (name : List ℕ) (contexts : List (List ℕ)) → is_own_name name ≡ true → list_all is_name contexts ≡ true → run_in (name ++ contexts_part contexts) ≡ Some (name, 1000000, contexts)
+run_default name [] n h = ap run_in (append-nil name) ∙ run_alone name n
+run_default name (first ∷ contexts) n h = run_on name (codes "CONTEXTS " ++ names_text (first ∷ contexts)) 1000000 (first ∷ contexts) n (terms_default first contexts h)
+
+run_all : (name : List ℕ) (n : ℕ) (contexts : List (List ℕ)) → is_own_name name ≡ true → 0 < n → n ≤ 10000000 → list_all is_name contexts ≡ true → run_in (name ++ (budget_part n ++ contexts_part contexts)) ≡ Some (name, n, contexts)
+run_all name n [] o some few h = ap (λ t. run_in (name ++ t)) (append-nil (budget_part n)) ∙ run_on name (codes "BUDGET " ++ decimal n) n [] o (terms_alone n some few)
+run_all name n (first ∷ contexts) o some few h = run_on name (codes "BUDGET " ++ (decimal n ++ contexts_part (first ∷ contexts))) n (first ∷ contexts) o (terms_all n first contexts some few h)
+
+job_read_from : (line rest : List ℕ) (job : Job) → line ≡ head_line (job.name, job.user, rest) → is_own_name job.name ≡ true → is_name job.user ≡ true → run_in rest ≡ Some (job.template, job.budget, job.contexts) → job_in line ≡ Some (said_of job)
 unfolding job_in
-job_read stage job h e =
+job_read_from line rest job e n u r = rw e (rw (head_read job.name job.user rest (own_is_name job.name n) u) (rw n (rw u (rw r refl))))
+
+pub job_read : (line : List ℕ) (job : Job) → is_job job ≡ true → Says line job → job_in line ≡ Some (said_of job)
+job_read line job h says =
     let p = and_parts (is_own_name job.name) _ h in
     let q = and_parts (is_name job.user) _ p.1 in
-    let r = and_parts (is_name job.template) _ q.1 in
-    let t = and_parts (list_all is_name job.contexts) (job.budget == 1000000) r.1 in
-    let own = and_parts (begins_with_letter job.name) (is_name job.name) p.0 in
-    rw (head_read job.name job.user (job.template ++ contexts_part job.contexts) own.1 q.0)
-    (rw p.0 (rw q.0 (rw (run_read job.template job.contexts r.0 t.0) (same_job job stage (eqb-true job.budget 1000000 t.1) e))))
+    let r = and_parts (is_own_name job.template) _ q.1 in
+    let t = and_parts (list_all is_name job.contexts) (is_budget job.budget) r.1 in
+    let m = and_parts (nat_le 1 job.budget) (nat_le job.budget 10000000) t.1 in
+    elim says [
+      | inl e ↦ job_read_from line (job.template ++ (budget_part job.budget ++ contexts_part job.contexts)) job e p.0 q.0 (run_all job.template job.budget job.contexts r.0 (leb-true 1 job.budget m.0) (leb-true job.budget 10000000 m.1) t.0)
+      | inr e ↦ job_read_from line (job.template ++ contexts_part job.contexts) job e.1 p.0 q.0 (run_default job.template job.contexts r.0 t.0 ∙ ap (λ n. Some (job.template, n, job.contexts)) (sym e.0))
+    ]

@@ -1,7 +1,10 @@
 pub mod Complete
 pub mod Ends
+pub mod LineForms
 pub mod JobText
+pub mod Numbers
 pub mod Options
+pub mod Printed
 pub mod Sets
 pub mod Sound
 pub mod Standing

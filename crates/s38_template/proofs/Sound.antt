@@ -1,363 +1,520 @@
 -- A deck that is read is spelled.
-use Rattle.std.proofs.Common.{◌≡◌, ◌⊎◌, ℕ, ◌+◌, ◌<◌, ◌≤◌, Bool, true, false, not, ◌&&◌, cond, ◌==◌, nat_lt, nat_le, List, [], ◌∷◌, ◌++◌, map, length, drop, Option, Some, None, sym, ap, subst, ◌∙◌, refl, arith, inl, inr}
-use Rattle.std.proofs.lemmas.Bool.{cases_Bool, and_parts, and_from, or_right, or_left, ne_eqb, eq-eqb, leb-true, lt-ltb, ltb-true, not-true, not_from_false}
-use Rattle.std.proofs.lemmas.List.{append_assoc, append-nil, length_push}
-use Rattle.std.proofs.lemmas.Option.{same_Some, cond_some}
-use Rattle.std.proofs.lemmas.Slice.Eq.{bytes_eq-Decides}
-use Rattle.std.specs.List.{AllByRecursion, list_all, flat_map, filter}
-use Rattle.std.specs.Option.{option_and_then}
-use Rattle.std.specs.Str.{bytes_eq}
+use Rattle.std.proofs.Common.{◌≡◌, ◌⊎◌, ℕ, ◌+◌, ◌<◌, ◌≤◌, min, Bool, true, false, not, ◌&&◌, ◌||◌, cond, ◌==◌, nat_lt, List, [], ◌∷◌, ◌++◌, map, length, drop, Option, Some, None, Ok, sym, ap, subst, ◌∙◌, refl, arith, inl, inr}
+use Rattle.std.proofs.lemmas.Bool.{and_parts, and_from, or_right, or_left, ne_eqb, eq-eqb, lt-ltb, ltb-true, not-true}
+use Rattle.std.proofs.lemmas.List.{append_assoc, append-nil, length-append, length_push}
+use Rattle.std.proofs.lemmas.List.Splits.{join_with_byte-slice_split, length-slice_split}
+use Rattle.std.specs.List.{AllByRecursion, filter, flat_map, join_with_byte, list_all, slice_split}
+use Rattle.s38_code.specs.WordsText.{before}
 use Rattle.s38_code.specs.declared.deck.Deck.{Deck}
 use Rattle.s38_code.specs.declared.deck.Job.{Job}
 use Rattle.s38_template.specs.declared.place.Place.{Place}
-use Rattle.s38_template.specs.declared.place.Place.TheVariants.{Between, Inside, Begun, Staged}
-use Rattle.s38_template.specs.Cut.{after}
-use Rattle.s38_template.specs.Grammar.{FitJobs, IsTemplate, Spells, are_new, are_numbered, end_line, has, is_body, is_job, is_own_name, job_line, name_of, name_of_job, program_line, program_word, stage_line, stage_lines, template_names, is_plain, is_kept}
-use Rattle.s38_template.specs.Reading.{State, begun, closed, deck_at, deck_of, inside, job, job_in, joined, kept, kept_at, lines_of, longer, opened, own_name_in, program, reads, start, turns}
-use Rattle.s38_template.proofs.Complete.{after_job, after_stage}
-use Rattle.s38_template.proofs.Ends.{ends, after_all, passes_over, plain_turns}
-use Rattle.s38_template.proofs.JobText.{SaysJob, after_joins, job_says}
-use Rattle.s38_template.proofs.Options.{then_some}
-use Rattle.s38_template.proofs.Texts.{lines_printed}
-
--- ---- what a line did
-
-stage_began : (s t : State) → begun s ≡ Some t → after_stage s ≡ t
-unfolding begun
-stage_began s t e = (cond_some (nat_lt (s.stage + 1) 65536) (after_stage s) t e).1
-
-record Joined (s t : State) (line : List ℕ) (j : Job) : Type 0 where
-  pub says : SaysJob s.stage line j
-  pub room : length s.jobs < 256
-  pub found : has s.names j.template ≡ true
-  pub new : has s.job_names j.name ≡ false
-  pub is : after_job s j ≡ t
-
-job_joined : (s t : State) (line : List ℕ) → job s line ≡ Some t → (j : Job) × Joined s t line j
-unfolding job joined
-job_joined s t line e =
-    then_some _ (job_in s.stage line) t e (λ j eq back.
-    let h = cond_some (nat_lt (length s.jobs) 256 && (has s.names j.template && not (has s.job_names j.name))) (after_job s j) t back in
-    let p = and_parts (nat_lt (length s.jobs) 256) _ h.0 in
-    let q = and_parts (has s.names j.template) _ p.1 in
-    (j, record { says = job_says s.stage line j eq; room = ltb-true (length s.jobs) 256 p.0; found = q.0; new = not-true _ q.1; is = h.1 }))
-
-abbrev after_head : State → List ℕ → List ℕ → State
-after_head s line name = record s { place = Inside; draft = line ∷ []; names = s.names ++ name ∷ [] }
-
-record Opened (s t : State) (line name : List ℕ) : Type 0 where
-  pub said : line ≡ program_line name
-  pub named : is_own_name name ≡ true
-  pub room : length s.templates < 1024
-  pub new : has s.names name ≡ false
-  pub is : after_head s line name ≡ t
-
-head_opened : (s t : State) (line : List ℕ) → program s line ≡ Some t → (name : List ℕ) × Opened s t line name
-unfolding program opened
-head_opened s t line e =
-    then_some _ (after program_word line) t e (λ text a e1. then_some _ (own_name_in text) t e1 (λ name o e2.
-    let own = cond_some (is_own_name text) text name o in
-    let h = cond_some (nat_lt (length s.templates) 1024 && not (has s.names name)) (after_head s line name) t e2 in
-    let p = and_parts (nat_lt (length s.templates) 1024) _ h.0 in
-    let N : List ℕ → Type 0 = λ n. is_own_name n ≡ true in
-    (name, record { said = after_joins program_word line text a ∙ ap program_line own.1; named = subst N own.1 own.0; room = ltb-true (length s.templates) 1024 p.0; new = not-true _ p.1; is = h.1 })))
-
--- a template has ended whose lines were these
-abbrev after_end : State → List (List ℕ) → State
-after_end s body = record s { place = Between; templates = s.templates ++ (s.draft ++ (body ++ end_line ∷ [])) ∷ []; draft = [] }
+use Rattle.s38_template.specs.declared.place.Place.TheVariants.{Between, Declaring, Acting, Begun, Staged}
+use Rattle.s38_template.specs.declared.said.JobSaid.{JobSaid}
+use Rattle.s38_template.specs.declared.said.Line.{Line}
+use Rattle.s38_template.specs.declared.said.Line.TheVariants.{Program, Declare, Label, Act, End, Stage, Job as JobLine}
+use Rattle.s38_template.specs.Grammar.{FitJobs, IsTemplate, SayEach, Says, Spells, acts, are_new, are_numbered, declares, goes_on, has, is_action, is_declaration, is_job, is_kept, is_plain, is_step, labels_in, labels_said, name_of, name_of_job, stage_lines, template_names, with_feed}
+use Rattle.s38_template.specs.Lines.{end_line, job, label, line_of, program, program_word, stage_line}
+use Rattle.s38_template.specs.Reading.{State, is_feed, job_of, may_end, may_stand, read_of, start, taken}
+use Rattle.s38_template.proofs.Ends.{Ends, Read, Step, reads}
+use Rattle.s38_template.proofs.JobText.{SaysJob, job_says}
+use Rattle.s38_template.proofs.LineForms.{head_name, line_told}
 
 -- ---- what lines say from a state on
 
-record ToldJobs (s : State) (lines : List (List ℕ)) (deck : Deck) (jobs : List Job) : Type 0 where
-  pub said : lines ≡ stage_lines s.stage jobs
-  pub jobs_are : deck.jobs ≡ s.jobs ++ jobs
-  pub templates_are : deck.templates ≡ s.templates
-  pub fit : FitJobs s.names s.job_names s.stage jobs
+-- what was read of a deck, but for the template that has begun
+record Core : Type 0 where
+  pub templates : List (List (List ℕ))
+  pub names : List (List ℕ)
+  pub jobs : List Job
+  pub job_names : List (List ℕ)
+  pub stage : ℕ
+
+abbrev core_of : State → Core
+core_of s = record { templates = s.templates; names = s.names; jobs = s.jobs; job_names = s.job_names; stage = s.stage }
+
+abbrev with_template : Core → List (List ℕ) → Core
+with_template c lines = record c { templates = c.templates ++ lines ∷ [] }
+
+record ToldJobs (c : Core) (lines : List (List ℕ)) (deck : Deck) : Type 0 where
+  pub texts : List (List ℕ)
+  pub told : List Job
+  pub said : lines ≡ stage_lines c.stage texts told
+  pub says : SayEach texts told
+  pub jobs_are : deck.jobs ≡ c.jobs ++ told
+  pub templates_are : deck.templates ≡ c.templates
+  pub fit : FitJobs c.names c.job_names c.stage told
   pub few : length deck.jobs ≤ 256
 
-record ToldAll (s : State) (lines : List (List ℕ)) (deck : Deck) (ts : List (List (List ℕ))) (jobs : List Job) : Type 0 where
-  pub said : lines ≡ flat_map (λ l. l) ts ++ stage_lines s.stage jobs
-  pub jobs_are : deck.jobs ≡ s.jobs ++ jobs
-  pub templates_are : deck.templates ≡ s.templates ++ ts
+record ToldAll (c : Core) (lines : List (List ℕ)) (deck : Deck) : Type 0 where
+  pub ts : List (List (List ℕ))
+  pub texts : List (List ℕ)
+  pub told : List Job
+  pub said : lines ≡ flat_map (λ l. l) ts ++ stage_lines c.stage texts told
+  pub says : SayEach texts told
+  pub jobs_are : deck.jobs ≡ c.jobs ++ told
+  pub templates_are : deck.templates ≡ c.templates ++ ts
   pub each : AllByRecursion IsTemplate ts
-  pub apart : are_new s.names (template_names ts) ≡ true
-  pub fit : FitJobs (s.names ++ template_names ts) s.job_names s.stage jobs
+  pub apart : are_new c.names (template_names ts) ≡ true
+  pub fit : FitJobs (c.names ++ template_names ts) c.job_names c.stage told
   pub few : length deck.jobs ≤ 256
   pub few_templates : length deck.templates ≤ 1024
 
-record ToldRest (s : State) (lines : List (List ℕ)) (deck : Deck) (body rest : List (List ℕ)) (ts : List (List (List ℕ))) (jobs : List Job) : Type 0 where
-  pub said : lines ≡ body ++ end_line ∷ rest
-  pub inside : list_all is_body body ≡ true
-  pub told : ToldAll (after_end s body) rest deck ts jobs
+-- a job, and then these
+record ToldJob (c : Core) (lines : List (List ℕ)) (deck : Deck) : Type 0 where
+  pub text : List ℕ
+  pub first : Job
+  pub texts : List (List ℕ)
+  pub told : List Job
+  pub staged : first.stage ≡ c.stage
+  pub said : lines ≡ text ∷ stage_lines first.stage texts told
+  pub says : Says text first × SayEach texts told
+  pub jobs_are : deck.jobs ≡ c.jobs ++ first ∷ told
+  pub templates_are : deck.templates ≡ c.templates
+  pub fit : FitJobs c.names c.job_names c.stage (first ∷ told)
+  pub few : length deck.jobs ≤ 256
 
-record ToldJob (s : State) (lines : List (List ℕ)) (deck : Deck) (j : Job) (jobs : List Job) : Type 0 where
-  pub staged : j.stage ≡ s.stage
-  pub told : ToldJobs s lines deck (j ∷ jobs)
+record ToldSteps (s : State) (lines : List (List ℕ)) (deck : Deck) : Type 0 where
+  pub steps : List (List ℕ)
+  pub rest : List (List ℕ)
+  pub said : lines ≡ steps ++ end_line ∷ rest
+  pub stepped : list_all is_step steps ≡ true
+  pub few_instructions : s.acts + length (filter is_action steps) ≤ 16384
+  pub apart : are_new s.labels (flat_map labels_in steps) ≡ true
+  pub more : ToldAll (with_template (core_of s) (s.draft ++ (steps ++ end_line ∷ []))) rest deck
+
+record ToldTemplate (s : State) (lines : List (List ℕ)) (deck : Deck) : Type 0 where
+  pub declarations : List (List ℕ)
+  pub steps : List (List ℕ)
+  pub rest : List (List ℕ)
+  pub said : lines ≡ declarations ++ (steps ++ end_line ∷ rest)
+  pub declared : list_all is_declaration declarations ≡ true
+  pub few_declarations : s.declared + length declarations ≤ 1024
+  pub stepped : list_all is_step steps ≡ true
+  pub few_instructions : s.acts + length (filter is_action steps) ≤ 16384
+  pub apart : are_new s.labels (flat_map labels_in steps) ≡ true
+  pub more : ToldAll (with_template (core_of s) (s.draft ++ (declarations ++ (steps ++ end_line ∷ [])))) rest deck
 
 abbrev Told : Place → State → List (List ℕ) → Deck → Type 0
-Told Between s lines deck = (ts : List (List (List ℕ))) × ((jobs : List Job) × ToldAll s lines deck ts jobs)
-Told Inside s lines deck = (body : List (List ℕ)) × ((rest : List (List ℕ)) × ((ts : List (List (List ℕ))) × ((jobs : List Job) × ToldRest s lines deck body rest ts jobs)))
-Told Begun s lines deck = (j : Job) × ((jobs : List Job) × ToldJob s lines deck j jobs)
-Told Staged s lines deck = (jobs : List Job) × ToldJobs s lines deck jobs
+Told Between s lines deck = ToldAll (core_of s) lines deck
+Told Declaring s lines deck = ToldTemplate s lines deck
+Told Acting s lines deck = ToldSteps s lines deck
+Told Begun s lines deck = ToldJob (core_of s) lines deck
+Told Staged s lines deck = ToldJobs (core_of s) lines deck
 
 -- what holds of a state that was come to
 abbrev Later : Place → ℕ → Type 0
-Later Between n = Unit {0}
-Later Inside n = Unit {0}
 Later Begun n = 0 < n
 Later Staged n = 0 < n
+Later _ n = Unit {0}
 
 abbrev open_templates : Place → ℕ
-open_templates Between = 0
-open_templates Inside = 1
-open_templates Begun = 0
-open_templates Staged = 0
+open_templates Declaring = 1
+open_templates Acting = 1
+open_templates _ = 0
+
+abbrev open_stages : Place → ℕ
+open_stages Begun = 1
+open_stages _ = 0
 
 record Good (place : Place) (s : State) : Type 0 where
   pub later : Later place s.stage
+  pub few_stages : s.stage ≤ length s.jobs + open_stages place
   pub few_templates : length s.templates + open_templates place ≤ 1024
   pub few : length s.jobs ≤ 256
+  pub few_declarations : s.declared ≤ 1024
+  pub few_instructions : s.acts ≤ 16384
 
--- ---- one line more
+-- ---- jobs
+
+job_told : (s : State) (text : List ℕ) (said : JobSaid) (lines : List (List ℕ)) (deck : Deck) → 0 < s.stage → Step s text (job said) → ToldJobs (core_of (taken s text (job said))) lines deck → ToldJob (core_of s) (text ∷ lines) deck
+job_told s text said lines deck later step t =
+    let j : Job = job_of s.stage said in
+    let g : SaysJob s.stage text j = job_says s.stage text said (line_told text (job said) step.says) step.range in
+    let same : (s.stage == s.stage) ≡ true = eq-eqb s.stage s.stage refl in
+    let fit : FitJobs s.names s.job_names s.stage (j ∷ t.told) = record {
+      each = and_from (is_job j) (list_all is_job t.told) g.fits t.fit.each;
+      numbered = and_from _ (are_numbered s.stage t.told) (or_left (nat_lt 0 s.stage && (s.stage == s.stage)) (s.stage == s.stage + 1) (and_from (nat_lt 0 s.stage) (s.stage == s.stage) (lt-ltb 0 s.stage later) same)) t.fit.numbered;
+      apart = and_from (not (has s.job_names said.name)) (are_new (s.job_names ++ said.name ∷ []) (map name_of_job t.told)) step.new t.fit.apart;
+      found = and_from (has s.names said.template) (list_all (λ k. has s.names k.template) t.told) step.found t.fit.found;
+    } in
+    record {
+      text = text;
+      first = j;
+      texts = t.texts;
+      told = t.told;
+      staged = refl;
+      said = ap (λ l. text ∷ l) t.said;
+      says = (g.says, t.says);
+      jobs_are = t.jobs_are ∙ append_assoc s.jobs (j ∷ []) t.told;
+      templates_are = t.templates_are;
+      fit = fit;
+      few = t.few;
+    }
 
 -- the line of a job behind its stage's line or behind a job of its stage
-abbrev jobs_from : Bool → Job → List Job → List (List ℕ)
-jobs_from b j jobs = cond b [] (stage_line ∷ []) ++ job_line j ∷ stage_lines j.stage jobs
+abbrev jobs_from : Bool → List ℕ → List (List ℕ) → Job → List Job → List (List ℕ)
+jobs_from b text texts j jobs = cond b [] (stage_line ∷ []) ++ text ∷ stage_lines j.stage texts jobs
 
-told_stage : (s : State) (lines : List (List ℕ)) (deck : Deck) (j : Job) (jobs : List Job) → ToldJob (after_stage s) lines deck j jobs → ToldJobs s (stage_line ∷ lines) deck (j ∷ jobs)
-told_stage s lines deck j jobs t =
-    let staged : j.stage ≡ s.stage + 1 = t.staged in
-    let same : (j.stage == s.stage + 1) ≡ true = eq-eqb j.stage (s.stage + 1) staged in
-    let other : (j.stage == s.stage) ≡ false = ne_eqb j.stage s.stage (λ q. omega arith) in
-    let numbered = and_parts _ (are_numbered j.stage jobs) t.told.fit.numbered in
-    let fit : FitJobs s.names s.job_names s.stage (j ∷ jobs) = record {
-      each = t.told.fit.each;
-      numbered = and_from _ (are_numbered j.stage jobs) (or_right (nat_lt 0 s.stage && (j.stage == s.stage)) (j.stage == s.stage + 1) same) numbered.1;
-      apart = t.told.fit.apart;
-      found = t.told.fit.found;
+one_more_job : (c : Core) (lines : List (List ℕ)) (deck : Deck) → ToldJob c lines deck → ToldJobs c lines deck
+one_more_job c lines deck t =
+    let same : (t.first.stage == c.stage) ≡ true = eq-eqb t.first.stage c.stage t.staged in
+    record {
+      texts = t.text ∷ t.texts;
+      told = t.first ∷ t.told;
+      said = t.said ∙ sym (ap (λ b. jobs_from b t.text t.texts t.first t.told) same);
+      says = t.says;
+      jobs_are = t.jobs_are;
+      templates_are = t.templates_are;
+      fit = t.fit;
+      few = t.few;
+    }
+
+abbrev next_stage : Core → Core
+next_stage c = record c { stage = min (c.stage + 1) 65535 }
+
+stage_told : (c : Core) (text : List ℕ) (lines : List (List ℕ)) (deck : Deck) → text ≡ stage_line → c.stage < 65535 → ToldJob (next_stage c) lines deck → ToldJobs c (text ∷ lines) deck
+stage_told c text lines deck e small t =
+    let staged : t.first.stage ≡ min (c.stage + 1) 65535 = t.staged in
+    let after : t.first.stage ≡ c.stage + 1 = omega arith in
+    let next : (t.first.stage == c.stage + 1) ≡ true = eq-eqb t.first.stage (c.stage + 1) after in
+    let other : (t.first.stage == c.stage) ≡ false = ne_eqb t.first.stage c.stage (λ q. omega arith) in
+    let numbered = and_parts _ (are_numbered t.first.stage t.told) t.fit.numbered in
+    let fit : FitJobs c.names c.job_names c.stage (t.first ∷ t.told) = record {
+      each = t.fit.each;
+      numbered = and_from _ (are_numbered t.first.stage t.told) (or_right (nat_lt 0 c.stage && (t.first.stage == c.stage)) (t.first.stage == c.stage + 1) next) numbered.1;
+      apart = t.fit.apart;
+      found = t.fit.found;
     } in
     record {
-      said = ap (λ l. stage_line ∷ l) (t.told.said ∙ ap (λ b. jobs_from b j jobs) same) ∙ sym (ap (λ b. jobs_from b j jobs) other);
-      jobs_are = t.told.jobs_are;
-      templates_are = t.told.templates_are;
+      texts = t.text ∷ t.texts;
+      told = t.first ∷ t.told;
+      said = ap (λ l. l ∷ lines) e ∙ ap (λ l. stage_line ∷ l) t.said ∙ sym (ap (λ b. jobs_from b t.text t.texts t.first t.told) other);
+      says = t.says;
+      jobs_are = t.jobs_are;
+      templates_are = t.templates_are;
       fit = fit;
-      few = t.told.few;
+      few = t.few;
     }
 
-told_job : (s t : State) (line : List ℕ) (lines : List (List ℕ)) (deck : Deck) (j : Job) (jobs : List Job) → 0 < s.stage → Joined s t line j → ToldJobs t lines deck jobs → ToldJob s (line ∷ lines) deck j jobs
-told_job s t line lines deck j jobs later g told =
-    let P : State → Type 0 = λ u. ToldJobs u lines deck jobs in
-    let h : ToldJobs (after_job s j) lines deck jobs = subst P (sym g.is) told in
-    let staged : j.stage ≡ s.stage = g.says.staged in
-    let same : (j.stage == s.stage) ≡ true = eq-eqb j.stage s.stage staged in
-    let N : ℕ → Type 0 = λ n. are_numbered n jobs ≡ true in
-    let fit : FitJobs s.names s.job_names s.stage (j ∷ jobs) = record {
-      each = and_from (is_job j) (list_all is_job jobs) g.says.fits h.fit.each;
-      numbered = and_from _ (are_numbered j.stage jobs) (or_left (nat_lt 0 s.stage && (j.stage == s.stage)) (j.stage == s.stage + 1) (and_from (nat_lt 0 s.stage) (j.stage == s.stage) (lt-ltb 0 s.stage later) same)) (subst N (sym staged) h.fit.numbered);
-      apart = and_from (not (has s.job_names j.name)) (are_new (s.job_names ++ j.name ∷ []) (map name_of_job jobs)) (not_from_false (has s.job_names j.name) g.new) h.fit.apart;
-      found = and_from (has s.names j.template) (list_all (λ k. has s.names k.template) jobs) g.found h.fit.found;
-    } in
-    let all : ToldJobs s (line ∷ lines) deck (j ∷ jobs) = record {
-      said = ap (λ l. l ∷ lines) g.says.said ∙ ap (λ l. job_line j ∷ l) (h.said ∙ ap (λ n. stage_lines n jobs) (sym staged)) ∙ sym (ap (λ b. jobs_from b j jobs) same);
-      jobs_are = h.jobs_are ∙ append_assoc s.jobs (j ∷ []) jobs;
-      templates_are = h.templates_are;
-      fit = fit;
-      few = h.few;
-    } in
-    record { staged = staged; told = all }
-
-told_head : (s t : State) (line name : List ℕ) (lines body rest : List (List ℕ)) (deck : Deck) (ts : List (List (List ℕ))) (jobs : List Job) → Opened s t line name → ToldRest t lines deck body rest ts jobs → ToldAll s (line ∷ lines) deck ((line ∷ (body ++ end_line ∷ [])) ∷ ts) jobs
-told_head s t line name lines body rest deck ts jobs o told =
-    let P : State → Type 0 = λ u. ToldRest u lines deck body rest ts jobs in
-    let r : ToldRest (after_head s line name) lines deck body rest ts jobs = subst P (sym o.is) told in
-    let made : List (List ℕ) = line ∷ (body ++ end_line ∷ []) in
-    let more : List (List ℕ) = flat_map (λ l. l) ts in
-    let last : List (List ℕ) = stage_lines s.stage jobs in
-    let is : IsTemplate made = record { name = name; body = body; named = o.named; inside = r.inside; lines_are = ap (λ l. l ∷ (body ++ end_line ∷ [])) o.said } in
-    let called : name_of made ≡ name = ap (λ l. drop (length program_word) l) o.said in
-    let A : List ℕ → Type 0 = λ m. (not (has s.names m) && are_new (s.names ++ m ∷ []) (template_names ts)) ≡ true in
-    let F : List (List ℕ) → Type 0 = λ ns. FitJobs ns s.job_names s.stage jobs in
+none_told : (c : Core) (deck : Deck) → record { templates = c.templates; jobs = c.jobs } ≡ deck → length c.jobs ≤ 256 → ToldJobs c [] deck
+none_told c deck is few =
+    let fit : FitJobs c.names c.job_names c.stage [] = record { each = refl; numbered = refl; apart = refl; found = refl } in
     record {
-      said = ap (λ l. line ∷ l) (r.said ∙ ap (λ l. body ++ end_line ∷ l) r.told.said ∙ sym (append_assoc body (end_line ∷ []) (more ++ last))) ∙ sym (append_assoc made more last);
-      jobs_are = r.told.jobs_are;
-      templates_are = r.told.templates_are ∙ append_assoc s.templates (made ∷ []) ts;
-      each = (is, r.told.each);
-      apart = subst A (sym called) (and_from (not (has s.names name)) (are_new (s.names ++ name ∷ []) (template_names ts)) (not_from_false (has s.names name) o.new) r.told.apart);
-      fit = subst F (append_assoc s.names (name ∷ []) (template_names ts) ∙ ap (λ m. s.names ++ m ∷ template_names ts) (sym called)) r.told.fit;
-      few = r.told.few;
-      few_templates = r.told.few_templates;
-    }
-
-told_line : (s : State) (line : List ℕ) (lines body rest : List (List ℕ)) (deck : Deck) (ts : List (List (List ℕ))) (jobs : List Job) → is_body line ≡ true → ToldRest (longer s line) lines deck body rest ts jobs → ToldRest s (line ∷ lines) deck (line ∷ body) rest ts jobs
-unfolding longer
-told_line s line lines body rest deck ts jobs b r =
-    let P : List (List ℕ) → Type 0 = λ d. ToldAll (record s { place = Between; templates = s.templates ++ d ∷ []; draft = [] }) rest deck ts jobs in
-    record {
-      said = ap (λ l. line ∷ l) r.said;
-      inside = and_from (is_body line) (list_all is_body body) b r.inside;
-      told = subst P (append_assoc s.draft (line ∷ []) (body ++ end_line ∷ [])) r.told;
-    }
-
-ended : (s : State) (deck : Deck) → deck_at s ≡ Some deck → (s.place ≡ Between) ⊎ (s.place ≡ Staged) → record { templates = s.templates; jobs = s.jobs } ≡ deck
-unfolding deck_at
-ended s deck e (inl p) = same_Some _ deck (rw p at e)
-ended s deck e (inr p) = same_Some _ deck (rw p at e)
-
-not_ended : (s : State) (deck : Deck) → deck_at s ≡ Some deck → (s.place ≡ Inside) ⊎ (s.place ≡ Begun) → ⊥
-unfolding deck_at
-not_ended s deck e (inl p) = let h = rw p at e in cc
-not_ended s deck e (inr p) = let h = rw p at e in cc
-
-told_none : (s : State) (deck : Deck) → deck_at s ≡ Some deck → (s.place ≡ Between) ⊎ (s.place ≡ Staged) → length s.jobs ≤ 256 → ToldJobs s [] deck []
-told_none s deck e p few =
-    let is : record { templates = s.templates; jobs = s.jobs } ≡ deck = ended s deck e p in
-    let fit : FitJobs s.names s.job_names s.stage [] = record { each = refl; numbered = refl; apart = refl; found = refl } in
-    record {
+      texts = [];
+      told = [];
       said = refl;
-      jobs_are = sym (ap (λ (d : Deck). d.jobs) is) ∙ sym (append-nil s.jobs);
+      says = tt;
+      jobs_are = sym (ap (λ (d : Deck). d.jobs) is) ∙ sym (append-nil c.jobs);
       templates_are = sym (ap (λ (d : Deck). d.templates) is);
       fit = fit;
       few = omega (arith, ap (λ (d : Deck). length d.jobs) is);
     }
 
 -- jobs alone, as a deck with no further template
-told_alone : (s : State) (lines : List (List ℕ)) (deck : Deck) (jobs : List Job) → ToldJobs s lines deck jobs → length s.templates ≤ 1024 → ToldAll s lines deck [] jobs
-told_alone s lines deck jobs t few =
-    let F : List (List ℕ) → Type 0 = λ ns. FitJobs ns s.job_names s.stage jobs in
+alone : (c : Core) (lines : List (List ℕ)) (deck : Deck) → ToldJobs c lines deck → length c.templates ≤ 1024 → ToldAll c lines deck
+alone c lines deck t few =
+    let F : List (List ℕ) → Type 0 = λ ns. FitJobs ns c.job_names c.stage t.told in
     record {
+      ts = [];
+      texts = t.texts;
+      told = t.told;
       said = t.said;
+      says = t.says;
       jobs_are = t.jobs_are;
-      templates_are = t.templates_are ∙ sym (append-nil s.templates);
+      templates_are = t.templates_are ∙ sym (append-nil c.templates);
       each = tt;
       apart = refl;
-      fit = subst F (sym (append-nil s.names)) t.fit;
+      fit = subst F (sym (append-nil c.names)) t.fit;
       few = t.few;
       few_templates = omega (arith, ap length t.templates_are);
     }
 
-at_place : (place : Place) (s : State) (line : List ℕ) → s.place ≡ place → kept_at place s line ≡ kept s line
-unfolding kept
-at_place place s line e = ap (λ p. kept_at p s line) (sym e)
+-- ---- templates
 
-inside_cases : (s t : State) (line : List ℕ) → inside s line ≡ Some t → ((line ≡ end_line) × (after_end s [] ≡ t)) ⊎ ((is_body line ≡ true) × (longer s line ≡ t))
-unfolding inside closed
-inside_cases s t line e =
-    elim (cases_Bool (bytes_eq line end_line)) [
-      | inl y ↦ inl ((bytes_eq-Decides line end_line).0 y, same_Some _ t (rw y at e))
-      | inr n ↦ elim (cases_Bool (is_body line)) [
-        | inl b ↦ inr (b, same_Some (longer s line) t (rw n at (rw b at e)))
-        | inr b ↦ absurd (let h = rw n at (rw b at e) in cc)
-      ]
-    ]
+head_told : (s : State) (text name : List ℕ) (lines : List (List ℕ)) (deck : Deck) → Step s text (program name) → ToldTemplate (taken s text (program name)) lines deck → ToldAll (core_of s) (text ∷ lines) deck
+head_told s text name lines deck step r =
+    let made : List (List ℕ) = text ∷ (r.declarations ++ (r.steps ++ end_line ∷ [])) in
+    let ts : List (List (List ℕ)) = r.more.ts in
+    let last : List (List ℕ) = stage_lines s.stage r.more.texts r.more.told in
+    let flat : List (List ℕ) = flat_map (λ l. l) ts in
+    let few : length r.declarations ≤ 1024 = omega (arith, r.few_declarations) in
+    let few_acts : length (filter is_action r.steps) ≤ 16384 = omega (arith, r.few_instructions) in
+    let is : IsTemplate made = record {
+      head = text;
+      declarations = r.declarations;
+      steps = r.steps;
+      name = name;
+      lines_are = refl;
+      named = step.says;
+      declared = r.declared;
+      few_declarations = few;
+      stepped = r.stepped;
+      few_instructions = few_acts;
+      apart = r.apart;
+    } in
+    let called : name_of made ≡ name = (head_name text name (line_told text (program name) step.says)).1 in
+    let A : List ℕ → Type 0 = λ m. (not (has s.names m) && are_new (s.names ++ m ∷ []) (template_names ts)) ≡ true in
+    let F : List (List ℕ) → Type 0 = λ ns. FitJobs ns s.job_names s.stage r.more.told in
+    let joined : r.declarations ++ (r.steps ++ end_line ∷ (flat ++ last)) ≡ (r.declarations ++ (r.steps ++ end_line ∷ [])) ++ (flat ++ last) =
+    ap (λ l. r.declarations ++ l) (sym (append_assoc r.steps (end_line ∷ []) (flat ++ last))) ∙ sym (append_assoc r.declarations (r.steps ++ end_line ∷ []) (flat ++ last))
+    in
+    record {
+      ts = made ∷ ts;
+      texts = r.more.texts;
+      told = r.more.told;
+      said = ap (λ l. text ∷ l) (r.said ∙ ap (λ l. r.declarations ++ (r.steps ++ end_line ∷ l)) r.more.said ∙ joined) ∙ sym (append_assoc made flat last);
+      says = r.more.says;
+      jobs_are = r.more.jobs_are;
+      templates_are = r.more.templates_are ∙ append_assoc s.templates (made ∷ []) ts;
+      each = (is, r.more.each);
+      apart = subst A (sym called) (and_from (not (has s.names name)) (are_new (s.names ++ name ∷ []) (template_names ts)) step.new r.more.apart);
+      fit = subst F (append_assoc s.names (name ∷ []) (template_names ts) ∙ ap (λ m. s.names ++ m ∷ template_names ts) (sym called)) r.more.fit;
+      few = r.more.few;
+      few_templates = r.more.few_templates;
+    }
 
-longer_place : (s : State) (line : List ℕ) → (longer s line).place ≡ s.place
-unfolding longer
-longer_place s line = refl
+declared_told : (s : State) (text : List ℕ) (in_range : Bool) (lines : List (List ℕ)) (deck : Deck) → Step s text (Declare in_range) → ToldTemplate (taken s text (Declare in_range)) lines deck → ToldTemplate s (text ∷ lines) deck
+declared_told s text in_range lines deck step r =
+    let declares_it : is_declaration text ≡ true = ap declares step.says ∙ step.range in
+    let all : List (List ℕ) = r.declarations ++ (r.steps ++ end_line ∷ []) in
+    let P : List (List ℕ) → Type 0 = λ d. ToldAll (with_template (core_of s) d) r.rest deck in
+    let few : s.declared + length (text ∷ r.declarations) ≤ 1024 = omega (arith, r.few_declarations) in
+    record {
+      declarations = text ∷ r.declarations;
+      steps = r.steps;
+      rest = r.rest;
+      said = ap (λ l. text ∷ l) r.said;
+      declared = and_from (is_declaration text) (list_all is_declaration r.declarations) declares_it r.declared;
+      few_declarations = few;
+      stepped = r.stepped;
+      few_instructions = r.few_instructions;
+      apart = r.apart;
+      more = subst P (append_assoc s.draft (text ∷ []) all) r.more;
+    }
 
-longer_good : (s : State) (line : List ℕ) → Good Inside s → Good Inside (longer s line)
-unfolding longer
-longer_good s line g = record { later = tt; few_templates = g.few_templates; few = g.few }
+no_declaration : (s : State) (lines : List (List ℕ)) (deck : Deck) → s.declared ≤ 1024 → ToldSteps s lines deck → ToldTemplate s lines deck
+no_declaration s lines deck few r =
+    let enough : s.declared + length {A = List ℕ} [] ≤ 1024 = omega arith in
+    record {
+      declarations = [];
+      steps = r.steps;
+      rest = r.rest;
+      said = r.said;
+      declared = refl;
+      few_declarations = enough;
+      stepped = r.stepped;
+      few_instructions = r.few_instructions;
+      apart = r.apart;
+      more = r.more;
+    }
 
-stage_good : (place : Place) (s : State) → Good place s → Good Begun (after_stage s)
-stage_good place s g = record { later = omega arith; few_templates = omega (arith, g.few_templates); few = g.few }
+label_told : (s : State) (text name : List ℕ) (lines : List (List ℕ)) (deck : Deck) → Step s text (label name) → ToldSteps (taken s text (label name)) lines deck → ToldSteps s (text ∷ lines) deck
+label_told s text name lines deck step r =
+    let is : is_step text ≡ true = ap goes_on step.says in
+    let no_act : is_action text ≡ false = ap acts step.says in
+    let labels : labels_in text ≡ name ∷ [] = ap labels_said step.says in
+    let P : List (List ℕ) → Type 0 = λ d. ToldAll (with_template (core_of s) d) r.rest deck in
+    let N : List (List ℕ) → Type 0 = λ l. are_new s.labels (l ++ flat_map labels_in r.steps) ≡ true in
+    let count : s.acts + length (filter is_action (text ∷ r.steps)) ≤ 16384 = rw no_act r.few_instructions in
+    record {
+      steps = text ∷ r.steps;
+      rest = r.rest;
+      said = ap (λ l. text ∷ l) r.said;
+      stepped = and_from (is_step text) (list_all is_step r.steps) is r.stepped;
+      few_instructions = count;
+      apart = subst N (sym labels) (and_from (not (has s.labels name)) (are_new (s.labels ++ name ∷ []) (flat_map labels_in r.steps)) step.new r.apart);
+      more = subst P (append_assoc s.draft (text ∷ []) (r.steps ++ end_line ∷ [])) r.more;
+    }
 
-joined_good : (s t : State) (line : List ℕ) (j : Job) → 0 < s.stage → length s.templates ≤ 1024 → Joined s t line j → Good Staged t
-joined_good s t line j later few g =
-    let P : State → Type 0 = Good Staged in
-    let made : Good Staged (after_job s j) = record { later = later; few_templates = omega arith; few = omega (arith, g.room, length_push s.jobs j) } in
-    subst P g.is made
+act_told : (s : State) (text : List ℕ) (lines : List (List ℕ)) (deck : Deck) → Step s text Act → ToldSteps (taken s text Act) lines deck → ToldSteps s (text ∷ lines) deck
+act_told s text lines deck step r =
+    let is : is_step text ≡ true = ap goes_on step.says in
+    let act : is_action text ≡ true = ap acts step.says in
+    let labels : labels_in text ≡ [] = ap labels_said step.says in
+    let P : List (List ℕ) → Type 0 = λ d. ToldAll (with_template (core_of s) d) r.rest deck in
+    let N : List (List ℕ) → Type 0 = λ l. are_new s.labels (l ++ flat_map labels_in r.steps) ≡ true in
+    let one_more : s.acts + length (text ∷ filter is_action r.steps) ≤ 16384 = omega (arith, r.few_instructions) in
+    let count : s.acts + length (filter is_action (text ∷ r.steps)) ≤ 16384 = rw act one_more in
+    record {
+      steps = text ∷ r.steps;
+      rest = r.rest;
+      said = ap (λ l. text ∷ l) r.said;
+      stepped = and_from (is_step text) (list_all is_step r.steps) is r.stepped;
+      few_instructions = count;
+      apart = subst N (sym labels) r.apart;
+      more = subst P (append_assoc s.draft (text ∷ []) (r.steps ++ end_line ∷ [])) r.more;
+    }
 
-opened_good : (s t : State) (line name : List ℕ) → length s.jobs ≤ 256 → Opened s t line name → Good Inside t
-opened_good s t line name few o =
-    let P : State → Type 0 = Good Inside in
-    let made : Good Inside (after_head s line name) = record { later = tt; few_templates = omega (arith, o.room); few = few } in
-    subst P o.is made
+end_told : (s : State) (text : List ℕ) (lines : List (List ℕ)) (deck : Deck) → text ≡ end_line → s.acts ≤ 16384 → ToldAll (core_of (taken s text End)) lines deck → ToldSteps s (text ∷ lines) deck
+end_told s text lines deck e few r =
+    let P : List ℕ → Type 0 = λ t. ToldAll (with_template (core_of s) (s.draft ++ t ∷ [])) lines deck in
+    let count : s.acts + length (filter is_action []) ≤ 16384 = omega arith in
+    record { steps = []; rest = lines; said = ap (λ t. t ∷ lines) e; stepped = refl; few_instructions = count; apart = refl; more = subst P e r }
 
-end_good : (s : State) → Good Inside s → Good Between (after_end s [])
-end_good s g = record { later = tt; few_templates = omega (arith, g.few_templates, length_push s.templates (s.draft ++ end_line ∷ [])); few = g.few }
+-- ---- one line more
 
--- a stage begins, wherever it may
-stage_told : (s : State) (line : List ℕ) (lines : List (List ℕ)) (deck : Deck) → bytes_eq line stage_line ≡ true → (j : Job) (jobs : List Job) → ToldJob (after_stage s) lines deck j jobs → ToldJobs s (line ∷ lines) deck (j ∷ jobs)
-stage_told s line lines deck y j jobs h =
-    let P : List ℕ → Type 0 = λ l. ToldJobs s (l ∷ lines) deck (j ∷ jobs) in
-    subst P (sym ((bytes_eq-Decides line stage_line).0 y)) (told_stage s lines deck j jobs h)
+wrong : (s : State) (place : Place) (line : Line) → s.place ≡ place → may_stand place line ≡ false → may_stand s.place line ≡ true → ⊥
+wrong s place line e f t = let h : false ≡ true = sym f ∙ ap (λ p. may_stand p line) (sym e) ∙ t in cc
 
-told : (place : Place) (lines : List (List ℕ)) (s : State) (deck : Deck) → s.place ≡ place → Good place s → ends s lines ≡ Some deck → Told place s lines deck
-told Between [] s deck e g h = ([], ([], told_alone s [] deck [] (told_none s deck h (inl e) g.few) (omega (arith, g.few_templates))))
-told Inside [] s deck e g h = absurd (not_ended s deck h (inl e))
-told Begun [] s deck e g h = absurd (not_ended s deck h (inr e))
-told Staged [] s deck e g h = ([], told_none s deck h (inr e) g.few)
-told Between (line ∷ lines) s deck e g h =
-    then_some _ (kept s line) deck h (λ t k rest.
-    let k2 : kept_at Between s line ≡ Some t = at_place Between s line e ∙ k in
-    let E : State → Type 0 = λ u. ends u lines ≡ Some deck in
-    elim (cases_Bool (bytes_eq line stage_line)) [
-      | inl y ↦
-          let is : after_stage s ≡ t = stage_began s t (rw y at k2) in
-          let r = told Begun lines (after_stage s) deck refl (stage_good Between s g) (subst E (sym is) rest) in
-          ([], (r.0 ∷ r.1.0, told_alone s (line ∷ lines) deck (r.0 ∷ r.1.0) (stage_told s line lines deck y r.0 r.1.0 r.1.1) (omega (arith, g.few_templates))))
-      | inr n ↦
-          let o = head_opened s t line (rw n at k2) in
-          let r = told Inside lines t deck (ap (λ (u : State). u.place) (sym o.1.is)) (opened_good s t line o.0 g.few o.1) rest in
-          ((line ∷ (r.0 ++ end_line ∷ [])) ∷ r.1.1.0, (r.1.1.1.0, told_head s t line o.0 lines r.0 r.1.0 deck r.1.1.0 r.1.1.1.0 o.1 r.1.1.1.1))
-    ])
-told Inside (line ∷ lines) s deck e g h =
-    then_some _ (kept s line) deck h (λ t k rest.
-    let k2 : inside s line ≡ Some t = at_place Inside s line e ∙ k in
-    let E : State → Type 0 = λ u. ends u lines ≡ Some deck in
-    elim (inside_cases s t line k2) [
-      | inl y ↦
-          let r = told Between lines (after_end s []) deck refl (end_good s g) (subst E (sym y.1) rest) in
-          let all : ToldRest s (line ∷ lines) deck [] lines r.0 r.1.0 = record { said = ap (λ l. l ∷ lines) y.0; inside = refl; told = r.1.1 } in
-          ([], (lines, (r.0, (r.1.0, all))))
-      | inr n ↦
-          let r = told Inside lines (longer s line) deck (longer_place s line ∙ e) (longer_good s line g) (subst E (sym n.1) rest) in
-          (line ∷ r.0, (r.1.0, (r.1.1.0, (r.1.1.1.0, told_line s line lines r.0 r.1.0 deck r.1.1.0 r.1.1.1.0 n.0 r.1.1.1.1))))
-    ])
-told Begun (line ∷ lines) s deck e g h =
-    then_some _ (kept s line) deck h (λ t k rest.
-    let j = job_joined s t line (at_place Begun s line e ∙ k) in
-    let r = told Staged lines t deck (ap (λ (u : State). u.place) (sym j.1.is)) (joined_good s t line j.0 g.later (omega (arith, g.few_templates)) j.1) rest in
-    (j.0, (r.0, told_job s t line lines deck j.0 r.0 g.later j.1 r.1)))
-told Staged (line ∷ lines) s deck e g h =
-    then_some _ (kept s line) deck h (λ t k rest.
-    let k2 : kept_at Staged s line ≡ Some t = at_place Staged s line e ∙ k in
-    let E : State → Type 0 = λ u. ends u lines ≡ Some deck in
-    elim (cases_Bool (bytes_eq line stage_line)) [
-      | inl y ↦
-          let is : after_stage s ≡ t = stage_began s t (rw y at k2) in
-          let r = told Begun lines (after_stage s) deck refl (stage_good Staged s g) (subst E (sym is) rest) in
-          (r.0 ∷ r.1.0, stage_told s line lines deck y r.0 r.1.0 r.1.1)
-      | inr n ↦
-          let j = job_joined s t line (rw n at k2) in
-          let r = told Staged lines t deck (ap (λ (u : State). u.place) (sym j.1.is)) (joined_good s t line j.0 g.later (omega (arith, g.few_templates)) j.1) rest in
-          (j.0 ∷ r.0, (told_job s t line lines deck j.0 r.0 g.later j.1 r.1).told)
-    ])
+-- what is known of the lines that are left
+abbrev Next : List (List ℕ) → Deck → Type 0
+Next lines deck = (place : Place) (t : State) → t.place ≡ place → Good place t → Ends t lines deck → Told place t lines deck
+
+stage_good : (place : Place) (s : State) (text : List ℕ) → s.stage ≤ length s.jobs → Good place s → Good Begun (taken s text Stage)
+stage_good place s text few g = record {
+  later = omega arith;
+  few_stages = omega arith;
+  few_templates = omega (arith, g.few_templates);
+  few = g.few;
+  few_declarations = g.few_declarations;
+  few_instructions = g.few_instructions;
+}
+
+job_good : (place : Place) (s : State) (text : List ℕ) (said : JobSaid) → 0 < s.stage → s.stage ≤ length s.jobs + 1 → length s.templates ≤ 1024 → Good place s → Step s text (job said) → Good Staged (taken s text (job said))
+job_good place s text said later few fewer g step =
+    let room : length s.jobs < 256 = ltb-true (length s.jobs) 256 step.room in
+    record {
+      later = later;
+      few_stages = omega (arith, length_push s.jobs (job_of s.stage said));
+      few_templates = omega arith;
+      few = omega (arith, length_push s.jobs (job_of s.stage said));
+      few_declarations = g.few_declarations;
+      few_instructions = g.few_instructions;
+    }
+
+between : (s : State) (text : List ℕ) (lines : List (List ℕ)) (deck : Deck) → s.place ≡ Between → Good Between s → (line : Line) → Step s text line → Ends (taken s text line) lines deck → Next lines deck → ToldAll (core_of s) (text ∷ lines) deck
+between s text lines deck e g (Program name) step rest next =
+    let room : length s.templates < 1024 = ltb-true (length s.templates) 1024 step.room in
+    let good : Good Declaring (taken s text (program name)) = record { later = tt; few_stages = g.few_stages; few_templates = omega arith; few = g.few; few_declarations = omega arith; few_instructions = omega arith } in
+    head_told s text name lines deck step (next Declaring (taken s text (program name)) refl good rest)
+between s text lines deck e g Stage step rest next =
+    let few : s.stage ≤ length s.jobs = omega (arith, g.few_stages) in
+    alone (core_of s) (text ∷ lines) deck
+    (stage_told (core_of s) text lines deck (line_told text Stage step.says) (omega (arith, g.few)) (next Begun (taken s text Stage) refl (stage_good Between s text few g) rest))
+    (omega (arith, g.few_templates))
+between s text lines deck e g (Declare b) step rest next = absurd (wrong s Between (Declare b) e refl step.stands)
+between s text lines deck e g (Label name) step rest next = absurd (wrong s Between (label name) e refl step.stands)
+between s text lines deck e g Act step rest next = absurd (wrong s Between Act e refl step.stands)
+between s text lines deck e g End step rest next = absurd (wrong s Between End e refl step.stands)
+between s text lines deck e g (JobLine said) step rest next = absurd (wrong s Between (job said) e refl step.stands)
+
+-- a label, an instruction or the end, wherever it may stand
+inside : (place : Place) (s : State) (text : List ℕ) (lines : List (List ℕ)) (deck : Deck) → length s.templates + 1 ≤ 1024 → s.stage ≤ length s.jobs → Good place s → (line : Line) → (may_stand Acting line ≡ true) → Step s text line → Ends (taken s text line) lines deck → Next lines deck → ToldSteps s (text ∷ lines) deck
+inside place s text lines deck fewer few g (Label name) may step rest next =
+    let good : Good Acting (taken s text (label name)) = record { later = tt; few_stages = omega arith; few_templates = fewer; few = g.few; few_declarations = g.few_declarations; few_instructions = g.few_instructions } in
+    label_told s text name lines deck step (next Acting (taken s text (label name)) refl good rest)
+inside place s text lines deck fewer few g Act may step rest next =
+    let room : s.acts < 16384 = ltb-true s.acts 16384 step.room in
+    let good : Good Acting (taken s text Act) = record { later = tt; few_stages = omega arith; few_templates = fewer; few = g.few; few_declarations = g.few_declarations; few_instructions = omega arith } in
+    act_told s text lines deck step (next Acting (taken s text Act) refl good rest)
+inside place s text lines deck fewer few g End may step rest next =
+    let good : Good Between (taken s text End) = record {
+      later = tt;
+      few_stages = omega arith;
+      few_templates = omega (arith, length_push s.templates (s.draft ++ text ∷ []));
+      few = g.few;
+      few_declarations = g.few_declarations;
+      few_instructions = g.few_instructions;
+    } in
+    end_told s text lines deck (line_told text End step.says) g.few_instructions (next Between (taken s text End) refl good rest)
+inside place s text lines deck fewer few g (Program name) may step rest next = absurd cc
+inside place s text lines deck fewer few g (Declare b) may step rest next = absurd cc
+inside place s text lines deck fewer few g Stage may step rest next = absurd cc
+inside place s text lines deck fewer few g (JobLine said) may step rest next = absurd cc
+
+acting : (s : State) (text : List ℕ) (lines : List (List ℕ)) (deck : Deck) → s.place ≡ Acting → Good Acting s → (line : Line) → Step s text line → Ends (taken s text line) lines deck → Next lines deck → ToldSteps s (text ∷ lines) deck
+acting s text lines deck e g line step rest next =
+    inside Acting s text lines deck g.few_templates (omega (arith, g.few_stages)) g line (ap (λ p. may_stand p line) (sym e) ∙ step.stands) step rest next
+
+declaring : (s : State) (text : List ℕ) (lines : List (List ℕ)) (deck : Deck) → s.place ≡ Declaring → Good Declaring s → (line : Line) → Step s text line → Ends (taken s text line) lines deck → Next lines deck → ToldTemplate s (text ∷ lines) deck
+declaring s text lines deck e g (Declare b) step rest next =
+    let room : s.declared < 1024 = ltb-true s.declared 1024 step.room in
+    let good : Good Declaring (taken s text (Declare b)) = record { later = tt; few_stages = g.few_stages; few_templates = g.few_templates; few = g.few; few_declarations = omega arith; few_instructions = g.few_instructions } in
+    declared_told s text b lines deck step (next Declaring (taken s text (Declare b)) e good rest)
+declaring s text lines deck e g (Label name) step rest next =
+    no_declaration s (text ∷ lines) deck g.few_declarations (inside Declaring s text lines deck g.few_templates (omega (arith, g.few_stages)) g (label name) refl step rest next)
+declaring s text lines deck e g Act step rest next =
+    no_declaration s (text ∷ lines) deck g.few_declarations (inside Declaring s text lines deck g.few_templates (omega (arith, g.few_stages)) g Act refl step rest next)
+declaring s text lines deck e g End step rest next =
+    no_declaration s (text ∷ lines) deck g.few_declarations (inside Declaring s text lines deck g.few_templates (omega (arith, g.few_stages)) g End refl step rest next)
+declaring s text lines deck e g (Program name) step rest next = absurd (wrong s Declaring (program name) e refl step.stands)
+declaring s text lines deck e g Stage step rest next = absurd (wrong s Declaring Stage e refl step.stands)
+declaring s text lines deck e g (JobLine said) step rest next = absurd (wrong s Declaring (job said) e refl step.stands)
+
+begun : (s : State) (text : List ℕ) (lines : List (List ℕ)) (deck : Deck) → s.place ≡ Begun → Good Begun s → (line : Line) → Step s text line → Ends (taken s text line) lines deck → Next lines deck → ToldJob (core_of s) (text ∷ lines) deck
+begun s text lines deck e g (JobLine said) step rest next =
+    job_told s text said lines deck g.later step (next Staged (taken s text (job said)) refl (job_good Begun s text said g.later g.few_stages (omega (arith, g.few_templates)) g step) rest)
+begun s text lines deck e g (Program name) step rest next = absurd (wrong s Begun (program name) e refl step.stands)
+begun s text lines deck e g (Declare b) step rest next = absurd (wrong s Begun (Declare b) e refl step.stands)
+begun s text lines deck e g (Label name) step rest next = absurd (wrong s Begun (label name) e refl step.stands)
+begun s text lines deck e g Act step rest next = absurd (wrong s Begun Act e refl step.stands)
+begun s text lines deck e g End step rest next = absurd (wrong s Begun End e refl step.stands)
+begun s text lines deck e g Stage step rest next = absurd (wrong s Begun Stage e refl step.stands)
+
+staged : (s : State) (text : List ℕ) (lines : List (List ℕ)) (deck : Deck) → s.place ≡ Staged → Good Staged s → (line : Line) → Step s text line → Ends (taken s text line) lines deck → Next lines deck → ToldJobs (core_of s) (text ∷ lines) deck
+staged s text lines deck e g (JobLine said) step rest next =
+    one_more_job (core_of s) (text ∷ lines) deck
+    (job_told s text said lines deck g.later step (next Staged (taken s text (job said)) refl (job_good Staged s text said g.later (omega (arith, g.few_stages)) (omega (arith, g.few_templates)) g step) rest))
+staged s text lines deck e g Stage step rest next =
+    let few : s.stage ≤ length s.jobs = omega (arith, g.few_stages) in
+    stage_told (core_of s) text lines deck (line_told text Stage step.says) (omega (arith, g.few)) (next Begun (taken s text Stage) refl (stage_good Staged s text few g) rest)
+staged s text lines deck e g (Program name) step rest next = absurd (wrong s Staged (program name) e refl step.stands)
+staged s text lines deck e g (Declare b) step rest next = absurd (wrong s Staged (Declare b) e refl step.stands)
+staged s text lines deck e g (Label name) step rest next = absurd (wrong s Staged (label name) e refl step.stands)
+staged s text lines deck e g Act step rest next = absurd (wrong s Staged Act e refl step.stands)
+staged s text lines deck e g End step rest next = absurd (wrong s Staged End e refl step.stands)
+
+-- ---- all lines
+
+not_ended : (s : State) (place : Place) → s.place ≡ place → may_end place ≡ false → may_end s.place ≡ true → ⊥
+not_ended s place e f t = let h : false ≡ true = sym f ∙ ap may_end (sym e) ∙ t in cc
+
+told : (lines : List (List ℕ)) (place : Place) (s : State) (deck : Deck) → s.place ≡ place → Good place s → Ends s lines deck → Told place s lines deck
+told [] Between s deck e g h = alone (core_of s) [] deck (none_told (core_of s) deck h.1 g.few) (omega (arith, g.few_templates))
+told [] Declaring s deck e g h = absurd (not_ended s Declaring e refl h.0)
+told [] Acting s deck e g h = absurd (not_ended s Acting e refl h.0)
+told [] Begun s deck e g h = absurd (not_ended s Begun e refl h.0)
+told [] Staged s deck e g h = none_told (core_of s) deck h.1 g.few
+told (text ∷ lines) Between s deck e g h = between s text lines deck e g h.0 h.1.0 h.1.1 (λ p t f k r. told lines p t deck f k r)
+told (text ∷ lines) Declaring s deck e g h = declaring s text lines deck e g h.0 h.1.0 h.1.1 (λ p t f k r. told lines p t deck f k r)
+told (text ∷ lines) Acting s deck e g h = acting s text lines deck e g h.0 h.1.0 h.1.1 (λ p t f k r. told lines p t deck f k r)
+told (text ∷ lines) Begun s deck e g h = begun s text lines deck e g h.0 h.1.0 h.1.1 (λ p t f k r. told lines p t deck f k r)
+told (text ∷ lines) Staged s deck e g h = staged s text lines deck e g h.0 h.1.0 h.1.1 (λ p t f k r. told lines p t deck f k r)
 
 -- ---- the text
 
 first_state : State
-first_state = record { place = Between; templates = []; draft = []; names = []; jobs = []; job_names = []; stage = 0 }
+first_state = record { place = Between; templates = []; draft = []; labels = []; declared = 0; acts = 0; names = []; jobs = []; job_names = []; stage = 0 }
 
-read_lines : (s : State) (o : Option (List (List ℕ))) (deck : Deck) → option_and_then deck_at (option_and_then (turns s) o) ≡ Some deck → (lines : List (List ℕ)) × ((o ≡ Some lines) × (after_all s lines ≡ Some deck))
-read_lines s None deck e = absurd cc
-read_lines s (Some lines) deck e = (lines, (refl, e))
+feeds_join : (lines : List (List ℕ)) → join_with_byte 10 (lines ++ [] ∷ []) ≡ flat_map with_feed lines
+feeds_join [] = refl
+feeds_join (line ∷ []) = sym (append_assoc line (10 ∷ []) [])
+feeds_join (line ∷ next ∷ lines) = ap (λ t. line ++ 10 ∷ t) (feeds_join (next ∷ lines)) ∙ sym (append_assoc line (10 ∷ []) (flat_map with_feed (next ∷ lines)))
 
-spelled : (text : List ℕ) (deck : Deck) (lines : List (List ℕ)) (ts : List (List (List ℕ))) (jobs : List Job) → lines_of text ≡ Some lines → length text ≤ 4194304 → list_all is_plain lines ≡ true → ToldAll first_state (filter is_kept lines) deck ts jobs → Spells text deck
+text_ended : (text : List ℕ) (lines : List (List ℕ)) → slice_split is_feed text ≡ lines ++ [] ∷ [] → text ≡ flat_map with_feed lines
+text_ended text lines e = sym (join_with_byte-slice_split 10 text) ∙ ap (join_with_byte 10) e ∙ feeds_join lines
+
+spelled : (text : List ℕ) (deck : Deck) → Read first_state 0 (slice_split is_feed text) deck → Spells text deck
 unfolding first_state
-spelled text deck lines ts jobs read small plain all =
-    let these : deck.templates ≡ ts = all.templates_are in
-    let those : deck.jobs ≡ jobs = all.jobs_are in
+spelled text deck r =
+    let good : Good Between first_state = record { later = tt; few_stages = omega arith; few_templates = omega arith; few = omega arith; few_declarations = omega arith; few_instructions = omega arith } in
+    let all = told (filter is_kept r.lines) Between first_state deck refl good r.ends in
+    let ended : text ≡ flat_map with_feed r.lines = text_ended text r.lines r.parts_are in
+    let these : deck.templates ≡ all.ts = all.templates_are in
+    let those : deck.jobs ≡ all.told = all.jobs_are in
     let T : List (List (List ℕ)) → Type 0 = λ l. AllByRecursion IsTemplate l in
     let A : List (List (List ℕ)) → Type 0 = λ l. are_new [] (template_names l) ≡ true in
-    let F : List (List (List ℕ)) → Type 0 = λ l. FitJobs (template_names l) [] 0 jobs in
+    let F : List (List (List ℕ)) → Type 0 = λ l. FitJobs (template_names l) [] 0 all.told in
     let G : List Job → Type 0 = λ l. FitJobs (template_names deck.templates) [] 0 l in
+    let S : List Job → Type 0 = λ l. SayEach all.texts l in
     record {
-      lines = lines;
-      ended = lines_printed text lines read;
-      small = small;
-      plain = plain;
-      said = all.said ∙ ap (λ l. flat_map (λ m. m) l ++ stage_lines 0 jobs) (sym these) ∙ ap (λ l. flat_map (λ m. m) deck.templates ++ stage_lines 0 l) (sym those);
+      lines = r.lines;
+      job_lines = all.texts;
+      ended = ended;
+      small = omega (arith, r.small, ap length ended);
+      plain = r.plain;
+      said = all.said ∙ ap (λ l. flat_map (λ m. m) l ++ stage_lines 0 all.texts all.told) (sym these) ∙ ap (λ l. flat_map (λ m. m) deck.templates ++ stage_lines 0 all.texts l) (sym those);
+      says = subst S (sym those) all.says;
       templates = subst T (sym these) all.each;
       few_templates = all.few_templates;
       apart = subst A (sym these) all.apart;
@@ -365,15 +522,7 @@ spelled text deck lines ts jobs read small plain all =
       few_jobs = all.few;
     }
 
-pub sound : (text : List ℕ) (deck : Deck) → deck_of text ≡ Some deck → Spells text deck
-unfolding deck_of reads start first_state
+pub sound : (text : List ℕ) (deck : Deck) → read_of text ≡ Ok deck → Spells text deck
+unfolding read_of start first_state
 sound text deck e =
-    elim (cases_Bool (nat_le (length text) 4194304)) [
-      | inl y ↦
-          let r = read_lines first_state (lines_of text) deck (rw y at e) in
-          let plain : list_all is_plain r.0 ≡ true = then_some deck_at (turns first_state r.0) deck r.1.1 (λ t eq _. plain_turns r.0 first_state t eq) in
-          let good : Good Between first_state = record { later = tt; few_templates = omega arith; few = omega arith } in
-          let all = told Between (filter is_kept r.0) first_state deck refl good (sym (passes_over r.0 first_state plain) ∙ r.1.1) in
-          spelled text deck r.0 all.0 all.1.0 r.1.0 (leb-true (length text) 4194304 y) plain all.1.1
-      | inr n ↦ absurd (let h = rw n at e in cc)
-    ]
+    spelled text deck (reads (slice_split is_feed text) first_state 0 1 deck (omega arith) (omega (arith, length-slice_split is_feed text)) e)

@@ -13,9 +13,9 @@ use Rattle.std.specs.Str.{bytes_eq}
 use Rattle.s38_base.specs.NameText.{is_name}
 use Rattle.s38_code.specs.declared.deck.Deck.{Deck}
 use Rattle.s38_code.specs.declared.deck.Job.{Job}
-use Rattle.s38_template.specs.Grammar.{Spells, has, is_job, is_own_name, name_of, template_names}
+use Rattle.s38_template.specs.Grammar.{Spells, has, is_job, name_of, template_names}
+use Rattle.s38_template.specs.Lines.{begins_with_letter, is_own_name, name_in}
 use Rattle.s38_template.specs.Places.{HasTemplate, held, is_called, place_from, place_of, placed}
-use Rattle.s38_template.specs.Reading.{name_in}
 use Rattle.s38_template.proofs.Options.{map_some}
 
 -- ---- one name more in a map
@@ -139,7 +139,7 @@ job_template_name : (job : Job) → is_job job ≡ true → is_name job.template
 job_template_name job h =
     let p = and_parts (is_own_name job.name) _ h in
     let q = and_parts (is_name job.user) _ p.1 in
-    (and_parts (is_name job.template) _ q.1).0
+    (and_parts (begins_with_letter job.template) (is_name job.template) (and_parts (is_own_name job.template) _ q.1).0).1
 
 pub job_has_template : (text : List ℕ) (deck : Deck) → Spells text deck → (k : ℕ) (job : Job) → slice_get deck.jobs k ≡ Some job → HasTemplate deck job
 job_has_template text deck s k job e =

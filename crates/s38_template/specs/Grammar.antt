@@ -1,10 +1,14 @@
 -- The grammar of a deck: which text spells which deck.
-use Rattle.std.specs.Prelude.{◌≡◌, ℕ, ◌+◌, ◌≤◌, Bool, true, false, not, ◌&&◌, ◌||◌, IsTrue, List, [], ◌∷◌, ◌++◌, map, length, drop, codes, nat_eq, nat_lt, nat_le, ◌==◌, if◌then◌else◌}
-use Rattle.std.specs.List.{AllByRecursion, filter, flat_map, list_all, list_any, starts_with}
+use Rattle.std.specs.Prelude.{◌≡◌, ◌⊎◌, ℕ, ◌+◌, ◌≤◌, Bool, true, false, not, ◌&&◌, ◌||◌, IsTrue, List, [], ◌∷◌, ◌++◌, map, length, drop, codes, decimal, nat_lt, nat_le, ◌==◌, Option, Some, None, if◌then◌else◌}
+use Rattle.std.specs.List.{AllByRecursion, filter, flat_map, list_all, list_any}
 use Rattle.std.specs.Str.{bytes_eq}
 use Rattle.s38_base.specs.NameText.{is_name}
+use Rattle.s38_code.specs.WordsText.{before}
 use Rattle.s38_code.specs.declared.deck.Deck.{Deck}
 use Rattle.s38_code.specs.declared.deck.Job.{Job}
+use Rattle.s38_template.specs.Lines.{end_line, is_own_name, job_word, line_of, program_word, stage_line}
+use Rattle.s38_template.specs.declared.said.Line.{Line}
+use Rattle.s38_template.specs.declared.said.Line.TheVariants.{Program, Declare, Label, Act}
 
 -- ---- lines
 
@@ -27,14 +31,6 @@ is_kept (c ∷ cs) = not (c == 42)
 
 -- ---- names
 
-abbrev pub begins_with_letter : List ℕ → Bool
-begins_with_letter [] = false
-begins_with_letter (c ∷ cs) = nat_le 65 c && nat_le c 90
-
--- what a template or a job may be called
-abbrev pub is_own_name : List ℕ → Bool
-is_own_name text = begins_with_letter text && is_name text
-
 abbrev pub has : List (List ℕ) → List ℕ → Bool
 has names name = list_any (λ n. bytes_eq n name) names
 
@@ -45,38 +41,56 @@ are_new seen (name ∷ names) = not (has seen name) && are_new (seen ++ name ∷
 
 -- ---- templates
 
-abbrev pub program_word : List ℕ
-program_word = codes "PROGRAM "
+-- a name is declared, and the numbers are in range
+abbrev pub declares : Option Line → Bool
+declares (Some (Declare in_range)) = in_range
+declares _ = false
 
-abbrev pub end_line : List ℕ
-end_line = codes "END"
+abbrev pub is_declaration : List ℕ → Bool
+is_declaration line = declares (line_of line)
 
-abbrev pub stage_line : List ℕ
-stage_line = codes "STAGE"
+abbrev pub acts : Option Line → Bool
+acts (Some Act) = true
+acts _ = false
 
-abbrev pub job_word : List ℕ
-job_word = codes "JOB "
+abbrev pub is_action : List ℕ → Bool
+is_action line = acts (line_of line)
 
-abbrev pub program_line : List ℕ → List ℕ
-program_line name = program_word ++ name
+-- the name, where a label is said
+abbrev pub labels_said : Option Line → List (List ℕ)
+labels_said (Some (Label name)) = name ∷ []
+labels_said _ = []
 
--- what may stand in a template: no END, no STAGE, no head of a template and no job
-abbrev pub is_body : List ℕ → Bool
-is_body line =
-    not (bytes_eq line end_line) && (not (bytes_eq line stage_line) && (not (starts_with nat_eq line program_word) && not (starts_with nat_eq line job_word)))
+abbrev pub labels_in : List ℕ → List (List ℕ)
+labels_in line = labels_said (line_of line)
 
--- PROGRAM and a name, lines, END
+abbrev pub goes_on : Option Line → Bool
+goes_on (Some (Label name)) = true
+goes_on (Some Act) = true
+goes_on _ = false
+
+-- a label or an instruction
+abbrev pub is_step : List ℕ → Bool
+is_step line = goes_on (line_of line)
+
+-- PROGRAM and a name, declarations, labels and instructions, END
 pub record IsTemplate (lines : List (List ℕ)) : Type 0 where
+  pub head : List ℕ
+  pub declarations : List (List ℕ)
+  pub steps : List (List ℕ)
   pub name : List ℕ
-  pub body : List (List ℕ)
-  pub named : IsTrue (is_own_name name)
-  pub inside : IsTrue (list_all is_body body)
-  pub lines_are : lines ≡ program_line name ∷ (body ++ end_line ∷ [])
+  pub lines_are : lines ≡ head ∷ (declarations ++ (steps ++ end_line ∷ []))
+  pub named : line_of head ≡ Some (Program name)
+  pub declared : IsTrue (list_all is_declaration declarations)
+  pub few_declarations : length declarations ≤ 1024
+  pub stepped : IsTrue (list_all is_step steps)
+  pub few_instructions : length (filter is_action steps) ≤ 16384
+  pub apart : IsTrue (are_new [] (flat_map labels_in steps))
 
 -- the name in the head of a template
 abbrev pub name_of : List (List ℕ) → List ℕ
 name_of [] = []
-name_of (head ∷ lines) = drop (length program_word) head
+name_of (head ∷ lines) = before 32 (drop (length program_word) head)
 
 abbrev pub template_names : List (List (List ℕ)) → List (List ℕ)
 template_names templates = map name_of templates
@@ -90,18 +104,36 @@ abbrev pub contexts_part : List (List ℕ) → List ℕ
 contexts_part [] = []
 contexts_part (name ∷ names) = codes " CONTEXTS" ++ flat_map with_blank (name ∷ names)
 
--- JOB name USER name RUN name, and the contexts where there are any
-abbrev pub job_line : Job → List ℕ
-job_line job = job_word ++ (job.name ++ (codes " USER " ++ (job.user ++ (codes " RUN " ++ (job.template ++ contexts_part job.contexts)))))
+abbrev pub budget_part : ℕ → List ℕ
+budget_part budget = codes " BUDGET " ++ decimal budget
 
--- its names are names, and its budget is the one that is not written
+-- the line of a job in which the budget stands so
+abbrev pub job_text : List ℕ → Job → List ℕ
+job_text budget job = job_word ++ (job.name ++ (codes " USER " ++ (job.user ++ (codes " RUN " ++ (job.template ++ (budget ++ contexts_part job.contexts))))))
+
+-- the line says the job; the budget may be left out where it is 1,000,000
+abbrev pub Says : List ℕ → Job → Type 0
+Says line job = (line ≡ job_text (budget_part job.budget) job) ⊎ ((job.budget ≡ 1000000) × (line ≡ job_text [] job))
+
+abbrev pub SayEach : List (List ℕ) → List Job → Type 0
+SayEach [] [] = Unit {0}
+SayEach [] (job ∷ jobs) = ⊥
+SayEach (line ∷ lines) [] = ⊥
+SayEach (line ∷ lines) (job ∷ jobs) = Says line job × SayEach lines jobs
+
+-- a budget is 1 to 10,000,000
+abbrev pub is_budget : ℕ → Bool
+is_budget budget = nat_le 1 budget && nat_le budget 10000000
+
+-- its names are names, and its budget is one
 abbrev pub is_job : Job → Bool
-is_job job = is_own_name job.name && (is_name job.user && (is_name job.template && (list_all is_name job.contexts && (job.budget == 1000000))))
+is_job job = is_own_name job.name && (is_name job.user && (is_own_name job.template && (list_all is_name job.contexts && is_budget job.budget)))
 
 -- the lines of the jobs, STAGE before the first of each stage; the number of the stage before them is given
-abbrev pub stage_lines : ℕ → List Job → List (List ℕ)
-stage_lines before [] = []
-stage_lines before (job ∷ jobs) = (if job.stage == before then [] else stage_line ∷ []) ++ job_line job ∷ stage_lines job.stage jobs
+abbrev pub stage_lines : ℕ → List (List ℕ) → List Job → List (List ℕ)
+stage_lines before [] jobs = []
+stage_lines before (line ∷ lines) [] = []
+stage_lines before (line ∷ lines) (job ∷ jobs) = (if job.stage == before then [] else stage_line ∷ []) ++ line ∷ stage_lines job.stage lines jobs
 
 -- each job is of the stage of the job before it or of the next; stages count from 1
 abbrev pub are_numbered : ℕ → List Job → Bool
@@ -120,16 +152,19 @@ pub record FitJobs (names seen : List (List ℕ)) (before : ℕ) (jobs : List Jo
 
 -- ---- decks
 
-abbrev pub deck_lines : Deck → List (List ℕ)
-deck_lines deck = flat_map (λ lines. lines) deck.templates ++ stage_lines 0 deck.jobs
+-- the lines of templates, and then the lines of jobs in their stages
+abbrev pub deck_lines : Deck → List (List ℕ) → List (List ℕ)
+deck_lines deck lines = flat_map (λ lines. lines) deck.templates ++ stage_lines 0 lines deck.jobs
 
 -- The text spells the deck.
 pub record Spells (text : List ℕ) (deck : Deck) : Type 0 where
   pub lines : List (List ℕ)
+  pub job_lines : List (List ℕ)
   pub ended : text ≡ flat_map with_feed lines
   pub small : length text ≤ 4194304
   pub plain : IsTrue (list_all is_plain lines)
-  pub said : filter is_kept lines ≡ deck_lines deck
+  pub said : filter is_kept lines ≡ deck_lines deck job_lines
+  pub says : SayEach job_lines deck.jobs
   pub templates : AllByRecursion IsTemplate deck.templates
   pub few_templates : length deck.templates ≤ 1024
   pub apart : IsTrue (are_new [] (template_names deck.templates))

@@ -1,173 +1,159 @@
--- How a deck is read, line by line.
-use Rattle.std.specs.Prelude.{◌≡◌, ℕ, ◌+◌, Bool, true, false, not, ◌&&◌, List, [], ◌∷◌, ◌++◌, length, Option, Some, None, Result, Ok, Err, codes, nat_lt, nat_le, ◌==◌, if◌then◌else◌}
-use Rattle.std.specs.List.{list_all, slice_split}
-use Rattle.std.specs.Option.{option_and_then, option_map}
-use Rattle.std.specs.Str.{bytes_eq}
-use Rattle.s38_base.specs.NameText.{is_name}
+-- How a deck is read, line by line: the deck, or the first bad line and its least code.
+use Rattle.std.specs.Prelude.{◌≡◌, ℕ, ◌+◌, min, Bool, true, false, not, ◌&&◌, List, [], ◌∷◌, ◌++◌, length, Option, Some, None, Result, Ok, Err, nat_lt, nat_le, ◌==◌, if◌then◌else◌}
+use Rattle.std.specs.List.{slice_split}
 use Rattle.s38_code.specs.declared.deck.Deck.{Deck}
-use Rattle.s38_code.specs.declared.deck.Job.{Job}
+use Rattle.s38_code.specs.declared.deck.Job.{Job as DeckJob}
 use Rattle.s38_template.specs.declared.fault.DeckFault.{DeckFault}
 use Rattle.s38_template.specs.declared.fault.DeckFault.TheVariants.{Bad, NoMemory}
 use Rattle.s38_template.specs.declared.place.Place.{Place}
-use Rattle.s38_template.specs.declared.place.Place.TheVariants.{Between, Inside, Begun, Staged}
-use Rattle.s38_template.specs.Cut.{after, cut}
-use Rattle.s38_template.specs.Grammar.{end_line, has, is_body, is_kept, is_own_name, is_plain, job_word, program_word, stage_line}
-
--- a result is what is read, unless memory is refused
-abbrev pub Fails : {B : Type 0} → DeckFault → Option B → Type 0
-Fails Bad read = read ≡ None
-Fails NoMemory read = Unit {0}
-
-abbrev pub Gives : {A B : Type 0} → (A → B) → Result A DeckFault → Option B → Type 0
-Gives view (Ok x) read = read ≡ Some (view x)
-Gives view (Err e) read = Fails e read
-
-infixl 10 ◌>>=◌
-abbrev pub ◌>>=◌ : {A B : Type 0} → Option A → (A → Option B) → Option B
-o >>= f = option_and_then f o
-
--- ---- lines
-
-abbrev pub onto_first : ℕ → List (List ℕ) → Option (List (List ℕ))
-onto_first c [] = None
-onto_first c (line ∷ lines) = Some ((c ∷ line) ∷ lines)
-
--- the lines of a text, each ended by a line feed
-abbrev pub lines_of : List ℕ → Option (List (List ℕ))
-lines_of [] = Some []
-lines_of (c ∷ cs) = if c == 10 then option_map (λ lines. [] ∷ lines) (lines_of cs) else option_and_then (onto_first c) (lines_of cs)
-
--- ---- jobs
-
-abbrev pub is_blank : ℕ → Bool
-is_blank c = c == 32
-
--- all of these are names
-abbrev pub names_in : List ℕ → Option (List (List ℕ))
-names_in text = if list_all is_name (slice_split is_blank text) then Some (slice_split is_blank text) else None
-
-abbrev pub name_in : List ℕ → Option (List ℕ)
-name_in text = if is_name text then Some text else None
-
-abbrev pub own_name_in : List ℕ → Option (List ℕ)
-own_name_in text = if is_own_name text then Some text else None
-
-abbrev pub contexts_in : List ℕ → Option (List (List ℕ))
-contexts_in text = do
-  names ← after (codes "CONTEXTS ") text
-  names_in names
-
--- a template's name and the contexts behind it, by what a cut at the first blank gives
-abbrev pub run_from : List ℕ → Option (List ℕ × List ℕ) → Option (List ℕ × List (List ℕ))
-run_from text None = option_map (λ name. (name, [])) (name_in text)
-run_from text (Some parts) = do
-  name ← name_in parts.0
-  contexts ← contexts_in parts.1
-  Some (name, contexts)
-
-unfoldable pub run_in : List ℕ → Option (List ℕ × List (List ℕ))
-run_in text = run_from text (cut 32 text)
-
--- what stands behind a word and before a blank, and what stands behind the blank
-unfoldable pub worded : List ℕ → List ℕ → Option (List ℕ × List ℕ)
-worded word text = do
-  behind ← after word text
-  cut 32 behind
-
--- the texts behind JOB and USER, and what stands behind RUN
-unfoldable pub head_in : List ℕ → Option (List ℕ × List ℕ × List ℕ)
-head_in line = do
-  job ← worded job_word line
-  user ← worded (codes "USER ") job.1
-  run ← after (codes "RUN ") user.1
-  Some (job.0, user.0, run)
-
-unfoldable pub job_in : ℕ → List ℕ → Option Job
-job_in stage line = do
-  head ← head_in line
-  name ← own_name_in head.0
-  user ← name_in head.1
-  run ← run_in head.2
-  Some (record { name = name; user = user; template = run.0; budget = 1000000; contexts = run.1; stage = stage })
+use Rattle.s38_template.specs.declared.place.Place.TheVariants.{Between, Declaring, Acting, Begun, Staged}
+use Rattle.s38_template.specs.declared.said.JobSaid.{JobSaid}
+use Rattle.s38_template.specs.declared.said.Line.{Line}
+use Rattle.s38_template.specs.declared.said.Line.TheVariants.{Program, Declare, Label, Act, End, Stage, Job}
+use Rattle.s38_template.specs.Grammar.{has, is_budget, is_kept, is_plain}
+use Rattle.s38_template.specs.Lines.{line_of}
 
 -- ---- what was read so far
 
 pub record State : Type 0 where
   pub place : Place
   pub templates : List (List (List ℕ))
+  -- the lines of the template that has begun, its labels, and how many declarations and instructions it has
   pub draft : List (List ℕ)
+  pub labels : List (List ℕ)
+  pub declared : ℕ
+  pub acts : ℕ
   pub names : List (List ℕ)
-  pub jobs : List Job
+  pub jobs : List DeckJob
   pub job_names : List (List ℕ)
   pub stage : ℕ
 
 unfoldable pub start : State
-start = record { place = Between; templates = []; draft = []; names = []; jobs = []; job_names = []; stage = 0 }
+start = record { place = Between; templates = []; draft = []; labels = []; declared = 0; acts = 0; names = []; jobs = []; job_names = []; stage = 0 }
 
-unfoldable pub begun : State → Option State
-begun s = if nat_lt (s.stage + 1) 65536 then Some (record s { place = Begun; stage = s.stage + 1 }) else None
+-- ---- the tests of a line, each with the code of a line that fails
 
-unfoldable pub opened : State → List ℕ → List ℕ → Option State
-opened s line name =
-    if nat_lt (length s.templates) 1024 && not (has s.names name)
-    then Some (record s { place = Inside; draft = line ∷ []; names = s.names ++ name ∷ [] })
-    else None
+abbrev pub may_stand : Place → Line → Bool
+may_stand Between (Program name) = true
+may_stand Between Stage = true
+may_stand Declaring (Declare in_range) = true
+may_stand Declaring (Label name) = true
+may_stand Declaring Act = true
+may_stand Declaring End = true
+may_stand Acting (Label name) = true
+may_stand Acting Act = true
+may_stand Acting End = true
+may_stand Begun (Job said) = true
+may_stand Staged (Job said) = true
+may_stand Staged Stage = true
+may_stand _ _ = false
 
-unfoldable pub program : State → List ℕ → Option State
-program s line = do
-  text ← after program_word line
-  name ← own_name_in text
-  opened s line name
+-- the name was not there before
+abbrev pub is_new : State → Line → Bool
+is_new s (Program name) = not (has s.names name)
+is_new s (Label name) = not (has s.labels name)
+is_new s (Job said) = not (has s.job_names said.name)
+is_new s _ = true
 
-unfoldable pub closed : State → State
-closed s = record s { place = Between; templates = s.templates ++ (s.draft ++ end_line ∷ []) ∷ []; draft = [] }
+abbrev pub is_in_range : Line → Bool
+is_in_range (Declare in_range) = in_range
+is_in_range (Job said) = is_budget said.budget
+is_in_range _ = true
 
-unfoldable pub longer : State → List ℕ → State
-longer s line = record s { draft = s.draft ++ line ∷ [] }
+abbrev pub is_small : ℕ → Bool
+is_small size = nat_le size 4194304
 
-unfoldable pub inside : State → List ℕ → Option State
-inside s line = if bytes_eq line end_line then Some (closed s) else (if is_body line then Some (longer s line) else None)
+-- no limit is passed by one more
+abbrev pub has_room : State → Line → Bool
+has_room s (Program name) = nat_lt (length s.templates) 1024
+has_room s (Declare in_range) = nat_lt s.declared 1024
+has_room s Act = nat_lt s.acts 16384
+has_room s (Job said) = nat_lt (length s.jobs) 256
+has_room s _ = true
 
-unfoldable pub joined : State → Job → Option State
-joined s job =
-    if nat_lt (length s.jobs) 256 && (has s.names job.template && not (has s.job_names job.name))
-    then Some (record s { place = Staged; jobs = s.jobs ++ job ∷ []; job_names = s.job_names ++ job.name ∷ [] })
-    else None
+abbrev pub has_template : State → Line → Bool
+has_template s (Job said) = has s.names said.template
+has_template s _ = true
 
-unfoldable pub job : State → List ℕ → Option State
-job s line = do
-  read ← job_in s.stage line
-  joined s read
+abbrev pub first_code : List (Bool × ℕ) → Option ℕ
+first_code [] = None
+first_code (test ∷ tests) = if test.0 then first_code tests else Some test.1
 
-abbrev pub kept_at : Place → State → List ℕ → Option State
-kept_at Between s line = if bytes_eq line stage_line then begun s else program s line
-kept_at Inside s line = inside s line
-kept_at Begun s line = job s line
-kept_at Staged s line = if bytes_eq line stage_line then begun s else job s line
+-- a line that says something, and the bytes of the deck up to its end
+abbrev pub tests : State → ℕ → Line → List (Bool × ℕ)
+tests s size line =
+    (may_stand s.place line, 2) ∷ (is_new s line, 3) ∷ (is_in_range line, 4) ∷ (is_small size, 6) ∷ (has_room s line, 7) ∷ (has_template s line, 8) ∷ []
 
--- a line that says something
-unfoldable pub kept : State → List ℕ → Option State
-kept s line = kept_at s.place s line
+abbrev pub said_code : State → ℕ → Option Line → Option ℕ
+said_code s size None = Some 2
+said_code s size (Some line) = first_code (tests s size line)
 
--- any line
-unfoldable pub turn : State → List ℕ → Option State
-turn s line = if is_plain line then (if is_kept line then kept s line else Some s) else None
+-- the least code of a line that is bad
+unfoldable pub code_of : State → ℕ → List ℕ → Option ℕ
+code_of s size text =
+    if is_plain text
+    then (if is_kept text then said_code s size (line_of text) else (if is_small size then None else Some 6))
+    else Some 1
 
-abbrev pub turns : State → List (List ℕ) → Option State
-turns s [] = Some s
-turns s (line ∷ lines) = option_and_then (λ t. turns t lines) (turn s line)
+-- ---- what a good line does
 
-unfoldable pub reads : State → List ℕ → Option State
-reads s text = option_and_then (turns s) (lines_of text)
+abbrev pub with_line : State → List ℕ → State
+with_line s text = record s { draft = s.draft ++ text ∷ [] }
+
+abbrev pub job_of : ℕ → JobSaid → DeckJob
+job_of stage said = record { name = said.name; user = said.user; template = said.template; budget = said.budget; contexts = said.contexts; stage = stage }
+
+-- no deck that is read comes to the largest number of a stage
+abbrev pub taken : State → List ℕ → Line → State
+taken s text (Program name) = record s { place = Declaring; draft = text ∷ []; labels = []; declared = 0; acts = 0; names = s.names ++ name ∷ [] }
+taken s text (Declare in_range) = record s { draft = s.draft ++ text ∷ []; declared = s.declared + 1 }
+taken s text (Label name) = record s { place = Acting; draft = s.draft ++ text ∷ []; labels = s.labels ++ name ∷ [] }
+taken s text Act = record s { place = Acting; draft = s.draft ++ text ∷ []; acts = s.acts + 1 }
+taken s text End = record s { place = Between; templates = s.templates ++ (s.draft ++ text ∷ []) ∷ []; draft = [] }
+taken s text Stage = record s { place = Begun; stage = min (s.stage + 1) 65535 }
+taken s text (Job said) = record s { place = Staged; jobs = s.jobs ++ job_of s.stage said ∷ []; job_names = s.job_names ++ said.name ∷ [] }
+
+abbrev pub taken_if : State → List ℕ → Option Line → State
+taken_if s text None = s
+taken_if s text (Some line) = taken s text line
+
+unfoldable pub after_line : State → List ℕ → State
+after_line s text = if is_kept text then taken_if s text (line_of text) else s
+
+-- ---- all lines, numbered from 1
 
 abbrev pub may_end : Place → Bool
 may_end Between = true
-may_end Inside = false
-may_end Begun = false
 may_end Staged = true
+may_end _ = false
 
-unfoldable pub deck_at : State → Option Deck
-deck_at s = if may_end s.place then Some (record { templates = s.templates; jobs = s.jobs }) else None
+unfoldable pub end_at : State → ℕ → Result Deck DeckFault
+end_at s number = if may_end s.place then Ok (record { templates = s.templates; jobs = s.jobs }) else Err (Bad number 5)
 
-unfoldable pub deck_of : List ℕ → Option Deck
-deck_of text = if nat_le (length text) 4194304 then option_and_then deck_at (reads start text) else None
+abbrev pub is_feed : ℕ → Bool
+is_feed c = c == 10
+
+-- what stands behind the last line feed
+unfoldable pub rest_at : State → ℕ → List ℕ → Result Deck DeckFault
+rest_at s number [] = end_at s number
+rest_at s number (c ∷ cs) = Err (Bad number 1)
+
+abbrev pub bad_or : ℕ → Option ℕ → Result Deck DeckFault → Result Deck DeckFault
+bad_or number None more = more
+bad_or number (Some code) more = Err (Bad number code)
+
+-- the parts of a text between line feeds, where so many bytes and lines stand before them
+unfoldable pub read_on : State → ℕ → ℕ → List (List ℕ) → Result Deck DeckFault
+read_on s size number [] = end_at s number
+read_on s size number (line ∷ []) = rest_at s number line
+read_on s size number (line ∷ next ∷ parts) =
+    bad_or number (code_of s (size + length line + 1) line) (read_on (after_line s line) (size + length line + 1) (number + 1) (next ∷ parts))
+
+unfoldable pub read_of : List ℕ → Result Deck DeckFault
+read_of text = read_on start 0 1 (slice_split is_feed text)
+
+-- a result is this answer, unless memory is refused
+abbrev pub Answers : Result Deck DeckFault → Result Deck DeckFault → Type 0
+Answers (Ok deck) answer = answer ≡ Ok deck
+Answers (Err (Bad line code)) answer = answer ≡ Err (Bad line code)
+Answers (Err NoMemory) answer = Unit {0}

@@ -7,9 +7,9 @@ use thiserror::Error;
 /// Why a text gives no deck.
 #[derive(Clone, Copy, PartialEq, Eq, Debug, Error)]
 pub enum DeckFault {
-    /// The text spells no deck.
-    #[error("bad deck")]
-    Bad,
+    /// The first line that is bad, counted from 1, and the least code of what is bad about it.
+    #[error("{line} {code}")]
+    Bad { line: u32, code: u8 },
     /// Memory was refused.
     #[error("no memory")]
     NoMemory,

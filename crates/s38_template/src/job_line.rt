@@ -1,38 +1,28 @@
-ghost use Rattle.std.specs.Prelude.{◌≡◌, ◌++◌, ◌∷◌, [], codes};
+ghost use Rattle.std.specs.Prelude.{◌≡◌, ◌++◌, ◌∷◌, [], codes, IfOk};
 ghost use Rattle.std.specs.Option.{option_map};
-ghost use Rattle.s38_template.specs.Grammar.{is_own_name};
-ghost use Rattle.s38_template.specs.Reading.{Gives, contexts_in, head_in, job_in, name_in, names_in, own_name_in, run_in, worded};
+ghost use Rattle.s38_code.specs.DeclarationLine.{count_of};
+ghost use Rattle.s38_template.specs.Lines.{budget_in, contexts_in, head_in, job_in, job_word, name_in, names_in, own_name_in, run_in, terms_in, worded};
 
 use crate::cut::{after, cut};
-use crate::fault::DeckFault;
-use crate::line::{JOB, begins_with_letter};
-use s38_base::{Name, Seq};
-use s38_code::{Job, Names};
+use crate::names::{name_in, own_name_in};
+use crate::said::JobSaid;
+use s38_base::{Name, NoMemory, Seq};
+use s38_code::Names;
+use s38_code::words::natural;
 use std::alloc::Global;
 
 /// How many instructions a job may do whose line does not say it.
-const BUDGET: u32 = 1_000_000;
+const BUDGET: u64 = 1_000_000;
 
-/// The name that a text is.
-pub fn name_in(text: &[u8]) -> Option<Name>
-    ensures { result ≡ name_in text.now }
+/// The number that a text is; one that is too large as the largest.
+fn count(text: &[u8]) -> Option<u64>
+    ensures { result ≡ count_of text.now }
 {
-    Name::parse(text).ok()
-}
-
-/// The name that a text is, if it begins with a letter.
-pub fn own_name_in(text: &[u8]) -> Option<Name>
-    ensures { result ≡ own_name_in text.now }
-{
-    if begins_with_letter(text) {
-        name_in(text)
-    } else {
-        None
-    }
+    natural(text)
 }
 
 /// What stands behind a word and before a blank, and what stands behind the blank.
-#[tactic(auto, unfolding(crate::specs::Reading::worded))]
+#[tactic(auto, unfolding(crate::specs::Lines::worded))]
 fn worded<'a>(text: &'a [u8], word: &[u8]) -> Option<(&'a [u8], &'a [u8])>
     ensures { option_map (λ parts. (parts.0.now, parts.1.now)) result ≡ worded word.now text.now }
 {
@@ -43,28 +33,29 @@ fn worded<'a>(text: &'a [u8], word: &[u8]) -> Option<(&'a [u8], &'a [u8])>
 }
 
 /// These names and the one that a text is.
-fn with_name(names: Names, text: &[u8]) -> Result<Names, DeckFault>
-    ensures { Gives (λ list. list) result (option_map (λ name. names ++ name ∷ []) (name_in text.now)) }
+fn with_name(names: Names, text: &[u8]) -> Result<Option<Names>, NoMemory>
+    ensures { IfOk result (λ more. more ≡ option_map (λ name. names ++ name ∷ []) (name_in text.now)) }
 {
     let mut list = names;
     match name_in(text) {
         Some(name) => {
             list.push(name)?;
-            Ok(list)
+            Ok(Some(list))
         }
-        None => Err(DeckFault::Bad),
+        None => Ok(None),
     }
 }
 
 /// The names that a text is, parted by one blank.
-fn read_names(alloc: Global, text: &[u8]) -> Result<Names, DeckFault>
-    ensures { Gives (λ list. list) result (names_in text.now) }
+fn names_in(alloc: Global, text: &[u8]) -> Result<Option<Names>, NoMemory>
+    ensures { IfOk result (λ names. names ≡ names_in text.now) }
 {
     let mut names = Seq::new(alloc);
     let mut rest = text;
     while let Some((name, more)) = cut(rest, b' ') {
         match with_name(names, name) {
-            Ok(longer) => names = longer,
+            Ok(Some(longer)) => names = longer,
+            Ok(None) => return Ok(None),
             Err(fault) => return Err(fault),
         }
         rest = more;
@@ -72,63 +63,113 @@ fn read_names(alloc: Global, text: &[u8]) -> Result<Names, DeckFault>
     with_name(names, rest)
 }
 
-fn read_contexts(alloc: Global, text: &[u8]) -> Result<Names, DeckFault>
-    ensures { Gives (λ list. list) result (contexts_in text.now) }
+#[tactic(auto, unfolding(crate::specs::Lines::contexts_in))]
+fn contexts_in(alloc: Global, text: &[u8]) -> Result<Option<Names>, NoMemory>
+    ensures { IfOk result (λ names. names ≡ contexts_in text.now) }
 {
     match after(text, b"CONTEXTS ") {
-        Some(names) => read_names(alloc, names),
-        None => Err(DeckFault::Bad),
+        Some(names) => names_in(alloc, names),
+        None => Ok(None),
     }
 }
 
-/// The template that a job runs, and its contexts.
-#[tactic(auto, unfolding(crate::specs::Reading::run_in))]
-fn read_run(alloc: Global, text: &[u8]) -> Result<(Name, Names), DeckFault>
-    ensures { Gives (λ run. run) result (run_in text.now) }
+/// A budget, and the contexts behind it.
+#[tactic(auto, unfolding(crate::specs::Lines::budget_in))]
+fn budget_in(alloc: Global, text: &[u8]) -> Result<Option<(u64, Names)>, NoMemory>
+    ensures { IfOk result (λ terms. terms ≡ budget_in text.now) }
 {
     match cut(text, b' ') {
         None => {
-            let name = name_in(text).ok_or(DeckFault::Bad)?;
-            Ok((name, Seq::new(alloc)))
+            let Some(budget) = count(text) else {
+                return Ok(None);
+            };
+            Ok(Some((budget, Seq::new(alloc))))
         }
-        Some((name, contexts)) => {
-            let name = name_in(name).ok_or(DeckFault::Bad)?;
-            let contexts = read_contexts(alloc, contexts)?;
-            Ok((name, contexts))
+        Some((number, rest)) => {
+            let Some(budget) = count(number) else {
+                return Ok(None);
+            };
+            let Some(contexts) = contexts_in(alloc, rest)? else {
+                return Ok(None);
+            };
+            Ok(Some((budget, contexts)))
+        }
+    }
+}
+
+/// The budget and the contexts of a job.
+#[tactic(auto, unfolding(crate::specs::Lines::terms_in))]
+fn terms_in(alloc: Global, text: &[u8]) -> Result<Option<(u64, Names)>, NoMemory>
+    ensures { IfOk result (λ terms. terms ≡ terms_in text.now) }
+{
+    match after(text, b"BUDGET ") {
+        Some(rest) => budget_in(alloc, rest),
+        None => {
+            let Some(contexts) = contexts_in(alloc, text)? else {
+                return Ok(None);
+            };
+            Ok(Some((BUDGET, contexts)))
+        }
+    }
+}
+
+/// The template that a job runs, its budget and its contexts.
+#[tactic(auto, unfolding(crate::specs::Lines::run_in))]
+fn run_in(alloc: Global, text: &[u8]) -> Result<Option<(Name, u64, Names)>, NoMemory>
+    ensures { IfOk result (λ run. run ≡ run_in text.now) }
+{
+    match cut(text, b' ') {
+        None => {
+            let Some(name) = own_name_in(text) else {
+                return Ok(None);
+            };
+            Ok(Some((name, BUDGET, Seq::new(alloc))))
+        }
+        Some((template, rest)) => {
+            let Some(name) = own_name_in(template) else {
+                return Ok(None);
+            };
+            let Some((budget, contexts)) = terms_in(alloc, rest)? else {
+                return Ok(None);
+            };
+            Ok(Some((name, budget, contexts)))
         }
     }
 }
 
 /// The texts behind JOB and behind USER, and what stands behind RUN.
-#[tactic(auto, unfolding(crate::specs::Reading::head_in))]
+#[tactic(auto, unfolding(crate::specs::Lines::head_in))]
 fn head_in(line: &[u8]) -> Option<(&[u8], &[u8], &[u8])>
     ensures { option_map (λ head. (head.0.now, head.1.now, head.2.now)) result ≡ head_in line.now }
 {
-    let (job, rest) = worded(line, JOB)?;
+    let (job, rest) = worded(line, b"JOB ")?;
     let (user, rest) = worded(rest, b"USER ")?;
     let run = after(rest, b"RUN ")?;
     Some((job, user, run))
 }
 
-/// The job of this stage that a line says. `Bad` exactly where it says none.
-#[tactic(auto, unfolding(crate::specs::Reading::job_in))]
-pub fn read_job(alloc: Global, stage: u16, line: &[u8]) -> Result<Job, DeckFault>
-    ensures { Gives (λ job. job) result (job_in stage line.now) }
+/// The job that a line says; None exactly where it has no form of one.
+#[tactic(auto, unfolding(crate::specs::Lines::job_in))]
+pub fn job_in(alloc: Global, line: &[u8]) -> Result<Option<JobSaid>, NoMemory>
+    ensures { IfOk result (λ job. job ≡ job_in line.now) }
 {
-    match head_in(line) {
-        Some((name, user, run)) => {
-            let name = own_name_in(name).ok_or(DeckFault::Bad)?;
-            let user = name_in(user).ok_or(DeckFault::Bad)?;
-            let (template, contexts) = read_run(alloc, run)?;
-            Ok(Job {
-                name,
-                user,
-                template,
-                budget: BUDGET,
-                contexts,
-                stage,
-            })
-        }
-        None => Err(DeckFault::Bad),
-    }
+    let Some((name, user, run)) = head_in(line) else {
+        return Ok(None);
+    };
+    let Some(name) = own_name_in(name) else {
+        return Ok(None);
+    };
+    let Some(user) = name_in(user) else {
+        return Ok(None);
+    };
+    let Some((template, budget, contexts)) = run_in(alloc, run)? else {
+        return Ok(None);
+    };
+    Ok(Some(JobSaid {
+        name,
+        user,
+        template,
+        budget,
+        contexts,
+    }))
 }

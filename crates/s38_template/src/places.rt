@@ -5,16 +5,20 @@ ghost use Rattle.std.specs.List.{slice_get};
 ghost use Rattle.std.specs.Ordering.{nat_cmp};
 ghost use Rattle.s38_code.specs.declared.deck.Deck.{Deck};
 ghost use Rattle.s38_code.specs.declared.deck.Job.{Job};
-ghost use Rattle.s38_template.specs.Grammar.{Spells, name_of, program_word, template_names};
+ghost use Rattle.s38_code.specs.WordsText.{before};
+ghost use Rattle.s38_template.specs.Grammar.{Spells, name_of, template_names};
+ghost use Rattle.s38_template.specs.Lines.{name_in, program_word};
 ghost use Rattle.s38_template.specs.Places.{HasTemplate, held, place_of, placed};
-ghost use Rattle.s38_template.specs.Reading.{name_in};
 
-use crate::job_line::name_in;
-use crate::line::PROGRAM;
+use crate::names::name_in;
 use s38_base::{Name, NoMemory};
+use s38_code::words::before;
 use s38_code::{Deck, Template};
 use std::alloc::Global;
 use std::collections::BTreeMap;
+
+/// What the head of a template begins with.
+const PROGRAM: &[u8] = b"PROGRAM ";
 
 /// The name in the head of a template; None where it has none.
 fn name_of(template: &Template) -> Option<Name>
@@ -27,12 +31,12 @@ fn name_of(template: &Template) -> Option<Name>
 }
 
 fn name_behind(head: &[u8]) -> Option<Name>
-    ensures { result ≡ name_in (drop (length program_word) head.now) }
+    ensures { result ≡ name_in (before 32 (drop (length program_word) head.now)) }
 {
     if head.len() < PROGRAM.len() {
         return None;
     }
-    name_in(&head[PROGRAM.len()..])
+    name_in(before(b' ', &head[PROGRAM.len()..]))
 }
 
 /// These places and that of one more name, unless it has a place already.

@@ -1,78 +1,131 @@
-ghost use Rattle.std.specs.Prelude.{◌≡◌, ℕ, List, IfOk, IsErrOf};
+ghost use Rattle.std.specs.Prelude.{◌≡◌, ◌⊎◌, ℕ, List, Ok, Err, IfOk, IfErr, None};
 ghost use Rattle.s38_code.specs.declared.deck.Deck.{Deck};
 ghost use Rattle.s38_template.specs.Grammar.{Spells};
-ghost use Rattle.s38_template.specs.Reading.{Gives, deck_at, deck_of, reads, start};
+ghost use Rattle.s38_template.specs.Lines.{line_of};
+ghost use Rattle.s38_template.specs.Reading.{Answers, after_line, code_of, end_at, read_of, rest_at, said_code, taken_if};
 ghost use Rattle.s38_template.specs.Views.{state_of};
 
+use crate::code::{is_small, line_code};
 use crate::cut::cut;
 use crate::fault::DeckFault;
+use crate::forms::line_of;
+use crate::line::{is_kept, is_plain};
 use crate::place::Place;
 use crate::reader::Reader;
-use crate::step::{start, turn};
+use crate::step::{start, take};
+use s38_base::NoMemory;
 use s38_code::Deck;
 use std::alloc::Global;
 
-/// The longest deck.
-const LONGEST: usize = 4_194_304;
-
-/// All lines of a text.
-fn read_lines(alloc: Global, text: &[u8]) -> Result<Reader, DeckFault>
-    ensures { Gives state_of result (reads start text.now) }
+/// A line that says something, where the deck has so many bytes up to its end: it is taken, or its code tells
+/// what is bad.
+fn keep(
+    alloc: Global,
+    reader: &mut Reader,
+    size: usize,
+    line: &[u8],
+) -> Result<Option<u8>, NoMemory>
+    ensures code { IfOk result (λ code. code ≡ said_code (state_of reader.old) size (line_of line.now)) }
+    ensures after { IfOk result (λ code. code ≡ None → state_of reader.new ≡ taken_if (state_of reader.old) line.now (line_of line.now)) }
 {
-    let mut reader = start(alloc);
-    let mut rest = text;
-    while let Some((line, more)) = cut(rest, b'\n') {
-        match turn(alloc, reader, line) {
-            Ok(next) => reader = next,
-            Err(fault) => return Err(fault),
-        }
-        rest = more;
+    let Some(said) = line_of(alloc, line)? else {
+        return Ok(Some(2));
+    };
+    let code = line_code(reader, size, &said);
+    if code.is_some() {
+        return Ok(code);
     }
-    if rest.is_empty() {
-        Ok(reader)
+    take(alloc, reader, line, said)?;
+    Ok(None)
+}
+
+/// Any line, without its line feed: it is taken, or its code tells what is bad.
+#[tactic(auto, unfolding(crate::specs::Reading::code_of, crate::specs::Reading::after_line))]
+fn turn(
+    alloc: Global,
+    reader: &mut Reader,
+    size: usize,
+    line: &[u8],
+) -> Result<Option<u8>, NoMemory>
+    ensures code { IfOk result (λ code. code ≡ code_of (state_of reader.old) size line.now) }
+    ensures after { IfOk result (λ code. code ≡ None → state_of reader.new ≡ after_line (state_of reader.old) line.now) }
+{
+    if !is_plain(line) {
+        return Ok(Some(1));
+    }
+    if is_kept(line) {
+        return keep(alloc, reader, size, line);
+    }
+    if is_small(size) {
+        Ok(None)
     } else {
-        Err(DeckFault::Bad)
+        Ok(Some(6))
     }
 }
 
-/// The deck, where one may end here.
-#[tactic(auto, unfolding(crate::specs::Reading::deck_at))]
-fn deck_at(reader: Reader) -> Result<Deck, DeckFault>
-    ensures { Gives (λ deck. deck) result (deck_at (state_of reader)) }
+/// The deck, where one may end here, before a line of this number.
+#[tactic(auto, unfolding(crate::specs::Reading::end_at))]
+fn end_at(reader: Reader, number: u32) -> Result<Deck, DeckFault>
+    ensures { Answers result (end_at (state_of reader) number) }
 {
     let Reader {
         place,
         templates,
-        draft: _,
-        names: _,
         jobs,
-        job_names: _,
-        stage: _,
+        ..
     } = reader;
     match place {
         Place::Between | Place::Staged => Ok(Deck { templates, jobs }),
-        Place::Inside | Place::Begun => Err(DeckFault::Bad),
+        _ => Err(DeckFault::Bad {
+            line: number,
+            code: 5,
+        }),
     }
 }
 
-#[tactic(auto, unfolding(crate::specs::Reading::deck_of))]
-fn deck_of(alloc: Global, text: &[u8]) -> Result<Deck, DeckFault>
-    ensures { Gives (λ deck. deck) result (deck_of text.now) }
+/// The deck, where nothing stands behind the last line feed.
+#[tactic(auto, unfolding(crate::specs::Reading::rest_at))]
+fn rest_at(reader: Reader, number: u32, rest: &[u8]) -> Result<Deck, DeckFault>
+    ensures { Answers result (rest_at (state_of reader) number rest.now) }
 {
-    if text.len() > LONGEST {
-        return Err(DeckFault::Bad);
+    match rest {
+        [] => end_at(reader, number),
+        [..] => Err(DeckFault::Bad {
+            line: number,
+            code: 1,
+        }),
     }
-    let reader = read_lines(alloc, text)?;
-    deck_at(reader)
 }
 
-/// The deck that a text spells. `Bad` exactly where it spells none.
+/// The deck of a text, or its first bad line.
+fn read(alloc: Global, text: &[u8]) -> Result<Deck, DeckFault>
+    ensures { Answers result (read_of text.now) }
+{
+    let mut reader = start(alloc);
+    let mut size = 0;
+    let mut number = 1;
+    let mut rest = text;
+    while let Some((line, more)) = cut(rest, b'\n') {
+        size = size + line.len() + 1;
+        match turn(alloc, &mut reader, size, line) {
+            Ok(None) => {}
+            Ok(Some(code)) => return Err(DeckFault::Bad { line: number, code }),
+            Err(_) => return Err(DeckFault::NoMemory),
+        }
+        number += 1;
+        rest = more;
+    }
+    rest_at(reader, number, rest)
+}
+
+/// The deck that a text spells, or the number of its first bad line and that line's least code.
 pub fn read_deck(alloc: Global, text: &[u8]) -> Result<Deck, DeckFault>
     ensures found { IfOk result (λ deck. Spells text.now deck) }
     ensures only { IfOk result (λ deck. (other : Deck) → Spells text.now other → other ≡ deck) }
-    ensures bad { IsErrOf result DeckFault.Bad → (deck : Deck) → Spells text.now deck → ⊥ }
+    ensures bad { IfErr result (λ fault. (fault ≡ DeckFault.NoMemory) ⊎ (read_of text.now ≡ Err fault)) }
+    ensures none { IfErr result (λ fault. (fault ≡ DeckFault.NoMemory) ⊎ ((deck : Deck) → Spells text.now deck → ⊥)) }
 {
-    deck_of(alloc, text)
+    read(alloc, text)
 }
 
 /// A text spells at most one deck.

@@ -11,6 +11,12 @@ pub struct Reader {
     pub templates: Templates,
     /// The lines of the template that has begun.
     pub draft: Seq<Bytes>,
+    /// The labels of the template that has begun.
+    pub labels: Seen,
+    /// How many declarations it has.
+    pub declared: u32,
+    /// How many instructions it has.
+    pub acts: u32,
     /// The names of the templates.
     pub names: Seen,
     pub jobs: Jobs,

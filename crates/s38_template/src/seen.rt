@@ -1,4 +1,4 @@
-ghost use Rattle.std.specs.Prelude.{◌≡◌, ◌++◌, ◌∷◌, [], IfOk};
+ghost use Rattle.std.specs.Prelude.{◌≡◌, ◌++◌, ◌∷◌, [], IfOk, OnOk};
 ghost use Rattle.s38_template.specs.Grammar.{has};
 
 use s38_base::{Name, NoMemory, Seq};
@@ -43,7 +43,7 @@ impl Seen {
     }
 
     /// These names and one more; where memory is refused they are dropped.
-    pub fn with(self, name: Name) -> Result<Seen, NoMemory>
+    fn with(self, name: Name) -> Result<Seen, NoMemory>
         ensures { IfOk result (λ seen. seen ≡ self ++ name ∷ []) }
     {
         let Seen { mut names, mut set } = self;
@@ -52,5 +52,14 @@ impl Seen {
             Ok(_) => Ok(Seen { names, set }),
             Err(_) => Err(NoMemory),
         }
+    }
+
+    /// Adds a name; where memory is refused all are dropped.
+    pub fn add(&mut self, alloc: Global, name: Name) -> Result<(), NoMemory>
+        ensures { OnOk result (self.new ≡ self.old ++ name ∷ []) }
+    {
+        let seen = std::mem::replace(self, Seen::new(alloc));
+        *self = seen.with(name)?;
+        Ok(())
     }
 }

@@ -1,23 +1,16 @@
-ghost use Rattle.std.specs.Prelude.{◌≡◌, ◌++◌, ◌∷◌, [], IfOk, Some};
-ghost use Rattle.s38_template.specs.Reading.{Gives, begun, closed, inside, job, joined, kept, longer, opened, program, start, turn};
+ghost use Rattle.std.specs.Prelude.{◌≡◌, ◌++◌, ◌∷◌, [], IfOk, IsTrue, OnOk};
+ghost use Rattle.s38_template.specs.Grammar.{is_budget};
+ghost use Rattle.s38_template.specs.Reading.{has_room, is_in_range, job_of, start, taken};
+ghost use Rattle.s38_template.specs.declared.said.Line.{Line};
 ghost use Rattle.s38_template.specs.Views.{state_of};
 
-use crate::cut::after;
-use crate::fault::DeckFault;
-use crate::job_line::{own_name_in, read_job};
-use crate::line::{END, PROGRAM, is_body, is_end, is_kept, is_plain, is_stage};
 use crate::place::Place;
 use crate::reader::Reader;
+use crate::said::{JobSaid, Line};
 use crate::seen::Seen;
 use s38_base::{Bytes, Name, NoMemory, Seq};
 use s38_code::{Job, Template};
 use std::alloc::Global;
-
-/// The most templates of a deck.
-const MOST_TEMPLATES: usize = 1024;
-
-/// The most jobs of a deck.
-const MOST_JOBS: usize = 256;
 
 /// Nothing was read yet.
 #[tactic(auto, unfolding(crate::specs::Reading::start))]
@@ -28,6 +21,9 @@ pub fn start(alloc: Global) -> Reader
         place: Place::Between,
         templates: Seq::new(alloc),
         draft: Seq::new(alloc),
+        labels: Seen::new(alloc),
+        declared: 0,
+        acts: 0,
         names: Seen::new(alloc),
         jobs: Seq::new(alloc),
         job_names: Seen::new(alloc),
@@ -35,216 +31,129 @@ pub fn start(alloc: Global) -> Reader
     }
 }
 
-/// These lines and one more.
-fn with_line(alloc: Global, lines: Seq<Bytes>, line: &[u8]) -> Result<Seq<Bytes>, NoMemory>
-    ensures { IfOk result (λ list. list ≡ lines ++ line.now ∷ []) }
+/// Adds a line.
+fn add_line(alloc: Global, lines: &mut Seq<Bytes>, line: &[u8]) -> Result<(), NoMemory>
+    ensures { OnOk result (lines.new ≡ lines.old ++ line.now ∷ []) }
 {
-    let mut list = lines;
-    list.push(Seq::from_slice(alloc, line)?)?;
-    Ok(list)
-}
-
-/// A stage begins.
-#[tactic(auto, unfolding(crate::specs::Reading::begun))]
-fn begun(reader: Reader) -> Result<Reader, DeckFault>
-    ensures { Gives state_of result (begun (state_of reader)) }
-{
-    let mut reader = reader;
-    match reader.stage.checked_add(1) {
-        Some(stage) => {
-            reader.place = Place::Begun;
-            reader.stage = stage;
-            Ok(reader)
-        }
-        None => Err(DeckFault::Bad),
-    }
+    let bytes = Seq::from_slice(alloc, line)?;
+    lines.push(bytes)?;
+    Ok(())
 }
 
 /// A template of this name begins with this line.
-#[tactic(auto, unfolding(crate::specs::Reading::opened))]
-fn opened(alloc: Global, reader: Reader, line: &[u8], name: Name) -> Result<Reader, DeckFault>
-    ensures { Gives state_of result (opened (state_of reader) line.now name) }
+fn begin(alloc: Global, reader: &mut Reader, line: &[u8], name: Name) -> Result<(), NoMemory>
+    ensures { OnOk result (state_of reader.new ≡ taken (state_of reader.old) line.now (Line.Program name)) }
 {
-    if reader.templates.len() >= MOST_TEMPLATES || reader.names.has(&name) {
-        return Err(DeckFault::Bad);
-    }
-    let Reader {
-        place: _,
-        templates,
-        draft: _,
-        names,
-        jobs,
-        job_names,
-        stage,
-    } = reader;
-    let names = names.with(name)?;
-    let draft = with_line(alloc, Seq::new(alloc), line)?;
-    Ok(Reader {
-        place: Place::Inside,
-        templates,
-        draft,
-        names,
-        jobs,
-        job_names,
-        stage,
-    })
+    reader.names.add(alloc, name)?;
+    reader.draft = Seq::new(alloc);
+    add_line(alloc, &mut reader.draft, line)?;
+    reader.labels = Seen::new(alloc);
+    reader.declared = 0;
+    reader.acts = 0;
+    reader.place = Place::Declaring;
+    Ok(())
 }
 
-/// The line begins a template.
-#[tactic(auto, unfolding(crate::specs::Reading::program))]
-fn program(alloc: Global, reader: Reader, line: &[u8]) -> Result<Reader, DeckFault>
-    ensures { Gives state_of result (program (state_of reader) line.now) }
+/// The template declares a name.
+fn declare(alloc: Global, reader: &mut Reader, line: &[u8], in_range: bool) -> Result<(), NoMemory>
+    requires { IsTrue (has_room (state_of reader.old) (Line.Declare in_range)) }
+    ensures { OnOk result (state_of reader.new ≡ taken (state_of reader.old) line.now (Line.Declare in_range)) }
 {
-    let text = after(line, PROGRAM).ok_or(DeckFault::Bad)?;
-    let name = own_name_in(text).ok_or(DeckFault::Bad)?;
-    opened(alloc, reader, line, name)
+    add_line(alloc, &mut reader.draft, line)?;
+    reader.declared += 1;
+    Ok(())
+}
+
+/// The template has a label.
+fn label(alloc: Global, reader: &mut Reader, line: &[u8], name: Name) -> Result<(), NoMemory>
+    ensures { OnOk result (state_of reader.new ≡ taken (state_of reader.old) line.now (Line.Label name)) }
+{
+    reader.labels.add(alloc, name)?;
+    add_line(alloc, &mut reader.draft, line)?;
+    reader.place = Place::Acting;
+    Ok(())
+}
+
+/// The template has an instruction.
+fn act(alloc: Global, reader: &mut Reader, line: &[u8]) -> Result<(), NoMemory>
+    requires { IsTrue (has_room (state_of reader.old) Line.Act) }
+    ensures { OnOk result (state_of reader.new ≡ taken (state_of reader.old) line.now Line.Act) }
+{
+    add_line(alloc, &mut reader.draft, line)?;
+    reader.acts += 1;
+    reader.place = Place::Acting;
+    Ok(())
 }
 
 /// The template ends.
-#[tactic(auto, unfolding(crate::specs::Reading::closed))]
-fn closed(alloc: Global, reader: Reader) -> Result<Reader, DeckFault>
-    ensures { Gives state_of result (Some (closed (state_of reader))) }
+fn end(alloc: Global, reader: &mut Reader, line: &[u8]) -> Result<(), NoMemory>
+    ensures { OnOk result (state_of reader.new ≡ taken (state_of reader.old) line.now Line.End) }
 {
-    let Reader {
-        place: _,
-        mut templates,
-        draft,
-        names,
-        jobs,
-        job_names,
-        stage,
-    } = reader;
-    let lines = with_line(alloc, draft, END)?;
+    let mut lines = std::mem::replace(&mut reader.draft, Seq::new(alloc));
+    add_line(alloc, &mut lines, line)?;
     let template = Template::new(alloc, lines)?;
-    templates.push(template)?;
-    Ok(Reader {
-        place: Place::Between,
-        templates,
-        draft: Seq::new(alloc),
-        names,
-        jobs,
-        job_names,
-        stage,
-    })
+    reader.templates.push(template)?;
+    reader.place = Place::Between;
+    Ok(())
 }
 
-/// The template goes on with this line.
-#[tactic(auto, unfolding(crate::specs::Reading::longer))]
-fn longer(alloc: Global, reader: Reader, line: &[u8]) -> Result<Reader, DeckFault>
-    ensures { Gives state_of result (Some (longer (state_of reader) line.now)) }
+/// A stage begins.
+fn begin_stage(reader: &mut Reader)
+    ensures { state_of reader.new ≡ taken (state_of reader.old) [] Line.Stage }
 {
-    let Reader {
-        place,
-        templates,
-        draft,
-        names,
-        jobs,
-        job_names,
-        stage,
-    } = reader;
-    let draft = with_line(alloc, draft, line)?;
-    Ok(Reader {
-        place,
-        templates,
-        draft,
-        names,
-        jobs,
-        job_names,
-        stage,
-    })
+    reader.place = Place::Begun;
+    reader.stage = reader.stage.saturating_add(1);
 }
 
-/// The template ends, or goes on with this line.
-#[tactic(auto, unfolding(crate::specs::Reading::inside))]
-fn inside(alloc: Global, reader: Reader, line: &[u8]) -> Result<Reader, DeckFault>
-    ensures { Gives state_of result (inside (state_of reader) line.now) }
+/// The job of a stage that a line says.
+fn job_of(stage: u16, said: JobSaid) -> Job
+    requires { IsTrue (is_budget said.budget) }
+    ensures { result ≡ job_of stage said }
 {
-    if is_end(line) {
-        closed(alloc, reader)
-    } else if is_body(line) {
-        longer(alloc, reader, line)
-    } else {
-        Err(DeckFault::Bad)
+    let JobSaid {
+        name,
+        user,
+        template,
+        budget,
+        contexts,
+    } = said;
+    Job {
+        name,
+        user,
+        template,
+        budget: budget as u32,
+        contexts,
+        stage,
     }
 }
 
 /// A job joins the deck.
-#[tactic(auto, unfolding(crate::specs::Reading::joined))]
-fn joined(reader: Reader, job: Job) -> Result<Reader, DeckFault>
-    ensures { Gives state_of result (joined (state_of reader) job) }
+fn join(alloc: Global, reader: &mut Reader, said: JobSaid) -> Result<(), NoMemory>
+    requires { IsTrue (is_budget said.budget) }
+    ensures { OnOk result (state_of reader.new ≡ taken (state_of reader.old) [] (Line.Job said)) }
 {
-    if reader.jobs.len() >= MOST_JOBS
-        || !reader.names.has(&job.template)
-        || reader.job_names.has(&job.name)
-    {
-        return Err(DeckFault::Bad);
-    }
-    let Reader {
-        place: _,
-        templates,
-        draft,
-        names,
-        mut jobs,
-        job_names,
-        stage,
-    } = reader;
-    let job_names = job_names.with(job.name)?;
-    jobs.push(job)?;
-    Ok(Reader {
-        place: Place::Staged,
-        templates,
-        draft,
-        names,
-        jobs,
-        job_names,
-        stage,
-    })
+    reader.job_names.add(alloc, said.name)?;
+    reader.jobs.push(job_of(reader.stage, said))?;
+    reader.place = Place::Staged;
+    Ok(())
 }
 
-/// The line says a job.
-#[tactic(auto, unfolding(crate::specs::Reading::job))]
-fn job(alloc: Global, reader: Reader, line: &[u8]) -> Result<Reader, DeckFault>
-    ensures { Gives state_of result (job (state_of reader) line.now) }
+/// A good line of a deck, and what it says.
+pub fn take(alloc: Global, reader: &mut Reader, line: &[u8], said: Line) -> Result<(), NoMemory>
+    requires room { IsTrue (has_room (state_of reader.old) said) }
+    requires range { IsTrue (is_in_range said) }
+    ensures { OnOk result (state_of reader.new ≡ taken (state_of reader.old) line.now said) }
 {
-    let read = read_job(alloc, reader.stage, line)?;
-    joined(reader, read)
-}
-
-/// A line that says something.
-#[tactic(auto, unfolding(crate::specs::Reading::kept))]
-fn kept(alloc: Global, reader: Reader, line: &[u8]) -> Result<Reader, DeckFault>
-    ensures { Gives state_of result (kept (state_of reader) line.now) }
-{
-    match reader.place {
-        Place::Between => {
-            if is_stage(line) {
-                begun(reader)
-            } else {
-                program(alloc, reader, line)
-            }
+    match said {
+        Line::Program(name) => begin(alloc, reader, line, name),
+        Line::Declare(in_range) => declare(alloc, reader, line, in_range),
+        Line::Label(name) => label(alloc, reader, line, name),
+        Line::Act => act(alloc, reader, line),
+        Line::End => end(alloc, reader, line),
+        Line::Stage => {
+            begin_stage(reader);
+            Ok(())
         }
-        Place::Inside => inside(alloc, reader, line),
-        Place::Begun => job(alloc, reader, line),
-        Place::Staged => {
-            if is_stage(line) {
-                begun(reader)
-            } else {
-                job(alloc, reader, line)
-            }
-        }
+        Line::Job(said) => join(alloc, reader, said),
     }
-}
-
-/// Any line, without its line feed. `Bad` exactly where it may not stand there.
-#[tactic(auto, unfolding(crate::specs::Reading::turn))]
-pub fn turn(alloc: Global, reader: Reader, line: &[u8]) -> Result<Reader, DeckFault>
-    ensures { Gives state_of result (turn (state_of reader) line.now) }
-{
-    if !is_plain(line) {
-        return Err(DeckFault::Bad);
-    }
-    if !is_kept(line) {
-        return Ok(reader);
-    }
-    kept(alloc, reader, line)
 }

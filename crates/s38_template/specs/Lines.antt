@@ -1,0 +1,192 @@
+-- What a line says.
+use Rattle.std.specs.Prelude.{ℕ, ◌+◌, Bool, true, false, ◌&&◌, ◌||◌, List, [], ◌∷◌, length, Option, Some, None, codes, nat_le, ◌==◌, if◌then◌else◌}
+use Rattle.std.specs.List.{list_all, slice_split}
+use Rattle.std.specs.Option.{option_and_then, option_map, option_map_or}
+use Rattle.s38_base.specs.NameText.{is_name}
+use Rattle.s38_base.specs.declared.op.Op.{Op}
+use Rattle.s38_code.specs.DeclarationLine.{count_of, declaration_of, is_in_range}
+use Rattle.s38_code.specs.Mnemonic.{op_of}
+use Rattle.s38_code.specs.Tie.{may_round}
+use Rattle.s38_code.specs.WordsForm.{has_form}
+use Rattle.s38_code.specs.WordsText.{before, behind, is_word}
+use Rattle.s38_code.specs.declared.words.declarations.DeclarationLine.{DeclarationLine}
+use Rattle.s38_template.specs.Cut.{after, cut}
+use Rattle.s38_template.specs.declared.said.JobSaid.{JobSaid}
+use Rattle.s38_template.specs.declared.said.Line.{Line}
+use Rattle.s38_template.specs.declared.said.Line.TheVariants.{Program, Declare, Label, Act, End, Stage, Job}
+
+infixl 10 ◌>>=◌
+abbrev pub ◌>>=◌ : {A B : Type 0} → Option A → (A → Option B) → Option B
+o >>= f = option_and_then f o
+
+-- ---- names
+
+abbrev pub begins_with_letter : List ℕ → Bool
+begins_with_letter [] = false
+begins_with_letter (c ∷ cs) = nat_le 65 c && nat_le c 90
+
+-- what a template, a job or a label may be called
+abbrev pub is_own_name : List ℕ → Bool
+is_own_name text = begins_with_letter text && is_name text
+
+abbrev pub name_in : List ℕ → Option (List ℕ)
+name_in text = if is_name text then Some text else None
+
+abbrev pub own_name_in : List ℕ → Option (List ℕ)
+own_name_in text = if is_own_name text then Some text else None
+
+-- ---- PROGRAM name [ADOPT] [PROPAGATE]
+
+abbrev pub program_word : List ℕ
+program_word = codes "PROGRAM "
+
+-- what may stand behind the name
+abbrev pub are_marks : Option (List ℕ) → Bool
+are_marks None = true
+are_marks (Some marks) =
+    is_word (codes "ADOPT") marks || (is_word (codes "PROPAGATE") marks || is_word (codes "ADOPT PROPAGATE") marks)
+
+abbrev pub head_said : List ℕ → Option (List ℕ)
+head_said text = if are_marks (behind 32 text) then own_name_in (before 32 text) else None
+
+-- the name of the template that a line begins
+unfoldable pub head_of : List ℕ → Option (List ℕ)
+head_of line = option_and_then head_said (after program_word line)
+
+-- ---- LABEL name
+
+unfoldable pub label_of : List ℕ → Option (List ℕ)
+label_of line = option_and_then own_name_in (after (codes "LABEL ") line)
+
+-- ---- instructions
+
+abbrev pub is_comma : ℕ → Bool
+is_comma c = c == 44
+
+-- words parted by one comma, each of some operand's form
+unfoldable pub are_operands : List ℕ → Bool
+are_operands text = list_all has_form (slice_split is_comma text)
+
+-- (R), alone or with operands behind it
+abbrev pub are_rounded : List ℕ → Bool
+are_rounded text = is_word (codes "(R)") text || option_map_or are_operands (after (codes "(R) ") text) false
+
+-- what may stand behind a mnemonic and a blank
+abbrev pub may_follow : Op → Option (List ℕ) → Bool
+may_follow op None = true
+may_follow op (Some text) = are_operands text || (may_round op && are_rounded text)
+
+abbrev pub is_act : Option Op → Option (List ℕ) → Bool
+is_act None text = false
+is_act (Some op) text = may_follow op text
+
+unfoldable pub is_instruction : List ℕ → Bool
+is_instruction line = is_act (op_of (before 32 line)) (behind 32 line)
+
+-- ---- JOB name USER name RUN name [BUDGET n] [CONTEXTS name name*]
+
+abbrev pub job_word : List ℕ
+job_word = codes "JOB "
+
+abbrev pub is_blank : ℕ → Bool
+is_blank c = c == 32
+
+-- all of these are names
+abbrev pub names_in : List ℕ → Option (List (List ℕ))
+names_in text = if list_all is_name (slice_split is_blank text) then Some (slice_split is_blank text) else None
+
+unfoldable pub contexts_in : List ℕ → Option (List (List ℕ))
+contexts_in text = do
+  names ← after (codes "CONTEXTS ") text
+  names_in names
+
+-- a budget and contexts, by what a cut at the first blank gives
+abbrev pub budget_from : List ℕ → Option (List ℕ × List ℕ) → Option (ℕ × List (List ℕ))
+budget_from text None = option_map (λ budget. (budget, [])) (count_of text)
+budget_from text (Some parts) = do
+  budget ← count_of parts.0
+  contexts ← contexts_in parts.1
+  Some (budget, contexts)
+
+unfoldable pub budget_in : List ℕ → Option (ℕ × List (List ℕ))
+budget_in text = budget_from text (cut 32 text)
+
+-- by what stands behind BUDGET; a job whose line does not say it has 1,000,000
+abbrev pub terms_from : List ℕ → Option (List ℕ) → Option (ℕ × List (List ℕ))
+terms_from text None = option_map (λ contexts. (1000000, contexts)) (contexts_in text)
+terms_from text (Some rest) = budget_in rest
+
+unfoldable pub terms_in : List ℕ → Option (ℕ × List (List ℕ))
+terms_in text = terms_from text (after (codes "BUDGET ") text)
+
+-- the template, the budget and the contexts
+abbrev pub run_from : List ℕ → Option (List ℕ × List ℕ) → Option (List ℕ × ℕ × List (List ℕ))
+run_from text None = option_map (λ name. (name, 1000000, [])) (own_name_in text)
+run_from text (Some parts) = do
+  name ← own_name_in parts.0
+  terms ← terms_in parts.1
+  Some (name, terms.0, terms.1)
+
+unfoldable pub run_in : List ℕ → Option (List ℕ × ℕ × List (List ℕ))
+run_in text = run_from text (cut 32 text)
+
+-- what stands behind a word and before a blank, and what stands behind the blank
+unfoldable pub worded : List ℕ → List ℕ → Option (List ℕ × List ℕ)
+worded word text = do
+  behind ← after word text
+  cut 32 behind
+
+-- the texts behind JOB and USER, and what stands behind RUN
+unfoldable pub head_in : List ℕ → Option (List ℕ × List ℕ × List ℕ)
+head_in line = do
+  job ← worded job_word line
+  user ← worded (codes "USER ") job.1
+  run ← after (codes "RUN ") user.1
+  Some (job.0, user.0, run)
+
+unfoldable pub job_in : List ℕ → Option JobSaid
+job_in line = do
+  head ← head_in line
+  name ← own_name_in head.0
+  user ← name_in head.1
+  run ← run_in head.2
+  Some (record { name = name; user = user; template = run.0; budget = run.1; contexts = run.2 })
+
+-- ---- lines, by their first word
+
+abbrev pub end_line : List ℕ
+end_line = codes "END"
+
+abbrev pub stage_line : List ℕ
+stage_line = codes "STAGE"
+
+abbrev pub program : List ℕ → Line
+program name = Program name
+
+abbrev pub declare : DeclarationLine → Line
+declare declaration = Declare (is_in_range declaration.declares)
+
+abbrev pub label : List ℕ → Line
+label name = Label name
+
+abbrev pub job : JobSaid → Line
+job said = Job said
+
+-- a line without operands of its own, or an instruction
+abbrev pub rest_said : List ℕ → Option Line
+rest_said line =
+    if is_word end_line line then Some End
+    else (if is_word stage_line line then Some Stage
+    else (if is_instruction line then Some Act else None))
+
+unfoldable pub said_by : List ℕ → List ℕ → Option Line
+said_by word line =
+    if is_word (codes "PROGRAM") word then option_map program (head_of line)
+    else (if is_word (codes "DCL") word then option_map declare (declaration_of line)
+    else (if is_word (codes "LABEL") word then option_map label (label_of line)
+    else rest_said line))
+
+-- what a line says; None where it has no form
+unfoldable pub line_of : List ℕ → Option Line
+line_of line =
+    if is_word (codes "JOB") (before 32 line) then option_map job (job_in line) else said_by (before 32 line) line
