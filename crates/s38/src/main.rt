@@ -1,9 +1,9 @@
-//! The machine interface as a program: it reads a deck, runs its jobs, and prints one log for each.
+//! The machine interface as a program: it reads a deck, and runs its jobs and prints a log for each, or checks its
+//! templates and prints a line for each.
 #![tactic(auto)]
 
 mod command;
 mod outcome;
-mod programs;
 #[cfg(test)]
 mod rows;
 #[cfg(test)]
@@ -12,6 +12,7 @@ mod rows_computed;
 mod rows_created;
 mod run;
 mod tell;
+mod templates;
 #[cfg(test)]
 mod tests;
 mod top;

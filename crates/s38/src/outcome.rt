@@ -1,4 +1,4 @@
-use s38_code::{Deck, Entry};
+use s38_code::{Checked, Deck, Entry};
 
 /// A run that ended: the deck, the history and a mark for each of its entries.
 #[derive(Drop)]
@@ -8,17 +8,26 @@ pub struct Whole {
     pub marks: Vec<u64>,
 }
 
+/// A deck, and what creation makes of each of its templates.
+#[derive(Drop)]
+pub struct CheckedDeck {
+    pub deck: Deck,
+    pub templates: Checked,
+}
+
 /// What the program came to.
 #[derive(Drop)]
 pub enum Outcome {
     /// The words are no command.
     BadWords,
-    /// The text is no deck.
-    BadDeck,
+    /// The text is no deck: its first bad line, and the code.
+    BadDeck { line: u32, code: u8 },
     /// The source failed.
     DeckFault,
     /// Memory was refused.
     NoMemory,
     /// Each job ran to its end.
     Complete(Whole),
+    /// Each template was checked.
+    Checked(CheckedDeck),
 }

@@ -2,13 +2,13 @@ ghost use Rattle.std.specs.Prelude.{◌≡◌, ◌⊎◌, IfOk, MatchBool};
 ghost use Rattle.std.specs.Io.KnownBytes.{Appends};
 ghost use Rattle.s38_base.specs.Faults.{Rose};
 ghost use Rattle.s38_io.specs.Sink.{AppendsFront};
-ghost use Rattle.s38.specs.Outcome.{run_text, text_of};
+ghost use Rattle.s38.specs.Outcome.{checked_text, run_text, text_of};
 
-use crate::outcome::{Outcome, Whole};
+use crate::outcome::{CheckedDeck, Outcome, Whole};
 use s38_base::NoMemory;
-use s38_code::{Deck, Entry};
+use s38_code::{CheckedTemplate, Deck, Entry};
 use s38_io::Sink;
-use s38_joblog::{last_line, log_text};
+use s38_joblog::{bad_line, check_text, last_line, log_text};
 use std::alloc::Global;
 
 /// An outcome, and whether its text was written whole.
@@ -24,6 +24,16 @@ fn run_text(alloc: Global, deck: &Deck, history: &[Entry]) -> Result<Vec<u8>, No
 {
     let mut text = log_text(alloc, history, deck.jobs.as_slice())?;
     let last = last_line(alloc, history.len() as u64)?;
+    text.extend_from_slice(last.as_slice())?;
+    Ok(text)
+}
+
+/// A line for each template, and the last line.
+fn checked_text(alloc: Global, templates: &[CheckedTemplate]) -> Result<Vec<u8>, NoMemory>
+    ensures { IfOk result (λ text. text.items ≡ checked_text templates.now) }
+{
+    let mut text = check_text(alloc, templates)?;
+    let last = last_line(alloc, templates.len() as u64)?;
     text.extend_from_slice(last.as_slice())?;
     Ok(text)
 }
@@ -59,6 +69,28 @@ fn tell_run<O: Sink>(alloc: Global, whole: Whole, out: &mut O) -> Told
     }
 }
 
+fn tell_check<O: Sink>(alloc: Global, checked: CheckedDeck, out: &mut O) -> Told
+    ensures outcome { (result.outcome ≡ Outcome.Checked checked) ⊎ (result.outcome ≡ Outcome.NoMemory) }
+    ensures told { MatchBool result.written (Appends (O.written out.old) (O.written out.new) (text_of result.outcome))
+        (Rose (O.faults out.old) (O.faults out.new) × AppendsFront (O.written out.old) (O.written out.new) (text_of result.outcome)) }
+{
+    match checked_text(alloc, checked.templates.as_slice()) {
+        Err(_) => tell_text(Outcome::NoMemory, b"NO MEMORY\n", out),
+        Ok(text) => tell_text(Outcome::Checked(checked), text.as_slice(), out),
+    }
+}
+
+fn tell_bad<O: Sink>(alloc: Global, line: u32, code: u8, out: &mut O) -> Told
+    ensures outcome { (result.outcome ≡ Outcome.BadDeck line code) ⊎ (result.outcome ≡ Outcome.NoMemory) }
+    ensures told { MatchBool result.written (Appends (O.written out.old) (O.written out.new) (text_of result.outcome))
+        (Rose (O.faults out.old) (O.faults out.new) × AppendsFront (O.written out.old) (O.written out.new) (text_of result.outcome)) }
+{
+    match bad_line(alloc, line, code) {
+        Err(_) => tell_text(Outcome::NoMemory, b"NO MEMORY\n", out),
+        Ok(text) => tell_text(Outcome::BadDeck { line, code }, text.as_slice(), out),
+    }
+}
+
 /// Writes the text of an outcome in one piece. Where memory is wanted for it, the outcome is that.
 pub fn tell<O: Sink>(alloc: Global, outcome: Outcome, out: &mut O) -> Told
     ensures outcome { (result.outcome ≡ outcome) ⊎ (result.outcome ≡ Outcome.NoMemory) }
@@ -67,9 +99,10 @@ pub fn tell<O: Sink>(alloc: Global, outcome: Outcome, out: &mut O) -> Told
 {
     match outcome {
         Outcome::BadWords => tell_text(Outcome::BadWords, b"BAD WORDS\n", out),
-        Outcome::BadDeck => tell_text(Outcome::BadDeck, b"BAD DECK 0 2\n", out),
+        Outcome::BadDeck { line, code } => tell_bad(alloc, line, code, out),
         Outcome::DeckFault => tell_text(Outcome::DeckFault, b"DECK FAULT\n", out),
         Outcome::NoMemory => tell_text(Outcome::NoMemory, b"NO MEMORY\n", out),
         Outcome::Complete(whole) => tell_run(alloc, whole, out),
+        Outcome::Checked(checked) => tell_check(alloc, checked, out),
     }
 }

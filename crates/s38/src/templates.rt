@@ -1,56 +1,67 @@
-ghost use Rattle.std.specs.Prelude.{◌≡◌, ℕ, List, IfOk, Some, length, slice_get};
-ghost use Rattle.std.specs.Option.{option_map};
-ghost use Rattle.s38_code.specs.declared.deck.Job.{Job};
-ghost use Rattle.s38_code.specs.declared.program.Program.{Program};
-ghost use Rattle.s38.specs.Decks.{JobAt, all_made, program_of, program_of_lines};
+ghost use Rattle.std.specs.Prelude.{◌≡◌, ℕ, List, IfOk, Some, drop, length, map, slice_get};
 ghost use Rattle.std.specs.BTreeMap.{get};
 ghost use Rattle.std.specs.Cmp.Lexicographic.{slice_cmp};
 ghost use Rattle.std.specs.Ordering.{nat_cmp};
-ghost use Rattle.s38_template.specs.Grammar.{template_names};
+ghost use Rattle.s38_code.specs.WordsName.{declared_name};
+ghost use Rattle.s38_code.specs.WordsText.{before};
+ghost use Rattle.s38_code.specs.declared.deck.Job.{Job};
+ghost use Rattle.s38_code.specs.declared.made.Made.{Made};
+ghost use Rattle.s38_template.specs.Grammar.{name_of, template_names};
 ghost use Rattle.s38_template.specs.Places.{HasTemplate, place_of};
+ghost use Rattle.s38.specs.Decks.{IsNamed, MadeAt, checked_of, checked_template, made_for};
 
-use s38_base::{Name, NoMemory, Twin};
-use s38_code::{Code, CreateFault, Deck, Job, Program, Template};
-use s38_create::create;
+use s38_base::{Name, NoMemory, Seq, Twin};
+use s38_code::words::{before, declared_name};
+use s38_code::{Checked, CheckedTemplate, Deck, Job, Made, Template};
+use s38_create::checked;
 use s38_template::template_places;
 use std::alloc::Global;
 use std::collections::BTreeMap;
 
-/// The program of a template, if it makes one.
-fn program(alloc: Global, template: &Template) -> Result<Option<Program>, NoMemory>
-    ensures { IfOk result (λ made. made ≡ program_of_lines template.now) }
+/// The length of the word PROGRAM and the blank behind it.
+const PROGRAM: usize = 8;
+
+/// What stands behind PROGRAM and before the next blank.
+fn named(head: &[u8]) -> &[u8]
+    ensures { result.now ≡ before 32 (drop 8 head.now) }
 {
-    match create(alloc, template) {
-        Ok(program) => Ok(Some(program)),
-        Err(CreateFault::NoMemory) => Err(NoMemory),
-        Err(CreateFault::Bad { .. }) => Ok(None),
+    let start = head.len().min(PROGRAM);
+    before(b' ', &head[start..])
+}
+
+/// The name in the head of a template; None where it has none.
+fn name_of(template: &Template) -> Option<Name>
+    ensures { result ≡ declared_name (name_of template.now) }
+{
+    match template.lines().first() {
+        Some(head) => declared_name(named(head.as_slice())),
+        None => None,
     }
 }
 
-/// The program of a template, where it can be shared.
-fn code(alloc: Global, template: &Template) -> Result<Option<Code>, NoMemory>
-    ensures { IfOk result (λ made. made ≡ program_of_lines template.now) }
+/// A template by its name, and what creation makes of it.
+fn checked_template(alloc: Global, template: &Template) -> Result<CheckedTemplate, NoMemory>
+    requires { IsNamed template.now }
+    ensures { IfOk result (λ checked. checked ≡ checked_template template.now) }
 {
-    match program(alloc, template) {
-        Err(fault) => Err(fault),
-        Ok(None) => Ok(None),
-        Ok(Some(made)) => Ok(Some(Code::new(alloc, made)?)),
+    let made = checked(alloc, template)?;
+    match name_of(template) {
+        Some(name) => Ok(CheckedTemplate { name, made }),
+        None => unreachable!(),
     }
 }
 
-/// The programs of templates, if each makes one.
-pub fn programs(alloc: Global, templates: &[Template]) -> Result<Option<Vec<Code>>, NoMemory>
-    ensures { IfOk result (λ made. option_map (λ v. v.items) made ≡ all_made templates.now) }
+/// The templates in order, each checked.
+pub fn checked_templates(alloc: Global, templates: &[Template]) -> Result<Checked, NoMemory>
+    requires named { (k : ℕ) (lines : List (List ℕ)) → slice_get templates.now k ≡ Some lines → IsNamed lines }
+    ensures { IfOk result (λ checked. checked ≡ map checked_template templates.now) }
 {
-    let mut made = Vec::with_capacity(alloc, templates.len())?;
+    let mut checked = Vec::with_capacity(alloc, templates.len())?;
     for template in templates {
-        match code(alloc, template) {
-            Err(fault) => return Err(fault),
-            Ok(None) => return Ok(None),
-            Ok(Some(code)) => made.push(code)?,
-        }
+        let one = checked_template(alloc, template)?;
+        checked.push(one)?;
     }
-    Ok(Some(made))
+    Ok(Seq::from_vec(checked))
 }
 
 /// The place of the template that a job names.
@@ -66,52 +77,56 @@ fn place_of_job(deck: &Deck, places: &BTreeMap<Name, usize>, job: &Job) -> usize
     }
 }
 
-/// The program at the place of the template that a job names.
-fn code_at(
+/// What creation makes of the template that a job names; it stands at this place.
+fn made_at(
     alloc: Global,
     deck: &Deck,
-    programs: &[Code],
+    templates: &[CheckedTemplate],
     at: usize,
     job: &Job,
-) -> Result<Code, NoMemory>
-    requires { JobAt deck.now job.now programs.now at }
-    ensures { IfOk result (λ code. program_of deck.now job.now ≡ Some code) }
+) -> Result<Made, NoMemory>
+    requires { MadeAt deck.now job.now templates.now at }
+    ensures { IfOk result (λ made. made_for deck.now job.now ≡ Some made) }
 {
     let _ = deck;
     let _ = job;
-    programs[at].twin(alloc)
+    templates[at].made.twin(alloc)
 }
 
-/// The program of the template that a job names.
-fn code_of_job(
+/// What creation makes of the template that a job names.
+fn made_of_job(
     alloc: Global,
     deck: &Deck,
-    programs: &[Code],
+    templates: &[CheckedTemplate],
     places: &BTreeMap<Name, usize>,
     job: &Job,
-) -> Result<Code, NoMemory>
+) -> Result<Made, NoMemory>
     requires has { HasTemplate deck.now job.now }
-    requires made { all_made deck.now.templates ≡ Some programs.now }
+    requires checked { templates.now ≡ checked_of deck.now }
     requires places { (q : List ℕ) → get (slice_cmp nat_cmp) places.now q ≡ place_of (template_names deck.now.templates) q }
-    ensures { IfOk result (λ code. program_of deck.now job.now ≡ Some code) }
+    ensures { IfOk result (λ made. made_for deck.now job.now ≡ Some made) }
 {
     let at = place_of_job(deck, places, job);
-    code_at(alloc, deck, programs, at, job)
+    made_at(alloc, deck, templates, at, job)
 }
 
-/// The program of each job, in the order of the jobs.
-pub fn codes_of_jobs(alloc: Global, deck: &Deck, programs: &[Code]) -> Result<Vec<Code>, NoMemory>
+/// For each job, in the order of the jobs, what creation makes of its template.
+pub fn made_of_jobs(
+    alloc: Global,
+    deck: &Deck,
+    templates: &[CheckedTemplate],
+) -> Result<Vec<Made>, NoMemory>
     requires has { (k : ℕ) (job : Job) → slice_get deck.now.jobs k ≡ Some job → HasTemplate deck.now job }
-    requires made { all_made deck.now.templates ≡ Some programs.now }
-    ensures len { IfOk result (λ codes. length codes.items ≡ length deck.now.jobs) }
-    ensures each { IfOk result (λ codes. (k : ℕ) (job : Job) (program : Program) → slice_get deck.now.jobs k ≡ Some job
-        → slice_get codes.items k ≡ Some program → program_of deck.now job ≡ Some program) }
+    requires checked { templates.now ≡ checked_of deck.now }
+    ensures len { IfOk result (λ made. length made.items ≡ length deck.now.jobs) }
+    ensures each { IfOk result (λ made. (k : ℕ) (job : Job) (one : Made) → slice_get deck.now.jobs k ≡ Some job
+        → slice_get made.items k ≡ Some one → made_for deck.now job ≡ Some one) }
 {
     let places = template_places(alloc, deck)?;
-    let mut codes = Vec::with_capacity(alloc, deck.jobs.len())?;
+    let mut made = Vec::with_capacity(alloc, deck.jobs.len())?;
     for job in deck.jobs.as_slice() {
-        let code = code_of_job(alloc, deck, programs, &places, job)?;
-        codes.push(code)?;
+        let one = made_of_job(alloc, deck, templates, &places, job)?;
+        made.push(one)?;
     }
-    Ok(codes)
+    Ok(made)
 }

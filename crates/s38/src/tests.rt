@@ -62,9 +62,12 @@ fn two_jobs_print_their_logs(rt: HostRuntime) -> Result<(), Fail> {
 
 #[test]
 fn other_words_are_refused(rt: HostRuntime) -> Result<(), Fail> {
-    let cases: [&[&str]; 6] = [
+    let cases: [&[&str]; 9] = [
         &[],
         &["serial", "serial"],
+        &["check", "check"],
+        &["serial", "check"],
+        &["Check"],
         &["run"],
         &["Serial"],
         &["--help"],
@@ -82,24 +85,48 @@ fn other_words_are_refused(rt: HostRuntime) -> Result<(), Fail> {
 
 #[test]
 fn bad_decks_are_refused(rt: HostRuntime) -> Result<(), Fail> {
-    let cases: [&str; 12] = [
-        "STAGE\n",
-        "PROGRAM P\n",
-        "PROGRAM P\nEND",
-        "program P\nEND\n",
-        "PROGRAM P\nEND\nPROGRAM P\nEND\n",
-        "PROGRAM P\nDCL Q CHAR:0\nEND\n",
-        "PROGRAM P\nDCL Q CHAR:4097\nEND\n",
-        "PROGRAM P\nDCL Q PTR\nDCL Q PTR\nEND\n",
-        "PROGRAM P\nENQ Q,*NONE,'A'\nEND\n",
-        "PROGRAM P\nCRTQ Q\nEND\n",
-        "PROGRAM P\nRTX\nEND\nSTAGE\nJOB A USER B RUN Q\n",
-        "PROGRAM P\nRTX\nEND\nJOB A USER B RUN P\n",
+    let cases: [(&str, &str); 9] = [
+        ("STAGE\n", "2 5"),
+        ("PROGRAM P\n", "2 5"),
+        ("PROGRAM P\nEND", "2 1"),
+        ("program P\nEND\n", "1 2"),
+        ("PROGRAM P\nEND\n*\n\nPROGRAM P\nEND\n", "5 3"),
+        ("PROGRAM P\nDCL Q PARM 17 PTR\nEND\n", "2 4"),
+        ("PROGRAM P\nRTX\nFOO\nEND\n", "3 2"),
+        ("PROGRAM P\nRTX\nEND\nSTAGE\nJOB A USER B RUN Q\n", "5 8"),
+        ("PROGRAM P\nRTX\nEND\nJOB A USER B RUN P\n", "4 2"),
     ];
-    for text in cases {
-        let answer = run(rt.alloc(), &["serial"], text, (&[], &[]), "BAD DECK 0 2\n")?;
-        assert_eq!(rt; answer.status, 2);
-        assert!(rt; answer.same_text);
+    for (text, place) in cases {
+        let line = format!(in rt.alloc(); "BAD DECK {place}\n")?;
+        for word in ["serial", "check"] {
+            let answer = run(rt.alloc(), &[word], text, (&[], &[]), line.as_str())?;
+            assert_eq!(rt; answer.status, 2);
+            assert!(rt; answer.same_text, "{place}");
+        }
+    }
+    Ok(())
+}
+
+#[test]
+fn templates_are_checked(rt: HostRuntime) -> Result<(), Fail> {
+    let cases: [(&str, &str); 4] = [
+        (TWO_JOBS, "P OK\nDONE 1\n"),
+        ("", "DONE 0\n"),
+        (
+            "PROGRAM P\nRTX\nRTX\nB NOWHERE\nEND\n",
+            "P 2A08 3\nDONE 1\n",
+        ),
+        (
+            "PROGRAM Q9 ADOPT\nRTX\nEND\n*\nPROGRAM A\nDCL Q CHAR:0\nEND\n",
+            "Q9 OK\nA 2A02 1\nDONE 2\n",
+        ),
+    ];
+    for (text, lines) in cases {
+        let answer = run(rt.alloc(), &["check"], text, (&[], &[]), lines)?;
+        assert_eq!(rt; answer.status, 0);
+        assert!(rt; answer.same_text, "{lines}");
+        assert_eq!(rt; answer.entries, 0);
+        assert_eq!(rt; answer.disk, Some(9));
     }
     Ok(())
 }
@@ -122,8 +149,9 @@ fn each_take_may_fail(rt: HostRuntime) -> Result<(), Fail> {
 
 #[test]
 fn the_put_may_fail(rt: HostRuntime) -> Result<(), Fail> {
-    let cases: [(&[&str], &str, usize); 3] = [
+    let cases: [(&[&str], &str, usize); 4] = [
         (&["serial"], TWO_JOBS, 9),
+        (&["check"], TWO_JOBS, 0),
         (&["serial"], "STAGE\n", 0),
         (&["run"], TWO_JOBS, 0),
     ];

@@ -1,5 +1,6 @@
 ghost use Rattle.std.specs.Prelude.{◌≡◌, ◌⊎◌, ◌≤◌, Some, None, length, map, if◌then◌else◌};
-ghost use Rattle.s38.specs.Outcome.{Ends, IsComplete, IsGood, faulted, history_of, marks_of, status_of};
+ghost use Rattle.s38.specs.Commands.{command_of};
+ghost use Rattle.s38.specs.Outcome.{Ends, IsGood, Serves, faulted, history_of, marks_of, status_of};
 
 use crate::outcome::{Outcome, Whole};
 use crate::run::decide;
@@ -24,10 +25,11 @@ fn status(told: &Told) -> u8
     let written = told.written;
     match &told.outcome {
         Outcome::BadWords => { if written { 1 } else { 6 } }
-        Outcome::BadDeck => { if written { 2 } else { 6 } }
+        Outcome::BadDeck { .. } => { if written { 2 } else { 6 } }
         Outcome::DeckFault => { if written { 5 } else { 6 } }
         Outcome::NoMemory => 7,
         Outcome::Complete(_) => { if written { 0 } else { 6 } }
+        Outcome::Checked(_) => { if written { 0 } else { 6 } }
     }
 }
 
@@ -76,8 +78,9 @@ fn report_of<D: Drop>(alloc: Global, told: Told, disk: D) -> Report<D>
     }
 }
 
-/// Serves the words: the deck of the source is read, its jobs are run on a machine of its own, and the log of
-/// the run is written. The disk that is handed in comes back untouched.
+/// Serves the words. Under `serial` the deck of the source is read, its jobs are run on a machine of its own, and
+/// the log of the run is written. Under `check` it is read, and a line for each of its templates is written: what
+/// creation makes of it. The disk that is handed in comes back untouched.
 pub fn plain_top<D: Drop, I: Source, O: Sink>(
     alloc: Global,
     words: &[&str],
@@ -92,10 +95,11 @@ pub fn plain_top<D: Drop, I: Source, O: Sink>(
     // The disk is wanting only for want of memory.
     ensures disk { (result.status ≡ 7) ⊎ (result.disk ≡ Some disk) }
 
-    // With status 0 the history is the one-thread machine's for the deck, and its log was written.
-    ensures complete { result.status ≡ 0 → IsComplete (I.left deck.old) (I.left deck.new) (O.written out.old) (O.written out.new) result.history.items }
+    // With status 0 of serial the history is the one-thread machine's for the deck, and its log was written; with
+    // status 0 of check what creation makes of each template was written.
+    ensures serves { result.status ≡ 0 → Serves (command_of (map (λ w. w.now) words.now)) (I.left deck.old) (I.left deck.new) (O.written out.old) (O.written out.new) result.history.items }
 
-    // A good deck is run, unless memory is wanted.
+    // A good deck is run or checked, unless memory is wanted.
     ensures good { IsGood (map (λ w. w.now) words.now) (I.left deck.old) (I.faults deck.old) (I.faults deck.new) (O.faults out.old) (O.faults out.new)
         → (result.status ≡ 0) ⊎ (result.status ≡ 7) }
 {

@@ -2,6 +2,7 @@ pub mod Complete
 pub mod Ends
 pub mod LineForms
 pub mod JobText
+pub mod Named
 pub mod Numbers
 pub mod Options
 pub mod Printed

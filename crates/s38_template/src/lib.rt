@@ -20,7 +20,7 @@ mod step;
 mod tests;
 
 pub use fault::DeckFault;
-pub use places::{each_job_has_its_template, template_places};
+pub use places::{each_job_has_its_template, template_name, template_places};
 pub use print::{a_printed_deck_is_read, print_deck, print_template};
 pub use read::{one_deck, read_deck};
 pub use s38_code::Deck;

@@ -6,7 +6,7 @@ ghost use Rattle.std.specs.Ordering.{nat_cmp};
 ghost use Rattle.s38_code.specs.declared.deck.Deck.{Deck};
 ghost use Rattle.s38_code.specs.declared.deck.Job.{Job};
 ghost use Rattle.s38_code.specs.WordsText.{before};
-ghost use Rattle.s38_template.specs.Grammar.{Spells, name_of, template_names};
+ghost use Rattle.s38_template.specs.Grammar.{IsTemplate, Spells, name_of, template_names};
 ghost use Rattle.s38_template.specs.Lines.{name_in, program_word};
 ghost use Rattle.s38_template.specs.Places.{HasTemplate, held, place_of, placed};
 
@@ -37,6 +37,18 @@ fn name_behind(head: &[u8]) -> Option<Name>
         return None;
     }
     name_in(before(b' ', &head[PROGRAM.len()..]))
+}
+
+/// The name of a template, as it stands in its head.
+#[tactic(auto, using(crate::proofs::Named::template_named))]
+pub fn template_name(template: &Template) -> Name
+    requires { IsTemplate template.now }
+    ensures { result ≡ name_of template.now }
+{
+    match name_of(template) {
+        Some(name) => name,
+        None => unreachable!(),
+    }
 }
 
 /// These places and that of one more name, unless it has a place already.

@@ -1,7 +1,7 @@
-use Rattle.std.proofs.Common.{◌≡◌, ◌++◌, drop}
-use Rattle.std.specs.Option.{option_map}
-use Rattle.s38.specs.Decks.{all_made}
-use Rattle.s38.proofs.programs.programs.Given as goal
+use Rattle.std.proofs.Common.{◌≡◌, take}
+use Rattle.std.specs.Prelude.{map}
+use Rattle.s38.specs.Decks.{checked_template}
+use Rattle.s38.proofs.templates.checked_templates.Given as goal
 
 abbrev pub invariant-loop-template : goal.invariant-loop-template
-invariant-loop-template l = option_map (λ ps. l.made.items ++ ps) (all_made (drop l.template-index l.templates)) ≡ all_made l.templates
+invariant-loop-template l = l.checked.items ≡ map checked_template (take l.template-index l.templates)

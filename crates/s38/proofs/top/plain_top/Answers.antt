@@ -1,5 +1,5 @@
 use Rattle.std.proofs.Common.{map}
-use Rattle.s38.proofs.TopLaws.{complete_of, ends_of, good_of}
+use Rattle.s38.proofs.TopLaws.{ends_of, good_of, serves_of}
 use Rattle.s38.proofs.top.plain_top.Goals as goal
 
 pub returns-clause-ends : goal.returns-clause-ends
@@ -10,9 +10,9 @@ returns-clause-ends g c =
     c.decide-outcome.result c.tell-told.result.outcome c.tell-told.result.written c.report_of.result.status c.report_of.result.history.items c.report_of.result.marks.items
     c.decide-outcome.ensures.holds c.tell-told.ensures.outcome c.tell-told.ensures.told c.report_of.ensures.status c.report_of.ensures.history c.report_of.ensures.marks
 
-pub returns-clause-complete : goal.returns-clause-complete
-returns-clause-complete g c =
-    complete_of (map (λ w. w.now) c.args.words.now) (g.I.Source.left c.args.deck.now) (g.I.Source.left c.decide-outcome.new.source)
+pub returns-clause-serves : goal.returns-clause-serves
+returns-clause-serves g c =
+    serves_of (map (λ w. w.now) c.args.words.now) (g.I.Source.left c.args.deck.now) (g.I.Source.left c.decide-outcome.new.source)
     (g.I.Source.faults c.args.deck.now) (g.I.Source.faults c.decide-outcome.new.source)
     (g.O.Sink.written c.args.out.now) (g.O.Sink.written c.tell-told.new.out) (g.O.Sink.faults c.args.out.now) (g.O.Sink.faults c.tell-told.new.out)
     c.report_of.result.status c.report_of.result.history.items c.report_of.result.marks.items (returns-clause-ends g c)
