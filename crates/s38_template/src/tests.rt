@@ -177,12 +177,14 @@ const JOBS: &str = "4 2 PROGRAM Q
 #[test]
 fn lines_of_jobs(rt: HostRuntime) -> Result<(), Fail> {
     for row in JOBS.lines() {
-        let (want, lines) = row.split_at(4);
+        let (want_line, rest) = row.split_once(' ').ok_or("row")?;
+        let (want_code, lines) = rest.split_once(' ').ok_or("row")?;
         let jobs = lines.replace(rt.alloc(), ",", "\n")?;
         let deck = format!(in rt.alloc(); "PROGRAM P\nEND\nSTAGE\n{jobs}\n")?;
         let (line, code) = fault(rt.alloc(), deck.as_bytes()).ok_or("good")?;
-        let told = format!(in rt.alloc(); "{line} {code} ")?;
-        assert_eq!(rt; told.as_str(), want, "{lines}");
+        let told = format!(in rt.alloc(); "{line} {code}")?;
+        let want = format!(in rt.alloc(); "{want_line} {want_code}")?;
+        assert_eq!(rt; told.as_str(), want.as_str(), "{lines}");
     }
     Ok(())
 }
