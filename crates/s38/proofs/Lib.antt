@@ -1,3 +1,2 @@
 pub mod DeckLaws
-pub mod NameLaws
 pub mod TopLaws

@@ -7,7 +7,6 @@ use Rattle.s38_code.specs.declared.entry.Entry.{Entry}
 use Rattle.s38_code.specs.declared.made.CheckedTemplate.{CheckedTemplate}
 use Rattle.s38_code.specs.declared.made.Made.{Made}
 use Rattle.s38_code.specs.History.{entries_of}
-use Rattle.s38_code.specs.WordsName.{declared_name}
 use Rattle.s38_create.specs.Checked.{made_of}
 use Rattle.s38_rules.specs.State.{State}
 use Rattle.s38_rules.specs.Legal.{Leads}
@@ -42,10 +41,6 @@ pub record IsRunOf (deck : Deck) (history : List Entry) : Type 0 where
   pub each : (k : ℕ) (job : Job) → slice_get deck.jobs k ≡ Some job → IsRunOfJob deck job (entries_of (k + 1) history)
 
 -- ---- on the way there
-
--- the head of a template has a name
-pub record IsNamed (lines : List (List ℕ)) : Type 0 where
-  pub name : declared_name (name_of lines) ≡ Some (name_of lines)
 
 -- at this place stands the checked template of a job
 pub record MadeAt (deck : Deck) (job : Job) (templates : List CheckedTemplate) (at : ℕ) : Type 0 where

@@ -30,11 +30,7 @@ pub fn makes(alloc: Global, user: &str, code: &[&str], entries: &[&str]) -> Resu
     let deck = format!(in alloc;
         "PROGRAM P\n{code}END\nSTAGE\nJOB A USER {user} RUN P CONTEXTS QGPL\n"
     )?;
-    let count = entries_text
-        .bytes()
-        .filter(|byte| *byte == b'\n')
-        .count()
-        + 1;
+    let count = entries_text.bytes().filter(|byte| *byte == b'\n').count() + 1;
     let logs = format!(in alloc; "JOB 1 A USER {user}\n1 START OK\n{entries_text}DONE {count}\n")?;
     let answer = run(alloc, &["serial"], deck.as_str(), (&[], &[]), logs.as_str())?;
     Ok(answer.status == 0 && answer.same_text)
@@ -473,117 +469,6 @@ fn programs_compute_among_their_variables(rt: HostRuntime) -> Result<(), Fail> {
     ];
     for (name, code, entries) in cases {
         assert!(rt; makes(rt.alloc(), "QSECOFR", code, entries)?, "{name}");
-    }
-    Ok(())
-}
-
-#[test]
-fn computations_reach_into_spaces(rt: HostRuntime) -> Result<(), Fail> {
-    let code = [
-        "DCL S PTR",
-        "DCL A PTR",
-        "DCL N PKD:3:0",
-        "DCL W BASED A 2 PKD:3:0",
-        "CRTS S,*NONE,SPACE/00/S,NONE,16",
-        "SETSPPFP A,S",
-        "CPYNV W,7",
-        "ADDN N,W,1",
-        "ADDN W,N,W",
-        "CMPNVB W,15,EQ,HERE",
-        "DESS S",
-        "LABEL HERE",
-        "CPYNV N,W",
-        "RTX",
-    ];
-    let entries = [
-        "2 CRTS OK S6/00",
-        "3 SETSPPFP OK A6+0",
-        "4 CPYNV OK",
-        "5 ADDN OK 008F",
-        "6 ADDN OK",
-        "7 CMPNVB OK YES",
-        "8 CPYNV OK 015F",
-        "9 FINISH RETURN",
-    ];
-    assert!(rt; makes(rt.alloc(), "QSECOFR", &code, &entries)?);
-    Ok(())
-}
-
-#[test]
-fn programs_are_made_of_templates(rt: HostRuntime) -> Result<(), Fail> {
-    let deck = [
-        "PROGRAM BAD",
-        "RTX",
-        "B NOWHERE",
-        "END",
-        "PROGRAM P",
-        "DCL Q PTR",
-        "CRTPG Q,*NONE,PROGRAM/00/X,NONE,P",
-        "DESPG Q",
-        "CRTPG Q,*NONE,PROGRAM/00/X,NONE,GONE",
-        "END",
-        "PROGRAM R",
-        "DCL Q PTR",
-        "CRTPG Q,*NONE,PROGRAM/00/X,NONE,BAD",
-        "END",
-        "STAGE",
-        "JOB A USER QSECOFR RUN P",
-        "JOB B USER QSECOFR RUN R",
-        "JOB C USER QSECOFR RUN BAD",
-    ];
-    let logs = [
-        "JOB 1 A USER QSECOFR",
-        "1 START OK",
-        "2 CRTPG OK S6/00",
-        "3 DESPG OK",
-        "4 CRTPG 2A01 5",
-        "5 FINISH UNHANDLED 2A01",
-        "JOB 2 B USER QSECOFR",
-        "6 START OK",
-        "7 CRTPG 2A08 5 2",
-        "8 FINISH UNHANDLED 2A08",
-        "JOB 3 C USER QSECOFR",
-        "9 START OK",
-        "10 FINISH CREATE 2A08 2",
-        "DONE 10",
-    ];
-    assert!(rt; prints(rt.alloc(), &deck, &logs)?);
-    Ok(())
-}
-
-#[test]
-fn templates_that_are_refused_end_their_jobs(rt: HostRuntime) -> Result<(), Fail> {
-    let cases: [(&str, &str); 10] = [
-        ("B NOWHERE", "2A08 1"),
-        ("RTX\nRTX\nB NOWHERE", "2A08 3"),
-        ("DCL A PKD:32:0", "2A02 1"),
-        ("DCL A CHAR:2 INIT 'ABC'", "2A02 1"),
-        ("DCL A PTR\nDCL A PTR", "2A03 2"),
-        ("DCL A PARM 1 PTR", "2A03 1"),
-        ("DCL A PKD:20:0\nMULT A,A,A\nMULT A,A,1", "2A06 1"),
-        (
-            "DCL P PTR\nCRTQ P,*NONE,SPACE/00/Q,NONE,FIFO,0,8",
-            "2A05 1",
-        ),
-        (
-            "DCL P PTR\nCRTQ P,*NONE,QUEUE/00/Q,NONE,LIFO,0,8",
-            "2A04 1",
-        ),
-        ("DCL P PTR\nLOCK P,LSRD,NOWAIT", "2A04 1"),
-    ];
-    let alloc = rt.alloc();
-    for (code, cause) in cases {
-        let deck = format!(in alloc;
-            "PROGRAM P\n{code}\nEND\nSTAGE\nJOB A USER QSECOFR RUN P\n"
-        )?;
-        let logs = format!(in alloc;
-            "JOB 1 A USER QSECOFR\n1 START OK\n2 FINISH CREATE {cause}\nDONE 2\n"
-        )?;
-        let checks = format!(in alloc; "P {cause}\nDONE 1\n")?;
-        let ran = run(alloc, &["serial"], deck.as_str(), (&[], &[]), logs.as_str())?;
-        assert!(rt; ran.status == 0 && ran.same_text, "{code}");
-        let checked = run(alloc, &["check"], deck.as_str(), (&[], &[]), checks.as_str())?;
-        assert!(rt; checked.status == 0 && checked.same_text, "{code}");
     }
     Ok(())
 }

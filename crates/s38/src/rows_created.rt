@@ -99,14 +99,8 @@ fn a_refused_template_ends_its_job_and_is_told_by_check(rt: HostRuntime) -> Resu
         ("DCL A BASED B 0 PTR", "2A03 1"),
         ("DCL A PARM 1 PTR", "2A03 1"),
         ("DCL A EXCM 0C0A THERE\nLABEL THERE", "2A03 1"),
-        (
-            "DCL P PTR\nCRTQ P,*NONE,SPACE/00/Q,NONE,FIFO,0,8",
-            "2A05 1",
-        ),
-        (
-            "DCL P PTR\nCRTQ P,*NONE,QUEUE/00/Q,NONE,LIFO,0,8",
-            "2A04 1",
-        ),
+        ("DCL P PTR\nCRTQ P,*NONE,SPACE/00/Q,NONE,FIFO,0,8", "2A05 1"),
+        ("DCL P PTR\nCRTQ P,*NONE,QUEUE/00/Q,NONE,LIFO,0,8", "2A04 1"),
         ("DCL P PTR\nLOCK P,LSRD,NOWAIT", "2A04 1"),
         ("RTX\nENQ Q,*NONE,'A'", "2A07 2"),
     ];

@@ -1,7 +1,8 @@
-ghost use Rattle.std.specs.Prelude.{◌≡◌, ◌⊎◌, IfOk, MatchBool};
+ghost use Rattle.std.specs.Prelude.{◌≡◌, ◌⊎◌, ◌++◌, IfOk, MatchBool};
 ghost use Rattle.std.specs.Io.KnownBytes.{Appends};
 ghost use Rattle.s38_base.specs.Faults.{Rose};
 ghost use Rattle.s38_io.specs.Sink.{AppendsFront};
+ghost use Rattle.s38_joblog.specs.Log.{last_line};
 ghost use Rattle.s38.specs.Outcome.{checked_text, run_text, text_of};
 
 use crate::outcome::{CheckedDeck, Outcome, Whole};
@@ -18,24 +19,30 @@ pub struct Told {
     pub written: bool,
 }
 
+/// A text, and the last line behind it.
+fn with_last_line(alloc: Global, text: Vec<u8>, count: usize) -> Result<Vec<u8>, NoMemory>
+    ensures { IfOk result (λ more. more.items ≡ text.items ++ last_line count) }
+{
+    let mut text = text;
+    let last = last_line(alloc, count as u64)?;
+    text.extend_from_slice(last.as_slice())?;
+    Ok(text)
+}
+
 /// The log of a run, and its last line.
 fn run_text(alloc: Global, deck: &Deck, history: &[Entry]) -> Result<Vec<u8>, NoMemory>
     ensures { IfOk result (λ text. text.items ≡ run_text deck.now history.now) }
 {
-    let mut text = log_text(alloc, history, deck.jobs.as_slice())?;
-    let last = last_line(alloc, history.len() as u64)?;
-    text.extend_from_slice(last.as_slice())?;
-    Ok(text)
+    let logs = log_text(alloc, history, deck.jobs.as_slice())?;
+    with_last_line(alloc, logs, history.len())
 }
 
 /// A line for each template, and the last line.
 fn checked_text(alloc: Global, templates: &[CheckedTemplate]) -> Result<Vec<u8>, NoMemory>
     ensures { IfOk result (λ text. text.items ≡ checked_text templates.now) }
 {
-    let mut text = check_text(alloc, templates)?;
-    let last = last_line(alloc, templates.len() as u64)?;
-    text.extend_from_slice(last.as_slice())?;
-    Ok(text)
+    let lines = check_text(alloc, templates)?;
+    with_last_line(alloc, lines, templates.len())
 }
 
 fn put<O: Sink>(out: &mut O, text: &[u8]) -> bool

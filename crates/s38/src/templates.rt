@@ -1,59 +1,33 @@
-ghost use Rattle.std.specs.Prelude.{◌≡◌, ℕ, List, IfOk, Some, drop, length, map, slice_get};
+ghost use Rattle.std.specs.Prelude.{◌≡◌, ℕ, List, IfOk, Some, length, map, slice_get};
 ghost use Rattle.std.specs.BTreeMap.{get};
 ghost use Rattle.std.specs.Cmp.Lexicographic.{slice_cmp};
 ghost use Rattle.std.specs.Ordering.{nat_cmp};
-ghost use Rattle.s38_code.specs.WordsName.{declared_name};
-ghost use Rattle.s38_code.specs.WordsText.{before};
 ghost use Rattle.s38_code.specs.declared.deck.Job.{Job};
 ghost use Rattle.s38_code.specs.declared.made.Made.{Made};
-ghost use Rattle.s38_template.specs.Grammar.{name_of, template_names};
+ghost use Rattle.s38_template.specs.Grammar.{IsTemplate, template_names};
 ghost use Rattle.s38_template.specs.Places.{HasTemplate, place_of};
-ghost use Rattle.s38.specs.Decks.{IsNamed, MadeAt, checked_of, checked_template, made_for};
+ghost use Rattle.s38.specs.Decks.{MadeAt, checked_of, checked_template, made_for};
 
 use s38_base::{Name, NoMemory, Seq, Twin};
-use s38_code::words::{before, declared_name};
 use s38_code::{Checked, CheckedTemplate, Deck, Job, Made, Template};
 use s38_create::checked;
-use s38_template::template_places;
+use s38_template::{template_name, template_places};
 use std::alloc::Global;
 use std::collections::BTreeMap;
 
-/// The length of the word PROGRAM and the blank behind it.
-const PROGRAM: usize = 8;
-
-/// What stands behind PROGRAM and before the next blank.
-fn named(head: &[u8]) -> &[u8]
-    ensures { result.now ≡ before 32 (drop 8 head.now) }
-{
-    let start = head.len().min(PROGRAM);
-    before(b' ', &head[start..])
-}
-
-/// The name in the head of a template; None where it has none.
-fn name_of(template: &Template) -> Option<Name>
-    ensures { result ≡ declared_name (name_of template.now) }
-{
-    match template.lines().first() {
-        Some(head) => declared_name(named(head.as_slice())),
-        None => None,
-    }
-}
-
 /// A template by its name, and what creation makes of it.
 fn checked_template(alloc: Global, template: &Template) -> Result<CheckedTemplate, NoMemory>
-    requires { IsNamed template.now }
+    requires { IsTemplate template.now }
     ensures { IfOk result (λ checked. checked ≡ checked_template template.now) }
 {
     let made = checked(alloc, template)?;
-    match name_of(template) {
-        Some(name) => Ok(CheckedTemplate { name, made }),
-        None => unreachable!(),
-    }
+    let name = template_name(template);
+    Ok(CheckedTemplate { name, made })
 }
 
 /// The templates in order, each checked.
 pub fn checked_templates(alloc: Global, templates: &[Template]) -> Result<Checked, NoMemory>
-    requires named { (k : ℕ) (lines : List (List ℕ)) → slice_get templates.now k ≡ Some lines → IsNamed lines }
+    requires { (k : ℕ) (lines : List (List ℕ)) → slice_get templates.now k ≡ Some lines → IsTemplate lines }
     ensures { IfOk result (λ checked. checked ≡ map checked_template templates.now) }
 {
     let mut checked = Vec::with_capacity(alloc, templates.len())?;

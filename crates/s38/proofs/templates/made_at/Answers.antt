@@ -15,7 +15,6 @@ carried deck job (Err f) x p e is h = tt
 
 pub returns : goal.returns
 returns c =
-    carried c.args.deck.now c.args.job.now c.twin.result c.index-templates-at.result.made c.requires.template.made
-    (ap (λ (t : CheckedTemplate). t.made)
-    (sym (get_or_from_slice_get c.args.templates.now c.args.at c.requires.template c.index-templates-at.result c.requires.there) ∙ sym c.index-templates-at.is))
+    carried c.args.deck.now c.args.job.now c.twin.result _ c.requires.template.made
+    (ap (λ (t : CheckedTemplate). t.made) (sym (get_or_from_slice_get c.args.templates.now c.args.at c.requires.template c.index-templates-at.result c.requires.there)))
     c.requires.is c.twin.ensures
