@@ -159,11 +159,7 @@ pub fn crtpg_conditions(world: &World, process: u32, operands: &[Operand]) -> Op
     if let Some(failure) = creation_limits(world, process, 1) {
         return Some(failure);
     }
-    fails(
-        is_larger(template, BODY_LIMIT),
-        LIMIT_EXCEEDED,
-        0,
-    )
+    fails(is_larger(template, BODY_LIMIT), LIMIT_EXCEEDED, 0)
 }
 
 #[tactic(auto, unfolding(s38_rules::specs::Verdict::crtq_conditions))]

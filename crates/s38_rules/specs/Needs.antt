@@ -3,7 +3,6 @@ use Rattle.std.specs.Prelude.{ℕ, Bool, false, ◌&&◌, List, [], ◌∷◌, O
 use Rattle.s38_base.specs.declared.id.Id.{Id}
 use Rattle.s38_base.specs.declared.id.Kind.TheVariants as kinds
 use Rattle.s38_base.specs.declared.id.ObjNum.{ObjNum}
-use Rattle.s38_base.specs.declared.rights.Rights.{Rights}
 use Rattle.s38_base.specs.declared.words.Category.{Category}
 use Rattle.s38_base.specs.declared.words.Category.TheVariants.{Read, Change, Control}
 use Rattle.s38_base.specs.Ids.{same_kind}

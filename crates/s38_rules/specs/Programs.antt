@@ -1,6 +1,5 @@
 -- The deck's templates, from which programs are made.
-use Rattle.std.specs.Prelude.{ℕ, ◌+◌, Bool, false, List, length, sum_by, find, Option, Some, None}
-use Rattle.std.specs.Option.{option_and_then}
+use Rattle.std.specs.Prelude.{ℕ, ◌+◌, Bool, List, length, sum_by, find, Option, Some, None}
 use Rattle.std.specs.Str.{bytes_eq}
 use Rattle.s38_code.specs.declared.made.CheckedTemplate.{CheckedTemplate}
 use Rattle.s38_code.specs.declared.made.Made.{Made}

@@ -15,7 +15,7 @@ use Rattle.s38_base.specs.declared.op.Op.{Op}
 use Rattle.s38_base.specs.declared.op.Op.TheVariants.{Rslvsp, Setdp, Cpybwp, Crtpg, Crtq, Crts, Mods, Enq, Deq}
 use Rattle.s38_memory.specs.declared.cell.Cell.{Cell}
 use Rattle.s38_memory.specs.Tagged.{is_aligned, is_within}
-use Rattle.s38_queues.specs.MessageQueue.{MessageQueue, image_size, message_size}
+use Rattle.s38_queues.specs.MessageQueue.{MessageQueue, image_size}
 use Rattle.s38_code.specs.declared.deck.Job.{Job}
 use Rattle.s38_code.specs.declared.made.CheckedTemplate.{CheckedTemplate}
 use Rattle.s38_code.specs.declared.made.Made.{Made}
@@ -43,7 +43,7 @@ use Rattle.s38_rules.specs.State.{State, object, found, kind_of, cells_at, cells
 use Rattle.s38_rules.specs.Spaces.{carried_by, is_pointer_attr, object_of, offset_of, same_attr, start_of}
 use Rattle.s38_rules.specs.Users.{acting, user_of}
 use Rattle.s38_rules.specs.Authority.{available, has_rights}
-use Rattle.s38_rules.specs.Operands.{place, pointer_at, is_given, rights_at, room_at, size_at, word_at, id_at, attr_at, count_at, number_at, target}
+use Rattle.s38_rules.specs.Operands.{place, pointer_at, is_given, rights_at, size_at, word_at, id_at, attr_at, count_at, number_at, target}
 use Rattle.s38_rules.specs.Needs.{needs, resolved}
 use Rattle.s38_rules.specs.Computed.{computed, failure_in}
 use Rattle.s38_rules.specs.Programs.{size_in, template_at}
