@@ -107,6 +107,7 @@ fn a_refused_template_ends_its_job_and_is_told_by_check(rt: HostRuntime) -> Resu
     for (code, cause) in cases {
         let deck = [
             "PROGRAM GOOD",
+            "DCL A PKD:20:0\nDCL B PKD:18:0\nDCL C PKD:31:0\nMULT C,A,B",
             "END",
             "PROGRAM P",
             code,
