@@ -1,5 +1,5 @@
 -- Lengths and fractions of numbers, what has no value, and a pointer that is moved by a number.
-use Rattle.std.proofs.Common.{◌≡◌, ℕ, ◌<◌, ◌≤◌, ◌==◌, ◌/◌, ◌+◌, ◌^◌, Bool, true, false, ◌&&◌, List, [], length, refl, ap, ◌∙◌, arith, rules, IsTrue, nat_le}
+use Rattle.std.proofs.Common.{◌≡◌, ℕ, ◌<◌, ◌≤◌, ◌^◌, false, List, [], refl, ap, ◌∙◌, arith, rules, IsTrue}
 use Rattle.std.specs.Prelude.{ℤ, Option, Some, None, Result, IfSome, MatchOption}
 use Rattle.std.specs.Option.{option_map}
 use Rattle.std.proofs.lemmas.Bool.Decides.{nat_tests}

@@ -1,5 +1,5 @@
 -- A queue that is lent and left as another one is a change of its object.
-use Rattle.std.proofs.Common.{◌≡◌, ℕ, Bool, true, false, cond, List, [], ◌∷◌, refl, sym, ap, ◌∙◌}
+use Rattle.std.proofs.Common.{◌≡◌, ℕ, true, false, cond, List, [], ◌∷◌, refl, ap}
 use Rattle.std.specs.Prelude.{Option, Some, None}
 use Rattle.s38_queues.specs.MessageQueue.{MessageQueue}
 use Rattle.s38_rules.specs.declared.object.Object.{Object}

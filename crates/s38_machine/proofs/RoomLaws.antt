@@ -1,10 +1,10 @@
 -- Lines don't fit into a room exactly where they are longer than it.
-use Rattle.std.proofs.Common.{◌≡◌, ℕ, ◌+◌, ◌-◌, ◌<◌, ◌≤◌, Bool, true, false, cond, List, [], ◌∷◌, refl, sym, ◌∙◌, ap, arith, nat_le, nat_lt}
+use Rattle.std.proofs.Common.{◌≡◌, ℕ, ◌+◌, ◌-◌, Bool, true, false, cond, List, [], ◌∷◌, refl, sym, ◌∙◌, arith, nat_le, nat_lt}
 use Rattle.std.proofs.lemmas.Bool.Decides.{nat_tests}
 use Rattle.std.proofs.lemmas.List.Sums.{sum_by-cons}
-use Rattle.std.specs.Prelude.{Option, Some, None, is_none, sum_by}
+use Rattle.std.specs.Prelude.{Some, None, is_none, sum_by}
 use Rattle.s38_rules.specs.Programs.{line_size}
-use Rattle.s38_machine.specs.Rooms.{room_after, room_behind}
+use Rattle.s38_machine.specs.Rooms.{room_after}
 
 none_after : (lines : List (List ℕ)) → is_none (room_after None lines) ≡ true
 none_after [] = refl

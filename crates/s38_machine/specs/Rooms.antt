@@ -1,5 +1,5 @@
 -- How much of a room is left behind lines that are put into it.
-use Rattle.std.specs.Prelude.{ℕ, ◌+◌, ◌-◌, List, [], ◌∷◌, Option, Some, None, length, nat_le, if◌then◌else◌}
+use Rattle.std.specs.Prelude.{ℕ, ◌-◌, List, [], ◌∷◌, Option, Some, None, nat_le, if◌then◌else◌}
 use Rattle.s38_rules.specs.Programs.{line_size}
 
 -- none, once a line did not fit
