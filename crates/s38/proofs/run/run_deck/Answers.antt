@@ -1,4 +1,4 @@
-use Rattle.std.proofs.Common.{◌≡◌, List, sym, subst}
+use Rattle.std.proofs.Common.{List, sym, subst}
 use Rattle.s38_code.specs.declared.entry.Entry.{Entry}
 use Rattle.s38.specs.Decks.{IsRunOf}
 use Rattle.s38.proofs.TopLaws.{run_of}
