@@ -5,7 +5,7 @@ use Rattle.s38_code.specs.declared.deck.Deck.{Deck}
 use Rattle.s38_code.specs.declared.deck.Job.{Job}
 use Rattle.s38_code.specs.declared.entry.Entry.{Entry}
 use Rattle.s38_code.specs.declared.made.CheckedTemplate.{CheckedTemplate}
-use Rattle.s38_code.specs.declared.made.Made.{Made}
+use Rattle.s38_code.specs.declared.made.CreateResult.{CreateResult}
 use Rattle.s38_code.specs.History.{entries_of}
 use Rattle.s38_create.specs.Checked.{made_of}
 use Rattle.s38_rules.specs.State.{State}
@@ -24,12 +24,12 @@ abbrev pub checked_of : Deck → List CheckedTemplate
 checked_of deck = map checked_template deck.templates
 
 -- what creation makes of the template that a job names
-abbrev pub made_for : Deck → Job → Option Made
+abbrev pub made_for : Deck → Job → Option CreateResult
 made_for deck job = option_map made_of (template_of deck job)
 
 -- the entries are the whole run of a job of the deck
 pub record IsRunOfJob (deck : Deck) (job : Job) (entries : List Entry) : Type 0 where
-  pub made : Made
+  pub made : CreateResult
   pub is : made_for deck job ≡ Some made
   pub ran : RanWhole made job.budget entries
 

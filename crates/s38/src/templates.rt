@@ -3,13 +3,13 @@ ghost use Rattle.std.specs.BTreeMap.{get};
 ghost use Rattle.std.specs.Cmp.Lexicographic.{slice_cmp};
 ghost use Rattle.std.specs.Ordering.{nat_cmp};
 ghost use Rattle.s38_code.specs.declared.deck.Job.{Job};
-ghost use Rattle.s38_code.specs.declared.made.Made.{Made};
+ghost use Rattle.s38_code.specs.declared.made.CreateResult.{CreateResult};
 ghost use Rattle.s38_template.specs.Grammar.{IsTemplate, template_names};
 ghost use Rattle.s38_template.specs.Places.{HasTemplate, place_of};
 ghost use Rattle.s38.specs.Decks.{MadeAt, checked_of, checked_template, made_for};
 
-use s38_base::{Name, NoMemory, Seq, Twin};
-use s38_code::{Checked, CheckedTemplate, Deck, Job, Made, Template};
+use s38_base::{Name, NoMemory, Seq, TryClone};
+use s38_code::{Checked, CheckedTemplate, Deck, Job, CreateResult, Template};
 use s38_create::checked;
 use s38_template::{template_name, template_places};
 use std::alloc::Global;
@@ -58,13 +58,13 @@ fn made_at(
     templates: &[CheckedTemplate],
     at: usize,
     job: &Job,
-) -> Result<Made, NoMemory>
+) -> Result<CreateResult, NoMemory>
     requires { MadeAt deck.now job.now templates.now at }
     ensures { IfOk result (λ made. made_for deck.now job.now ≡ Some made) }
 {
     let _ = deck;
     let _ = job;
-    templates[at].made.twin(alloc)
+    templates[at].made.try_clone(alloc)
 }
 
 /// What creation makes of the template that a job names.
@@ -74,7 +74,7 @@ fn made_of_job(
     templates: &[CheckedTemplate],
     places: &BTreeMap<Name, usize>,
     job: &Job,
-) -> Result<Made, NoMemory>
+) -> Result<CreateResult, NoMemory>
     requires has { HasTemplate deck.now job.now }
     requires checked { templates.now ≡ checked_of deck.now }
     requires places { (q : List ℕ) → get (slice_cmp nat_cmp) places.now q ≡ place_of (template_names deck.now.templates) q }
@@ -89,11 +89,11 @@ pub fn made_of_jobs(
     alloc: Global,
     deck: &Deck,
     templates: &[CheckedTemplate],
-) -> Result<Vec<Made>, NoMemory>
+) -> Result<Vec<CreateResult>, NoMemory>
     requires has { (k : ℕ) (job : Job) → slice_get deck.now.jobs k ≡ Some job → HasTemplate deck.now job }
     requires checked { templates.now ≡ checked_of deck.now }
     ensures len { IfOk result (λ made. length made.items ≡ length deck.now.jobs) }
-    ensures each { IfOk result (λ made. (k : ℕ) (job : Job) (one : Made) → slice_get deck.now.jobs k ≡ Some job
+    ensures each { IfOk result (λ made. (k : ℕ) (job : Job) (one : CreateResult) → slice_get deck.now.jobs k ≡ Some job
         → slice_get made.items k ≡ Some one → made_for deck.now job ≡ Some one) }
 {
     let places = template_places(alloc, deck)?;

@@ -1,5 +1,11 @@
+pub mod Exceptions
 pub mod Faults
 pub mod Fields
 pub mod Ids
+pub mod Limits
 pub mod NameText
+pub mod Pointers
+pub mod Relations
+pub mod RightNames
 pub mod Scalar
+pub mod Signals

@@ -50,6 +50,21 @@ is_bounded (Binary size) = (size == 2) || (size == 4)
 is_bounded (Chars len) = nat_le 1 len && nat_le len 4096
 is_bounded Pointer = true
 
+abbrev pub is_pointer_attr : Attr → Bool
+is_pointer_attr (Packed digits fraction) = false
+is_pointer_attr (Zoned digits fraction) = false
+is_pointer_attr (Binary size) = false
+is_pointer_attr (Chars len) = false
+is_pointer_attr Pointer = true
+
+abbrev pub same_attr : Attr → Attr → Bool
+same_attr (Packed digits fraction) (Packed others behind) = (digits == others) && (fraction == behind)
+same_attr (Zoned digits fraction) (Zoned others behind) = (digits == others) && (fraction == behind)
+same_attr (Binary size) (Binary other) = size == other
+same_attr (Chars len) (Chars other) = len == other
+same_attr Pointer Pointer = true
+same_attr _ _ = false
+
 -- ---- which numbers it holds, in units of its last digit
 
 -- a signed number of so many bytes lies from -2^k to 2^k - 1 where k is one less than its bits

@@ -24,7 +24,7 @@ fn are_digits(digits: u8, fraction: u8) -> bool
 }
 
 impl Attr {
-    ghost use Rattle.s38_base.specs.Scalar.{digits_of, fraction_of, is_bounded, is_numeric, length_of};
+    ghost use Rattle.s38_base.specs.Scalar.{digits_of, fraction_of, is_bounded, is_numeric, is_pointer_attr, length_of, same_attr};
 
     /// How many bytes a value has.
     pub fn length(self) -> u16
@@ -86,6 +86,39 @@ impl Attr {
             Attr::Binary { size } => size == 2 || size == 4,
             Attr::Chars { len } => 1 <= len && len <= 4096,
             Attr::Pointer => true,
+        }
+    }
+
+    /// It is the attribute of a pointer.
+    pub fn is_pointer(self) -> bool
+        ensures { result ≡ is_pointer_attr self }
+    {
+        matches!(self, Attr::Pointer)
+    }
+
+    /// The two are one.
+    pub fn is_same(self, other: Attr) -> bool
+        ensures { result ≡ same_attr self other }
+    {
+        match (self, other) {
+            (
+                Attr::Packed { digits, fraction },
+                Attr::Packed {
+                    digits: others,
+                    fraction: behind,
+                },
+            ) => { digits == others && fraction == behind }
+            (
+                Attr::Zoned { digits, fraction },
+                Attr::Zoned {
+                    digits: others,
+                    fraction: behind,
+                },
+            ) => { digits == others && fraction == behind }
+            (Attr::Binary { size }, Attr::Binary { size: other }) => size == other,
+            (Attr::Chars { len }, Attr::Chars { len: other }) => len == other,
+            (Attr::Pointer, Attr::Pointer) => true,
+            _ => false,
         }
     }
 }

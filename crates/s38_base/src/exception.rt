@@ -1,3 +1,5 @@
+ghost use Rattle.std.specs.Prelude.{◌≡◌};
+
 use crate::rights::{Rights, Special};
 use crate::words::LockState;
 
@@ -25,4 +27,19 @@ pub struct Exception {
     pub id: u16,
     pub operand: u8,
     pub rule: Rule,
+}
+
+impl Exception {
+    ghost use Rattle.s38_base.specs.Signals.{plain};
+
+    /// An exception about an operand, with no detail.
+    pub fn plain(id: u16, operand: u8) -> Exception
+        ensures { result ≡ plain id operand }
+    {
+        Exception {
+            id,
+            operand,
+            rule: Rule::Plain,
+        }
+    }
 }

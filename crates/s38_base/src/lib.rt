@@ -4,9 +4,11 @@
 
 mod attr;
 mod exception;
+pub mod exceptions;
 mod fault;
 mod fields;
 mod id;
+pub mod limits;
 mod name;
 mod op;
 mod page;
@@ -25,7 +27,7 @@ pub use op::Op;
 pub use page::{Change, Key, Page};
 pub use pointer::Pointer;
 pub use rights::{Rights, Special};
-pub use seq::{AttrList, Bytes, Seq, Twin, twins};
+pub use seq::{AttrList, Bytes, Seq, TryClone, try_clones};
 pub use words::{Category, LockState, Relation, Seek};
 
 /// What is sent between threads.

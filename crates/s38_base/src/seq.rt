@@ -6,10 +6,10 @@ use std::alloc::Global;
 use std::marker::Model;
 
 /// A value of which a second one can be made, where memory allows.
-pub trait Twin: Sized + Drop {
+pub trait TryClone: Sized + Drop {
     /// The same value once more.
-    fn twin(&self, alloc: Global) -> Result<Self, NoMemory>
-        ensures { IfOk result (λ twin. twin ≡ self.now) };
+    fn try_clone(&self, alloc: Global) -> Result<Self, NoMemory>
+        ensures { IfOk result (λ try_clone. try_clone ≡ self.now) };
 }
 
 /// A list on the heap. Contracts see it as the list of its items.
@@ -96,20 +96,20 @@ impl<T: Copy> Seq<T> {
     }
 }
 
-impl Twin for Seq<u8> {
-    fn twin(&self, alloc: Global) -> Result<Self, NoMemory> {
+impl TryClone for Seq<u8> {
+    fn try_clone(&self, alloc: Global) -> Result<Self, NoMemory> {
         Seq::from_slice(alloc, self.as_slice())
     }
 }
 
 /// The same items once more, one by one.
-pub fn twins<T: Twin>(alloc: Global, items: &[T]) -> Result<Seq<T>, NoMemory>
+pub fn try_clones<T: TryClone>(alloc: Global, items: &[T]) -> Result<Seq<T>, NoMemory>
     ensures { IfOk result (λ list. list ≡ items.now) }
 {
     let mut list = Vec::with_capacity(alloc, items.len())?;
     for item in items {
-        let twin = item.twin(alloc)?;
-        list.push(twin)?;
+        let try_clone = item.try_clone(alloc)?;
+        list.push(try_clone)?;
     }
     Ok(Seq::from_vec(list))
 }

@@ -1,6 +1,6 @@
 //! What is read and refused as a name or a number, lists that grow and are made again, and the texts of errors.
 
-use crate::{BadName, Failed, Name, NoMemory, Seq, Twin, read_u32_at, read_u64_at, twins};
+use crate::{BadName, Failed, Name, NoMemory, Seq, TryClone, read_u32_at, read_u64_at, try_clones};
 use std::test::Fail;
 
 #[test]
@@ -42,13 +42,13 @@ fn lists_are_made_again(rt: HostRuntime) -> Result<(), Fail> {
     let mut list = Seq::new(alloc);
     list.push(Seq::from_slice(alloc, b"AB")?)?;
     list.push(Seq::new(alloc))?;
-    let again = twins(alloc, list.as_slice())?;
+    let again = try_clones(alloc, list.as_slice())?;
     assert_eq!(rt;
         format!(in alloc; "{again:?}")?.as_str(),
         "Seq { items: [Seq { items: [65, 66] }, Seq { items: [] }] }"
     );
     assert_eq!(rt;
-        Seq::from_slice(alloc, b"AB")?.twin(alloc)?.as_slice(),
+        Seq::from_slice(alloc, b"AB")?.try_clone(alloc)?.as_slice(),
         b"AB".as_slice()
     );
     Ok(())

@@ -1,7 +1,7 @@
 ghost use Rattle.std.specs.Prelude.{◌≡◌, IfOk};
 
 use crate::program::Program;
-use s38_base::{NoMemory, Twin};
+use s38_base::{NoMemory, TryClone};
 use std::alloc::Global;
 use std::marker::Model;
 use std::sync::Arc;
@@ -39,8 +39,8 @@ impl Code {
     }
 }
 
-impl Twin for Code {
-    fn twin(&self, _: Global) -> Result<Self, NoMemory> {
+impl TryClone for Code {
+    fn try_clone(&self, _: Global) -> Result<Self, NoMemory> {
         match Arc::try_clone(&self.held) {
             Ok(held) => Ok(Code { held }),
             Err(_) => Err(NoMemory),

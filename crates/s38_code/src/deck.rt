@@ -1,6 +1,6 @@
 ghost use Rattle.std.specs.Prelude.{◌≡◌, IfOk};
 
-use s38_base::{Bytes, Name, NoMemory, Seq, Twin};
+use s38_base::{Bytes, Name, NoMemory, Seq, TryClone};
 use std::alloc::Global;
 use std::marker::Model;
 use std::sync::Arc;
@@ -39,8 +39,8 @@ impl Template {
     }
 }
 
-impl Twin for Template {
-    fn twin(&self, _: Global) -> Result<Self, NoMemory> {
+impl TryClone for Template {
+    fn try_clone(&self, _: Global) -> Result<Self, NoMemory> {
         match Arc::try_clone(&self.held) {
             Ok(held) => Ok(Template { held }),
             Err(_) => Err(NoMemory),
@@ -78,8 +78,8 @@ pub struct Deck {
     pub jobs: Jobs,
 }
 
-impl Twin for Job {
-    fn twin(&self, alloc: Global) -> Result<Self, NoMemory> {
+impl TryClone for Job {
+    fn try_clone(&self, alloc: Global) -> Result<Self, NoMemory> {
         Ok(Job {
             name: self.name,
             user: self.user,

@@ -1,5 +1,5 @@
 use crate::operand::Operands;
-use s38_base::{NoMemory, Op, Twin, twins};
+use s38_base::{NoMemory, Op, TryClone, try_clones};
 use std::alloc::Global;
 
 /// An instruction as it is asked of the machine.
@@ -34,23 +34,23 @@ pub enum Event {
     Finish { cause: EndCause },
 }
 
-impl Twin for Request {
-    fn twin(&self, alloc: Global) -> Result<Self, NoMemory> {
+impl TryClone for Request {
+    fn try_clone(&self, alloc: Global) -> Result<Self, NoMemory> {
         Ok(Request {
             op: self.op,
             round: self.round,
-            operands: twins(alloc, self.operands.as_slice())?,
+            operands: try_clones(alloc, self.operands.as_slice())?,
         })
     }
 }
 
-impl Twin for Event {
-    fn twin(&self, alloc: Global) -> Result<Self, NoMemory> {
+impl TryClone for Event {
+    fn try_clone(&self, alloc: Global) -> Result<Self, NoMemory> {
         match self {
             Event::Start => Ok(Event::Start),
             Event::Act { depth, request } => Ok(Event::Act {
                 depth: *depth,
-                request: request.twin(alloc)?,
+                request: request.try_clone(alloc)?,
             }),
             Event::Finish { cause } => Ok(Event::Finish { cause: *cause }),
         }

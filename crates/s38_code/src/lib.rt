@@ -23,7 +23,7 @@ pub use code::Code;
 pub use deck::{Deck, Job, Jobs, Names, Template, Templates};
 pub use entry::Entry;
 pub use event::{EndCause, Event, Request};
-pub use made::{Checked, CheckedTemplate, Made};
+pub use made::{Checked, CheckedTemplate, CreateResult};
 pub use mnemonics::mnemonic;
 pub use operand::{Operand, Operands};
 pub use program::{Arg, Args, CreateFault, Form, Instruction, Instructions, Program, Row, Rows};

@@ -1,12 +1,12 @@
 use crate::code::Code;
-use s38_base::{Name, NoMemory, Seq, Twin};
+use s38_base::{Name, NoMemory, Seq, TryClone};
 use std::alloc::Global;
 
 /// What creation makes of a template.
 #[derive(Drop, Debug)]
-pub enum Made {
+pub enum CreateResult {
     /// A program.
-    Accepted(Code),
+    Created(Code),
     /// Nothing: the cause, and the number of the first bad declaration or instruction, from 1 on.
     Refused { id: u16, number: u32 },
 }
@@ -15,17 +15,17 @@ pub enum Made {
 #[derive(Drop, Debug)]
 pub struct CheckedTemplate {
     pub name: Name,
-    pub made: Made,
+    pub made: CreateResult,
 }
 
 /// The templates of a deck, in order, each checked.
 pub type Checked = Seq<CheckedTemplate>;
 
-impl Twin for Made {
-    fn twin(&self, alloc: Global) -> Result<Self, NoMemory> {
+impl TryClone for CreateResult {
+    fn try_clone(&self, alloc: Global) -> Result<Self, NoMemory> {
         match self {
-            Made::Accepted(code) => Ok(Made::Accepted(code.twin(alloc)?)),
-            Made::Refused { id, number } => Ok(Made::Refused {
+            CreateResult::Created(code) => Ok(CreateResult::Created(code.try_clone(alloc)?)),
+            CreateResult::Refused { id, number } => Ok(CreateResult::Refused {
                 id: *id,
                 number: *number,
             }),
@@ -33,11 +33,11 @@ impl Twin for Made {
     }
 }
 
-impl Twin for CheckedTemplate {
-    fn twin(&self, alloc: Global) -> Result<Self, NoMemory> {
+impl TryClone for CheckedTemplate {
+    fn try_clone(&self, alloc: Global) -> Result<Self, NoMemory> {
         Ok(CheckedTemplate {
             name: self.name,
-            made: self.made.twin(alloc)?,
+            made: self.made.try_clone(alloc)?,
         })
     }
 }

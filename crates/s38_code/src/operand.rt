@@ -1,4 +1,4 @@
-use s38_base::{Attr, AttrList, Bytes, Id, Name, NoMemory, Pointer, Seq, Twin};
+use s38_base::{Attr, AttrList, Bytes, Id, Name, NoMemory, Pointer, Seq, TryClone};
 use std::alloc::Global;
 
 /// An operand as the machine gets it: the process has put in the values of its variables.
@@ -42,12 +42,12 @@ pub enum Operand {
 /// The operands of a request, in order.
 pub type Operands = Seq<Operand>;
 
-impl Twin for Operand {
-    fn twin(&self, alloc: Global) -> Result<Self, NoMemory> {
+impl TryClone for Operand {
+    fn try_clone(&self, alloc: Global) -> Result<Self, NoMemory> {
         match self {
             Operand::Value { attr, bytes } => Ok(Operand::Value {
                 attr: *attr,
-                bytes: bytes.twin(alloc)?,
+                bytes: bytes.try_clone(alloc)?,
             }),
             Operand::Receiver { attr } => Ok(Operand::Receiver { attr: *attr }),
             Operand::InSpace { base, offset, attr } => Ok(Operand::InSpace {

@@ -1,5 +1,5 @@
 use crate::code::Code;
-use s38_base::{Bytes, Exception, NoMemory, Pointer, Seq, Twin, twins};
+use s38_base::{Bytes, Exception, NoMemory, Pointer, Seq, TryClone, try_clones};
 use std::alloc::Global;
 
 /// A value that comes back to a process.
@@ -25,21 +25,21 @@ pub enum Reply {
     MustWait,
 }
 
-impl Twin for Val {
-    fn twin(&self, alloc: Global) -> Result<Self, NoMemory> {
+impl TryClone for Val {
+    fn try_clone(&self, alloc: Global) -> Result<Self, NoMemory> {
         match self {
-            Val::Bytes(bytes) => Ok(Val::Bytes(bytes.twin(alloc)?)),
+            Val::Bytes(bytes) => Ok(Val::Bytes(bytes.try_clone(alloc)?)),
             Val::Ptr(pointer) => Ok(Val::Ptr(*pointer)),
             Val::Branch(branch) => Ok(Val::Branch(*branch)),
-            Val::Code(code) => Ok(Val::Code(code.twin(alloc)?)),
+            Val::Code(code) => Ok(Val::Code(code.try_clone(alloc)?)),
         }
     }
 }
 
-impl Twin for Reply {
-    fn twin(&self, alloc: Global) -> Result<Self, NoMemory> {
+impl TryClone for Reply {
+    fn try_clone(&self, alloc: Global) -> Result<Self, NoMemory> {
         match self {
-            Reply::Done(values) => Ok(Reply::Done(twins(alloc, values.as_slice())?)),
+            Reply::Done(values) => Ok(Reply::Done(try_clones(alloc, values.as_slice())?)),
             Reply::Signal(exception) => Ok(Reply::Signal(*exception)),
             Reply::MustWait => Ok(Reply::MustWait),
         }

@@ -3,13 +3,13 @@
 use crate::{
     Code, CreateFault, EndCause, Event, Operand, Program, Reply, Request, StepFault, Template, Val,
 };
-use s38_base::{Attr, AttrList, Op, Seq, Twin};
+use s38_base::{Attr, AttrList, Op, Seq, TryClone};
 use std::alloc::Global;
 use std::test::Fail;
 
 /// Whether a second one is written as the first.
-fn is_twin(alloc: Global, one: &Event) -> Result<bool, Fail> {
-    let other = one.twin(alloc)?;
+fn is_clone(alloc: Global, one: &Event) -> Result<bool, Fail> {
+    let other = one.try_clone(alloc)?;
     Ok(format!(in alloc; "{one:?}")?.as_str() == format!(in alloc; "{other:?}")?.as_str())
 }
 
@@ -33,7 +33,7 @@ fn values_are_made_again(rt: HostRuntime) -> Result<(), Fail> {
         },
     ];
     for event in &events {
-        assert!(rt; is_twin(alloc, event)?);
+        assert!(rt; is_clone(alloc, event)?);
     }
     Ok(())
 }
@@ -44,7 +44,7 @@ fn a_program_is_shared(rt: HostRuntime) -> Result<(), Fail> {
     let mut lines = Seq::new(alloc);
     lines.push(Seq::from_slice(alloc, b"PROGRAM P")?)?;
     let program = Program {
-        template: Template::new(alloc, lines)?.twin(alloc)?,
+        template: Template::new(alloc, lines)?.try_clone(alloc)?,
         rows: Seq::new(alloc),
         code: Seq::new(alloc),
         adopts: true,
@@ -52,7 +52,7 @@ fn a_program_is_shared(rt: HostRuntime) -> Result<(), Fail> {
     };
     let code = Code::new(alloc, program)?;
     let reply = Reply::Done(Seq::from_vec(vec![in alloc; Val::Code(code)]?));
-    let again = reply.twin(alloc)?;
+    let again = reply.try_clone(alloc)?;
     assert_eq!(rt;
         format!(in alloc; "{again:?}")?.as_str(),
         format!(in alloc; "{reply:?}")?.as_str()

@@ -10,7 +10,7 @@ use crate::head::{Head, head_of};
 use crate::instruction::instructions;
 use crate::labels::labels_of;
 use crate::scope::Scope;
-use s38_base::{Bytes, Twin};
+use s38_base::{Bytes, TryClone};
 use s38_code::{CreateFault, Program, Template};
 use s38_odt::{Odt, definition_table};
 use std::alloc::Global;
@@ -49,7 +49,7 @@ fn with_rows(
         labels,
     };
     let made = instructions(alloc, &scope)?;
-    let template = template.twin(alloc)?;
+    let template = template.try_clone(alloc)?;
     Ok(Program {
         template,
         rows: scope.table.into_rows(),

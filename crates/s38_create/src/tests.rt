@@ -2,7 +2,7 @@
 
 use crate::{checked, create};
 use s38_base::{NoMemory, Seq};
-use s38_code::{Arg, CreateFault, Form, Made, Program, Template, mnemonic};
+use s38_code::{Arg, CreateFault, Form, CreateResult, Program, Template, mnemonic};
 use std::alloc::Global;
 use std::test::Fail;
 
@@ -349,7 +349,7 @@ fn a_program_keeps_its_head_its_lines_and_its_code(rt: HostRuntime) -> Result<()
 #[test]
 fn a_template_is_accepted_or_refused(rt: HostRuntime) -> Result<(), Fail> {
     let good = template(rt.alloc(), "PROGRAM P\nRTX\nEND")?;
-    let Made::Accepted(code) = checked(rt.alloc(), &good)? else {
+    let CreateResult::Created(code) = checked(rt.alloc(), &good)? else {
         return Err("refused".into());
     };
     assert_eq!(rt; code.program().code.len(), 1);
@@ -357,7 +357,7 @@ fn a_template_is_accepted_or_refused(rt: HostRuntime) -> Result<(), Fail> {
     assert!(rt;
         matches!(
             checked(rt.alloc(), &bad)?,
-            Made::Refused {
+            CreateResult::Refused {
                 id: 0x2A08,
                 number: 2
             }

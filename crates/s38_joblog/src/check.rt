@@ -3,16 +3,16 @@ ghost use Rattle.s38_joblog.specs.Check.{check_line, check_text, made_text};
 
 use crate::text::Text;
 use s38_base::NoMemory;
-use s38_code::{CheckedTemplate, Made};
+use s38_code::{CheckedTemplate, CreateResult};
 use std::alloc::Global;
 
 /// Adds OK, or a cause and the number of the first bad place.
-fn add_made(text: &mut Text, made: &Made) -> Result<(), NoMemory>
+fn add_made(text: &mut Text, made: &CreateResult) -> Result<(), NoMemory>
     ensures { OnOk result (text.new ≡ text.old ++ made_text made.now) }
 {
     match made {
-        Made::Accepted(_) => text.add(b"OK"),
-        Made::Refused { id, number } => {
+        CreateResult::Created(_) => text.add(b"OK"),
+        CreateResult::Refused { id, number } => {
             text.add_hex_code(*id)?;
             text.add(b" ")?;
             text.add_number(u64::from(*number))

@@ -5,7 +5,7 @@ use s38_base::{
     Attr, Exception, LockState, Name, NoMemory, ObjNum, Op, Pointer, Rights, Rule, Seq, Special,
 };
 use s38_code::{
-    CheckedTemplate, Code, EndCause, Entry, Event, Job, Made, Program, Reply, Request, Template,
+    CheckedTemplate, Code, EndCause, Entry, Event, Job, CreateResult, Program, Reply, Request, Template,
     Val,
 };
 use std::alloc::Global;
@@ -379,11 +379,11 @@ fn templates_are_written(rt: HostRuntime) -> Result<(), Fail> {
     let mut templates = Vec::new(alloc);
     templates.push(CheckedTemplate {
         name: Name::parse(b"P")?,
-        made: Made::Accepted(empty_program(alloc)?),
+        made: CreateResult::Created(empty_program(alloc)?),
     })?;
     templates.push(CheckedTemplate {
         name: Name::parse(b"POST12")?,
-        made: Made::Refused {
+        made: CreateResult::Refused {
             id: 0x2A08,
             number: 16384,
         },

@@ -19,7 +19,7 @@ use crate::processes::user_of;
 use crate::programs::{program_in, template_at};
 use crate::reads::{bytes_at, source_cells, target};
 use crate::world::World;
-use s38_base::{Id, Kind, NoMemory, ObjNum, Op, Rights, Seq, Twin, UserNum};
+use s38_base::{Id, Kind, NoMemory, ObjNum, Op, Rights, Seq, TryClone, UserNum};
 use s38_code::{Code, Operand};
 use s38_memory::{Cell, Tagged};
 use s38_objects::Objects;
@@ -145,7 +145,7 @@ fn program_copy(
 {
     match program_in(template_at(world, operands)) {
         None => Ok(None),
-        Some(code) => Ok(Some(code.twin(alloc)?)),
+        Some(code) => Ok(Some(code.try_clone(alloc)?)),
     }
 }
 

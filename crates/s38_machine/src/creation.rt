@@ -15,7 +15,7 @@ use crate::programs::{is_larger, template_at};
 use crate::reads::target;
 use crate::world::World;
 use s38_base::{Exception, Id, Kind, ObjNum, Rule, UserNum};
-use s38_code::{CheckedTemplate, Made, Operand};
+use s38_code::{CheckedTemplate, CreateResult, Operand};
 use s38_rules::{
     Body, DECIMAL_DATA, DUPLICATE_IDENTIFICATION, LENGTH_INVALID, LIMIT_EXCEEDED, Object,
     PAGES_EXCEEDED, TEMPLATE_MISSING,
@@ -122,12 +122,12 @@ fn creation_limits(world: &World, process: u32, pages: u64) -> Option<Exception>
 /// The greatest image of an object's body, in bytes.
 pub const BODY_LIMIT: u32 = 1_048_576;
 
-fn refused_in(made: &Made) -> Option<Exception>
+fn refused_in(made: &CreateResult) -> Option<Exception>
     ensures { result ≡ refused_in made.now }
 {
     match made {
-        Made::Accepted(_) => None,
-        Made::Refused { id, number } => Some(Exception {
+        CreateResult::Created(_) => None,
+        CreateResult::Refused { id, number } => Some(Exception {
             id: *id,
             operand: 5,
             rule: Rule::Creation { number: *number },

@@ -20,7 +20,7 @@ use crate::processes::{ready, waits};
 use crate::values::value_of;
 use crate::verdicts::verdict_of;
 use crate::world::World;
-use s38_base::{Exception, NoMemory, Seq, Twin};
+use s38_base::{Exception, NoMemory, Seq, TryClone};
 use s38_code::{Checked, Entry, Event, Job, Reply, Request, StepFault, Stepper, Val, Vals};
 use s38_rules::Verdict;
 use std::alloc::Global;
@@ -160,8 +160,8 @@ impl Machine {
     {
         let (values, value) = parted_values(self.alloc, &self.world, process, event)?;
         let reply = Reply::Done(values);
-        let entered = reply.twin(self.alloc)?;
-        let asked = event.twin(self.alloc)?;
+        let entered = reply.try_clone(self.alloc)?;
+        let asked = event.try_clone(self.alloc)?;
         self.log.reserve()?;
         match apply(self.alloc, &mut self.world, process, event, value) {
             Ok(()) => {}
@@ -184,7 +184,7 @@ impl Machine {
             × (self.new ≡ after_by self.old process event.now (by_verdict self.old.state process event.now (Verdict.Refuse exception)))) }
         ensures err { OnErr result (self.new ≡ self.old) }
     {
-        let asked = event.twin(self.alloc)?;
+        let asked = event.try_clone(self.alloc)?;
         self.log.reserve()?;
         self.log.push(process, asked, Reply::Signal(exception));
         Ok(Reply::Signal(exception))
@@ -198,7 +198,7 @@ impl Machine {
             × (self.new ≡ after_by self.old process event.now (by_verdict self.old.state process event.now Verdict.Wait))) }
         ensures err { OnErr result (self.new ≡ self.old) }
     {
-        let asked = event.twin(self.alloc)?;
+        let asked = event.try_clone(self.alloc)?;
         self.log.reserve()?;
         match self.world.waiting.insert(0, process) {
             Ok(()) => {}

@@ -5,7 +5,7 @@ ghost use Rattle.s38_base.specs.NameText.{is_name};
 ghost use Rattle.s38_rules.specs.Opening.{general_context, locked_queue, machine_context, named, officer, officer_rows, opened, opening, owned, plain_user, standings};
 
 use crate::world::World;
-use s38_base::{Id, Kind, Name, NoMemory, ObjNum, Rights, Seq, Special, Twin};
+use s38_base::{Id, Kind, Name, NoMemory, ObjNum, Rights, Seq, Special, TryClone};
 use s38_code::{Checked, Job};
 use s38_objects::Objects;
 use s38_queues::{Order, Queue};
@@ -133,7 +133,7 @@ fn standings(alloc: Global, jobs: &[Job]) -> Result<Vec<Standing>, NoMemory>
     let mut made = Vec::new(alloc);
     for job in jobs {
         let standing = Standing {
-            job: job.twin(alloc)?,
+            job: job.try_clone(alloc)?,
             started: None,
             ended: false,
         };

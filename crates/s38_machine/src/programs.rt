@@ -7,7 +7,7 @@ ghost use Rattle.s38_rules.specs.Programs.{is_named, line_size, program_by, prog
 use crate::operands::place;
 use crate::world::World;
 use s38_base::{Bytes, Name};
-use s38_code::{CheckedTemplate, Code, Made, Operand};
+use s38_code::{CheckedTemplate, Code, CreateResult, Operand};
 
 fn is_named(template: &CheckedTemplate, name: &Name) -> bool
     ensures { result ≡ is_named name.now template.now }
@@ -41,12 +41,12 @@ pub fn template_at<'a>(world: &'a World, operands: &[Operand]) -> Option<&'a Che
     template_in(world.templates.as_slice(), place(operands, 5))
 }
 
-fn program_by(made: &Made) -> Option<&Code>
+fn program_by(made: &CreateResult) -> Option<&Code>
     ensures { option_map (λ code. code.now) result ≡ program_by made.now }
 {
     match made {
-        Made::Accepted(code) => Some(code),
-        Made::Refused { .. } => None,
+        CreateResult::Created(code) => Some(code),
+        CreateResult::Refused { .. } => None,
     }
 }
 

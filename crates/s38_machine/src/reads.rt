@@ -10,7 +10,7 @@ use crate::operands::place;
 use crate::pointers::{is_pointer_attr, start_of, target_of};
 use crate::storage::{bytes_there, cells_there, one_cell, pointer_there, size_there};
 use crate::world::World;
-use s38_base::{Attr, Bytes, NoMemory, ObjNum, Pointer, Seq, Twin};
+use s38_base::{Attr, Bytes, NoMemory, ObjNum, Pointer, Seq, TryClone};
 use s38_code::Operand;
 use s38_memory::{Cell, Tagged};
 use std::alloc::Global;
@@ -58,7 +58,7 @@ fn bytes_of(alloc: Global, world: &World, operand: Option<&Operand>) -> Result<B
     ensures { IfOk result (λ made. made ≡ bytes_of world.now (option_copied operand.entry)) }
 {
     match operand {
-        Some(Operand::Value { bytes, .. }) => bytes.twin(alloc),
+        Some(Operand::Value { bytes, .. }) => bytes.try_clone(alloc),
         Some(Operand::InSpace { base, offset, attr }) => bytes_there(
             alloc,
             space_at(world, target_of(*base)),

@@ -1,6 +1,6 @@
 ghost use Rattle.std.specs.Prelude.{◌≡◌, ◌<◌, ◌≤◌, ◌+◌, ◌^◌, [], IfOk, IsSome, List, OnErr, OnOk, Some, is_some, slice_get};
 ghost use Rattle.std.specs.Option.{option_copied};
-ghost use Rattle.s38_code.specs.declared.made.Made.{Made};
+ghost use Rattle.s38_code.specs.declared.made.CreateResult.{CreateResult};
 ghost use Rattle.s38_code.specs.declared.reply.Val.{Val};
 ghost use Rattle.s38_rules.specs.Process.{after_local, alone, alone_by, alone_in, is_return, settled, step_alone, unhandled_by};
 ghost use Rattle.s38_process.specs.Standing.{doing};
@@ -8,7 +8,7 @@ ghost use Rattle.s38_process.specs.Standing.{doing};
 use crate::made::{code_of, rows_of};
 use crate::progress::Progress;
 use s38_base::{NoMemory, Op};
-use s38_code::{EndCause, Instruction, Made, Row, Val};
+use s38_code::{EndCause, Instruction, CreateResult, Row, Val};
 use s38_local::{is_local, run_local};
 use s38_rules::{LocalEnd, Status};
 use std::alloc::Global;
@@ -42,7 +42,7 @@ fn alone_at<'a>(rows: &[Row], code: &'a [Instruction], at: usize) -> Option<&'a 
 }
 
 /// The next instruction, where a running process does it by itself.
-fn alone(made: &Made, budget: u32, progress: Progress) -> Option<&Instruction>
+fn alone(made: &CreateResult, budget: u32, progress: Progress) -> Option<&Instruction>
     ensures local { option_copied result ≡ alone (doing made.now budget [] progress) }
     ensures room { IsSome result → progress.done < budget }
     ensures place { IsSome result → progress.at + 1 < 2 ^ 64 }
@@ -74,7 +74,7 @@ pub fn unhandled(done: u32, budget: u32, id: u16) -> EndCause
 fn after_local(progress: Progress, budget: u32, end: LocalEnd) -> Progress
     requires room { progress.done < budget }
     requires place { progress.at + 1 < 2 ^ 64 }
-    ensures { (made : Made) (old new : List Val) → doing made budget new result ≡ after_local (doing made budget old progress) new end }
+    ensures { (made : CreateResult) (old new : List Val) → doing made budget new result ≡ after_local (doing made budget old progress) new end }
 {
     let done = progress.done + 1;
     match end {
@@ -100,7 +100,7 @@ fn after_local(progress: Progress, budget: u32, end: LocalEnd) -> Progress
 #[tactic(auto, unfolding(s38_rules::specs::Process::step_alone))]
 fn step(
     alloc: Global,
-    made: &Made,
+    made: &CreateResult,
     budget: u32,
     values: &mut [Val],
     progress: &mut Progress,
@@ -126,7 +126,7 @@ fn step(
 /// same event.
 pub fn settle(
     alloc: Global,
-    made: &Made,
+    made: &CreateResult,
     budget: u32,
     values: &mut [Val],
     progress: &mut Progress,

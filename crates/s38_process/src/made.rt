@@ -1,36 +1,36 @@
 ghost use Rattle.std.specs.Prelude.{◌≡◌};
 ghost use Rattle.s38_rules.specs.Process.{begun_by, code_in, rows_in};
 
-use s38_code::{EndCause, Instruction, Made, Row};
+use s38_code::{EndCause, Instruction, CreateResult, Row};
 use s38_rules::Status;
 
 /// The declarations of a program; a template that was refused has none.
-pub fn rows_of(made: &Made) -> &[Row]
+pub fn rows_of(made: &CreateResult) -> &[Row]
     ensures { result.now ≡ rows_in made.now }
 {
     match made {
-        Made::Accepted(code) => code.program().rows.as_slice(),
-        Made::Refused { .. } => &[],
+        CreateResult::Created(code) => code.program().rows.as_slice(),
+        CreateResult::Refused { .. } => &[],
     }
 }
 
 /// The instructions of a program; a template that was refused has none.
-pub fn code_of(made: &Made) -> &[Instruction]
+pub fn code_of(made: &CreateResult) -> &[Instruction]
     ensures { result.now ≡ code_in made.now }
 {
     match made {
-        Made::Accepted(code) => code.program().code.as_slice(),
-        Made::Refused { .. } => &[],
+        CreateResult::Created(code) => code.program().code.as_slice(),
+        CreateResult::Refused { .. } => &[],
     }
 }
 
 /// Where a process stands once it has started: where its template was refused, before its end.
-pub fn begun_by(made: &Made) -> Status
+pub fn begun_by(made: &CreateResult) -> Status
     ensures { result ≡ begun_by made.now }
 {
     match made {
-        Made::Accepted(_) => Status::Running,
-        Made::Refused { id, number } => {
+        CreateResult::Created(_) => Status::Running,
+        CreateResult::Refused { id, number } => {
             let cause = EndCause::Create {
                 id: *id,
                 number: *number,

@@ -9,8 +9,8 @@ use crate::made::{begun_by, code_of, rows_of};
 use crate::progress::Progress;
 use crate::request::request_of;
 use crate::variables::{first_values, place_behind, receive};
-use s38_base::{NoMemory, twins};
-use s38_code::{EndCause, Event, Instruction, Job, Made, Reply, Val, classes};
+use s38_base::{NoMemory, try_clones};
+use s38_code::{EndCause, Event, Instruction, Job, CreateResult, Reply, Val, classes};
 use s38_rules::Status;
 use std::alloc::Global;
 use std::marker::Model;
@@ -29,7 +29,7 @@ pub enum Next {
 #[derive(Drop)]
 pub struct Process {
     alloc: Global,
-    made: Made,
+    made: CreateResult,
     values: Vec<Val>,
     budget: u32,
     progress: Progress,
@@ -49,7 +49,7 @@ impl Model for Process {
 
 impl Process {
     /// A process that has not started, over what creation made of the job's template.
-    pub fn begin(alloc: Global, job: &Job, made: Made) -> Result<Process, NoMemory>
+    pub fn begin(alloc: Global, job: &Job, made: CreateResult) -> Result<Process, NoMemory>
         ensures { IfOk result (λ process. process ≡ fresh made job.now.budget) }
     {
         let values = first_values(alloc, rows_of(&made))?;
@@ -223,7 +223,7 @@ impl Process {
     {
         match reply {
             Reply::Done(values) => {
-                let given = twins(self.alloc, values.as_slice())?;
+                let given = try_clones(self.alloc, values.as_slice())?;
                 self.take_values(given.into_vec());
                 Ok(())
             }

@@ -3,7 +3,7 @@ ghost use Rattle.std.specs.Option.{option_copied};
 ghost use Rattle.s38_rules.specs.Process.{item_by, item_operand, operand_of, operands_of, request_of, source_by};
 
 use crate::variables::{form_in, is_receiver, value_bytes, value_pointer};
-use s38_base::{Attr, NoMemory, Seq, Twin};
+use s38_base::{Attr, NoMemory, Seq, TryClone};
 use s38_code::{Arg, Class, Form, Instruction, Operand, Request, Row, Val, classes};
 use std::alloc::Global;
 
@@ -77,7 +77,7 @@ fn operand_of(
         ),
         Arg::Literal { attr, bytes } => Ok(Operand::Value {
             attr: *attr,
-            bytes: bytes.twin(alloc)?,
+            bytes: bytes.try_clone(alloc)?,
         }),
         Arg::Whole(number) => Ok(Operand::Whole(*number)),
         Arg::Jump(_) => Ok(Operand::Nothing),

@@ -8,7 +8,7 @@ use crate::progress::Progress;
 use crate::variables::{first_values, receive};
 use s38_base::{Attr, Exception, Name, ObjNum, Op, Pointer, Rights, Rule, Seq};
 use s38_code::{
-    Arg, Class, Code, Form, Instruction, Job, Made, Program, Reply, Row, Template, Val,
+    Arg, Class, Code, Form, Instruction, Job, CreateResult, Program, Reply, Row, Template, Val,
 };
 use s38_rules::Status;
 use std::alloc::Global;
@@ -61,7 +61,7 @@ fn enq(alloc: Global) -> Result<Instruction, Fail> {
     Ok(instruction(Op::Enq, args))
 }
 
-fn made_of(alloc: Global, rows: Vec<Row>, code: Vec<Instruction>) -> Result<Made, Fail> {
+fn made_of(alloc: Global, rows: Vec<Row>, code: Vec<Instruction>) -> Result<CreateResult, Fail> {
     let program = Program {
         template: Template::new(alloc, Seq::new(alloc))?,
         rows: Seq::from_vec(rows),
@@ -69,10 +69,10 @@ fn made_of(alloc: Global, rows: Vec<Row>, code: Vec<Instruction>) -> Result<Made
         adopts: false,
         propagates: false,
     };
-    Ok(Made::Accepted(Code::new(alloc, program)?))
+    Ok(CreateResult::Created(Code::new(alloc, program)?))
 }
 
-fn program(alloc: Global, code: Vec<Instruction>) -> Result<Made, Fail> {
+fn program(alloc: Global, code: Vec<Instruction>) -> Result<CreateResult, Fail> {
     made_of(alloc, rows(alloc)?, code)
 }
 
@@ -195,7 +195,7 @@ fn a_process_of_a_refused_template_ends(rt: HostRuntime) -> Result<(), Fail> {
         (1, refused(), start),
     ];
     for (budget, reply, text) in &cases {
-        let made = Made::Refused {
+        let made = CreateResult::Refused {
             id: 0x2A07,
             number: 3,
         };
@@ -223,7 +223,7 @@ fn number(alloc: Global, image: [u8; 2]) -> Result<Arg, Fail> {
 }
 
 /// A pointer Q, a number X that begins as 0, and a number T in a space behind Q.
-fn numbers(alloc: Global, code: Vec<Instruction>) -> Result<Made, Fail> {
+fn numbers(alloc: Global, code: Vec<Instruction>) -> Result<CreateResult, Fail> {
     let rows = vec![in alloc;
         Row {
             name: Name::parse(b"Q")?,

@@ -4,7 +4,7 @@ ghost use Rattle.s38_code.specs.declared.class.Class.{Class};
 ghost use Rattle.s38_rules.specs.Process.{copies_left, copies_right, first_by, first_value, first_values, is_receiver, is_taken, label_in, label_of, merged, merged_bytes, place_behind, put, received, takes_value};
 ghost use Rattle.s38_rules.specs.Variables.{form_in, is_based, value_bytes, value_pointer};
 
-use s38_base::{Attr, Bytes, NoMemory, Op, Pointer, Seq, Twin};
+use s38_base::{Attr, Bytes, NoMemory, Op, Pointer, Seq, TryClone};
 use s38_code::{Arg, Class, Form, Instruction, Row, Val};
 use s38_strings::{copy_left, copy_right};
 use std::alloc::Global;
@@ -25,7 +25,7 @@ fn first_by(alloc: Global, attr: Attr, first: &Bytes) -> Result<Val, NoMemory>
 {
     match attr {
         Attr::Pointer => Ok(Val::Ptr(None)),
-        _ => Ok(Val::Bytes(first.twin(alloc)?)),
+        _ => Ok(Val::Bytes(first.try_clone(alloc)?)),
     }
 }
 

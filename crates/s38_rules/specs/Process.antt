@@ -15,8 +15,8 @@ use Rattle.s38_code.specs.declared.event.Event.TheVariants.{Start, Act, Finish}
 use Rattle.s38_code.specs.declared.event.EndCause.{EndCause}
 use Rattle.s38_code.specs.declared.event.EndCause.TheVariants as causes
 use Rattle.s38_code.specs.declared.event.Request.{Request}
-use Rattle.s38_code.specs.declared.made.Made.{Made}
-use Rattle.s38_code.specs.declared.made.Made.TheVariants.{Accepted, Refused}
+use Rattle.s38_code.specs.declared.made.CreateResult.{CreateResult}
+use Rattle.s38_code.specs.declared.made.CreateResult.TheVariants.{Created, Refused}
 use Rattle.s38_code.specs.declared.operand.Operand.{Operand}
 use Rattle.s38_code.specs.declared.operand.Operand.TheVariants as operands
 use Rattle.s38_code.specs.declared.program.Arg.{Arg}
@@ -39,7 +39,7 @@ use Rattle.s38_strings.specs.Copies.{copied_left, copied_right}
 
 pub record Doing : Type 0 where
   -- what creation made of the job's template
-  pub made : Made
+  pub made : CreateResult
   -- the value of each declared variable
   pub values : List Val
   -- the place of the next instruction
@@ -51,12 +51,12 @@ pub record Doing : Type 0 where
 
 -- ---- the program; a template that was refused has none
 
-abbrev pub rows_in : Made → List Row
-rows_in (Accepted program) = program.rows
+abbrev pub rows_in : CreateResult → List Row
+rows_in (Created program) = program.rows
 rows_in (Refused id number) = []
 
-abbrev pub code_in : Made → List Instruction
-code_in (Accepted program) = program.code
+abbrev pub code_in : CreateResult → List Instruction
+code_in (Created program) = program.code
 code_in (Refused id number) = []
 
 -- ---- variables
@@ -272,8 +272,8 @@ after_end d (replies.Done vs) = record d { status = Ended }
 after_end d (replies.Signal x) = record d { status = Ended }
 
 -- a process whose template was refused ends once it has started
-abbrev pub begun_by : Made → Status
-begun_by (Accepted program) = Running
+abbrev pub begun_by : CreateResult → Status
+begun_by (Created program) = Running
 begun_by (Refused id number) = Ending (causes.Create id number)
 
 abbrev pub after_start : Doing → Reply → Doing
@@ -295,7 +295,7 @@ unfoldable pub absorbed : Doing → Reply → Doing
 absorbed d reply = after_asked (settled d) (event_of d) reply
 
 -- a process that has not started
-abbrev pub fresh : Made → ℕ → Doing
+abbrev pub fresh : CreateResult → ℕ → Doing
 fresh made budget = record { made = made; values = first_values (rows_in made); at = 0; done = 0; budget = budget; status = Fresh }
 
 -- ---- runs

@@ -2,8 +2,8 @@
 use Rattle.std.specs.Prelude.{ℕ, ◌+◌, Bool, List, length, sum_by, find, Option, Some, None}
 use Rattle.std.specs.Str.{bytes_eq}
 use Rattle.s38_code.specs.declared.made.CheckedTemplate.{CheckedTemplate}
-use Rattle.s38_code.specs.declared.made.Made.{Made}
-use Rattle.s38_code.specs.declared.made.Made.TheVariants.{Accepted, Refused}
+use Rattle.s38_code.specs.declared.made.CreateResult.{CreateResult}
+use Rattle.s38_code.specs.declared.made.CreateResult.TheVariants.{Created, Refused}
 use Rattle.s38_code.specs.declared.operand.Operand.{Operand}
 use Rattle.s38_code.specs.declared.operand.Operand.TheVariants as operands
 use Rattle.s38_code.specs.declared.program.Program.{Program}
@@ -21,8 +21,8 @@ template_in templates _ = None
 abbrev pub template_at : State → List Operand → Option CheckedTemplate
 template_at s ops = template_in s.templates (place ops 5)
 
-abbrev pub program_by : Made → Option Program
-program_by (Accepted program) = Some program
+abbrev pub program_by : CreateResult → Option Program
+program_by (Created program) = Some program
 program_by (Refused id number) = None
 
 -- the program that a template makes

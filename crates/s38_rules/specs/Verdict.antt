@@ -18,8 +18,8 @@ use Rattle.s38_memory.specs.Tagged.{is_aligned, is_within}
 use Rattle.s38_queues.specs.MessageQueue.{MessageQueue, image_size}
 use Rattle.s38_code.specs.declared.deck.Job.{Job}
 use Rattle.s38_code.specs.declared.made.CheckedTemplate.{CheckedTemplate}
-use Rattle.s38_code.specs.declared.made.Made.{Made}
-use Rattle.s38_code.specs.declared.made.Made.TheVariants.{Accepted, Refused}
+use Rattle.s38_code.specs.declared.made.CreateResult.{CreateResult}
+use Rattle.s38_code.specs.declared.made.CreateResult.TheVariants.{Created, Refused}
 use Rattle.s38_code.specs.declared.event.Event.{Event}
 use Rattle.s38_code.specs.declared.event.Event.TheVariants.{Start, Act, Finish}
 use Rattle.s38_code.specs.declared.operand.Operand.{Operand}
@@ -229,8 +229,8 @@ crtq_conditions s process ops = first (name_rule s kinds.Queue ops) (creation_li
 
 -- ---- programs
 
-abbrev pub refused_in : Made → Option Exception
-refused_in (Accepted program) = None
+abbrev pub refused_in : CreateResult → Option Exception
+refused_in (Created program) = None
 refused_in (Refused id number) = Some (record { id = id; operand = 5; rule = Creation number })
 
 -- the deck has the template, and creation makes a program of it

@@ -8,8 +8,8 @@ use Rattle.s38_code.specs.declared.event.Event.{Event}
 use Rattle.s38_code.specs.declared.event.Event.TheVariants.{Start, Act, Finish}
 use Rattle.s38_code.specs.declared.event.Request.{Request}
 use Rattle.s38_code.specs.declared.entry.Entry.{Entry}
-use Rattle.s38_code.specs.declared.made.Made.{Made}
-use Rattle.s38_code.specs.declared.made.Made.TheVariants.{Accepted, Refused}
+use Rattle.s38_code.specs.declared.made.CreateResult.{CreateResult}
+use Rattle.s38_code.specs.declared.made.CreateResult.TheVariants.{Created, Refused}
 use Rattle.s38_code.specs.declared.program.Instruction.{Instruction}
 use Rattle.s38_code.specs.declared.reply.Reply.{Reply}
 use Rattle.s38_code.specs.declared.reply.Reply.TheVariants.{Done, Signal, MustWait}
@@ -84,8 +84,8 @@ act_falls d (Signal x) w running room = rw (left_running d running) (omega arith
 act_falls d MustWait w running room = absurd (w refl)
 
 -- also where its template was refused
-begun_left : (d : Doing) (made : Made) → left (record d { status = begun_by made }) < d.budget + 3
-begun_left d (Accepted program) = omega arith
+begun_left : (d : Doing) (made : CreateResult) → left (record d { status = begun_by made }) < d.budget + 3
+begun_left d (Created program) = omega arith
 begun_left d (Refused id number) = omega arith
 
 start_falls : (d : Doing) (r : Reply) → r ≢ MustWait → d.status ≡ Fresh → left (after_start d r) < left d
@@ -125,8 +125,8 @@ falls d e r h w =
     omega (arith, nearer, settled_left d)
 
 -- no process is fresh again
-begun_leaves : (made : Made) → begun_by made ≢ Fresh
-begun_leaves (Accepted program) = λ h. cc
+begun_leaves : (made : CreateResult) → begun_by made ≢ Fresh
+begun_leaves (Created program) = λ h. cc
 begun_leaves (Refused id number) = λ h. cc
 
 start_leaves : (d : Doing) (r : Reply) → r ≢ MustWait → (after_start d r).status ≢ Fresh
@@ -157,8 +157,8 @@ pub leaves : (d : Doing) (e : Event) (r : Reply) → event_of d ≡ Some e → r
 leaves d e r h w = subst (λ (x : Doing). x.status ≢ Fresh) (sym (absorbed_by d e r h)) (leaves_by (settled d) e r w (asking d e h))
 
 -- a process ends only by asking for its end
-begun_goes : (made : Made) → begun_by made ≢ Ended
-begun_goes (Accepted program) = λ h. cc
+begun_goes : (made : CreateResult) → begun_by made ≢ Ended
+begun_goes (Created program) = λ h. cc
 begun_goes (Refused id number) = λ h. cc
 
 start_goes : (d : Doing) (r : Reply) → d.status ≡ Fresh → (after_start d r).status ≢ Ended

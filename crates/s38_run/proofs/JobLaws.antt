@@ -8,7 +8,7 @@ use Rattle.std.specs.List.{list_any}
 use Rattle.s38_code.specs.declared.deck.Job.{Job}
 use Rattle.s38_code.specs.declared.entry.Entry.{Entry}
 use Rattle.s38_code.specs.declared.made.CheckedTemplate.{CheckedTemplate}
-use Rattle.s38_code.specs.declared.made.Made.{Made}
+use Rattle.s38_code.specs.declared.made.CreateResult.{CreateResult}
 use Rattle.s38_code.specs.History.{entries_of}
 use Rattle.s38_rules.specs.declared.process.Standing.{Standing}
 use Rattle.s38_rules.specs.State.{State, is_early, ready, ready_in, runs_before, standing, waits}
@@ -120,7 +120,7 @@ ready_open s k x at r =
     first_false false h = refl
 
 -- the whole run of the job that ran
-ran_whole : (n : ℕ) (one : Made) (budget : ℕ) (m m' : Run) → JobRan n one budget m m' → entries_of n m.history ≡ [] → RanWhole one budget (entries_of n m'.history)
+ran_whole : (n : ℕ) (one : CreateResult) (budget : ℕ) (m m' : Run) → JobRan n one budget m m' → entries_of n m.history ≡ [] → RanWhole one budget (entries_of n m'.history)
 ran_whole n one budget m m' job none =
     let own : entries_of n m'.history ≡ job.ran.own = job.ran.added ∙ ap (λ es. es ++ job.ran.own) none in
     record {
@@ -136,12 +136,12 @@ closed_yes : (b : Bool) (A B : Type 0) → b ≡ true → A → MatchBool b A B
 closed_yes true A B e h = h
 closed_yes false A B e h = cc
 
-abbrev Here : List Made → List Job → Run → ℕ → Type 0
-Here made jobs m k = (x : Standing) (job : Job) (one : Made) → slice_get m.state.processes k ≡ Some x → slice_get jobs k ≡ Some job → slice_get made k ≡ Some one
+abbrev Here : List CreateResult → List Job → Run → ℕ → Type 0
+Here made jobs m k = (x : Standing) (job : Job) (one : CreateResult) → slice_get m.state.processes k ≡ Some x → slice_get jobs k ≡ Some job → slice_get made k ≡ Some one
     → MatchBool x.ended (RanWhole one job.budget (entries_of (k + 1) m.history)) (entries_of (k + 1) m.history ≡ [])
 
 -- of the process that ran: its whole run stands in the history
-here_ran : (made : List Made) (jobs : List Job) (m m' : Run) (at : ℕ) (x0 : Standing) (job : Job) (one : Made)
+here_ran : (made : List CreateResult) (jobs : List Job) (m m' : Run) (at : ℕ) (x0 : Standing) (job : Job) (one : CreateResult)
     → EachWholeOrNone made jobs m → JobRan (at + 1) one job.budget m m' → slice_get m.state.processes at ≡ Some x0 → x0.ended ≡ false
     → slice_get jobs at ≡ Some job → slice_get made at ≡ Some one → Here made jobs m' at
 here_ran made jobs m m' at x0 job one each ran x0_at x0_open job_at one_at x job' one' x_at job'_at one'_at =
@@ -151,14 +151,14 @@ here_ran made jobs m m' at x0 job one each ran x0_at x0_open job_at one_at x job
     let ended : x.ended ≡ true = ap (λ (y : Standing). y.ended) (sym (at_get m'.state.processes at x x_at)) ∙ subst (λ i. (get_or m'.state.processes i x).ended ≡ true) index ((ran.ran.ended ran.ended).0.is x) in
     closed_yes x.ended _ _ ended
     (subst (λ (j : Job). RanWhole one' j.budget (entries_of (at + 1) m'.history)) (some_same (slice_get jobs at) job job' job_at job'_at)
-    (subst (λ (p : Made). RanWhole p job.budget (entries_of (at + 1) m'.history)) (some_same (slice_get made at) one one' one_at one'_at) whole))
+    (subst (λ (p : CreateResult). RanWhole p job.budget (entries_of (at + 1) m'.history)) (some_same (slice_get made at) one one' one_at one'_at) whole))
 
 same_place : (xs ys : List Standing) (at k : ℕ) (x : Standing) → OthersStay xs ys at → k ≢ at → slice_get ys k ≡ Some x → slice_get xs k ≡ Some x
 same_place xs ys at k x stay ne h =
     slice_get-get_or xs k x (omega (arith, slice_get_within ys k x h, stay.count)) ∙ ap Some (sym (stay.same k x ne) ∙ at_get ys k x h)
 
 -- of the others: as before
-here_other : (made : List Made) (jobs : List Job) (m m' : Run) (at : ℕ) (d0 d : Doing) (k : ℕ) → k ≢ at → EachWholeOrNone made jobs m → RanOn (at + 1) m d0 m' d → Here made jobs m' k
+here_other : (made : List CreateResult) (jobs : List Job) (m m' : Run) (at : ℕ) (d0 d : Doing) (k : ℕ) → k ≢ at → EachWholeOrNone made jobs m → RanOn (at + 1) m d0 m' d → Here made jobs m' k
 here_other made jobs m m' at d0 d k ne each ran x job one x_at job_at one_at =
     let same = ran.others (k + 1) (λ g. ne (omega (arith, g))) in
     let was = same_place m.state.processes m'.state.processes (at + 1 - 1) k x ran.stay (λ g. ne (omega (arith, g))) x_at in
@@ -171,7 +171,7 @@ same_or_not a b = by_test (a == b) refl
     by_test true e = inl (grind (arith, nat_tests))
     by_test false e = inr (λ g. absurd (grind (arith, nat_tests)))
 
-at_place : (made : List Made) (jobs : List Job) (m m' : Run) (at : ℕ) (x0 : Standing) (job : Job) (one : Made)
+at_place : (made : List CreateResult) (jobs : List Job) (m m' : Run) (at : ℕ) (x0 : Standing) (job : Job) (one : CreateResult)
     → EachWholeOrNone made jobs m → JobRan (at + 1) one job.budget m m' → slice_get m.state.processes at ≡ Some x0 → x0.ended ≡ false
     → slice_get jobs at ≡ Some job → slice_get made at ≡ Some one → (k : ℕ) → (k ≡ at) ⊎ (k ≢ at) → Here made jobs m' k
 at_place made jobs m m' at x0 job one each ran x0_at x0_open job_at one_at k (inl e) =
@@ -179,7 +179,7 @@ at_place made jobs m m' at x0 job one each ran x0_at x0_open job_at one_at k (in
 at_place made jobs m m' at x0 job one each ran x0_at x0_open job_at one_at k (inr n) =
     here_other made jobs m m' at (fresh one job.budget) ran.doing k n each ran.ran
 
-between_at : (templates : List CheckedTemplate) (made : List Made) (jobs : List Job) (m m' : Run) (at : ℕ) (x0 : Standing) (job : Job) (one : Made)
+between_at : (templates : List CheckedTemplate) (made : List CreateResult) (jobs : List Job) (m m' : Run) (at : ℕ) (x0 : Standing) (job : Job) (one : CreateResult)
     → IsBetween templates made jobs m → JobRan (at + 1) one job.budget m m' → slice_get m.state.processes at ≡ Some x0 → ready m.state (at + 1) ≡ true
     → slice_get jobs at ≡ Some job → slice_get made at ≡ Some one → IsBetween templates made jobs m'
 between_at templates made jobs m m' at x0 job one between ran x0_at r job_at one_at =
@@ -192,7 +192,7 @@ between_at templates made jobs m m' at x0 job one between ran x0_at r job_at one
     }
 
 -- one more job has run
-pub between_more : (templates : List CheckedTemplate) (made : List Made) (jobs : List Job) (m m' : Run) (at : ℕ) (job : Job) (one : Made)
+pub between_more : (templates : List CheckedTemplate) (made : List CreateResult) (jobs : List Job) (m m' : Run) (at : ℕ) (job : Job) (one : CreateResult)
     → IsBetween templates made jobs m → JobRan (at + 1) one job.budget m m' → at < length m.state.processes → ready m.state (at + 1) ≡ true
     → slice_get jobs at ≡ Some job → slice_get made at ≡ Some one → IsBetween templates made jobs m'
 between_more templates made jobs m m' at job one between ran lt r job_at one_at =
@@ -205,7 +205,7 @@ open_at : (s : State) (at : ℕ) → at < length s.processes → ready s (at + 1
 open_at s at lt r d = ready_open s at (get_or s.processes at d) (slice_get-get_or s.processes at d lt) r
 
 -- and fewer are left
-pub between_falls : (n : ℕ) (one : Made) (budget : ℕ) (m m' : Run) (at : ℕ) → n ≡ at + 1 → JobRan n one budget m m' → at < length m.state.processes → ready m.state (at + 1) ≡ true
+pub between_falls : (n : ℕ) (one : CreateResult) (budget : ℕ) (m m' : Run) (at : ℕ) → n ≡ at + 1 → JobRan n one budget m m' → at < length m.state.processes → ready m.state (at + 1) ≡ true
     → unended m'.state.processes < unended m.state.processes
 between_falls n one budget m m' at e ran lt r =
     let index : n - 1 ≡ at = omega arith in
@@ -225,7 +225,7 @@ open_is : (b : Bool) (A B : Type 0) → b ≡ false → B → MatchBool b A B
 open_is true A B e h = cc
 open_is false A B e h = h
 
-pub between_begun : (templates : List CheckedTemplate) (made : List Made) (jobs : List Job) → IsBetween templates made jobs (begun (opening.opened templates jobs))
+pub between_begun : (templates : List CheckedTemplate) (made : List CreateResult) (jobs : List Job) → IsBetween templates made jobs (begun (opening.opened templates jobs))
 between_begun templates made jobs = record {
   sound = sound_begun (opening.opened templates jobs);
   origin = refl;
@@ -237,7 +237,7 @@ closed_is : (b : Bool) (A B : Type 0) → b ≡ true → MatchBool b A B → A
 closed_is true A B e h = h
 closed_is false A B e h = cc
 
-pub places : (templates : List CheckedTemplate) (made : List Made) (jobs : List Job) (m : Run) → IsBetween templates made jobs m → length m.state.processes ≡ length jobs
+pub places : (templates : List CheckedTemplate) (made : List CreateResult) (jobs : List Job) (m : Run) → IsBetween templates made jobs m → length m.state.processes ≡ length jobs
 places templates made jobs m between =
     between.sound.kept ∙ ap (λ (s : State). length s.processes) between.origin ∙ length-map jobs _
 
@@ -247,7 +247,7 @@ there_is (x ∷ xs) zero h = (x, refl)
 there_is (x ∷ xs) (suc k) h = there_is xs k (omega arith)
 
 -- where no job is ready, each has run whole
-pub between_none : (templates : List CheckedTemplate) (made : List Made) (jobs : List Job) (m : Run) → IsBetween templates made jobs m → ((k : ℕ) → k < length jobs → ready m.state (k + 1) ≡ false) → AllRan made jobs m.history
+pub between_none : (templates : List CheckedTemplate) (made : List CreateResult) (jobs : List Job) (m : Run) → IsBetween templates made jobs m → ((k : ℕ) → k < length jobs → ready m.state (k + 1) ≡ false) → AllRan made jobs m.history
 unfolding NoneReady
 between_none templates made jobs m between none = record {
   each = λ k job one job_at one_at.
@@ -257,7 +257,7 @@ between_none templates made jobs m between none = record {
       closed_is x.0.ended _ _ ended (between.each.each k x.0 job one x.1 job_at one_at);
 }
 
-pub may_run : (templates : List CheckedTemplate) (made : List Made) (jobs : List Job) (m : Run) (at n : ℕ) → n ≡ at + 1 → IsBetween templates made jobs m → at < length jobs → MayAsk m.origin n
+pub may_run : (templates : List CheckedTemplate) (made : List CreateResult) (jobs : List Job) (m : Run) (at n : ℕ) → n ≡ at + 1 → IsBetween templates made jobs m → at < length jobs → MayAsk m.origin n
 may_run templates made jobs m at n e between lt =
     let count = places templates made jobs m between in
     record { first = omega arith; last = omega (arith, count, between.sound.kept) }

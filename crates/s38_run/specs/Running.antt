@@ -4,7 +4,7 @@ use Rattle.s38_code.specs.declared.deck.Job.{Job}
 use Rattle.s38_code.specs.declared.entry.Entry.{Entry}
 use Rattle.s38_code.specs.declared.event.Event.{Event}
 use Rattle.s38_code.specs.declared.made.CheckedTemplate.{CheckedTemplate}
-use Rattle.s38_code.specs.declared.made.Made.{Made}
+use Rattle.s38_code.specs.declared.made.CreateResult.{CreateResult}
 use Rattle.s38_code.specs.History.{entries_of}
 use Rattle.s38_rules.specs.declared.process.Standing.{Standing}
 use Rattle.s38_rules.specs.declared.process.Status.{Status}
@@ -50,8 +50,8 @@ pub record RanOn (number : ℕ) (m0 : Run) (d0 : Doing) (m : Run) (d : Doing) : 
   pub ended : d.status ≡ Ended → HasEnded m.state.processes (number - 1) × (ends_by_finish own ≡ true)
 
 -- of each process either the whole run is in the history, or nothing
-pub record EachWholeOrNone (made : List Made) (jobs : List Job) (m : Run) : Type 0 where
-  pub each : (k : ℕ) (x : Standing) (job : Job) (one : Made) → slice_get m.state.processes k ≡ Some x → slice_get jobs k ≡ Some job → slice_get made k ≡ Some one
+pub record EachWholeOrNone (made : List CreateResult) (jobs : List Job) (m : Run) : Type 0 where
+  pub each : (k : ℕ) (x : Standing) (job : Job) (one : CreateResult) → slice_get m.state.processes k ≡ Some x → slice_get jobs k ≡ Some job → slice_get made k ≡ Some one
       → MatchBool x.ended (RanWhole one job.budget (entries_of (k + 1) m.history)) (entries_of (k + 1) m.history ≡ [])
 
 -- one event was asked behind the local instructions, and answered
@@ -68,13 +68,13 @@ pub record Rested (m : Run) (d : Doing) (m' : Run) (d' : Doing) : Type 0 where
   pub process : d' ≡ settled d
 
 -- the process of a job has run from its start to its end
-pub record JobRan (number : ℕ) (made : Made) (budget : ℕ) (m m' : Run) : Type 0 where
+pub record JobRan (number : ℕ) (made : CreateResult) (budget : ℕ) (m m' : Run) : Type 0 where
   pub doing : Doing
   pub ran : RanOn number m (fresh made budget) m' doing
   pub ended : doing.status ≡ Ended
 
 -- between two jobs; the machine began with these templates
-pub record IsBetween (templates : List CheckedTemplate) (made : List Made) (jobs : List Job) (m : Run) : Type 0 where
+pub record IsBetween (templates : List CheckedTemplate) (made : List CreateResult) (jobs : List Job) (m : Run) : Type 0 where
   pub sound : IsSound m
   pub origin : m.origin ≡ opened templates jobs
   pub awake : m.state.waiting ≡ []

@@ -6,8 +6,8 @@ ghost use Rattle.s38_run.specs.Running.{IsBetween, JobRan};
 ghost use Rattle.s38_run.specs.Whole.{AllRan};
 
 use crate::one::run_process;
-use s38_base::{NoMemory, Twin};
-use s38_code::{Job, Made};
+use s38_base::{NoMemory, TryClone};
+use s38_code::{Job, CreateResult};
 use s38_machine::Machine;
 use s38_process::Process;
 use std::alloc::Global;
@@ -32,7 +32,7 @@ fn run_job(
     alloc: Global,
     machine: &mut Machine,
     job: &Job,
-    made: &Made,
+    made: &CreateResult,
     number: u32,
 ) -> Result<(), NoMemory>
     requires sound { IsSound machine.old }
@@ -41,7 +41,7 @@ fn run_job(
     requires may { MayAsk machine.old.origin number }
     ensures { OnOk result (JobRan number made.now job.now.budget machine.old machine.new) }
 {
-    let own = made.twin(alloc)?;
+    let own = made.try_clone(alloc)?;
     match Process::begin(alloc, job, own) {
         Err(fault) => Err(fault),
         Ok(mut process) => run_process(machine, &mut process, number),
@@ -54,7 +54,7 @@ pub fn serial(
     alloc: Global,
     machine: Machine,
     jobs: &[Job],
-    made: &[Made],
+    made: &[CreateResult],
 ) -> Result<Machine, NoMemory>
     requires begun { machine ≡ begun (opened machine.state.templates jobs.now) }
     requires made { length made.now ≡ length jobs.now }

@@ -1,0 +1,47 @@
+-- The words of relations are numbered in their order.
+use Rattle.std.specs.Prelude.{ℕ, ◌==◌, Bool, true, false, Option, Some, None, if◌then◌else◌}
+use Rattle.std.specs.declared.cmp.Ordering.{Ordering}
+use Rattle.std.specs.declared.cmp.Ordering.TheVariants.{Less, Equal, Greater}
+use Rattle.s38_base.specs.declared.words.Relation.{Relation}
+use Rattle.s38_base.specs.declared.words.Relation.TheVariants.{Eq, Ne, Lo, Hi, Nl, Nh, Any, First, Last}
+
+abbrev pub relation_word : Relation → ℕ
+relation_word Eq = 0
+relation_word Ne = 1
+relation_word Lo = 2
+relation_word Hi = 3
+relation_word Nl = 4
+relation_word Nh = 5
+relation_word Any = 6
+relation_word First = 7
+relation_word Last = 8
+
+abbrev pub relation_of : ℕ → Option Relation
+relation_of word =
+    if word == 0 then Some Eq else (if word == 1 then Some Ne else (if word == 2 then Some Lo else
+    (if word == 3 then Some Hi else (if word == 4 then Some Nl else (if word == 5 then Some Nh else
+    (if word == 6 then Some Any else (if word == 7 then Some First else (if word == 8 then Some Last else None))))))))
+
+-- whether a relation holds of what stands in this order to the other side; the last three hold always
+abbrev pub holds : Relation → Ordering → Bool
+holds Eq Less = false
+holds Eq Equal = true
+holds Eq Greater = false
+holds Ne Less = true
+holds Ne Equal = false
+holds Ne Greater = true
+holds Lo Less = true
+holds Lo Equal = false
+holds Lo Greater = false
+holds Hi Less = false
+holds Hi Equal = false
+holds Hi Greater = true
+holds Nl Less = false
+holds Nl Equal = true
+holds Nl Greater = true
+holds Nh Less = true
+holds Nh Equal = true
+holds Nh Greater = false
+holds Any order = true
+holds First order = true
+holds Last order = true
