@@ -11,3 +11,4 @@ pub mod WordsName
 pub mod WordsNumber
 pub mod WordsRow
 pub mod WordsText
+pub mod Families

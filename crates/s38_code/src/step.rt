@@ -1,7 +1,8 @@
-ghost use Rattle.std.specs.Prelude.{◌≡◌, ◌⊎◌, ◌++◌, ◌∷◌, [], ℕ, List, Option, Some, None, IsErrOf, IfOk, OnErr};
+ghost use Rattle.std.specs.Prelude.{◌≡◌, ◌⊎◌, ◌++◌, ◌∷◌, [], ℕ, List, Option, Some, None, Result, IsErrOf, IfOk, OnErr};
 ghost use Rattle.s38_code.specs.declared.entry.Entry.{Entry};
 ghost use Rattle.s38_code.specs.declared.event.Event.{Event};
 ghost use Rattle.s38_code.specs.declared.reply.Reply.{Reply};
+ghost use Rattle.s38_code.specs.declared.step.StepFault.{StepFault};
 ghost use Rattle.s38_code.specs.History.{entries_of, IsAnswered, first_stop};
 
 use crate::event::Event;
@@ -33,6 +34,9 @@ pub trait Stepper {
 
     ghost is_sound: { Self → Type 0 };
 
+    /// Whether an answer, and the state behind it, are those of one step of its own.
+    ghost steps: { Self → ℕ → Event → Result Reply StepFault → Self → Type 0 };
+
     /// Whether a process may ask this now: a fact of the origin, the event and that process's own entries.
     ghost may_ask: { Origin → ℕ → Event → List Entry → Type 0 };
 
@@ -43,6 +47,7 @@ pub trait Stepper {
         requires may { may_ask (origin self.old) process event.now (entries_of process (history self.old)) }
         ensures origin { origin self.new ≡ origin self.old }
         ensures sound { is_sound self.new }
+        ensures steps { steps self.old process event.now result self.new }
         ensures answered { IfOk result (λ reply. IsAnswered process event.now reply (history self.old) (history self.new)) }
         ensures err { OnErr result (history self.new ≡ history self.old) }
         ensures stopped { IsErrOf result StepFault.Stopped → stopped self.new ≡ first_stop (stopped self.old) process event.now }

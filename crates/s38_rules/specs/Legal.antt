@@ -1,13 +1,21 @@
 -- Which histories are the machine's: each entry is a step from the state to which those before it lead.
-use Rattle.std.specs.Prelude.{◌≡◌, ◌<◌, ◌≤◌, ℕ, IsTrue, List, [], ◌∷◌, ◌++◌, length, if◌then◌else◌}
+use Rattle.std.specs.Prelude.{◌≡◌, ◌<◌, ◌≤◌, ℕ, All, IfOk, IsTrue, OnErr, List, [], ◌∷◌, ◌++◌, length, Result, if◌then◌else◌}
 use Rattle.s38_code.specs.declared.entry.Entry.{Entry}
 use Rattle.s38_code.specs.declared.event.Event.{Event}
+use Rattle.s38_code.specs.declared.reply.Reply.{Reply}
+use Rattle.s38_code.specs.declared.step.StepFault.{StepFault}
 use Rattle.s38_code.specs.History.{count_of, entry_after}
 use Rattle.s38_rules.specs.State.{State}
 use Rattle.s38_rules.specs.Step.{Stepped, step}
 
--- behind the entries before it, from this state, the machine makes this entry
+-- a process is that of a job, from 1 on
+pub record IsProcess (s : State) (process : ℕ) : Type 0 where
+  pub first : 0 < process
+  pub last : process ≤ length s.processes
+
+-- behind the entries before it, from this state, the machine makes this entry, and for a job's process
 pub record IsEntry (s : State) (before : List Entry) (e : Entry) : Type 0 where
+  pub process : IsProcess s e.process
   pub entered : IsTrue (step s e.process e.event).enters
   pub reply : (step s e.process e.event).reply ≡ e.reply
   pub seq : e.seq ≡ count_of e.process before
@@ -25,31 +33,47 @@ pub record Run : Type 0 where
   -- the store's moment as each entry was answered
   pub marks : List ℕ
 
+-- there is no store yet, and each entry is answered at this moment
+abbrev pub no_moment : ℕ
+no_moment = 0
+
+abbrev pub IsUnstored : ℕ → Type 0
+IsUnstored mark = mark ≡ no_moment
+
 -- the history is legal and leads from the origin to the state; each entry has a mark; the processes are those
 -- of the origin's jobs
 pub record IsSound (m : Run) : Type 0 where
   pub legal : Leads m.origin [] m.history m.state
   pub marked : length m.marks ≡ length m.history
+  pub stamped : All IsUnstored m.marks
   pub kept : length m.state.processes ≡ length m.origin.processes
-
--- a process is that of a job, from 1 on
-pub record MayAsk (origin : State) (process : ℕ) : Type 0 where
-  pub first : 0 < process
-  pub last : process ≤ length origin.processes
 
 abbrev pub history_after : List Entry → ℕ → Event → Stepped → List Entry
 history_after history process event x = if x.enters then history ++ entry_after history process event x.reply ∷ [] else history
 
-abbrev pub marks_after : List ℕ → Stepped → List ℕ
-marks_after marks x = if x.enters then marks ++ 0 ∷ [] else marks
+-- an entry is marked by the moment at which it was answered
+abbrev pub marks_after : List ℕ → ℕ → Stepped → List ℕ
+marks_after marks mark x = if x.enters then marks ++ mark ∷ [] else marks
 
 -- the machine behind an outcome of an event
-abbrev pub after_by : Run → ℕ → Event → Stepped → Run
-after_by m process event x = record { origin = m.origin; state = x.state; history = history_after m.history process event x; marks = marks_after m.marks x }
+abbrev pub after_by : Run → ℕ → ℕ → Event → Stepped → Run
+after_by m mark process event x =
+    record {
+      origin = m.origin;
+      state = x.state;
+      history = history_after m.history process event x;
+      marks = marks_after m.marks mark x;
+    }
 
--- the machine behind one more step
-unfoldable pub after : Run → ℕ → Event → Run
-after m process event = after_by m process event (step m.state process event)
+-- the machine behind one more step, answered at a moment
+unfoldable pub after : Run → ℕ → ℕ → Event → Run
+after m mark process event = after_by m mark process event (step m.state process event)
+
+-- an answer is that of one step, and without an answer nothing is changed
+pub record IsStep (old : Run) (process : ℕ) (event : Event) (answer : Result Reply StepFault) (new : Run) : Type 0 where
+  pub reply : IfOk answer (λ r. (step old.state process event).reply ≡ r)
+  pub moved : IfOk answer (λ _. new ≡ after old no_moment process event)
+  pub kept : OnErr answer (new ≡ old)
 
 -- a machine that has just begun
 abbrev pub begun : State → Run

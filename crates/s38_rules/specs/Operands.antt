@@ -1,17 +1,22 @@
--- What stands at an operand. Operands are numbered from 1; what an instruction does not have reads as nothing.
-use Rattle.std.specs.Prelude.{ℕ, ◌+◌, ◌-◌, ◌/◌, ◌%◌, ◌^◌, ◌==◌, Bool, true, false, ℤ, pos, List, [], ◌∷◌, Option, Some, None, bit_and, length, slice_get, if◌then◌else◌}
+-- What stands at an operand, over the objects that are there. Operands are numbered from 1; what an instruction does
+-- not have reads as nothing.
+use Rattle.std.specs.Prelude.{ℕ, ◌+◌, ◌-◌, ◌/◌, ◌%◌, ◌^◌, ◌==◌, Bool, true, false, ℤ, pos, List, [], ◌∷◌, ◌++◌, take, replicate, Option, Some, None, bit_and, length, slice_get, if◌then◌else◌}
 use Rattle.s38_base.specs.declared.attr.Attr.{Attr}
 use Rattle.s38_base.specs.declared.attr.Attr.TheVariants as attrs
 use Rattle.s38_base.specs.declared.id.Id.{Id}
 use Rattle.s38_base.specs.declared.pointer.Pointer.{Pointer}
-use Rattle.s38_base.specs.Scalar.{fraction_of, length_of, value_of}
+use Rattle.s38_base.specs.Pointers.{start_of, target_of}
+use Rattle.s38_base.specs.RightNames as rights
+use Rattle.s38_base.specs.Scalar.{fraction_of, is_pointer_attr, length_of, value_of}
 use Rattle.s38_memory.specs.declared.cell.Cell.{Cell}
 use Rattle.s38_code.specs.declared.operand.Operand.{Operand}
 use Rattle.s38_code.specs.declared.operand.Operand.TheVariants as operands
 use Rattle.s38_code.specs.declared.reply.Val.{Val}
 use Rattle.s38_code.specs.declared.reply.Val.TheVariants as vals
-use Rattle.s38_rules.specs.State.{State, cells_at, on_space}
-use Rattle.s38_rules.specs.Spaces.{bytes_there, cell_for, cells_there, is_pointer_attr, pointer_there, start_of, target_of, with_bytes, with_pointer}
+use Rattle.s38_rules.specs.Held.{Held}
+use Rattle.s38_rules.specs.Parts.{cells_at, on_space}
+use Rattle.s38_rules.specs.State.{State}
+use Rattle.s38_rules.specs.Cells.{bytes_there, cell_for, cells_there, pointer_there, with_bytes, with_pointer}
 
 abbrev pub place : List Operand → ℕ → Option Operand
 place ops k = slice_get ops (k - 1)
@@ -20,27 +25,27 @@ place ops k = slice_get ops (k - 1)
 abbrev pub pointer_in : List Cell → ℕ → Attr → Option Pointer
 pointer_in cells at attr = if is_pointer_attr attr then pointer_there cells at else None
 
-abbrev pub pointer_of : State → Option Operand → Option Pointer
-pointer_of s (Some (operands.Ptr p)) = p
-pointer_of s (Some (operands.InSpace base offset attr)) = pointer_in (cells_at s (target_of base)) (start_of base offset) attr
-pointer_of s _ = None
+abbrev pub pointer_of : Held → Option Operand → Option Pointer
+pointer_of h (Some (operands.Ptr p)) = p
+pointer_of h (Some (operands.InSpace base offset attr)) = pointer_in (cells_at h (target_of base)) (start_of base offset) attr
+pointer_of h _ = None
 
 -- the pointer that is used
-abbrev pub pointer_at : State → List Operand → ℕ → Option Pointer
-pointer_at s ops k = pointer_of s (place ops k)
+abbrev pub pointer_at : Held → List Operand → ℕ → Option Pointer
+pointer_at h ops k = pointer_of h (place ops k)
 
-abbrev pub bytes_of : State → Option Operand → List ℕ
-bytes_of s (Some (operands.Value attr bytes)) = bytes
-bytes_of s (Some (operands.InSpace base offset attr)) = bytes_there (cells_at s (target_of base)) (start_of base offset) (length_of attr)
-bytes_of s _ = []
+abbrev pub bytes_of : Held → Option Operand → List ℕ
+bytes_of h (Some (operands.Value attr bytes)) = bytes
+bytes_of h (Some (operands.InSpace base offset attr)) = bytes_there (cells_at h (target_of base)) (start_of base offset) (length_of attr)
+bytes_of h _ = []
 
 -- the bytes that are read
-abbrev pub bytes_at : State → List Operand → ℕ → List ℕ
-bytes_at s ops k = bytes_of s (place ops k)
+abbrev pub bytes_at : Held → List Operand → ℕ → List ℕ
+bytes_at h ops k = bytes_of h (place ops k)
 
 -- how many they are
-abbrev pub size_at : State → List Operand → ℕ → ℕ
-size_at s ops k = length (bytes_at s ops k)
+abbrev pub size_at : Held → List Operand → ℕ → ℕ
+size_at h ops k = length (bytes_at h ops k)
 
 abbrev pub is_given_in : Option Operand → Bool
 is_given_in (Some operands.Nothing) = false
@@ -77,7 +82,7 @@ word_at ops k = word_of (place ops k)
 
 -- a word of rights: its eight bits
 abbrev pub rights_at : List Operand → ℕ → ℕ
-rights_at ops k = bit_and (word_at ops k) 255
+rights_at ops k = bit_and (word_at ops k) rights.all_rights
 
 abbrev pub id_of : Option Operand → Option Id
 id_of (Some (operands.Ident id)) = Some id
@@ -119,8 +124,8 @@ scalar_attr (Some (operands.InSpace base offset attr)) = attr
 scalar_attr _ = attrs.Chars 0
 
 -- the number that is read, in units of its last digit; none where its bytes have no value
-abbrev pub number_at : State → List Operand → ℕ → Option ℤ
-number_at s ops k = value_of (scalar_attr (place ops k)) (bytes_at s ops k)
+abbrev pub number_at : Held → List Operand → ℕ → Option ℤ
+number_at h ops k = value_of (scalar_attr (place ops k)) (bytes_at h ops k)
 
 -- a count that so many units are, with so many digits behind the point: 0 where that is no whole number above 0
 abbrev pub count_of : ℕ → Option ℤ → ℕ
@@ -128,25 +133,35 @@ count_of fraction (Some (pos units)) = if units % 10 ^ fraction == 0 then units 
 count_of fraction _ = 0
 
 -- the count that a number is; 0 where it is none
-abbrev pub count_at : State → List Operand → ℕ → ℕ
-count_at s ops k = count_of (fraction_of (scalar_attr (place ops k))) (number_at s ops k)
+abbrev pub count_at : Held → List Operand → ℕ → ℕ
+count_at h ops k = count_of (fraction_of (scalar_attr (place ops k))) (number_at h ops k)
 
 -- ---- cells
 
-abbrev pub cells_of : State → Option Operand → List Cell
-cells_of s (Some (operands.Ptr p)) = cell_for p ∷ []
-cells_of s (Some (operands.InSpace base offset attr)) = cells_there (cells_at s (target_of base)) (start_of base offset) (length_of attr)
-cells_of s _ = []
+abbrev pub cells_of : Held → Option Operand → List Cell
+cells_of h (Some (operands.Ptr p)) = cell_for p ∷ []
+cells_of h (Some (operands.InSpace base offset attr)) = cells_there (cells_at h (target_of base)) (start_of base offset) (length_of attr)
+cells_of h _ = []
 
 -- the cells that are read, a pointer of a variable as one cell
-abbrev pub source_cells : State → List Operand → ℕ → List Cell
-source_cells s ops k = cells_of s (place ops k)
+abbrev pub source_cells : Held → List Operand → ℕ → List Cell
+source_cells h ops k = cells_of h (place ops k)
+
+-- ---- values of a receiver's length
+
+-- the blank of texts
+abbrev pub blank : ℕ
+blank = 0x40
+
+-- bytes cut to a length, or filled to it on the right
+abbrev pub fitted : ℕ → ℕ → List ℕ → List ℕ
+fitted len fill bytes = take len bytes ++ replicate (len - length bytes) fill
 
 -- ---- targets
 
 -- the number of the object that the used pointer names, 0 for none
-abbrev pub target : State → List Operand → ℕ → ℕ
-target s ops k = target_of (pointer_at s ops k)
+abbrev pub target : Held → List Operand → ℕ → ℕ
+target h ops k = target_of (pointer_at h ops k)
 
 -- ---- how values come back
 
@@ -156,16 +171,16 @@ pub record Done : Type 0 where
   pub values : List Val
 
 -- a receiver in a space is changed there
-abbrev pub put_value : State → ℕ → ℕ → Val → State
-put_value s n at (vals.Bytes bytes) = on_space s n (with_bytes at bytes)
-put_value s n at (vals.Ptr p) = on_space s n (with_pointer at p)
-put_value s n at _ = s
+abbrev pub put_value : Held → ℕ → ℕ → Val → Held
+put_value h n at (vals.Bytes bytes) = on_space h n (with_bytes at bytes)
+put_value h n at (vals.Ptr p) = on_space h n (with_pointer at p)
+put_value h n at _ = h
 
 -- a value goes to its receiver: one in a space takes it there, so many bytes behind its beginning, and a variable of
 -- the process gets it with the reply
 abbrev pub deliver : State → ℕ → Option Operand → Val → Done
 deliver s shift (Some (operands.InSpace base offset attr)) v =
-    record { state = put_value s (target_of base) (start_of base offset + shift) v; values = [] }
+    record { state = record s { held = put_value s.held (target_of base) (start_of base offset + shift) v }; values = [] }
 deliver s shift _ v = record { state = s; values = v ∷ [] }
 
 abbrev pub delivered : State → ℕ → Option Operand → Option Val → Done

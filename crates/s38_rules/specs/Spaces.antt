@@ -1,111 +1,185 @@
--- Items in spaces: where one lies, what is read there, and what a space holds after something is put there. A
--- piece that leaves the cells reads as nothing and changes nothing; the rules of addresses refuse it before.
-use Rattle.std.specs.Prelude.{ℕ, ◌+◌, ◌*◌, ◌/◌, ◌==◌, Bool, true, false, ◌&&◌, not, List, [], ◌∷◌, length, take, drop, replicate, slice_set, Option, Some, None, Result, Ok, Err, if◌then◌else◌}
-use Rattle.s38_base.specs.declared.attr.Attr.{Attr}
-use Rattle.s38_base.specs.declared.attr.Attr.TheVariants.{Packed, Zoned, Binary, Chars, Pointer}
-use Rattle.s38_base.specs.declared.pointer.Pointer.{Pointer as Pointing}
+-- Spaces: made, lengthened or cut, and destroyed; pointers into them; copies of cells with their tags.
+use Rattle.std.specs.Prelude.{ℕ, ◌+◌, ◌/◌, ◌%◌, ◌==◌, Bool, false, not, ◌&&◌, List, [], Option, Some, None, is_none, nat_le, if◌then◌else◌}
+use Rattle.std.specs.Option.{option_map}
+use Rattle.s38_base.specs.declared.exception.Exception.{Exception}
+use Rattle.s38_base.specs.declared.id.Kind.TheVariants as kinds
+use Rattle.s38_base.specs.declared.op.Op.{Op}
+use Rattle.s38_base.specs.declared.op.Op.TheVariants.{Setsppfp, Setdp, Cpybwp, Crts, Mods, Dess}
 use Rattle.s38_base.specs.declared.pointer.Pointer.TheVariants as pointers
+use Rattle.s38_base.specs.declared.words.Category.TheVariants.{Change}
+use Rattle.s38_base.specs.Exceptions as exceptions
+use Rattle.s38_base.specs.Limits.{cell_bytes}
+use Rattle.s38_base.specs.Pointers.{offset_of, start_of, target_of}
+use Rattle.s38_base.specs.RightNames as rights
+use Rattle.s38_base.specs.Scalar.{length_of}
+use Rattle.s38_base.specs.Signals.{fails, first}
 use Rattle.s38_memory.specs.declared.cell.Cell.{Cell}
-use Rattle.s38_memory.specs.declared.cell.Cell.TheVariants.{Bytes, Tagged}
-use Rattle.s38_memory.specs.declared.fault.MemoryFault.{MemoryFault}
-use Rattle.s38_memory.specs.Tagged.{bytes_in, cells_in, is_within, is_aligned, overlaid, pointer_at, written}
+use Rattle.s38_memory.specs.Tagged.{is_aligned, is_within, resized}
+use Rattle.s38_code.specs.declared.operand.Operand.{Operand}
+use Rattle.s38_code.specs.declared.operand.Operand.TheVariants as operands
+use Rattle.s38_code.specs.declared.reply.Val.{Val}
+use Rattle.s38_code.specs.declared.reply.Val.TheVariants as vals
+use Rattle.s38_rules.specs.declared.creating.Creating.{Creating}
+use Rattle.s38_rules.specs.declared.need.Named.TheVariants.{Written}
+use Rattle.s38_rules.specs.declared.need.Need.{Need}
+use Rattle.s38_rules.specs.declared.need.PointerKind.TheVariants as pointer_kinds
+use Rattle.s38_rules.specs.declared.need.Sought.TheVariants.{Of}
+use Rattle.s38_rules.specs.declared.object.Body.TheVariants as bodies
+use Rattle.s38_rules.specs.Cells.{first_pointer, with_cells}
+use Rattle.s38_rules.specs.Creation.{creation_changes, creation_fails, creation_gives, creation_needs, destruction_changes, destruction_needs, in_context, pages_rule}
+use Rattle.s38_rules.specs.Held.{Held, charge_beside, object, owner_in, space_pages}
+use Rattle.s38_rules.specs.Instruction.{Instruction, inert}
+use Rattle.s38_rules.specs.Needs.{need, on_object}
+use Rattle.s38_rules.specs.Operands.{attr_at, count_at, is_in_space, number_at, place, pointer_at, source_cells, target}
+use Rattle.s38_rules.specs.Parts.{cells_at, on_space}
+use Rattle.s38_rules.specs.Resolving.{num_of}
+use Rattle.s38_rules.specs.State.{State}
+use Rattle.s38_rules.specs.Users.{user_of}
 
--- ---- what a pointer says
+-- ---- lengths
 
-abbrev pub object_of : Pointing → ℕ
-object_of (pointers.System object rights) = object.0
-object_of (pointers.Space object offset) = object.0
-object_of (pointers.Item object offset attr) = object.0
+-- a multiple of 16 bytes, from 16 to the limit of a body
+abbrev pub is_space_length : ℕ → ℕ → Bool
+is_space_length limit n = nat_le cell_bytes n && (nat_le n limit && (n % cell_bytes == 0))
 
--- the rights that it carries
-abbrev pub carried_by : Pointing → ℕ
-carried_by (pointers.System object rights) = rights.0
-carried_by (pointers.Space object offset) = 0
-carried_by (pointers.Item object offset attr) = 0
+-- the number at an operand has a value, and is the length of a space
+abbrev pub length_rule : State → List Operand → ℕ → Option Exception
+length_rule s ops k =
+    first (fails (is_none (number_at s.held ops k)) exceptions.decimal_data k)
+    (fails (not (is_space_length s.limit (count_at s.held ops k))) exceptions.length_invalid k)
 
--- the byte of the space to which it points
-abbrev pub offset_of : Pointing → ℕ
-offset_of (pointers.System object rights) = 0
-offset_of (pointers.Space object offset) = offset
-offset_of (pointers.Item object offset attr) = offset
+-- the pages of a space of so many bytes
+abbrev pub pages_for_length : ℕ → ℕ
+pages_for_length n = 1 + space_pages (n / cell_bytes)
 
-abbrev pub target_of : Option Pointing → ℕ
-target_of None = 0
-target_of (Some p) = object_of p
+-- ---- CRTS
 
--- the first byte of an item that lies so far behind its base
-abbrev pub start_of : Option Pointing → ℕ → ℕ
-start_of None offset = offset
-start_of (Some p) offset = offset_of p + offset
+abbrev pub new_space : Held → List Operand → Creating
+new_space h ops = in_context kinds.Space (pages_for_length (count_at h ops 5)) h ops
 
-abbrev pub is_pointer_attr : Attr → Bool
-is_pointer_attr (Packed digits fraction) = false
-is_pointer_attr (Zoned digits fraction) = false
-is_pointer_attr (Binary size) = false
-is_pointer_attr (Chars len) = false
-is_pointer_attr Pointer = true
+unfoldable pub crts_fails : State → ℕ → List Operand → Option Exception
+crts_fails s p ops = creation_fails s.held (user_of s p) (new_space s.held ops) (length_rule s ops 5)
 
-abbrev pub same_attr : Attr → Attr → Bool
-same_attr (Packed digits fraction) (Packed others behind) = (digits == others) && (fraction == behind)
-same_attr (Zoned digits fraction) (Zoned others behind) = (digits == others) && (fraction == behind)
-same_attr (Binary size) (Binary other) = size == other
-same_attr (Chars len) (Chars other) = len == other
-same_attr Pointer Pointer = true
-same_attr _ _ = false
+-- a space of zero bytes
+unfoldable pub crts_changes : State → ℕ → List Operand → State
+crts_changes s p ops =
+    record s { held = creation_changes s.held (user_of s p) (new_space s.held ops) (bodies.Space (resized (count_at s.held ops 5) [])) }
 
--- ---- what is read
+abbrev pub crts : Instruction
+crts = record {
+  needs = λ s p d r. creation_needs r.operands;
+  fails = λ s p d r. crts_fails s p r.operands;
+  gives = λ s p d r. Some (creation_gives s.held (new_space s.held r.operands));
+  changes = λ s p d r. crts_changes s p r.operands;
+}
 
--- a piece of the bytes
-abbrev pub bytes_there : List Cell → ℕ → ℕ → List ℕ
-bytes_there cells at len = if is_within at len cells then take len (drop at (bytes_in cells)) else []
+-- ---- MODS
 
-abbrev pub found_pointer : Result Pointing MemoryFault → Option Pointing
-found_pointer (Ok p) = Some p
-found_pointer (Err fault) = None
+-- object management on the space
+unfoldable pub mods_needs : List Need
+mods_needs = on_object 1 (Of kinds.Space) rights.objmgt (Some Change)
 
--- the pointer in the cell that begins there; a cell of bytes is none
-abbrev pub pointer_there : List Cell → ℕ → Option Pointing
-pointer_there cells at = found_pointer (pointer_at at cells)
+-- the owner of the space pays for its new length
+unfoldable pub mods_fails : State → List Operand → Option Exception
+mods_fails s ops =
+    first (length_rule s ops 2)
+    (pages_rule s.held (owner_in (object s.held (target s.held ops 1))) (charge_beside s.held.objects (target s.held ops 1) + pages_for_length (count_at s.held ops 2)))
 
--- ---- what is put
+-- the space is cut, or lengthened by zero bytes
+unfoldable pub mods_changes : Held → List Operand → Held
+mods_changes h ops = on_space h (target h ops 1) (resized (count_at h ops 2))
 
--- bytes over a piece
-abbrev pub with_bytes : ℕ → List ℕ → List Cell → List Cell
-with_bytes at bytes cells = if is_within at (length bytes) cells then written at bytes cells else cells
+abbrev pub mods : Instruction
+mods = record inert {
+  needs = λ s p d r. mods_needs;
+  fails = λ s p d r. mods_fails s r.operands;
+  changes = λ s p d r. record s { held = mods_changes s.held r.operands };
+}
 
--- a cell holds any pointer but one to an item that is a pointer
-abbrev pub is_storable : Pointing → Bool
-is_storable (pointers.System object rights) = true
-is_storable (pointers.Space object offset) = true
-is_storable (pointers.Item object offset attr) = not (is_pointer_attr attr)
+-- ---- DESS
 
--- there is a cell that begins there
-abbrev pub is_cell : ℕ → List Cell → Bool
-is_cell at cells = is_within at 16 cells && is_aligned at
+abbrev pub dess : Instruction
+dess = record inert {
+  needs = λ s p d r. destruction_needs kinds.Space;
+  changes = λ s p d r. record s { held = destruction_changes s.held r.operands };
+}
 
--- a pointer into the cell that begins there; no pointer is sixteen zero bytes
-abbrev pub with_pointer : ℕ → Option Pointing → List Cell → List Cell
-with_pointer at None cells = with_bytes at (replicate 16 0) cells
-with_pointer at (Some p) cells = if is_storable p && is_cell at cells then slice_set cells (at / 16) (Tagged p) else cells
+-- ---- SETSPPFP
 
--- ---- whole cells
+-- SPACE on the space
+unfoldable pub setsppfp_needs : List Need
+setsppfp_needs = on_object 2 (Of kinds.Space) rights.space None
 
--- the cells of a piece; where it does not begin and end with a cell of the space there are none
-abbrev pub cells_there : List Cell → ℕ → ℕ → List Cell
-cells_there cells at len = if is_within at len cells && is_aligned at then cells_in at len cells else []
+-- a pointer to the first byte of the space
+unfoldable pub setsppfp_gives : Held → List Operand → Val
+setsppfp_gives h ops = vals.Ptr (option_map (λ p. pointers.Space (num_of p) 0) (pointer_at h ops 2))
 
--- cells over those that begin there, with their tags
-abbrev pub with_cells : ℕ → List Cell → List Cell → List Cell
-with_cells at piece cells =
-    if is_within at (16 * length piece) cells && is_aligned at then overlaid (at / 16) piece cells else cells
+abbrev pub setsppfp : Instruction
+setsppfp = record inert {
+  needs = λ s p d r. setsppfp_needs;
+  gives = λ s p d r. Some (setsppfp_gives s.held r.operands);
+}
 
--- a cell for a pointer: no pointer is sixteen zero bytes
-abbrev pub cell_for : Option Pointing → Cell
-cell_for None = Bytes (replicate 16 0)
-cell_for (Some p) = if is_storable p then Tagged p else Bytes (replicate 16 0)
+-- ---- SETDP
 
--- the pointer of the first cell; one of bytes is none
-abbrev pub first_pointer : List Cell → Option Pointing
-first_pointer [] = None
-first_pointer (Tagged p ∷ cells) = Some p
-first_pointer (Bytes bytes ∷ cells) = None
+-- a space pointer; it was made under authority
+unfoldable pub setdp_needs : List Need
+setdp_needs = need 2 Written pointer_kinds.Space (Of kinds.Space) rights.no_rights None
+
+-- the item lies inside the space
+unfoldable pub setdp_fails : Held → List Operand → Option Exception
+setdp_fails h ops =
+    fails (not (is_within (start_of (pointer_at h ops 2) 0) (length_of (attr_at ops 3)) (cells_at h (target h ops 2)))) exceptions.space_addressing 2
+
+-- a pointer to an item of the attribute
+unfoldable pub setdp_gives : Held → List Operand → Val
+setdp_gives h ops = vals.Ptr (option_map (λ p. pointers.Item (num_of p) (offset_of p) (attr_at ops 3)) (pointer_at h ops 2))
+
+abbrev pub setdp : Instruction
+setdp = record inert {
+  needs = λ s p d r. setdp_needs;
+  fails = λ s p d r. setdp_fails s.held r.operands;
+  gives = λ s p d r. Some (setdp_gives s.held r.operands);
+}
+
+-- ---- CPYBWP
+
+abbrev pub is_unaligned : Option Operand → Bool
+is_unaligned (Some (operands.InSpace base offset attr)) = not (is_aligned (start_of base offset))
+is_unaligned _ = false
+
+-- what is copied, and where it goes, begins with a cell
+unfoldable pub cpybwp_fails : List Operand → Option Exception
+cpybwp_fails ops =
+    first (fails (is_unaligned (place ops 1)) exceptions.boundary_alignment 1)
+    (fails (is_unaligned (place ops 2)) exceptions.boundary_alignment 2)
+
+-- a variable gets the pointer of the cell
+unfoldable pub cpybwp_gives : Held → List Operand → Option Val
+cpybwp_gives h ops = if is_in_space (place ops 1) then None else Some (vals.Ptr (first_pointer (source_cells h ops 2)))
+
+-- cells go with their tags into the space
+abbrev pub cells_put : Held → Option Operand → List Cell → Held
+cells_put h (Some (operands.InSpace base offset attr)) piece = on_space h (target_of base) (with_cells (start_of base offset) piece)
+cells_put h _ piece = h
+
+unfoldable pub cpybwp_changes : Held → List Operand → Held
+cpybwp_changes h ops = cells_put h (place ops 1) (source_cells h ops 2)
+
+abbrev pub cpybwp : Instruction
+cpybwp = record inert {
+  fails = λ s p d r. cpybwp_fails r.operands;
+  gives = λ s p d r. cpybwp_gives s.held r.operands;
+  changes = λ s p d r. record s { held = cpybwp_changes s.held r.operands };
+}
+
+-- ---- the family
+
+unfoldable pub spaces_row : Op → Instruction
+spaces_row Setsppfp = setsppfp
+spaces_row Setdp = setdp
+spaces_row Cpybwp = cpybwp
+spaces_row Crts = crts
+spaces_row Mods = mods
+spaces_row Dess = dess
+spaces_row _ = inert

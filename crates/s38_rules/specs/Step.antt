@@ -7,7 +7,7 @@ use Rattle.s38_code.specs.declared.reply.Reply.TheVariants.{Done, Signal, MustWa
 use Rattle.s38_rules.specs.declared.verdict.Verdict.{Verdict}
 use Rattle.s38_rules.specs.declared.verdict.Verdict.TheVariants.{Permit, Wait, Refuse}
 use Rattle.s38_rules.specs.State.{State, waits}
-use Rattle.s38_rules.specs.Verdict.{verdict_of}
+use Rattle.s38_rules.specs.Verdict.{awake_verdict}
 use Rattle.s38_rules.specs.Effect.{effect_of}
 
 pub record Stepped : Type 0 where
@@ -27,7 +27,7 @@ by_verdict s process event (Refuse x) = record { reply = Signal x; state = s; en
 
 abbrev pub by_waiting : Bool → State → ℕ → Event → Stepped
 by_waiting true s process event = record { reply = MustWait; state = s; enters = false }
-by_waiting false s process event = by_verdict s process event (verdict_of s process event)
+by_waiting false s process event = by_verdict s process event (awake_verdict s process event)
 
 unfoldable pub step : State → ℕ → Event → Stepped
 step s process event = by_waiting (waits s process) s process event

@@ -1,25 +1,20 @@
-//! The rules of the machine, as definitions: its state, users and rights, operands, needs, verdicts, effects,
-//! steps, legal histories and processes. The data of the state stand here too, so that the definitions and
-//! the code speak of one type.
+//! The rules of the machine, as definitions: its state, users and rights, operands, each family of instructions, the
+//! verdict, the effect, steps and legal histories. The data of the state stand here too, so that the definitions
+//! and the code speak of one type.
 #![tactic(auto)]
 
-mod exceptions;
-mod local;
+mod creating;
 mod need;
 mod object;
 mod process;
+mod table;
 mod verdict;
 
-pub use exceptions::{
-    BOUNDARY_ALIGNMENT, CONVERSION, DECIMAL_DATA, DUPLICATE_IDENTIFICATION, LENGTH_INVALID,
-    LIMIT_EXCEEDED, NO_MESSAGE, OBJECT_DESTROYED, OBJECT_NOT_FOUND, OBJECT_TYPE_INVALID,
-    PAGES_EXCEEDED, POINTER_MISSING, POINTER_TYPE_INVALID, SIZE, SPACE_ADDRESSING,
-    TEMPLATE_MISSING, UNAUTHORIZED, ZERO_DIVIDE,
-};
-pub use local::LocalEnd;
+pub use creating::Creating;
 pub use need::{Located, Named, Need, PointerKind, Sought};
 pub use object::{Body, Object, PrivateRow, RowList};
-pub use process::{Standing, Started, Status};
+pub use process::{ProcessEntry, Started};
+pub use table::{Header, Table, TableRows};
 pub use verdict::Verdict;
 
 /// What is sent between threads.
@@ -29,8 +24,6 @@ fn sends<T: Send + Sync>() {}
 pub fn all_may_be_sent() {
     sends::<Object>();
     sends::<Need>();
-    sends::<Standing>();
-    sends::<Status>();
+    sends::<ProcessEntry>();
     sends::<Verdict>();
-    sends::<LocalEnd>();
 }

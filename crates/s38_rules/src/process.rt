@@ -1,5 +1,5 @@
 use s38_base::{ObjNum, Seq, UserNum};
-use s38_code::{EndCause, Job};
+use s38_code::Job;
 
 /// What the machine knows of a process since its start.
 #[derive(Drop)]
@@ -13,19 +13,8 @@ pub struct Started {
 
 /// A job, and how far its process has come.
 #[derive(Drop)]
-pub struct Standing {
+pub struct ProcessEntry {
     pub job: Job,
     pub started: Option<Started>,
     pub ended: bool,
-}
-
-/// Where a process stands between two events.
-#[derive(Clone, Copy, PartialEq, Eq, Debug)]
-pub enum Status {
-    /// It has not started.
-    Fresh,
-    Running,
-    /// It asks for its end, for this cause.
-    Ending(EndCause),
-    Ended,
 }

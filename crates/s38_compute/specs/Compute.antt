@@ -1,17 +1,23 @@
 -- What a computation gives once its sources are read, wherever they lie: a number, bytes, a pointer, or the
 -- exception that it signals.
-use Rattle.std.specs.Prelude.{ℕ, ◌*◌, ◌==◌, ◌&&◌, ◌||◌, Bool, true, false, ℤ, pos, negsuc, ◌+ℤ◌, ◌-ℤ◌, List, ◌++◌, length, map, slice_index, Option, Some, None, Result, Ok, Err, nat_le, if◌then◌else◌}
+use Rattle.std.specs.Prelude.{ℕ, ◌*◌, ◌==◌, ◌&&◌, Bool, true, false, ℤ, pos, negsuc, ◌+ℤ◌, ◌-ℤ◌, List, ◌++◌, length, map, slice_index, min, take, Option, Some, None, Result, Ok, Err, nat_le, if◌then◌else◌}
+use Rattle.std.specs.Cmp.Lexicographic.{slice_cmp}
 use Rattle.std.specs.declared.cmp.Ordering.{Ordering}
-use Rattle.std.specs.declared.cmp.Ordering.TheVariants.{Less, Equal, Greater}
+use Rattle.std.specs.Ordering.{nat_cmp}
 use Rattle.s38_base.specs.declared.attr.Attr.{Attr}
 use Rattle.s38_base.specs.declared.exception.Exception.{Exception}
-use Rattle.s38_base.specs.declared.exception.Rule.TheVariants.{Plain}
 use Rattle.s38_base.specs.declared.id.ObjNum.{ObjNum}
 use Rattle.s38_base.specs.declared.op.Op.{Op}
 use Rattle.s38_base.specs.declared.op.Op.TheVariants.{Addn, Subn, Mult, Div, Rem, Neg, Cpynv, Scale, Cpybla, Cpybra, Cpyblap, Cat, Xlate, Cvthc, Cvtch, And, Or, Xor, Not, Subspp}
 use Rattle.s38_base.specs.declared.pointer.Pointer.{Pointer}
 use Rattle.s38_base.specs.declared.pointer.Pointer.TheVariants as pointers
+use Rattle.s38_base.specs.declared.words.Relation.{Relation}
+use Rattle.s38_base.specs.declared.words.Relation.TheVariants.{Eq, Ne, Lo, Hi, Nl, Nh, Any, First, Last}
+use Rattle.s38_base.specs.Exceptions as exceptions
+use Rattle.s38_base.specs.Limits as limits
+use Rattle.s38_base.specs.Relations.{holds}
 use Rattle.s38_base.specs.Scalar.{fraction_of, is_numeric}
+use Rattle.s38_base.specs.Signals.{plain}
 use Rattle.s38_decimal.specs.declared.dec.Target.{Target}
 use Rattle.s38_decimal.specs.declared.dec.DecimalFault.{DecimalFault}
 use Rattle.s38_decimal.specs.declared.dec.DecimalFault.TheVariants as faults
@@ -21,11 +27,6 @@ use Rattle.s38_strings.specs.Bits.{combined}
 use Rattle.s38_strings.specs.Copies.{copied_left, copied_right, filled}
 use Rattle.s38_strings.specs.Hex.{are_hex, read, spelled}
 use Rattle.s38_strings.specs.Translate.{translated}
-use Rattle.s38_rules.specs.declared.exceptions.TheConstants.{CONVERSION, DECIMAL_DATA, POINTER_MISSING, POINTER_TYPE_INVALID, SIZE, SPACE_ADDRESSING, ZERO_DIVIDE}
-
--- an exception about an operand, with no detail
-abbrev pub signal : ℕ → ℕ → Exception
-signal id operand = record { id = id; operand = operand; rule = Plain }
 
 -- ---- numbers
 
@@ -67,9 +68,9 @@ one_computed op to a x power =
 
 -- the divisor is operand 3 and the receiver operand 1
 abbrev pub fault_signal : DecimalFault → Exception
-fault_signal faults.DecimalData = signal DECIMAL_DATA 2
-fault_signal faults.ZeroDivide = signal ZERO_DIVIDE 3
-fault_signal faults.Size = signal SIZE 1
+fault_signal faults.DecimalData = plain exceptions.decimal_data 2
+fault_signal faults.ZeroDivide = plain exceptions.zero_divide 3
+fault_signal faults.Size = plain exceptions.size 1
 
 abbrev pub signalled : Result ℤ DecimalFault → Result ℤ Exception
 signalled (Ok z) = Ok z
@@ -77,27 +78,37 @@ signalled (Err fault) = Err (fault_signal fault)
 
 -- first the sources in their order, then the divisor, then the receiver
 abbrev pub two_numbers : Op → Target → Attr → Option ℤ → Attr → Option ℤ → Result ℤ Exception
-two_numbers op to a None b y = Err (signal DECIMAL_DATA 2)
-two_numbers op to a (Some x) b None = Err (signal DECIMAL_DATA 3)
+two_numbers op to a None b y = Err (plain exceptions.decimal_data 2)
+two_numbers op to a (Some x) b None = Err (plain exceptions.decimal_data 3)
 two_numbers op to a (Some x) b (Some y) = signalled (two_computed op to a x b y)
 
 abbrev pub one_number : Op → Target → Attr → Option ℤ → ℤ → Result ℤ Exception
-one_number op to a None power = Err (signal DECIMAL_DATA 2)
+one_number op to a None power = Err (plain exceptions.decimal_data 2)
 one_number op to a (Some x) power = signalled (one_computed op to a x power)
 
 -- ---- comparisons
 
--- relations are numbered EQ, NE, LO, HI, NL, NH from 0 on: which of them hold
-abbrev pub holds : ℕ → Ordering → Bool
-holds relation Less = (relation == 1) || ((relation == 2) || (relation == 5))
-holds relation Equal = (relation == 0) || ((relation == 4) || (relation == 5))
-holds relation Greater = (relation == 1) || ((relation == 3) || (relation == 4))
+-- ANY, FIRST and LAST compare nothing
+abbrev pub compares : Relation → Bool
+compares Any = false
+compares First = false
+compares Last = false
+compares _ = true
 
-abbrev pub numbers_compared : ℕ → Attr → Option ℤ → Attr → Option ℤ → Result Bool Exception
-numbers_compared relation a None b y = Err (signal DECIMAL_DATA 1)
-numbers_compared relation a (Some x) b None = Err (signal DECIMAL_DATA 2)
+-- whether the relation of a word holds; another word holds never
+abbrev pub word_holds : Option Relation → Ordering → Bool
+word_holds None order = false
+word_holds (Some relation) order = compares relation && holds relation order
+
+abbrev pub numbers_compared : Option Relation → Attr → Option ℤ → Attr → Option ℤ → Result Bool Exception
+numbers_compared relation a None b y = Err (plain exceptions.decimal_data 1)
+numbers_compared relation a (Some x) b None = Err (plain exceptions.decimal_data 2)
 numbers_compared relation a (Some x) b (Some y) =
-    Ok (holds relation (order_of (exact x (fraction_of a)) (exact y (fraction_of b))))
+    Ok (word_holds relation (order_of (exact x (fraction_of a)) (exact y (fraction_of b))))
+
+-- as unsigned bytes over the shorter length
+abbrev pub bytes_order : List ℕ → List ℕ → Ordering
+bytes_order a b = let len = min (length a) (length b) in slice_cmp nat_cmp (take len a) (take len b)
 
 -- ---- strings: `into` is what the receiver holds before, then follow the sources
 
@@ -106,7 +117,7 @@ abbrev pub where_long : Bool → List ℕ → List ℕ → List ℕ
 where_long long bytes into = if long then bytes else into
 
 abbrev pub from_hex : List ℕ → List ℕ → Result (List ℕ) Exception
-from_hex into a = if are_hex a then Ok (read a (length into)) else Err (signal CONVERSION 2)
+from_hex into a = if are_hex a then Ok (read a (length into)) else Err (plain exceptions.conversion 2)
 
 abbrev pub blank : ℕ
 blank = 0x40
@@ -134,12 +145,8 @@ kind_word (Some (pointers.Space object offset)) = 1
 kind_word (Some (pointers.Item object offset attr)) = 2
 kind_word None = 3
 
--- the greatest offset of a pointer
-abbrev pub furthest : ℕ
-furthest = 16777216
-
 abbrev pub offset_in : ℤ → Option ℕ
-offset_in (pos n) = if nat_le n furthest then Some n else None
+offset_in (pos n) = if nat_le n limits.furthest then Some n else None
 offset_in (negsuc n) = None
 
 -- SUBSPP moves backwards
@@ -151,16 +158,16 @@ abbrev pub moved : Bool → ℕ → ℤ → Option ℕ
 moved backwards offset by = offset_in (if backwards then pos offset -ℤ by else pos offset +ℤ by)
 
 abbrev pub pointing : ObjNum → Option ℕ → Result Pointer Exception
-pointing object None = Err (signal SPACE_ADDRESSING 3)
+pointing object None = Err (plain exceptions.space_addressing 3)
 pointing object (Some offset) = Ok (pointers.Space object offset)
 
 abbrev pub space_moved : Op → ObjNum → ℕ → Attr → Option ℤ → Result Pointer Exception
-space_moved op object offset a None = Err (signal DECIMAL_DATA 3)
+space_moved op object offset a None = Err (plain exceptions.decimal_data 3)
 space_moved op object offset a (Some x) =
     pointing object (moved (is_backwards op) offset (whole_part_of (exact x (fraction_of a))))
 
 -- a space pointer, moved by a number whose fraction is dropped
 abbrev pub pointer_moved : Op → Option Pointer → Attr → Option ℤ → Result Pointer Exception
-pointer_moved op None a x = Err (signal POINTER_MISSING 2)
+pointer_moved op None a x = Err (plain exceptions.pointer_missing 2)
 pointer_moved op (Some (pointers.Space object offset)) a x = space_moved op object offset a x
-pointer_moved op (Some p) a x = Err (signal POINTER_TYPE_INVALID 2)
+pointer_moved op (Some p) a x = Err (plain exceptions.pointer_type_invalid 2)

@@ -1,0 +1,105 @@
+-- What a body of one kind holds: how it is read, and how it is put back. Each kind has one part, and what is said
+-- of parts is said once for all kinds.
+use Rattle.std.specs.Prelude.{◌≡◌, ℕ, List, [], Option, Some, None}
+use Rattle.std.specs.Option.{unwrap_or}
+use Rattle.std.proofs.Common.{refl}
+use Rattle.s38_memory.specs.declared.cell.Cell.{Cell}
+use Rattle.s38_queues.specs.MessageQueue.{MessageQueue}
+use Rattle.s38_queues.specs.declared.message.Order.TheVariants.{Fifo}
+use Rattle.s38_rules.specs.declared.object.Object.{Object}
+use Rattle.s38_rules.specs.declared.object.Body.{Body}
+use Rattle.s38_rules.specs.declared.object.Body.TheVariants as bodies
+use Rattle.s38_rules.specs.Held.{Held, change, object}
+
+pub record Part (T : Type 0) : Type 0 where
+  -- what the body holds, where it is of the kind
+  pub of : Body → Option T
+  -- the body that holds this
+  pub make : T → Body
+
+-- what is put is read again, and what is read is all that the body holds
+pub record IsPart (T : Type 0) (p : Part T) : Type 0 where
+  pub got : (x : T) → p.of (p.make x) ≡ Some x
+  pub back : (b : Body) (x : T) → p.of b ≡ Some x → b ≡ p.make x
+
+abbrev pub over : {T : Type 0} → Part T → (T → T) → Body → Option T → Body
+over p f b None = b
+over p f b (Some x) = p.make (f x)
+
+-- a body of the kind holds something else from now on, and any other stays
+abbrev pub over_body : {T : Type 0} → Part T → (T → T) → Body → Body
+over_body p f b = over p f b (p.of b)
+
+abbrev pub over_object : {T : Type 0} → Part T → (T → T) → Object → Object
+over_object p f o = record o { body = over_body p f o.body }
+
+-- what the object of a number holds is something else from now on, where it is of the kind
+abbrev pub over_part : {T : Type 0} → Part T → Held → ℕ → (T → T) → Held
+over_part p h n f = change h n (over_object p f)
+
+abbrev pub part_in : {T : Type 0} → Part T → Option Object → Option T
+part_in p None = None
+part_in p (Some o) = p.of o.body
+
+-- what the object of a number holds, where it is of the kind
+abbrev pub part_at : {T : Type 0} → Part T → Held → ℕ → Option T
+part_at p h n = part_in p (object h n)
+
+-- ---- the parts
+
+abbrev pub queue_of : Body → Option MessageQueue
+queue_of (bodies.Queue q) = Some q
+queue_of _ = None
+
+abbrev pub queue_part : Part MessageQueue
+queue_part = record { of = queue_of; make = bodies.Queue }
+
+abbrev pub space_of : Body → Option (List Cell)
+space_of (bodies.Space cells) = Some cells
+space_of _ = None
+
+abbrev pub space_part : Part (List Cell)
+space_part = record { of = space_of; make = bodies.Space }
+
+-- ---- they are parts
+
+queue_back : (b : Body) (x : MessageQueue) → queue_of b ≡ Some x → b ≡ bodies.Queue x
+queue_back (bodies.Queue q) x h = cc
+queue_back bodies.Context x h = cc
+queue_back (bodies.Program code) x h = cc
+queue_back (bodies.Profile special limit) x h = cc
+queue_back (bodies.Space cells) x h = cc
+
+pub queue_lawful : IsPart MessageQueue queue_part
+queue_lawful = record { got = λ x. refl; back = queue_back }
+
+space_back : (b : Body) (x : List Cell) → space_of b ≡ Some x → b ≡ bodies.Space x
+space_back (bodies.Space cells) x h = cc
+space_back bodies.Context x h = cc
+space_back (bodies.Program code) x h = cc
+space_back (bodies.Profile special limit) x h = cc
+space_back (bodies.Queue q) x h = cc
+
+pub space_lawful : IsPart (List Cell) space_part
+space_lawful = record { got = λ x. refl; back = space_back }
+
+-- ---- read where the kind was asked before
+
+abbrev pub no_queue : MessageQueue
+no_queue = record { order = Fifo; key_len = 0; longest = 0; messages = [] }
+
+-- the queue of a number
+abbrev pub queue_at : Held → ℕ → MessageQueue
+queue_at h n = unwrap_or (part_at queue_part h n) no_queue
+
+-- the cells of the space of a number
+abbrev pub cells_at : Held → ℕ → List Cell
+cells_at h n = unwrap_or (part_at space_part h n) []
+
+-- the queue of a number is another one from now on
+abbrev pub on_queue : Held → ℕ → (MessageQueue → MessageQueue) → Held
+on_queue h n f = over_part queue_part h n f
+
+-- the cells of the space of a number are others from now on
+abbrev pub on_space : Held → ℕ → (List Cell → List Cell) → Held
+on_space h n f = over_part space_part h n f

@@ -1,0 +1,136 @@
+-- Queues: made and destroyed; messages put and taken.
+use Rattle.std.specs.Prelude.{ℕ, ◌+◌, ◌==◌, not, List, [], ◌∷◌, length, max, min, Option, Some, None, nat_lt}
+use Rattle.s38_base.specs.declared.exception.Exception.{Exception}
+use Rattle.s38_base.specs.declared.id.Kind.TheVariants as kinds
+use Rattle.s38_base.specs.declared.op.Op.{Op}
+use Rattle.s38_base.specs.declared.op.Op.TheVariants.{Crtq, Desq, Enq, Deq}
+use Rattle.s38_base.specs.declared.words.Category.TheVariants.{Change}
+use Rattle.s38_base.specs.declared.words.Relation.TheVariants.{Any}
+use Rattle.s38_base.specs.Exceptions as exceptions
+use Rattle.s38_base.specs.Limits.{longest_message}
+use Rattle.s38_base.specs.Relations.{relation_word}
+use Rattle.s38_base.specs.RightNames as rights
+use Rattle.s38_base.specs.Signals.{fails, first}
+use Rattle.s38_queues.specs.MessageQueue.{MessageQueue, image_size, message, with_message, without_message}
+use Rattle.s38_queues.specs.declared.message.Message.{Message}
+use Rattle.s38_queues.specs.declared.message.Order.TheVariants.{Fifo}
+use Rattle.s38_code.specs.declared.operand.Operand.{Operand}
+use Rattle.s38_code.specs.declared.reply.Val.{Val}
+use Rattle.s38_code.specs.declared.reply.Val.TheVariants as vals
+use Rattle.s38_rules.specs.declared.creating.Creating.{Creating}
+use Rattle.s38_rules.specs.declared.need.Need.{Need}
+use Rattle.s38_rules.specs.declared.need.Sought.TheVariants.{Of}
+use Rattle.s38_rules.specs.declared.object.Body.TheVariants as bodies
+use Rattle.s38_rules.specs.Creation.{creation_changes, creation_fails, creation_gives, creation_needs, destruction_changes, destruction_needs, in_context}
+use Rattle.s38_rules.specs.Held.{Held}
+use Rattle.s38_rules.specs.Instruction.{Instruction, inert}
+use Rattle.s38_rules.specs.Needs.{on_object}
+use Rattle.s38_rules.specs.Operands.{blank, bytes_at, fitted, is_given, room_at, size_at, target, whole_at, word_at}
+use Rattle.s38_rules.specs.Parts.{on_queue, queue_at}
+use Rattle.s38_rules.specs.State.{State}
+use Rattle.s38_rules.specs.Users.{user_of}
+
+-- ---- CRTQ
+
+abbrev pub created_queue : Held → List Operand → Creating
+created_queue h ops = in_context kinds.Queue 1 h ops
+
+unfoldable pub crtq_fails : State → ℕ → List Operand → Option Exception
+crtq_fails s p ops = creation_fails s.held (user_of s p) (created_queue s.held ops) None
+
+-- messages of 1 to 4,096 bytes; another number, which a checked program does not have, is brought there
+abbrev pub longest_at : List Operand → ℕ
+longest_at ops = max 1 (min longest_message (whole_at ops 7))
+
+abbrev pub new_queue : ℕ → MessageQueue
+new_queue longest = record { order = Fifo; key_len = 0; longest = longest; messages = [] }
+
+unfoldable pub crtq_changes : State → ℕ → List Operand → State
+crtq_changes s p ops =
+    record s { held = creation_changes s.held (user_of s p) (created_queue s.held ops) (bodies.Queue (new_queue (longest_at ops))) }
+
+abbrev pub crtq : Instruction
+crtq = record {
+  needs = λ s p d r. creation_needs r.operands;
+  fails = λ s p d r. crtq_fails s p r.operands;
+  gives = λ s p d r. Some (creation_gives s.held (created_queue s.held r.operands));
+  changes = λ s p d r. crtq_changes s p r.operands;
+}
+
+-- ---- DESQ
+
+abbrev pub desq : Instruction
+desq = record inert {
+  needs = λ s p d r. destruction_needs kinds.Queue;
+  changes = λ s p d r. record s { held = destruction_changes s.held r.operands };
+}
+
+-- ---- ENQ
+
+-- INSERT on the queue
+unfoldable pub enq_needs : List Need
+enq_needs = on_object 1 (Of kinds.Queue) rights.insert (Some Change)
+
+-- the lengths of key and text suit the queue, and its image stays within the limit of a body; a message takes two
+-- bytes beside them
+abbrev pub put_fails : ℕ → MessageQueue → ℕ → ℕ → Option Exception
+put_fails limit q key text =
+    first (fails (not (key == q.key_len)) exceptions.length_invalid 2)
+    (first (fails (nat_lt q.longest text) exceptions.length_invalid 3)
+    (fails (nat_lt limit (image_size q.messages + (key + text + 2))) exceptions.limit_exceeded 1))
+
+unfoldable pub enq_fails : State → List Operand → Option Exception
+enq_fails s ops = put_fails s.limit (queue_at s.held (target s.held ops 1)) (size_at s.held ops 2) (size_at s.held ops 3)
+
+-- the message stands last in the queue
+unfoldable pub enq_changes : Held → List Operand → Held
+enq_changes h ops = on_queue h (target h ops 1) (λ q. with_message q (message (bytes_at h ops 2) (bytes_at h ops 3)))
+
+abbrev pub enq : Instruction
+enq = record inert {
+  needs = λ s p d r. enq_needs;
+  fails = λ s p d r. enq_fails s r.operands;
+  changes = λ s p d r. record s { held = enq_changes s.held r.operands };
+}
+
+-- ---- DEQ
+
+-- DELETE on the queue
+unfoldable pub deq_needs : List Need
+deq_needs = on_object 2 (Of kinds.Queue) rights.delete (Some Change)
+
+-- a queue without keys is asked for any message and without a key, and there is one
+unfoldable pub deq_fails : Held → List Operand → Option Exception
+deq_fails h ops =
+    first (fails (not (word_at ops 3 == relation_word Any)) exceptions.length_invalid 3)
+    (first (fails (is_given ops 4) exceptions.length_invalid 4)
+    (fails (length (queue_at h (target h ops 2)).messages == 0) exceptions.no_message 2))
+
+abbrev pub oldest : List Message → List ℕ
+oldest [] = []
+oldest (m ∷ ms) = m.text
+
+-- the oldest message, cut or filled with blanks
+unfoldable pub deq_gives : Held → List Operand → Val
+deq_gives h ops = vals.Bytes (fitted (room_at ops 1) blank (oldest (queue_at h (target h ops 2)).messages))
+
+-- the oldest message leaves the queue
+unfoldable pub deq_changes : Held → List Operand → Held
+deq_changes h ops = on_queue h (target h ops 2) (λ q. without_message q 0)
+
+abbrev pub deq : Instruction
+deq = record inert {
+  needs = λ s p d r. deq_needs;
+  fails = λ s p d r. deq_fails s.held r.operands;
+  gives = λ s p d r. Some (deq_gives s.held r.operands);
+  changes = λ s p d r. record s { held = deq_changes s.held r.operands };
+}
+
+-- ---- the family
+
+unfoldable pub queues_row : Op → Instruction
+queues_row Crtq = crtq
+queues_row Desq = desq
+queues_row Enq = enq
+queues_row Deq = deq
+queues_row _ = inert

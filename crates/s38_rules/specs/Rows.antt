@@ -1,0 +1,22 @@
+-- The row of each instruction, by its family. What is not built needs nothing and does nothing.
+use Rattle.s38_base.specs.declared.op.Op.{Op}
+use Rattle.s38_code.specs.declared.family.Family.{Family}
+use Rattle.s38_code.specs.declared.family.Family.TheVariants as families
+use Rattle.s38_code.specs.Families.{family_of}
+use Rattle.s38_rules.specs.Computing.{computing}
+use Rattle.s38_rules.specs.Instruction.{Instruction, inert}
+use Rattle.s38_rules.specs.Programs.{programs_row}
+use Rattle.s38_rules.specs.Queues.{queues_row}
+use Rattle.s38_rules.specs.Resolving.{resolving_row}
+use Rattle.s38_rules.specs.Spaces.{spaces_row}
+
+unfoldable pub row_in : Family → Op → Instruction
+row_in families.Computing op = computing
+row_in families.Resolving op = resolving_row op
+row_in families.Programs op = programs_row op
+row_in families.Spaces op = spaces_row op
+row_in families.Queues op = queues_row op
+row_in _ op = inert
+
+abbrev pub row : Op → Instruction
+row op = row_in (family_of op) op

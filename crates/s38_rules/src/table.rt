@@ -1,0 +1,39 @@
+//! What the objects are to the crates below the object map: headers and private rows, by number.
+ghost use Rattle.std.specs.Prelude.{◌≡◌};
+ghost use Rattle.s38_rules.specs.Held.{Held, object};
+ghost use Rattle.s38_rules.specs.Headers.{header_in, row_in};
+
+use s38_base::{Kind, ObjNum, Rights, Special, UserNum};
+
+/// What is said of an object beside its name and what it holds.
+#[derive(Clone, Copy, PartialEq, Eq, Debug)]
+pub struct Header {
+    pub kind: Kind,
+    pub owner: UserNum,
+    /// The rights of everybody.
+    pub public: Rights,
+    /// A program whose owner acts too while it runs.
+    pub adopts: bool,
+    /// A program whose adoption reaches the programs that it calls.
+    pub propagates: bool,
+    /// The special authorities of a user; none for other kinds.
+    pub special: Special,
+    /// How many pages a user may own; 0 for other kinds.
+    pub limit: u32,
+}
+
+/// The objects by number.
+pub trait Table {
+    ghost held: { Self → Held };
+
+    /// The header of an object; None exactly where there is none of the number.
+    fn header(&self, number: ObjNum) -> Option<Header>
+        ensures { result ≡ header_in (object (held self.now) number.0) };
+}
+
+/// The objects, with their private rows.
+pub trait TableRows: Table {
+    /// The rights of a user by its row on an object; none without the object or the row.
+    fn row_of(&self, number: ObjNum, user: UserNum) -> Rights
+        ensures { result.0 ≡ row_in (object (Self.held self.now) number.0) user.0 };
+}
