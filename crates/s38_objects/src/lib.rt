@@ -4,7 +4,6 @@
 
 mod body;
 mod charges;
-mod lent;
 mod name_key;
 mod names;
 mod numbered;
