@@ -8,6 +8,7 @@ mod name_key;
 mod names;
 mod numbered;
 mod objects;
+mod table;
 #[cfg(test)]
 mod tests;
 
