@@ -1,0 +1,5 @@
+pub mod Compute
+pub mod Computed
+pub mod Piece
+pub mod Readings
+pub mod Written
