@@ -1,13 +1,5 @@
 pub mod Built
 pub mod Class
-pub mod DeclarationLine
 pub mod History
 pub mod Mnemonic
 pub mod Tie
-pub mod WordsAttribute
-pub mod WordsForm
-pub mod WordsLiteral
-pub mod WordsName
-pub mod WordsNumber
-pub mod WordsRow
-pub mod WordsText

@@ -11,7 +11,7 @@ use crate::forms::{
 use crate::said::Said;
 use crate::scope::Scope;
 use s38_base::NoMemory;
-use s38_code::words::{
+use s38_words::{
     lock_state, order, pointer_kind, relation, rights, seek, specials, switch, wait,
 };
 use s38_code::{Arg, Class};
