@@ -12,8 +12,8 @@ ghost use Rattle.s38_template.specs.Places.{HasTemplate, held, place_of, placed}
 
 use crate::names::name_in;
 use s38_base::{Name, NoMemory};
-use s38_words::before;
 use s38_code::{Deck, Template};
+use s38_words::before;
 use std::alloc::Global;
 use std::collections::BTreeMap;
 
