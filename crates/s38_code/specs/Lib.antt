@@ -1,14 +1,6 @@
 pub mod Built
 pub mod Class
-pub mod DeclarationLine
+pub mod Families
 pub mod History
 pub mod Mnemonic
 pub mod Tie
-pub mod WordsAttribute
-pub mod WordsForm
-pub mod WordsLiteral
-pub mod WordsName
-pub mod WordsNumber
-pub mod WordsRow
-pub mod WordsText
-pub mod Families

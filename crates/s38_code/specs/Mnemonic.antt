@@ -1,8 +1,7 @@
 -- How decks and job logs write an operation.
-use Rattle.std.specs.Prelude.{ℕ, List, [], ◌∷◌, codes, Option, Some, None, if◌then◌else◌}
+use Rattle.std.specs.Prelude.{ℕ, List, codes}
 use Rattle.s38_base.specs.declared.op.Op.{Op}
 use Rattle.s38_base.specs.declared.op.Op.TheVariants.{Addn, Subn, Mult, Div, Rem, Neg, Cpynv, Scale, Cmpnvb, Cpybla, Cpybra, Cpyblap, Cat, Xlate, Cvthc, Cvtch, And, Or, Xor, Not, Cmpblab, B, Calli, Rtx, Sigexcp, Retexcpd, Modexcpd, Cmpptrt, Addspp, Subspp, Rslvsp, Setsppfp, Setspfp, Setdp, Cpybwp, Crtctx, Modadr, Rename, Matctx, Crtup, Modup, Grant, Retract, Xfro, Testau, Matau, Matauobj, Crtpg, Callx, Xctl, Lock, Unlock, Xfrlock, Matobjlk, Crts, Mods, Crtq, Enq, Deq, Crtinx, Insinxen, Fndinxen, Rmvinxen, Crtds, Crtcr, Setcr, Insdsen, Retdsen, Updsen, Deldsen, Crtjs, Crtjp, Jrnlobj, Retjent, Crtcb, Commit, Decommit, Ensobj, Desctx, Desup, Despg, Dess, Desq, Desinx, Desds, Descr, Desjs, Desjp, Descb}
-use Rattle.s38_code.specs.WordsText.{is_word}
 
 unfoldable pub mnemonic : Op → List ℕ
 mnemonic Addn = codes "ADDN"
@@ -94,16 +93,3 @@ mnemonic Descr = codes "DESCR"
 mnemonic Desjs = codes "DESJS"
 mnemonic Desjp = codes "DESJP"
 mnemonic Descb = codes "DESCB"
-
--- all operations
-unfoldable pub operations : List Op
-operations = Addn ∷ Subn ∷ Mult ∷ Div ∷ Rem ∷ Neg ∷ Cpynv ∷ Scale ∷ Cmpnvb ∷ Cpybla ∷ Cpybra ∷ Cpyblap ∷ Cat ∷ Xlate ∷ Cvthc ∷ Cvtch ∷ And ∷ Or ∷ Xor ∷ Not ∷ Cmpblab ∷ B ∷ Calli ∷ Rtx ∷ Sigexcp ∷ Retexcpd ∷ Modexcpd ∷ Cmpptrt ∷ Addspp ∷ Subspp ∷ Rslvsp ∷ Setsppfp ∷ Setspfp ∷ Setdp ∷ Cpybwp ∷ Crtctx ∷ Modadr ∷ Rename ∷ Matctx ∷ Crtup ∷ Modup ∷ Grant ∷ Retract ∷ Xfro ∷ Testau ∷ Matau ∷ Matauobj ∷ Crtpg ∷ Callx ∷ Xctl ∷ Lock ∷ Unlock ∷ Xfrlock ∷ Matobjlk ∷ Crts ∷ Mods ∷ Crtq ∷ Enq ∷ Deq ∷ Crtinx ∷ Insinxen ∷ Fndinxen ∷ Rmvinxen ∷ Crtds ∷ Crtcr ∷ Setcr ∷ Insdsen ∷ Retdsen ∷ Updsen ∷ Deldsen ∷ Crtjs ∷ Crtjp ∷ Jrnlobj ∷ Retjent ∷ Crtcb ∷ Commit ∷ Decommit ∷ Ensobj ∷ Desctx ∷ Desup ∷ Despg ∷ Dess ∷ Desq ∷ Desinx ∷ Desds ∷ Descr ∷ Desjs ∷ Desjp ∷ Descb ∷ []
-
--- the first of these that a word is the mnemonic of
-abbrev pub first_op : List Op → List ℕ → Option Op
-first_op [] word = None
-first_op (op ∷ ops) word = if is_word (mnemonic op) word then Some op else first_op ops word
-
--- the operation that a word is the mnemonic of
-abbrev pub op_of : List ℕ → Option Op
-op_of word = first_op operations word

@@ -16,7 +16,6 @@ mod program;
 mod reply;
 mod step;
 mod tie;
-pub mod words;
 
 pub use built::{is_built, is_local_built, is_shared_built};
 pub use class::{Class, classes};
@@ -49,7 +48,5 @@ pub fn all_may_be_sent() {
     sends::<StepFault>();
 }
 
-#[cfg(test)]
-mod table_tests;
 #[cfg(test)]
 mod tests;

@@ -12,7 +12,7 @@ use Rattle.s38_base.specs.declared.op.Op.TheVariants.{Addn, Subn, Mult, Div, Rem
 use Rattle.s38_base.specs.declared.pointer.Pointer.{Pointer}
 use Rattle.s38_base.specs.declared.pointer.Pointer.TheVariants as pointers
 use Rattle.s38_base.specs.declared.words.Relation.{Relation}
-use Rattle.s38_base.specs.declared.words.Relation.TheVariants.{Eq, Ne, Lo, Hi, Nl, Nh, Any, First, Last}
+use Rattle.s38_base.specs.declared.words.Relation.TheVariants.{Any, First, Last}
 use Rattle.s38_base.specs.Exceptions as exceptions
 use Rattle.s38_base.specs.Limits as limits
 use Rattle.s38_base.specs.Relations.{holds}

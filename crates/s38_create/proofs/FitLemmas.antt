@@ -7,9 +7,9 @@ use Rattle.std.proofs.lemmas.List.Folds.{list_all-map}
 use Rattle.s38_base.specs.declared.op.Op.{Op}
 use Rattle.s38_code.specs.Built.{is_built}
 use Rattle.s38_code.specs.Class.{classes}
-use Rattle.s38_code.specs.Mnemonic.{op_of}
+use Rattle.s38_words.specs.Operation.{op_of}
 use Rattle.s38_code.specs.Tie.{made_kind, tie_of}
-use Rattle.s38_code.specs.WordsText.{before}
+use Rattle.s38_words.specs.Text.{before}
 use Rattle.s38_code.specs.declared.program.CreateFault.{CreateFault}
 use Rattle.s38_code.specs.declared.program.CreateFault.TheVariants.{Bad}
 use Rattle.s38_code.specs.declared.program.Instruction.{Instruction}

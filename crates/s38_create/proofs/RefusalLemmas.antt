@@ -1,8 +1,8 @@
 -- Creation refuses at a place, and never for want of memory.
 use Rattle.std.proofs.Common.{◌≡◌, ℕ, ◌+◌, Bool, true, false, cond, List, [], ◌∷◌, ◌++◌, length, Option, Some, None, Result, Ok, Err}
 use Rattle.s38_base.specs.declared.op.Op.{Op}
-use Rattle.s38_code.specs.Mnemonic.{op_of}
-use Rattle.s38_code.specs.WordsText.{before}
+use Rattle.s38_words.specs.Operation.{op_of}
+use Rattle.s38_words.specs.Text.{before}
 use Rattle.s38_code.specs.declared.program.CreateFault.{CreateFault}
 use Rattle.s38_code.specs.declared.program.CreateFault.TheVariants.{Bad, NoMemory}
 use Rattle.s38_code.specs.declared.program.Instruction.{Instruction}

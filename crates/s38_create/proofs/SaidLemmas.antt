@@ -7,18 +7,18 @@ use Rattle.std.proofs.lemmas.List.Folds.{list_all-append}
 use Rattle.std.proofs.lemmas.List.FromFn.{length-map-range_with_len}
 use Rattle.s38_base.specs.Scalar.{image_of, packed_byte}
 use Rattle.s38_base.specs.declared.attr.Attr.TheVariants.{Chars}
-use Rattle.s38_code.specs.WordsLiteral.{number_literal, packed_number, text_from, text_literal, text_of}
-use Rattle.s38_code.specs.WordsNumber.{number_of}
+use Rattle.s38_words.specs.Literal.{number_literal, packed_number, text_from, text_literal, text_of}
+use Rattle.s38_words.specs.Number.{number_of}
 use Rattle.s38_code.specs.declared.class.Class.{Class}
 use Rattle.s38_code.specs.declared.class.Class.TheVariants.{NumberSource, NumberReceiver, BytesSource, BytesOrNone, BytesReceiver, PointerSource, PointerReceiver, CellsSource, CellsReceiver, Context, ContextOrList, PointerOrNone, UserOrPublic, Identification, RightsWord, SpecialsWord, LockStateWord, WaitWord, RelationWord, ComparisonWord, OrderWord, SeekWord, PointerKindWord, SwitchWord, Label, WholeLiteral, PowerLiteral, AttributeWord, AttributesWord, ExceptionCode, Handler, TemplateName, JobName, Argument}
 use Rattle.s38_code.specs.declared.program.Arg.{Arg}
 use Rattle.s38_code.specs.declared.program.Arg.TheVariants as args
 use Rattle.s38_code.specs.declared.program.Row.{Row}
-use Rattle.s38_code.specs.WordsAttribute.{attr_of, attrs_of}
-use Rattle.s38_code.specs.WordsName.{code_of, declared_name, id_of}
-use Rattle.s38_code.specs.WordsNumber.{natural_of, whole_of}
-use Rattle.s38_code.specs.WordsRow.{lock_state_of, order_of, pointer_kind_of, relation_of, rights_of, seek_of, specials_of, switch_of, wait_of}
-use Rattle.s38_code.specs.WordsText.{before, behind, is_word}
+use Rattle.s38_words.specs.Attribute.{attr_of, attrs_of}
+use Rattle.s38_words.specs.Name.{code_of, declared_name, id_of}
+use Rattle.s38_words.specs.Number.{natural_of, whole_of}
+use Rattle.s38_words.specs.Row.{lock_state_of, order_of, pointer_kind_of, relation_of, rights_of, seek_of, specials_of, switch_of, wait_of}
+use Rattle.s38_words.specs.Text.{before, behind, is_word}
 use Rattle.std.specs.Prelude.{codes}
 use Rattle.s38_odt.specs.Table.{place_in}
 use Rattle.s38_create.proofs.LabelLemmas.{label_in-bound}

@@ -2,8 +2,8 @@
 use Rattle.std.specs.Prelude.{ℕ, ◌-◌, Bool, true, false, ◌&&◌, List, [], take, drop, length, slice_index_or, codes, Option, Some, None, is_some, nat_le, Result, Ok, Err, if◌then◌else◌}
 use Rattle.std.specs.List.{prefix_len}
 use Rattle.std.specs.Option.{option_and_then}
-use Rattle.s38_code.specs.WordsName.{declared_name}
-use Rattle.s38_code.specs.WordsText.{is_word, before, behind, rest_after}
+use Rattle.s38_words.specs.Name.{declared_name}
+use Rattle.s38_words.specs.Text.{is_word, before, behind, rest_after}
 use Rattle.s38_code.specs.declared.program.CreateFault.{CreateFault}
 use Rattle.s38_code.specs.declared.program.CreateFault.TheVariants.{Bad}
 use Rattle.s38_code.specs.declared.program.Instruction.{Instruction}

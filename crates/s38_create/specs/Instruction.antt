@@ -7,9 +7,9 @@ use Rattle.s38_base.specs.declared.op.Op.{Op}
 use Rattle.s38_base.specs.declared.op.Op.TheVariants.{Deq, Crtq}
 use Rattle.s38_code.specs.Built.{is_built}
 use Rattle.s38_code.specs.Class.{classes}
-use Rattle.s38_code.specs.Mnemonic.{op_of}
+use Rattle.s38_words.specs.Operation.{op_of}
 use Rattle.s38_code.specs.Tie.{may_round}
-use Rattle.s38_code.specs.WordsText.{before, behind, rest_after}
+use Rattle.s38_words.specs.Text.{before, behind, rest_after}
 use Rattle.s38_code.specs.declared.program.Arg.{Arg}
 use Rattle.s38_code.specs.declared.program.CreateFault.{CreateFault}
 use Rattle.s38_code.specs.declared.program.CreateFault.TheVariants.{Bad}

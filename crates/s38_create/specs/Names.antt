@@ -3,8 +3,8 @@ use Rattle.std.specs.Prelude.{ℕ, ◌+◌, Bool, false, not, List, [], ◌∷�
 use Rattle.std.specs.List.{count_by}
 use Rattle.std.specs.Option.{option_and_then, option_map_or}
 use Rattle.std.specs.Str.{bytes_eq}
-use Rattle.s38_code.specs.WordsName.{declared_name}
-use Rattle.s38_code.specs.WordsText.{rest_after}
+use Rattle.s38_words.specs.Name.{declared_name}
+use Rattle.s38_words.specs.Text.{rest_after}
 
 -- the name in a line LABEL name
 unfoldable pub label_of : List ℕ → Option (List ℕ)

@@ -1,12 +1,12 @@
 -- What a word says at an operand's place, by the class that stands there.
 use Rattle.std.specs.Prelude.{ℕ, ℤ, pos, min, Bool, true, false, List, [], ◌∷◌, ◌++◌, codes, unsigned_abs, nat_le, is_some, Option, Some, None, if◌then◌else◌}
 use Rattle.std.specs.Option.{option_map, option_and_then, option_or}
-use Rattle.s38_code.specs.WordsAttribute.{attr_of, attrs_of}
-use Rattle.s38_code.specs.WordsLiteral.{number_literal, text_literal}
-use Rattle.s38_code.specs.WordsName.{code_of, declared_name, id_of}
-use Rattle.s38_code.specs.WordsNumber.{natural_of, whole_of}
-use Rattle.s38_code.specs.WordsRow.{lock_state_of, order_of, pointer_kind_of, relation_of, rights_of, seek_of, specials_of, switch_of, wait_of}
-use Rattle.s38_code.specs.WordsText.{is_word, before, behind}
+use Rattle.s38_words.specs.Attribute.{attr_of, attrs_of}
+use Rattle.s38_words.specs.Literal.{number_literal, text_literal}
+use Rattle.s38_words.specs.Name.{code_of, declared_name, id_of}
+use Rattle.s38_words.specs.Number.{natural_of, whole_of}
+use Rattle.s38_words.specs.Row.{lock_state_of, order_of, pointer_kind_of, relation_of, rights_of, seek_of, specials_of, switch_of, wait_of}
+use Rattle.s38_words.specs.Text.{is_word, before, behind}
 use Rattle.s38_code.specs.declared.class.Class.{Class}
 use Rattle.s38_code.specs.declared.class.Class.TheVariants.{NumberSource, NumberReceiver, BytesSource, BytesOrNone, BytesReceiver, PointerSource, PointerReceiver, CellsSource, CellsReceiver, Context, ContextOrList, PointerOrNone, UserOrPublic, Identification, RightsWord, SpecialsWord, LockStateWord, WaitWord, RelationWord, ComparisonWord, OrderWord, SeekWord, PointerKindWord, SwitchWord, Label, WholeLiteral, PowerLiteral, AttributeWord, AttributesWord, ExceptionCode, Handler, TemplateName, JobName, Argument}
 use Rattle.s38_code.specs.declared.program.Arg.{Arg}

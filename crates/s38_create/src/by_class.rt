@@ -11,10 +11,8 @@ use crate::forms::{
 use crate::said::Said;
 use crate::scope::Scope;
 use s38_base::NoMemory;
-use s38_code::words::{
-    lock_state, order, pointer_kind, relation, rights, seek, specials, switch, wait,
-};
 use s38_code::{Arg, Class};
+use s38_words::{lock_state, order, pointer_kind, relation, rights, seek, specials, switch, wait};
 use std::alloc::Global;
 
 /// A word with a star, or an item.

@@ -1,5 +1,5 @@
 ghost use Rattle.std.specs.Prelude.{◌≡◌, unsigned_abs, nat_le, pos, if◌then◌else◌, IfOk};
-ghost use Rattle.s38_code.specs.WordsName.{code_of};
+ghost use Rattle.s38_words.specs.Name.{code_of};
 ghost use Rattle.s38_create.specs.Labels.{HasLabels};
 ghost use Rattle.s38_create.specs.Said.{attribute_said, attributes_said, bytes_said, given, id_said, item_said, label_said, name_said, number_said, power_of, power_said, size_said, star_said, word_said};
 
@@ -7,7 +7,7 @@ use crate::said::Said;
 use crate::scope::{Scope, place};
 use s38_base::{NoMemory, Seq};
 use s38_code::Arg;
-use s38_code::words::{
+use s38_words::{
     attribute, attributes, declared_name, exception_code, identification, is_word, natural,
     number_literal, text_literal, whole,
 };

@@ -4,7 +4,7 @@ ghost use Rattle.s38_create.specs.Names.{instruction_count};
 
 use crate::line::is_label;
 use s38_base::Bytes;
-use s38_code::words::{is_word, rest_after};
+use s38_words::{is_word, rest_after};
 
 /// The last of two or more lines is END.
 pub fn is_ended(lines: &[Bytes]) -> bool

@@ -2,7 +2,7 @@ ghost use Rattle.std.specs.Prelude.{◌≡◌};
 ghost use Rattle.std.specs.Option.{option_map};
 ghost use Rattle.s38_create.specs.Created.{adoption, head_of, head_said};
 
-use s38_code::words::{before, behind, declared_name, is_word, rest_after};
+use s38_words::{before, behind, declared_name, is_word, rest_after};
 
 /// What the head of a program says beside its name.
 #[derive(Clone, Copy, PartialEq, Eq, Debug)]

@@ -12,8 +12,8 @@ use crate::said::{Said, arg_of, is_declared, is_placed};
 use crate::saids::saids;
 use crate::scope::Scope;
 use s38_base::{NoMemory, Op, Seq};
-use s38_code::words::{before, operation};
 use s38_code::{Arg, CreateFault, Instruction, Instructions, classes, is_built, may_round};
+use s38_words::{before, operation};
 use std::alloc::Global;
 
 /// This machine has the instruction, and `(R)` stands in its line only where it may.

@@ -4,7 +4,7 @@ ghost use Rattle.s38_create.specs.Instruction.{behind_suffix, is_rounded, operan
 ghost use Rattle.s38_create.specs.Names.{is_label, label_of};
 
 use s38_base::Name;
-use s38_code::words::{behind, declared_name, rest_after};
+use s38_words::{behind, declared_name, rest_after};
 
 /// What stands behind `(R)`, where that stands behind the mnemonic.
 fn behind_suffix(line: &[u8]) -> Option<&[u8]>

@@ -8,7 +8,7 @@ use crate::said::Said;
 use crate::scope::Scope;
 use s38_base::NoMemory;
 use s38_code::Class;
-use s38_code::words::{before, behind};
+use s38_words::{before, behind};
 use std::alloc::Global;
 
 pub fn is_argument(class: Class) -> bool

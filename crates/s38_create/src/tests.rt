@@ -2,7 +2,7 @@
 
 use crate::{checked, create};
 use s38_base::{NoMemory, Seq};
-use s38_code::{Arg, CreateFault, Form, CreateResult, Program, Template, mnemonic};
+use s38_code::{Arg, CreateFault, CreateResult, Form, Program, Template, mnemonic};
 use std::alloc::Global;
 use std::test::Fail;
 

@@ -12,17 +12,17 @@ use Rattle.std.proofs.Math.Seq.{get_or-append_seam, take-append_seam}
 use Rattle.s38_base.specs.Scalar.{digit_at, bits_of, fits, image_of, is_bounded, length_of, packed_byte, zoned_byte}
 use Rattle.s38_base.specs.declared.attr.Attr.{Attr}
 use Rattle.s38_base.specs.declared.attr.Attr.TheVariants.{Packed, Zoned, Binary, Chars, Pointer}
-use Rattle.s38_code.specs.DeclarationLine.{declaration_of, initial_of, is_in_range}
-use Rattle.s38_code.specs.WordsLiteral.{text_of}
-use Rattle.s38_code.specs.WordsNumber.{number_of}
+use Rattle.s38_words.specs.DeclarationLine.{declaration_of, initial_of, is_in_range}
+use Rattle.s38_words.specs.Literal.{text_of}
+use Rattle.s38_words.specs.Number.{number_of}
 use Rattle.s38_code.specs.declared.program.CreateFault.{CreateFault}
 use Rattle.s38_code.specs.declared.program.Form.{Form}
 use Rattle.s38_code.specs.declared.program.Form.TheVariants.{Local, Based}
 use Rattle.s38_code.specs.declared.program.Row.{Row}
-use Rattle.s38_code.specs.declared.words.declarations.DeclarationLine.{DeclarationLine}
-use Rattle.s38_code.specs.declared.words.declarations.Declares.{Declares}
-use Rattle.s38_code.specs.declared.words.declarations.Declares.TheVariants.{Variable, Parameter, BasedItem, Description}
-use Rattle.s38_code.specs.declared.words.numbers.Numeral.{Numeral}
+use Rattle.s38_words.specs.declared.declarations.DeclarationLine.{DeclarationLine}
+use Rattle.s38_words.specs.declared.declarations.Declares.{Declares}
+use Rattle.s38_words.specs.declared.declarations.Declares.TheVariants.{Variable, Parameter, BasedItem, Description}
+use Rattle.s38_words.specs.declared.numbers.Numeral.{Numeral}
 use Rattle.s38_odt.specs.First.{blank_of, either_held, filled, first_of, is_exact, number_held, text_held, units_held, units_in}
 use Rattle.s38_odt.specs.Formed.{AreFormed, IsBased, IsForm, IsVariable, first_length}
 use Rattle.s38_odt.specs.Table.{and_then, attribute_bounded, bad_attribute, bad_name, base_at, base_in, based_form, checked_form, form_of, is_base_row, is_bounded_line, more_rows, new_row, place_in, refused, row_of, row_said, rows_from, variable_form}

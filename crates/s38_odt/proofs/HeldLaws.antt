@@ -3,7 +3,7 @@ use Rattle.std.proofs.Common.{◌≡◌, ℕ, ℤ, zero, suc, ◌-◌, ◌^◌, 
 use Rattle.std.specs.Prelude.{IsTrue, unsigned_abs}
 use Rattle.s38_base.specs.Scalar.{fits, fits_size, image_of, is_numeric, with_minus}
 use Rattle.s38_base.specs.declared.attr.Attr.{Attr}
-use Rattle.s38_code.specs.declared.words.numbers.Numeral.{Numeral}
+use Rattle.s38_words.specs.declared.numbers.Numeral.{Numeral}
 use Rattle.s38_odt.specs.First.{is_exact, is_negative, magnitude_in, number_held, units_held, units_in}
 use Rattle.s38_odt.proofs.Powers.{fits-small}
 

@@ -4,9 +4,9 @@ use Rattle.std.specs.Option.{option_and_then}
 use Rattle.s38_base.specs.Scalar.{fits, fraction_of, image_of, with_minus}
 use Rattle.s38_base.specs.declared.attr.Attr.{Attr}
 use Rattle.s38_base.specs.declared.attr.Attr.TheVariants.{Packed, Zoned, Binary, Chars, Pointer}
-use Rattle.s38_code.specs.WordsLiteral.{text_of}
-use Rattle.s38_code.specs.WordsNumber.{number_of}
-use Rattle.s38_code.specs.declared.words.numbers.Numeral.{Numeral}
+use Rattle.s38_words.specs.Literal.{text_of}
+use Rattle.s38_words.specs.Number.{number_of}
+use Rattle.s38_words.specs.declared.numbers.Numeral.{Numeral}
 
 -- ---- numbers
 

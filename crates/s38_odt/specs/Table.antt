@@ -7,15 +7,15 @@ use Rattle.s38_base.specs.NameText.{is_name}
 use Rattle.s38_base.specs.Scalar.{is_bounded}
 use Rattle.s38_base.specs.declared.attr.Attr.{Attr}
 use Rattle.s38_base.specs.declared.attr.Attr.TheVariants.{Packed, Zoned, Binary, Chars, Pointer}
-use Rattle.s38_code.specs.DeclarationLine.{declaration_of, initial_of, is_in_range}
+use Rattle.s38_words.specs.DeclarationLine.{declaration_of, initial_of, is_in_range}
 use Rattle.s38_code.specs.declared.program.CreateFault.{CreateFault}
 use Rattle.s38_code.specs.declared.program.CreateFault.TheVariants.{Bad}
 use Rattle.s38_code.specs.declared.program.Form.{Form}
 use Rattle.s38_code.specs.declared.program.Form.TheVariants.{Local, Parm, Based, Handler}
 use Rattle.s38_code.specs.declared.program.Row.{Row}
-use Rattle.s38_code.specs.declared.words.declarations.DeclarationLine.{DeclarationLine}
-use Rattle.s38_code.specs.declared.words.declarations.Declares.{Declares}
-use Rattle.s38_code.specs.declared.words.declarations.Declares.TheVariants.{Variable, Parameter, BasedItem, Description}
+use Rattle.s38_words.specs.declared.declarations.DeclarationLine.{DeclarationLine}
+use Rattle.s38_words.specs.declared.declarations.Declares.{Declares}
+use Rattle.s38_words.specs.declared.declarations.Declares.TheVariants.{Variable, Parameter, BasedItem, Description}
 use Rattle.s38_odt.specs.First.{first_of}
 
 -- an attribute out of its bounds, or a literal that it does not hold

@@ -4,7 +4,7 @@ ghost use Rattle.s38_odt.specs.First.{blank_of, filled, first_of, literal_held, 
 
 use crate::image::{number_held, units_held};
 use s38_base::{Attr, Bytes, NoMemory, Seq};
-use s38_code::words::{number, text_value};
+use s38_words::{number, text_value};
 use std::alloc::Global;
 
 /// A blank in EBCDIC.

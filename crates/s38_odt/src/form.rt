@@ -6,8 +6,8 @@ ghost use Rattle.s38_odt.specs.Table.{attribute_bounded, checked_form, form_of, 
 use crate::first::first;
 use crate::places::{Declared, base, is_declared};
 use s38_base::NoMemory;
-use s38_code::words::{Declares, declaration, initial, is_in_range};
 use s38_code::{Form, Row};
+use s38_words::{Declares, declaration, initial, is_in_range};
 use std::alloc::Global;
 
 /// The cause of a refusal: an attribute out of its bounds, or a literal that it does not hold.

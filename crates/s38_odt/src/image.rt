@@ -5,8 +5,8 @@ ghost use Rattle.s38_base.specs.declared.attr.Attr.{Attr};
 ghost use Rattle.s38_odt.specs.First.{fewer_digits, is_exact, magnitude_in, more_digits, number_held, units_held};
 
 use s38_base::{Attr, Bytes, NoMemory, Seq};
-use s38_code::words::Numeral;
 use s38_decimal::write_scalar;
+use s38_words::Numeral;
 use std::alloc::Global;
 
 /// The bytes of a number; None exactly where the attribute does not hold it.

@@ -1,6 +1,6 @@
 -- Which rights are available on an object: those that the used pointer carries, those of everybody, and those of
 -- the private rows of all acting users. A user with all-object authority has all eight on each object.
-use Rattle.std.specs.Prelude.{ℕ, ◌==◌, Bool, ◌&&◌, List, [], ◌∷◌, Option, Some, None, bit_and, bit_or, if◌then◌else◌}
+use Rattle.std.specs.Prelude.{ℕ, ◌==◌, Bool, List, [], ◌∷◌, Option, Some, None, bit_and, bit_or, if◌then◌else◌}
 use Rattle.bitflags.specs.Sets.{without}
 use Rattle.s38_base.specs.declared.exception.Exception.{Exception}
 use Rattle.s38_base.specs.declared.exception.Rule.TheVariants.{Missing}

@@ -18,7 +18,6 @@ use Rattle.s38_rules.specs.declared.creating.Creating.{Creating}
 use Rattle.s38_rules.specs.declared.need.Need.{Need}
 use Rattle.s38_rules.specs.declared.need.Sought.TheVariants.{Of, Container}
 use Rattle.s38_rules.specs.declared.object.Body.{Body}
-use Rattle.s38_rules.specs.declared.object.Body.TheVariants as bodies
 use Rattle.s38_rules.specs.declared.object.Object.{Object}
 use Rattle.s38_rules.specs.declared.object.PrivateRow.{PrivateRow}
 use Rattle.s38_rules.specs.Headers.{limit_of}

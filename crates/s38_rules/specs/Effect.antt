@@ -1,16 +1,17 @@
 -- What a permitted event does: the new state, and the values that come back.
 use Rattle.std.specs.Prelude.{ℕ, true, List, [], ◌∷◌, map, Option, Some, None}
+use Rattle.std.specs.Option.{unwrap_or}
+use Rattle.s38_base.specs.declared.id.Id.{Id}
 use Rattle.s38_base.specs.declared.id.ObjNum.{ObjNum}
 use Rattle.s38_base.specs.Limits.{machine_context}
 use Rattle.s38_code.specs.declared.deck.Job.{Job}
 use Rattle.s38_code.specs.declared.event.Event.{Event}
 use Rattle.s38_code.specs.declared.event.Event.TheVariants.{Start, Act, Finish}
 use Rattle.s38_code.specs.declared.event.Request.{Request}
-use Rattle.s38_rules.specs.declared.object.Object.{Object}
 use Rattle.s38_rules.specs.declared.process.ProcessEntry.{ProcessEntry}
 use Rattle.s38_rules.specs.declared.process.Started.{Started}
 use Rattle.s38_rules.specs.Computing.{receiver_at, shift_at}
-use Rattle.s38_rules.specs.Held.{Held, found}
+use Rattle.s38_rules.specs.Held.{Held, number_found}
 use Rattle.s38_rules.specs.Instruction.{Instruction}
 use Rattle.s38_rules.specs.Operands.{Done, delivered}
 use Rattle.s38_rules.specs.Rows.{row}
@@ -24,16 +25,16 @@ effect i s p d r =
 
 -- ---- start and end
 
-abbrev pub number_in : Option Object → ObjNum
-number_in None = record { 0 = 0 }
-number_in (Some o) = o.number
+-- the object of the machine context that has an identification, 0 for none
+abbrev pub in_machine : Held → Id → ObjNum
+in_machine h id = unwrap_or (number_found h machine_context id) (record { 0 = 0 })
 
 -- the numbers of the contexts of a list, by name
 abbrev pub numbers_of : Held → List (List ℕ) → List ObjNum
-numbers_of h names = map (λ name. number_in (found h machine_context (context_id name))) names
+numbers_of h names = map (λ name. in_machine h (context_id name)) names
 
 abbrev pub started_as : Held → Job → Started
-started_as h job = record { user = number_in (found h machine_context (profile_id job.user)); contexts = numbers_of h job.contexts; stack = record { 0 = 0 } ∷ [] }
+started_as h job = record { user = in_machine h (profile_id job.user); contexts = numbers_of h job.contexts; stack = record { 0 = 0 } ∷ [] }
 
 -- a started process has its user, the contexts of its list as they are found now, and the job's own template
 -- as its one program

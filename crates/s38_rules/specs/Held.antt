@@ -4,6 +4,7 @@ use Rattle.std.specs.Prelude.{ℕ, ◌+◌, ◌*◌, ◌/◌, ◌==◌, Bool, �
 use Rattle.s38_base.specs.declared.id.Id.{Id}
 use Rattle.s38_base.specs.declared.id.Kind.{Kind}
 use Rattle.s38_base.specs.declared.id.Kind.TheVariants as kinds
+use Rattle.s38_base.specs.declared.id.ObjNum.{ObjNum}
 use Rattle.s38_base.specs.Ids.{same_id}
 use Rattle.s38_base.specs.Limits.{cell_bytes, ceiling_step, page_bytes}
 use Rattle.s38_rules.specs.declared.object.Object.{Object}
@@ -46,6 +47,14 @@ found_in os context id = find (is_named context id) os
 
 abbrev pub found : Held → ℕ → Id → Option Object
 found h context id = found_in h.objects context id
+
+abbrev pub number_in : Option Object → Option ObjNum
+number_in None = None
+number_in (Some o) = Some o.number
+
+-- its number
+abbrev pub number_found : Held → ℕ → Id → Option ObjNum
+number_found h context id = number_in (found h context id)
 
 abbrev pub kind_of : Body → Kind
 kind_of bodies.Context = kinds.Context

@@ -5,6 +5,7 @@ use Rattle.s38_base.specs.declared.attr.Attr.{Attr}
 use Rattle.s38_base.specs.declared.exception.Exception.{Exception}
 use Rattle.s38_base.specs.declared.id.Id.{Id}
 use Rattle.s38_base.specs.declared.id.Kind.TheVariants as kinds
+use Rattle.s38_base.specs.declared.id.ObjNum.{ObjNum}
 use Rattle.s38_base.specs.declared.pointer.Pointer.{Pointer}
 use Rattle.s38_base.specs.declared.pointer.Pointer.TheVariants as pointers
 use Rattle.s38_base.specs.Exceptions as exceptions
@@ -34,7 +35,7 @@ use Rattle.s38_rules.specs.declared.process.ProcessEntry.{ProcessEntry}
 use Rattle.s38_rules.specs.declared.verdict.Verdict.{Verdict}
 use Rattle.s38_rules.specs.declared.verdict.Verdict.TheVariants.{Permit, Wait, Refuse}
 use Rattle.s38_rules.specs.Authority.{available, missing}
-use Rattle.s38_rules.specs.Held.{Held, found, kind_of, object}
+use Rattle.s38_rules.specs.Held.{Held, kind_of, number_found, object}
 use Rattle.s38_rules.specs.Instruction.{Instruction}
 use Rattle.s38_rules.specs.Needs.{first_of}
 use Rattle.s38_rules.specs.Operands.{pointer_at, target}
@@ -177,19 +178,19 @@ abbrev pub context_id : List ℕ → Id
 context_id name = record { kind = kinds.Context; sub = 0; name = name }
 
 -- an object of the machine context is not there
-abbrev pub absent : Option Object → ℕ → Option Exception
+abbrev pub absent : Option ObjNum → ℕ → Option Exception
 absent None operand = Some (plain exceptions.object_not_found operand)
-absent (Some o) operand = None
+absent (Some n) operand = None
 
 -- the first context of a job's list that is not there
 abbrev pub absent_context : Held → List (List ℕ) → ℕ → Option Exception
 absent_context h [] operand = None
 absent_context h (name ∷ names) operand =
-    first (absent (found h machine_context (context_id name)) (min operand last_operand)) (absent_context h names (operand + 1))
+    first (absent (number_found h machine_context (context_id name)) (min operand last_operand)) (absent_context h names (operand + 1))
 
 -- a start finds the profile of the job's user (operand 1), and the contexts of its list (from operand 2 on)
 unfoldable pub start_failure : Held → Job → Option Exception
-start_failure h job = first (absent (found h machine_context (profile_id job.user)) 1) (absent_context h job.contexts 2)
+start_failure h job = first (absent (number_found h machine_context (profile_id job.user)) 1) (absent_context h job.contexts 2)
 
 abbrev pub start_verdict : State → ℕ → Option ProcessEntry → Verdict
 start_verdict s p None = Permit

@@ -1,9 +1,9 @@
 //! What the objects are to the crates below the object map: headers and private rows, by number.
 ghost use Rattle.std.specs.Prelude.{◌≡◌};
-ghost use Rattle.s38_rules.specs.Held.{Held, object};
+ghost use Rattle.s38_rules.specs.Held.{Held, number_found, object};
 ghost use Rattle.s38_rules.specs.Headers.{header_in, row_in};
 
-use s38_base::{Kind, ObjNum, Rights, Special, UserNum};
+use s38_base::{Id, Kind, ObjNum, Rights, Special, UserNum};
 
 /// What is said of an object beside its name and what it holds.
 #[derive(Clone, Copy, PartialEq, Eq, Debug)]
@@ -29,6 +29,10 @@ pub trait Table {
     /// The header of an object; None exactly where there is none of the number.
     fn header(&self, number: ObjNum) -> Option<Header>
         ensures { result ≡ header_in (object (held self.now) number.0) };
+
+    /// The number of the object of an identification in a context; None exactly where there is none.
+    fn number_of(&self, context: ObjNum, id: &Id) -> Option<ObjNum>
+        ensures { result ≡ number_found (held self.now) context.0 id.now };
 }
 
 /// The objects, with their private rows.

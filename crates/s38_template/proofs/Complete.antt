@@ -3,7 +3,7 @@ use Rattle.std.proofs.Common.{◌≡◌, ◌⊎◌, ℕ, ◌+◌, ◌<◌, ◌�
 use Rattle.std.proofs.lemmas.Bool.{and_parts, or_cases, ne_eqb, eqb-true, lt-ltb, le-leb, ltb-true, not-true, not_from_false}
 use Rattle.std.proofs.lemmas.List.{append_assoc, append-nil, length-append, length_push}
 use Rattle.std.specs.List.{AllByRecursion, filter, list_all, flat_map, slice_split}
-use Rattle.s38_code.specs.WordsText.{before}
+use Rattle.s38_words.specs.Text.{before}
 use Rattle.s38_code.specs.declared.deck.Deck.{Deck}
 use Rattle.s38_code.specs.declared.deck.Job.{Job}
 use Rattle.s38_template.specs.declared.place.Place.TheVariants.{Between, Declaring, Acting, Begun, Staged}

@@ -9,7 +9,7 @@ use Rattle.std.proofs.lemmas.Option.{same_Some, cond_some}
 use Rattle.std.proofs.lemmas.Slice.Eq.{starts_is}
 use Rattle.std.specs.List.{list_all, slice_split, onto_first, flat_map, starts_with}
 use Rattle.s38_base.specs.NameText.{is_name, is_name_byte, are_name_bytes}
-use Rattle.s38_code.specs.DeclarationLine.{count_of}
+use Rattle.s38_words.specs.DeclarationLine.{count_of}
 use Rattle.s38_code.specs.declared.deck.Job.{Job}
 use Rattle.s38_template.specs.declared.said.JobSaid.{JobSaid}
 use Rattle.s38_template.specs.Cut.{cut, after}

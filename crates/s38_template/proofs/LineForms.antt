@@ -4,9 +4,9 @@ use Rattle.std.proofs.lemmas.Bool.{cases_Bool}
 use Rattle.std.proofs.lemmas.Option.{same_Some, cond_some}
 use Rattle.std.proofs.lemmas.Slice.Eq.{bytes_eq-Decides}
 use Rattle.std.specs.Option.{option_map}
-use Rattle.s38_code.specs.DeclarationLine.{declaration_of}
-use Rattle.s38_code.specs.WordsText.{before, behind, is_word}
-use Rattle.s38_code.specs.declared.words.declarations.DeclarationLine.{DeclarationLine}
+use Rattle.s38_words.specs.DeclarationLine.{declaration_of}
+use Rattle.s38_words.specs.Text.{before, behind, is_word}
+use Rattle.s38_words.specs.declared.declarations.DeclarationLine.{DeclarationLine}
 use Rattle.s38_template.specs.declared.said.JobSaid.{JobSaid}
 use Rattle.s38_template.specs.declared.said.Line.{Line}
 use Rattle.s38_template.specs.declared.said.Line.TheVariants.{Program, Declare, Label, Act, End, Stage, Job}

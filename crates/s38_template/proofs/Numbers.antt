@@ -7,9 +7,9 @@ use Rattle.std.proofs.lemmas.Str.Parse.{FoldsDigits, IsDigitsTest, IsNumeralMode
 use Rattle.std.proofs.lemmas.Option.{cond_some}
 use Rattle.std.specs.List.{list_all}
 use Rattle.std.specs.Option.{option_map}
-use Rattle.s38_code.specs.DeclarationLine.{count_of}
-use Rattle.s38_code.specs.WordsNumber.{are_digits, held, is_numeral, is_whole, natural_of, value_behind, value_of_digits}
-use Rattle.s38_code.specs.WordsText.{is_digit}
+use Rattle.s38_words.specs.DeclarationLine.{count_of}
+use Rattle.s38_words.specs.Number.{are_digits, held, is_numeral, is_whole, natural_of, value_behind, value_of_digits}
+use Rattle.s38_words.specs.Text.{is_digit}
 use Rattle.s38_template.proofs.Options.{all_weaker, map_some}
 use Rattle.s38_template.proofs.Texts.{is_free}
 

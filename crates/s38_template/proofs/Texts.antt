@@ -5,7 +5,7 @@ use Rattle.std.proofs.lemmas.List.{append_assoc, length-append}
 use Rattle.std.proofs.lemmas.Option.{same_Some}
 use Rattle.std.specs.List.{position_or_len, position, list_all, flat_map, slice_split, onto_first}
 use Rattle.std.specs.Option.{option_map, option_map_or}
-use Rattle.s38_code.specs.WordsText.{before, behind, place_of}
+use Rattle.s38_words.specs.Text.{before, behind, place_of}
 use Rattle.s38_template.specs.Cut.{cut, onto_front}
 use Rattle.s38_template.specs.Grammar.{with_feed, is_plain, is_plain_byte}
 use Rattle.s38_template.proofs.Options.{map_some, map_none, all_weaker}

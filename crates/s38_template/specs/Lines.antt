@@ -4,12 +4,12 @@ use Rattle.std.specs.List.{list_all, slice_split}
 use Rattle.std.specs.Option.{option_and_then, option_map, option_map_or}
 use Rattle.s38_base.specs.NameText.{is_name}
 use Rattle.s38_base.specs.declared.op.Op.{Op}
-use Rattle.s38_code.specs.DeclarationLine.{count_of, declaration_of, is_in_range}
-use Rattle.s38_code.specs.Mnemonic.{op_of}
+use Rattle.s38_words.specs.DeclarationLine.{count_of, declaration_of, is_in_range}
+use Rattle.s38_words.specs.Operation.{op_of}
 use Rattle.s38_code.specs.Tie.{may_round}
-use Rattle.s38_code.specs.WordsForm.{has_form}
-use Rattle.s38_code.specs.WordsText.{before, behind, is_word}
-use Rattle.s38_code.specs.declared.words.declarations.DeclarationLine.{DeclarationLine}
+use Rattle.s38_words.specs.Form.{has_form}
+use Rattle.s38_words.specs.Text.{before, behind, is_word}
+use Rattle.s38_words.specs.declared.declarations.DeclarationLine.{DeclarationLine}
 use Rattle.s38_template.specs.Cut.{after, cut}
 use Rattle.s38_template.specs.declared.said.JobSaid.{JobSaid}
 use Rattle.s38_template.specs.declared.said.Line.{Line}

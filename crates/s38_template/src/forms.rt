@@ -1,6 +1,6 @@
 ghost use Rattle.std.specs.Prelude.{◌≡◌, IfOk};
 ghost use Rattle.std.specs.Option.{option_map};
-ghost use Rattle.s38_code.specs.DeclarationLine.{declaration_of};
+ghost use Rattle.s38_words.specs.DeclarationLine.{declaration_of};
 ghost use Rattle.s38_template.specs.Lines.{are_marks, are_operands, are_rounded, declare, end_line, head_of, head_said, is_act, is_instruction, label_of, line_of, may_follow, rest_said, said_by, stage_line};
 
 use crate::cut::after;
@@ -9,7 +9,7 @@ use crate::names::own_name_in;
 use crate::said::Line;
 use s38_base::{Name, NoMemory, Op};
 use s38_code::may_round;
-use s38_code::words::{before, behind, declaration, has_form, is_in_range, is_word, operation};
+use s38_words::{before, behind, declaration, has_form, is_in_range, is_word, operation};
 use std::alloc::Global;
 
 /// Whether such marks may stand behind the name of a template.

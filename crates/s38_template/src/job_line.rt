@@ -1,6 +1,6 @@
 ghost use Rattle.std.specs.Prelude.{◌≡◌, ◌++◌, ◌∷◌, [], codes, IfOk};
 ghost use Rattle.std.specs.Option.{option_map};
-ghost use Rattle.s38_code.specs.DeclarationLine.{count_of};
+ghost use Rattle.s38_words.specs.DeclarationLine.{count_of};
 ghost use Rattle.s38_template.specs.Lines.{budget_in, contexts_in, head_in, job_in, job_word, name_in, names_in, own_name_in, run_in, terms_in, worded};
 
 use crate::cut::{after, cut};
@@ -8,7 +8,7 @@ use crate::names::{name_in, own_name_in};
 use crate::said::JobSaid;
 use s38_base::{Name, NoMemory, Seq};
 use s38_code::Names;
-use s38_code::words::natural;
+use s38_words::natural;
 use std::alloc::Global;
 
 /// How many instructions a job may do whose line does not say it.

@@ -5,15 +5,15 @@ ghost use Rattle.std.specs.List.{slice_get};
 ghost use Rattle.std.specs.Ordering.{nat_cmp};
 ghost use Rattle.s38_code.specs.declared.deck.Deck.{Deck};
 ghost use Rattle.s38_code.specs.declared.deck.Job.{Job};
-ghost use Rattle.s38_code.specs.WordsText.{before};
+ghost use Rattle.s38_words.specs.Text.{before};
 ghost use Rattle.s38_template.specs.Grammar.{IsTemplate, Spells, name_of, template_names};
 ghost use Rattle.s38_template.specs.Lines.{name_in, program_word};
 ghost use Rattle.s38_template.specs.Places.{HasTemplate, held, place_of, placed};
 
 use crate::names::name_in;
 use s38_base::{Name, NoMemory};
-use s38_code::words::before;
 use s38_code::{Deck, Template};
+use s38_words::before;
 use std::alloc::Global;
 use std::collections::BTreeMap;
 

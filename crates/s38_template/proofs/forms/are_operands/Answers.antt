@@ -2,7 +2,7 @@ use Rattle.std.proofs.Common.{◌≡◌, true, false, [], rules, tests}
 use Rattle.std.proofs.lemmas.Iterator.{cases_from_all}
 use Rattle.std.proofs.lemmas.Iterator.Splits.{YieldsList-from_slice_split}
 use Rattle.std.specs.List.{slice_split}
-use Rattle.s38_code.specs.WordsForm.{has_form}
+use Rattle.s38_words.specs.Form.{has_form}
 use Rattle.s38_template.specs.Lines.{are_operands, is_comma}
 use Rattle.s38_template.proofs.Words.{all_tests}
 use Rattle.s38_template.proofs.forms.are_operands.Goals as goal

@@ -1,7 +1,0 @@
-use Rattle.std.proofs.Common.{◌≡◌, map}
-use Rattle.std.specs.List.{range_with_len}
-use Rattle.s38_code.specs.WordsLiteral.{packed_with}
-use Rattle.s38_code.proofs.words.literals.packed.Given as goal
-
-abbrev pub invariant-loop-k : goal.invariant-loop-k
-invariant-loop-k l = l.bytes.items ≡ map (packed_with l.last l.number l.sign) (range_with_len 0 l.k)

@@ -1,7 +1,0 @@
-use Rattle.std.proofs.Common.{◌≡◌, map}
-use Rattle.std.specs.List.{range_with_len}
-use Rattle.s38_code.specs.WordsLiteral.{spelled_byte}
-use Rattle.s38_code.proofs.words.literals.spelled.Given as goal
-
-abbrev pub invariant-loop-k : goal.invariant-loop-k
-invariant-loop-k l = l.bytes.items ≡ map (spelled_byte l.digits) (range_with_len 0 l.k)

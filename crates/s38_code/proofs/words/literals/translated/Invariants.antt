@@ -1,6 +1,0 @@
-use Rattle.std.proofs.Common.{◌≡◌, map, take}
-use Rattle.s38_code.specs.WordsLiteral.{ebcdic}
-use Rattle.s38_code.proofs.words.literals.translated.Given as goal
-
-abbrev pub invariant-loop-byte : goal.invariant-loop-byte
-invariant-loop-byte l = l.bytes.items ≡ map ebcdic (take l.byte-index l.text)

@@ -1,9 +1,0 @@
-use Rattle.std.proofs.Common.{◌≡◌, true, arith}
-use Rattle.s38_code.proofs.DigitLaws.{whole-lt}
-use Rattle.s38_code.specs.WordsNumber.{are_digits}
-use Rattle.s38_code.proofs.words.numbers.whole.Goals as goal
-
-pub signed-requires : goal.signed-requires
-signed-requires c =
-    let digits : are_digits c.without_minus-digits.result.now ≡ true = grind arith in
-    (whole-lt c.without_minus-digits.result.now c.value_behind.result c.value_behind.ensures digits c.if-digits-le-MOST_DIGITS.true).1

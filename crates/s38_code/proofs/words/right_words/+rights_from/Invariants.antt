@@ -1,5 +1,0 @@
-use Rattle.std.proofs.Common.{length}
-use Rattle.s38_code.proofs.words.right_words.+rights_from.Given as goal
-
-abbrev pub decreases-rights_from : goal.decreases-rights_from
-decreases-rights_from l = length l.bits.now

@@ -1,0 +1,11 @@
+//! The machine's world, over any table of objects: its processes, who acts in them, and their starts and ends.
+#![tactic(auto)]
+
+mod processes;
+mod starts;
+mod users;
+mod world;
+
+pub use starts::{end, start, start_failure};
+pub use users::Acting;
+pub use world::World;

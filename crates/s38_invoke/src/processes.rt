@@ -1,0 +1,95 @@
+//! The processes of a world: how far each has come, and which are ready.
+ghost use Rattle.std.specs.Prelude.{◌≡◌, ◌-◌, slice_get};
+ghost use Rattle.std.specs.Option.{option_copied};
+ghost use Rattle.s38_rules.specs.State.{is_early, process_entry, ready, started, started_in, waits};
+ghost use Rattle.s38_rules.specs.Users.{contexts_in, contexts_of, user_in, user_of};
+
+use crate::world::World;
+use s38_base::{ObjNum, UserNum};
+use s38_rules::{ProcessEntry, Started, Table};
+
+fn entry_in(entries: &[ProcessEntry], process: u32) -> Option<&ProcessEntry>
+    ensures { option_copied result ≡ slice_get entries.now (process - 1) }
+{
+    entries.get((process as usize).saturating_sub(1))
+}
+
+fn started_in(entry: Option<&ProcessEntry>) -> Option<&Started>
+    ensures { option_copied result ≡ started_in (option_copied entry.entry) }
+{
+    match entry {
+        None => None,
+        Some(entry) => entry.started.as_ref(),
+    }
+}
+
+fn user_in(started: Option<&Started>) -> UserNum
+    ensures { result.0 ≡ user_in (option_copied started.entry) }
+{
+    match started {
+        None => ObjNum(0),
+        Some(started) => started.user,
+    }
+}
+
+fn contexts_in(started: Option<&Started>) -> &[ObjNum]
+    ensures { result.now ≡ contexts_in (option_copied started.entry) }
+{
+    match started {
+        None => &[],
+        Some(started) => started.contexts.as_slice(),
+    }
+}
+
+fn is_early_in(entries: &[ProcessEntry], stage: u16) -> bool
+    ensures { result ≡ is_early entries.now stage }
+{
+    entries.iter().any(|x| !x.ended && x.job.stage < stage)
+}
+
+impl<T: Table> World<T> {
+    /// How far the process of a number has come.
+    pub fn process_entry(&self, process: u32) -> Option<&ProcessEntry>
+        ensures { option_copied result ≡ process_entry self.now process }
+    {
+        entry_in(self.processes.as_slice(), process)
+    }
+
+    /// The user of a started process, 0 for none.
+    pub fn user_of(&self, process: u32) -> UserNum
+        ensures { result.0 ≡ user_of self.now process }
+    {
+        user_in(started_in(self.process_entry(process)))
+    }
+
+    /// The contexts of a started process's list, in order.
+    pub fn contexts_of(&self, process: u32) -> &[ObjNum]
+        ensures { result.now ≡ contexts_of self.now process }
+    {
+        contexts_in(started_in(self.process_entry(process)))
+    }
+
+    /// Whether a process waits.
+    pub fn waits(&self, process: u32) -> bool
+        ensures { result ≡ waits self.now process }
+    {
+        self.waiting.iter().any(|w| *w == process)
+    }
+
+    /// Whether some process of an earlier stage has not ended.
+    pub fn is_early(&self, stage: u16) -> bool
+        ensures { result ≡ is_early self.now.processes stage }
+    {
+        is_early_in(self.processes.as_slice(), stage)
+    }
+
+    /// Whether a process has not ended, is of the current stage, and does not wait.
+    pub fn ready(&self, process: u32) -> bool
+        ensures { result ≡ ready self.now process }
+    {
+        match self.process_entry(process) {
+            None => false,
+            Some(x) => !x.ended && !self.is_early(x.job.stage) && !self.waits(process),
+        }
+    }
+}

@@ -1,0 +1,9 @@
+pub mod Attribute
+pub mod DeclarationLine
+pub mod Form
+pub mod Literal
+pub mod Name
+pub mod Number
+pub mod Operation
+pub mod Row
+pub mod Text

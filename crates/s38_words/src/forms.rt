@@ -1,0 +1,42 @@
+ghost use Rattle.std.specs.Prelude.{◌≡◌};
+ghost use Rattle.s38_words.specs.Form.{are_attributes, has_form, is_plain, is_special};
+
+use crate::attribute_words::attribute;
+use crate::literals::is_text;
+use crate::names::{declared_name, exception_code, identification};
+use crate::numbers::number;
+use crate::right_words::rights;
+use crate::row_words::{specials, star};
+
+fn are_attributes(word: &[u8]) -> bool
+    ensures { result ≡ are_attributes word.now }
+{
+    word.split(|byte| *byte == b'+')
+        .all(|part| attribute(part).is_some())
+}
+
+/// A name or a literal.
+fn is_plain(word: &[u8]) -> bool
+    ensures { result ≡ is_plain word.now }
+{
+    declared_name(word).is_some() || number(word).is_some() || is_text(word)
+}
+
+/// Rights, specials, a word with a star, or the number of an exception.
+fn is_special(word: &[u8]) -> bool
+    ensures { result ≡ is_special word.now }
+{
+    rights(word).is_some()
+        || specials(word).is_some()
+        || star(word).is_some()
+        || exception_code(word).is_some()
+}
+
+/// Whether some operand of some instruction may be written so: as a name, a literal, an identification,
+/// attributes or a word. Whether it is what stands at its place is another question.
+#[tactic(auto, unfolding(crate::specs::Form::has_form))]
+pub fn has_form(word: &[u8]) -> bool
+    ensures { result ≡ has_form word.now }
+{
+    is_plain(word) || identification(word).is_some() || are_attributes(word) || is_special(word)
+}

@@ -1,0 +1,91 @@
+ghost use Rattle.std.specs.Prelude.{◌≡◌, ◌≤◌, ◌<◌, length, IsTrue, IfSome};
+ghost use Rattle.std.specs.Option.{option_map};
+ghost use Rattle.s38_words.specs.Text.{are_hex_digits, before, behind, hex_byte, hex_value, is_digit, is_hex_digit, is_letter, is_word, place_of, rest_after};
+
+/// The text is this word.
+pub fn is_word(word: &[u8], text: &[u8]) -> bool
+    ensures { result ≡ is_word word.now text.now }
+{
+    text == word
+}
+
+/// Where the first such byte stands; None where there is none.
+fn place_of(byte: u8, text: &[u8]) -> Option<usize>
+    ensures place { result ≡ place_of byte text.now }
+    ensures bound { IfSome result (λ at. at < length text.now) }
+{
+    text.iter().position(|b| *b == byte)
+}
+
+/// What stands before the first such byte, or all where there is none.
+pub fn before(byte: u8, text: &[u8]) -> &[u8]
+    ensures { result.now ≡ before byte text.now }
+{
+    match place_of(byte, text) {
+        Some(at) => &text[..at],
+        None => text,
+    }
+}
+
+/// What stands behind the first such byte; None where there is none.
+pub fn behind(byte: u8, text: &[u8]) -> Option<&[u8]>
+    ensures { option_map (λ rest. rest.now) result ≡ behind byte text.now }
+{
+    match place_of(byte, text) {
+        Some(at) => Some(&text[at + 1..]),
+        None => None,
+    }
+}
+
+/// What stands behind these bytes; None where the text does not begin with them.
+pub fn rest_after<'a>(front: &[u8], text: &'a [u8]) -> Option<&'a [u8]>
+    ensures { option_map (λ rest. rest.now) result ≡ rest_after front.now text.now }
+{
+    text.strip_prefix(front)
+}
+
+pub fn is_letter(byte: u8) -> bool
+    ensures { result ≡ is_letter byte }
+{
+    byte >= b'A' && byte <= b'Z'
+}
+
+pub fn is_digit(byte: u8) -> bool
+    ensures { result ≡ is_digit byte }
+{
+    byte >= b'0' && byte <= b'9'
+}
+
+/// 0 to 9 and A to F.
+pub fn is_hex_digit(byte: u8) -> bool
+    ensures { result ≡ is_hex_digit byte }
+{
+    is_digit(byte) || (byte >= b'A' && byte <= b'F')
+}
+
+pub fn are_hex_digits(text: &[u8]) -> bool
+    ensures { result ≡ are_hex_digits text.now }
+{
+    text.iter().all(|byte| is_hex_digit(*byte))
+}
+
+fn hex_value(digit: u8) -> u8
+    requires { IsTrue (is_hex_digit digit) }
+    ensures value { result ≡ hex_value digit }
+    ensures small { result ≤ 15 }
+{
+    if digit <= b'9' {
+        digit - b'0'
+    } else {
+        digit - b'7'
+    }
+}
+
+/// The byte that two hexadecimal digits spell.
+pub fn hex_byte(high: u8, low: u8) -> u8
+    requires high { IsTrue (is_hex_digit high) }
+    requires low { IsTrue (is_hex_digit low) }
+    ensures { result ≡ hex_byte high low }
+{
+    16 * hex_value(high) + hex_value(low)
+}
