@@ -6,7 +6,7 @@ ghost use Rattle.s38_memory.specs.Tagged.{resized};
 ghost use Rattle.s38_rules.specs.Cells.{with_bytes, with_cells, with_pointer};
 ghost use Rattle.s38_queues.specs.contracts.queue.Queue.{the_row as queue_row};
 ghost use Rattle.s38_rules.specs.declared.object.Body.{Body};
-ghost use Rattle.s38_rules.specs.Held.{charge_beside, charge_in, found, nothing, object, pages_of, with_added, without};
+ghost use Rattle.s38_rules.specs.Held.{charge_beside, charge_in, found, nothing, number_found, object, pages_of, with_added, without};
 ghost use Rattle.s38_rules.specs.Parts.{on_space, over_body, part_at, queue_part, space_part};
 ghost use Rattle.s38_objects.specs.Lawful.{IsLawful, contents_in, number_of};
 ghost use Rattle.s38_objects.specs.Lending.{LendsHeld};
@@ -100,7 +100,7 @@ impl Objects {
 
     /// The number of the object of an identification in a context, in logarithmic time.
     pub fn find(&self, context: ObjNum, id: &Id) -> Option<ObjNum>
-        ensures { option_map (λ n. n.0) result ≡ option_map number_of (found self.now context.0 id.now) }
+        ensures { result ≡ number_found self.now context.0 id.now }
     {
         self.by_name.get(&key(context.0, id)).map(|n| ObjNum(*n))
     }

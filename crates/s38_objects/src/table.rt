@@ -5,7 +5,7 @@ ghost use Rattle.s38_rules.specs.Headers.{adopts, header_of, is_row, limit_of, p
 ghost use Rattle.s38_rules.specs.Held.{kind_of};
 
 use crate::objects::Objects;
-use s38_base::{Kind, ObjNum, Rights, Special, UserNum};
+use s38_base::{Id, Kind, ObjNum, Rights, Special, UserNum};
 use s38_rules::{Body, Header, Object, PrivateRow, Table, TableRows};
 
 /// The kind of object that a body makes.
@@ -96,6 +96,10 @@ impl Table for Objects {
             None => None,
             Some(object) => Some(header_of(object)),
         }
+    }
+
+    fn number_of(&self, context: ObjNum, id: &Id) -> Option<ObjNum> {
+        self.find(context, id)
     }
 }
 
