@@ -10,10 +10,12 @@ use Rattle.s38_memory.specs.Tagged.{is_aligned, is_within, overlaid, resized, wr
 use Rattle.s38_queues.specs.MessageQueue.{MessageQueue}
 use Rattle.s38_rules.specs.declared.object.Body.{Body}
 use Rattle.s38_rules.specs.declared.object.Body.TheVariants as bodies
-use Rattle.s38_rules.specs.Spaces.{is_cell, is_storable, with_bytes, with_cells, with_pointer}
-use Rattle.s38_rules.specs.State.{pages_of, queue_body, space_body, space_pages}
+use Rattle.s38_base.specs.Pointers.{is_storable}
+use Rattle.s38_rules.specs.Cells.{is_cell, with_bytes, with_cells, with_pointer}
+use Rattle.s38_rules.specs.Held.{pages_of, space_pages}
+use Rattle.s38_rules.specs.Parts.{over_body, queue_part, space_part}
 
-pub queue_pages : (f : MessageQueue → MessageQueue) (b : Body) → pages_of (queue_body f b) ≡ pages_of b
+pub queue_pages : (f : MessageQueue → MessageQueue) (b : Body) → pages_of (over_body queue_part f b) ≡ pages_of b
 queue_pages f (bodies.Queue q) = refl
 queue_pages f (bodies.Context) = refl
 queue_pages f (bodies.Program code) = refl
@@ -21,7 +23,7 @@ queue_pages f (bodies.Profile special limit) = refl
 queue_pages f (bodies.Space cells) = refl
 
 -- a space of as many cells has as many pages
-pub space_kept : (f : List Cell → List Cell) → ((cells : List Cell) → length (f cells) ≡ length cells) → (b : Body) → pages_of (space_body f b) ≡ pages_of b
+pub space_kept : (f : List Cell → List Cell) → ((cells : List Cell) → length (f cells) ≡ length cells) → (b : Body) → pages_of (over_body space_part f b) ≡ pages_of b
 space_kept f same (bodies.Space cells) = ap (λ (n : ℕ). 1 + space_pages n) (same cells)
 space_kept f same (bodies.Context) = refl
 space_kept f same (bodies.Program code) = refl
@@ -42,7 +44,7 @@ bytes_kept at bytes cells =
 resized_length : (len : ℕ) (cells : List Cell) → len ≤ 16777216 → length (resized len cells) ≤ 1048576
 resized_length len cells h = simp (length-append, length-take, length-replicate) (omega arith)
 
-pub resized_small : (len : ℕ) → len ≤ 16777216 → (b : Body) → pages_of b < 2 ^ 64 → pages_of (space_body (resized len) b) < 2 ^ 64
+pub resized_small : (len : ℕ) → len ≤ 16777216 → (b : Body) → pages_of b < 2 ^ 64 → pages_of (over_body space_part (resized len) b) < 2 ^ 64
 resized_small len h (bodies.Space cells) small = omega (arith, resized_length len cells h)
 resized_small len h (bodies.Context) small = small
 resized_small len h (bodies.Program code) small = small

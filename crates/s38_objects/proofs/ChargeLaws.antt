@@ -17,7 +17,7 @@ use Rattle.std.proofs.lemmas.Map.Entries.{sum_by-remove_entry, sum_by-set_value}
 use Rattle.s38_rules.specs.declared.object.Body.{Body}
 use Rattle.s38_rules.specs.declared.object.Body.TheVariants as bodies
 use Rattle.s38_rules.specs.declared.object.Object.{Object}
-use Rattle.s38_rules.specs.State.{charge_beside, charge_in, owner_in, pages_for, pages_of}
+use Rattle.s38_rules.specs.Held.{charge_beside, charge_in, owner_in, pages_for, pages_of}
 use Rattle.s38_objects.specs.Changes.{body_changed, with_body}
 use Rattle.s38_objects.proofs.NumberLaws.{body_absent, body_found, lookup_object, some_none, values_without}
 use Rattle.s38_objects.specs.Indexed.{AreNumbered}

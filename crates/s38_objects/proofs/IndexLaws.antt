@@ -11,10 +11,10 @@ use Rattle.std.specs.BTreeMap.{BTreeMap, IsOrdered, get, insert_entry, is_at, va
 use Rattle.s38_base.specs.declared.id.Id.{Id}
 use Rattle.s38_rules.specs.declared.object.Body.{Body}
 use Rattle.s38_rules.specs.declared.object.Object.{Object}
-use Rattle.s38_rules.specs.State.{change_in, charge_beside, charge_in, found_in, is_named, pages_for, pages_of}
+use Rattle.s38_rules.specs.Held.{change_in, charge_beside, charge_in, found_in, is_named, pages_for, pages_of}
 use Rattle.s38_objects.specs.declared.name_key.NameKey.{NameKey}
 use Rattle.s38_objects.specs.Changes.{body_changed, with_body}
-use Rattle.s38_objects.specs.Held.{IsLawful, number_of}
+use Rattle.s38_objects.specs.Lawful.{IsLawful, number_of}
 use Rattle.s38_objects.specs.Indexed.{AreCharges, AreNames, AreNumbered, IsIndexed}
 use Rattle.s38_objects.specs.NameOrder.{key, name_cmp}
 use Rattle.s38_objects.proofs.NumberLaws.{body_absent, found_by_number, insert_last, keys_changed, lookup_bodied, numbered_changed, numbered_last, numbered_raised, numbered_without, values_changed, values_last}

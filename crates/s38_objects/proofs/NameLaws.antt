@@ -14,10 +14,10 @@ use Rattle.s38_base.specs.declared.id.Id.{Id}
 use Rattle.s38_base.specs.Ids.{kind_code, same_id}
 use Rattle.s38_rules.specs.declared.object.Body.{Body}
 use Rattle.s38_rules.specs.declared.object.Object.{Object}
-use Rattle.s38_rules.specs.State.{change_in, found_in, has_number, is_in_context, is_named}
+use Rattle.s38_rules.specs.Held.{change_in, found_in, has_number, is_in_context, is_named}
 use Rattle.s38_objects.specs.Changes.{with_body}
 use Rattle.s38_objects.specs.declared.name_key.NameKey.{NameKey}
-use Rattle.s38_objects.specs.Held.{AreApart, number_of}
+use Rattle.s38_objects.specs.Lawful.{AreApart, number_of}
 use Rattle.s38_objects.specs.NameOrder.{key, name_cmp}
 
 -- ---- keys and names

@@ -14,9 +14,9 @@ use Rattle.std.specs.Map.{keys_of, values_of, lookup, remove_entry, set_value}
 use Rattle.std.specs.BTreeMap.{insert_entry, is_at}
 use Rattle.s38_rules.specs.declared.object.Body.{Body}
 use Rattle.s38_rules.specs.declared.object.Object.{Object}
-use Rattle.s38_rules.specs.State.{change_in, has_number, object_in, pages_of, without_in}
+use Rattle.s38_rules.specs.Held.{change_in, has_number, object_in, pages_of, without_in}
 use Rattle.s38_objects.specs.Changes.{body_changed, with_body}
-use Rattle.s38_objects.specs.Held.{number_of}
+use Rattle.s38_objects.specs.Lawful.{number_of}
 use Rattle.s38_objects.specs.Indexed.{AreNumbered}
 
 -- ---- what stands at a number

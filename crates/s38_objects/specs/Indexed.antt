@@ -5,9 +5,9 @@ use Rattle.std.specs.Ordering.{nat_cmp}
 use Rattle.std.specs.BTreeMap.{BTreeMap, IsOrdered, get, values}
 use Rattle.s38_base.specs.declared.id.Id.{Id}
 use Rattle.s38_rules.specs.declared.object.Object.{Object}
-use Rattle.s38_rules.specs.State.{charge_in, found_in, pages_of}
+use Rattle.s38_rules.specs.Held.{charge_in, found_in, pages_of}
 use Rattle.s38_objects.specs.declared.name_key.NameKey.{NameKey}
-use Rattle.s38_objects.specs.Held.{AreApart, number_of}
+use Rattle.s38_objects.specs.Lawful.{AreApart, number_of}
 use Rattle.s38_objects.specs.NameOrder.{key, name_cmp}
 
 -- each object stands at its own number, which was given, and its pages can be counted

@@ -1,18 +1,10 @@
--- What a body is, and what the object map holds, after something is written through what was lent.
+-- What the object map holds after something is written through the part of an object that was lent.
 use Rattle.std.specs.Prelude.{ℕ, Option}
-use Rattle.std.specs.Borrow.{LendsIf, MutBor, Fml}
-use Rattle.s38_queues.specs.MessageQueue.{MessageQueue}
-use Rattle.s38_queues.specs.contracts.queue.Queue.{the_row as queue_row}
-use Rattle.s38_rules.specs.declared.object.Body.{Body}
-use Rattle.s38_rules.specs.contracts.object.Body.{the_row as body_row}
-use Rattle.s38_rules.specs.State.{queue_body, with_queue}
+use Rattle.std.specs.Borrow.{LendsIf, MutBor, Fml, RattleType}
+use Rattle.s38_rules.specs.Held.{Held}
+use Rattle.s38_rules.specs.Parts.{Part, over_part}
 use Rattle.s38_objects.specs.contracts.objects.Objects.{the_row as objects_row}
-use Rattle.s38_objects.specs.Held.{Held, with_changed}
 
--- the body has the queue that is left behind r
-abbrev pub LendsBody : MutBor Body → Option (MutBor MessageQueue) → Fml
-LendsBody b r = LendsIf body_row queue_row b r (λ q. queue_body (λ _. q) b.now) b.now
-
--- the queue of the number is the one that is left behind r, and nothing else changes
-abbrev pub LendsQueue : MutBor Held → ℕ → Option (MutBor MessageQueue) → Fml
-LendsQueue m n r = LendsIf objects_row queue_row m r (λ q. with_changed m.now n (with_queue (λ _. q))) m.now
+-- the object of the number holds what is left behind r, and nothing else changes
+abbrev pub LendsHeld : (R : RattleType) → Part R.Denot → MutBor Held → ℕ → Option (MutBor R.Denot) → Fml
+LendsHeld R p m n r = LendsIf objects_row R m r (λ x. over_part p m.now n (λ _. x)) m.now

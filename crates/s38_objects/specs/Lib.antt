@@ -1,4 +1,4 @@
-pub mod Held
+pub mod Lawful
 pub mod NameOrder
 pub mod Changes
 pub mod Indexed

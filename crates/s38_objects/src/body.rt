@@ -1,10 +1,11 @@
 ghost use Rattle.std.specs.Prelude.{◌≡◌, ◌<◌, ◌≤◌, ◌%◌, ◌^◌, All, OnOk, OnErr, Some};
 ghost use Rattle.s38_memory.specs.Cell.{IsCell};
 ghost use Rattle.s38_memory.specs.Tagged.{resized};
-ghost use Rattle.s38_rules.specs.Spaces.{is_pointer_attr, is_storable, with_bytes, with_cells, with_pointer};
-ghost use Rattle.s38_rules.specs.State.{pages_of, space_body};
+ghost use Rattle.s38_rules.specs.Cells.{with_bytes, with_cells, with_pointer};
+ghost use Rattle.s38_rules.specs.Held.{pages_of};
+ghost use Rattle.s38_rules.specs.Parts.{over_body, space_part};
 
-use s38_base::{Attr, NoMemory, Pointer};
+use s38_base::{NoMemory, Pointer};
 use s38_memory::{Cell, Tagged};
 use s38_rules::Body;
 
@@ -28,36 +29,17 @@ fn write_cells(cells: &mut Tagged, at: u64, bytes: &[u8])
 
 /// Bytes over a piece of a space.
 pub fn write(body: &mut Body, at: u64, bytes: &[u8])
-    ensures { body.new ≡ space_body (with_bytes at bytes.now) body.old }
+    ensures { body.new ≡ over_body space_part (with_bytes at bytes.now) body.old }
 {
     if let Body::Space(cells) = body {
         write_cells(cells, at, bytes);
     }
 }
 
-/// Whether a cell may hold the pointer: any but one to an item that is a pointer.
-fn is_storable(pointer: Pointer) -> bool
-    ensures { result ≡ is_storable pointer }
-{
-    match pointer {
-        Pointer::Item { attr, .. } => !is_pointer(attr),
-        _ => true,
-    }
-}
-
-fn is_pointer(attr: Attr) -> bool
-    ensures { result ≡ is_pointer_attr attr }
-{
-    match attr {
-        Attr::Pointer => true,
-        _ => false,
-    }
-}
-
 fn put_in_cells(cells: &mut Tagged, at: u64, pointer: Pointer)
     ensures { cells.new ≡ with_pointer at (Some pointer) cells.old }
 {
-    if is_storable(pointer) && cells.has_piece(at, 16) {
+    if pointer.is_storable() && cells.has_piece(at, 16) {
         let _result = cells.set_pointer(at as u32, pointer);
     }
 }
@@ -73,7 +55,7 @@ fn set_cells(cells: &mut Tagged, at: u64, pointer: Option<Pointer>)
 
 /// A pointer, or sixteen zero bytes, into a cell of a space.
 pub fn set_pointer(body: &mut Body, at: u64, pointer: Option<Pointer>)
-    ensures { body.new ≡ space_body (with_pointer at pointer) body.old }
+    ensures { body.new ≡ over_body space_part (with_pointer at pointer) body.old }
 {
     if let Body::Space(cells) = body {
         set_cells(cells, at, pointer);
@@ -92,7 +74,7 @@ fn copy_cells(cells: &mut Tagged, at: u64, piece: &[Cell])
 /// Cells with their tags over those of a space.
 pub fn copy_in(body: &mut Body, at: u64, piece: &[Cell])
     requires { All IsCell piece.now }
-    ensures { body.new ≡ space_body (with_cells at piece.now) body.old }
+    ensures { body.new ≡ over_body space_part (with_cells at piece.now) body.old }
 {
     if let Body::Space(cells) = body {
         copy_cells(cells, at, piece);
@@ -117,7 +99,7 @@ pub fn resize(body: &mut Body, len: u32) -> Result<(), NoMemory>
     requires whole { len % 16 ≡ 0 }
     requires some { 16 ≤ len }
     requires most { len ≤ 16777216 }
-    ensures ok { OnOk result (body.new ≡ space_body (resized len) body.old) }
+    ensures ok { OnOk result (body.new ≡ over_body space_part (resized len) body.old) }
     ensures err { OnErr result (body.new ≡ body.old) }
 {
     match body {

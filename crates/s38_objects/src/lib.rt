@@ -4,11 +4,11 @@
 
 mod body;
 mod charges;
-mod lent;
 mod name_key;
 mod names;
 mod numbered;
 mod objects;
+mod table;
 #[cfg(test)]
 mod tests;
 

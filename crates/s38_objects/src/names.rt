@@ -2,7 +2,7 @@ ghost use Rattle.std.specs.Prelude.{◌≡◌, ℕ, None, Some, OnOk, OnErr, if�
 ghost use Rattle.std.specs.Option.{option_map};
 ghost use Rattle.std.specs.BTreeMap.{IsUnchanged, get};
 ghost use Rattle.s38_base.specs.declared.id.Id.{Id};
-ghost use Rattle.s38_rules.specs.State.{is_named};
+ghost use Rattle.s38_rules.specs.Held.{is_named};
 ghost use Rattle.s38_objects.specs.NameOrder.{key, name_cmp};
 
 use crate::name_key::{NameKey, key};

@@ -3,20 +3,22 @@ ghost use Rattle.std.specs.Borrow.{sem};
 ghost use Rattle.std.specs.Option.{option_copied, option_copied_mut, option_map};
 ghost use Rattle.s38_memory.specs.Cell.{IsCell};
 ghost use Rattle.s38_memory.specs.Tagged.{resized};
-ghost use Rattle.s38_rules.specs.Spaces.{with_bytes, with_cells, with_pointer};
-ghost use Rattle.s38_rules.specs.State.{charge_beside, charge_in, found_in, object_in, with_space};
-ghost use Rattle.s38_objects.specs.Held.{IsLawful, contents_in, nothing, number_of, queue_held, with_added, with_changed, with_removed};
-ghost use Rattle.s38_objects.specs.Lending.{LendsQueue};
+ghost use Rattle.s38_rules.specs.Cells.{with_bytes, with_cells, with_pointer};
+ghost use Rattle.s38_queues.specs.contracts.queue.Queue.{the_row as queue_row};
+ghost use Rattle.s38_rules.specs.declared.object.Body.{Body};
+ghost use Rattle.s38_rules.specs.Held.{charge_beside, charge_in, found, nothing, number_found, object, pages_of, with_added, without};
+ghost use Rattle.s38_rules.specs.Parts.{on_space, over_body, part_at, queue_part, space_part};
+ghost use Rattle.s38_objects.specs.Lawful.{IsLawful, contents_in, number_of};
+ghost use Rattle.s38_objects.specs.Lending.{LendsHeld};
 
 use crate::body::pages;
 use crate::charges::{charge_of, make_room, set_charge};
-use crate::lent::queue_in_body;
 use crate::name_key::{NameKey, key};
 use crate::{names, numbered};
 use s38_base::{Id, NoMemory, ObjNum, Pointer, UserNum};
-use s38_memory::Cell;
+use s38_memory::{Cell, Tagged};
 use s38_queues::Queue;
-use s38_rules::Object;
+use s38_rules::{BodyPart, Object};
 use std::alloc::{AllocFailed, Global};
 use std::collections::BTreeMap;
 use std::marker::Model;
@@ -35,7 +37,7 @@ pub struct Objects {
 
 impl Model for Objects {
     ghost use Rattle.std.specs.BTreeMap.{values};
-    ghost use Rattle.s38_objects.specs.Held.{Held};
+    ghost use Rattle.s38_rules.specs.Held.{Held};
     ghost use Rattle.s38_objects.specs.Indexed.{IsIndexed};
 
     ghost Value = { Held };
@@ -91,21 +93,21 @@ impl Objects {
 
     /// The object of a number, in logarithmic time.
     pub fn get(&self, number: ObjNum) -> Option<&Object>
-        ensures { option_copied result ≡ object_in self.now.objects number.0 }
+        ensures { option_copied result ≡ object self.now number.0 }
     {
         self.by_number.get(&number.0)
     }
 
     /// The number of the object of an identification in a context, in logarithmic time.
     pub fn find(&self, context: ObjNum, id: &Id) -> Option<ObjNum>
-        ensures { option_map (λ n. n.0) result ≡ option_map number_of (found_in self.now.objects context.0 id.now) }
+        ensures { result ≡ number_found self.now context.0 id.now }
     {
         self.by_name.get(&key(context.0, id)).map(|n| ObjNum(*n))
     }
 
     /// The object of an identification in a context, in logarithmic time.
     pub fn find_object(&self, context: ObjNum, id: &Id) -> Option<&Object>
-        ensures { option_copied result ≡ found_in self.now.objects context.0 id.now }
+        ensures { option_copied result ≡ found self.now context.0 id.now }
     {
         match self.by_name.get(&key(context.0, id)) {
             Some(number) => self.by_number.get(number),
@@ -152,7 +154,7 @@ impl Objects {
     pub fn add(&mut self, object: Object) -> Result<ObjNum, AllocFailed<Object>>
         requires unused { self.old.next ≤ object.number.0 }
         requires small { object.number.0 < 2 ^ 63 }
-        requires unnamed { found_in self.old.objects object.context.0 object.id ≡ None }
+        requires unnamed { found self.old object.context.0 object.id ≡ None }
         ensures number { IfOk result (λ n. n ≡ object.number) }
         ensures ok { OnOk result (self.new ≡ with_added self.old object) }
         ensures back { IfErr result (λ e. e.value ≡ object) }
@@ -182,8 +184,8 @@ impl Objects {
     /// Takes the object of a number out, in logarithmic time and without memory. Its number is never given
     /// again.
     pub fn remove(&mut self, number: ObjNum) -> Option<Object>
-        ensures object { result ≡ object_in self.old.objects number.0 }
-        ensures rest { self.new ≡ with_removed self.old number.0 }
+        ensures object { result ≡ object self.old number.0 }
+        ensures rest { self.new ≡ without self.old number.0 }
     {
         match self.by_number.remove(&number.0) {
             Some(object) => {
@@ -196,16 +198,51 @@ impl Objects {
         }
     }
 
-    /// The queue of a number, to be written, in logarithmic time; None exactly where there is no such object or
-    /// it is no queue.
-    pub fn queue_mut(&mut self, number: ObjNum) -> Option<&mut Queue>
-        ensures* writes_back { sem 𝓛 (LendsQueue self.entry number.0 result) }
-        ensures value { option_copied_mut result ≡ queue_held (object_in self.old.objects number.0) }
+    /// What the object of a number holds; None exactly where there is no such object or it is of another kind.
+    fn part<P: BodyPart>(&self, number: ObjNum) -> Option<&P>
+        ensures { option_copied result ≡ part_at P.part self.now number.0 }
     {
-        match self.by_number.get_mut(&number.0) {
-            Some(object) => queue_in_body(&mut object.body),
+        match self.get(number) {
+            Some(object) => P::of(&object.body),
             None => None,
         }
+    }
+
+    /// The queue of a number, in logarithmic time.
+    pub fn queue(&self, number: ObjNum) -> Option<&Queue>
+        ensures { option_copied result ≡ part_at queue_part self.now number.0 }
+    {
+        self.part::<Queue>(number)
+    }
+
+    /// The space of a number, in logarithmic time.
+    pub fn space(&self, number: ObjNum) -> Option<&Tagged>
+        ensures { option_copied result ≡ part_at space_part self.now number.0 }
+    {
+        self.part::<Tagged>(number)
+    }
+
+    /// What the object of a number holds, to be written. Kinds whose pages change with it are not lent so. A further
+    /// kind is a `BodyPart` and calls like `queue` and `queue_mut`, with the one line that says that its pages stay.
+    fn part_mut<P: BodyPart>(&mut self, number: ObjNum) -> Option<&mut P>
+        requires { (x : P) (b : Body) → pages_of (over_body P.part (λ _. x) b) ≡ pages_of b }
+        ensures* writes_back { sem 𝓛 (LendsHeld P.row P.part self.entry number.0 result) }
+        ensures value { option_copied_mut result ≡ part_at P.part self.old number.0 }
+    {
+        match self.by_number.get_mut(&number.0) {
+            Some(object) => P::of_mut(&mut object.body),
+            None => None,
+        }
+    }
+
+    /// The queue of a number, to be written, in logarithmic time; None exactly where there is no such object or
+    /// it is no queue.
+    #[tactic(auto, using(crate::proofs::BodyLaws::queue_pages))]
+    pub fn queue_mut(&mut self, number: ObjNum) -> Option<&mut Queue>
+        ensures* writes_back { sem 𝓛 (LendsHeld queue_row queue_part self.entry number.0 result) }
+        ensures value { option_copied_mut result ≡ part_at queue_part self.old number.0 }
+    {
+        self.part_mut::<Queue>(number)
     }
 
     /// Raises the next number, and sets the ceiling.
@@ -220,7 +257,7 @@ impl Objects {
     /// Writes bytes over a piece of the space of a number. Nothing changes where there is no such space or the
     /// piece leaves it.
     pub fn write(&mut self, number: ObjNum, at: u64, bytes: &[u8])
-        ensures { self.new ≡ with_changed self.old number.0 (with_space (with_bytes at bytes.now)) }
+        ensures { self.new ≡ on_space self.old number.0 (with_bytes at bytes.now) }
     {
         numbered::write(&mut self.by_number, number.0, at, bytes);
     }
@@ -229,7 +266,7 @@ impl Objects {
     /// bytes. Nothing changes where there is no such space or cell, or the pointer is one to an item that is a
     /// pointer.
     pub fn set_pointer(&mut self, number: ObjNum, at: u64, pointer: Option<Pointer>)
-        ensures { self.new ≡ with_changed self.old number.0 (with_space (with_pointer at pointer)) }
+        ensures { self.new ≡ on_space self.old number.0 (with_pointer at pointer) }
     {
         numbered::set_pointer(&mut self.by_number, number.0, at, pointer);
     }
@@ -238,7 +275,7 @@ impl Objects {
     /// where there is no such space, the cells leave it, or no cell begins there.
     pub fn copy_in(&mut self, number: ObjNum, at: u64, piece: &[Cell])
         requires { All IsCell piece.now }
-        ensures { self.new ≡ with_changed self.old number.0 (with_space (with_cells at piece.now)) }
+        ensures { self.new ≡ on_space self.old number.0 (with_cells at piece.now) }
     {
         numbered::copy_in(&mut self.by_number, number.0, at, piece);
     }
@@ -249,7 +286,7 @@ impl Objects {
         requires whole { len % 16 ≡ 0 }
         requires some { 16 ≤ len }
         requires most { len ≤ 16777216 }
-        ensures ok { OnOk result (self.new ≡ with_changed self.old number.0 (with_space (resized len))) }
+        ensures ok { OnOk result (self.new ≡ on_space self.old number.0 (resized len)) }
         ensures err { OnErr result (self.new ≡ self.old) }
     {
         let beside = self.charge_beside(number);

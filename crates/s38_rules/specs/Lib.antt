@@ -7,6 +7,7 @@ pub mod Headers
 pub mod Held
 pub mod Instruction
 pub mod Legal
+pub mod Lending
 pub mod Needs
 pub mod Opening
 pub mod Operands

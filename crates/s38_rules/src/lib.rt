@@ -6,6 +6,7 @@
 mod creating;
 mod need;
 mod object;
+mod part;
 mod process;
 mod table;
 mod verdict;
@@ -13,6 +14,7 @@ mod verdict;
 pub use creating::Creating;
 pub use need::{Located, Named, Need, PointerKind, Sought};
 pub use object::{Body, Object, PrivateRow, RowList};
+pub use part::BodyPart;
 pub use process::{ProcessEntry, Started};
 pub use table::{Header, Table, TableRows};
 pub use verdict::Verdict;

@@ -1,15 +1,15 @@
 use Rattle.std.proofs.Common.{ap}
-use Rattle.s38_rules.specs.Spaces.{with_pointer}
-use Rattle.s38_rules.specs.State.{space_body}
+use Rattle.s38_rules.specs.Cells.{with_pointer}
+use Rattle.s38_rules.specs.Parts.{over_body, space_part}
 use Rattle.s38_objects.proofs.NumberLaws.{body_missing, body_written}
 use Rattle.s38_objects.proofs.numbered.set_pointer.Goals as goal
 
 pub returns-in-Some : goal.returns-in-Some
 returns-in-Some c =
     let o = c.in-Some.object.now in
-    let f = space_body (with_pointer c.args.at c.args.pointer) in
+    let f = over_body space_part (with_pointer c.args.at c.args.pointer) in
     body_written c.args.number f o c.set_pointer.new.body c.args.objects.now.entries _ c.in-Some.ensures.value (c.get_mut.follows.holds (record o { body = c.set_pointer.new.body })).0 c.set_pointer.ensures
 
 pub returns-in_default : goal.returns-in_default
 returns-in_default c =
-    body_missing c.args.number (space_body (with_pointer c.args.at c.args.pointer)) c.args.objects.now.entries _ c.in_default.ensures.value (ap (λ m. m.entries) c.get_mut.follows.holds-at-none)
+    body_missing c.args.number (over_body space_part (with_pointer c.args.at c.args.pointer)) c.args.objects.now.entries _ c.in_default.ensures.value (ap (λ m. m.entries) c.get_mut.follows.holds-at-none)

@@ -2,8 +2,8 @@ use Rattle.std.proofs.Common.{◌∙◌, ◌≡◌, ◌≤◌, ◌<◌, ◌^◌,
 use Rattle.std.specs.Prelude.{None}
 use Rattle.std.specs.BTreeMap.{values}
 use Rattle.s38_rules.specs.declared.object.Object.{Object}
-use Rattle.s38_rules.specs.State.{found_in, pages_of}
-use Rattle.s38_objects.specs.Held.{Held}
+use Rattle.s38_rules.specs.Held.{found_in, pages_of}
+use Rattle.s38_rules.specs.Held.{Held}
 use Rattle.s38_objects.proofs.ChargeLaws.{charge_fits, from_ok}
 use Rattle.s38_objects.proofs.IndexLaws.{indexed_added, indexed_refused, values_added}
 use Rattle.s38_objects.proofs.objects.Objects.add.Goals as goal

@@ -1,5 +1,5 @@
 use Rattle.std.proofs.Common.{◌∙◌, ◌≡◌, ◌+◌, sym, arith}
-use Rattle.s38_rules.specs.State.{charge_beside, charge_in, pages_of}
+use Rattle.s38_rules.specs.Held.{charge_beside, charge_in, pages_of}
 use Rattle.std.specs.BTreeMap.{values}
 use Rattle.s38_objects.proofs.ChargeLaws.{beside_found, beside_absent}
 use Rattle.s38_objects.proofs.objects.Objects.charge_beside.Goals as goal

@@ -1,8 +1,8 @@
 use Rattle.std.proofs.Common.{ap, List}
 use Rattle.s38_rules.specs.declared.object.Object.{Object}
-use Rattle.s38_rules.specs.Spaces.{with_cells}
-use Rattle.s38_rules.specs.State.{space_body}
-use Rattle.s38_objects.specs.Held.{Held}
+use Rattle.s38_rules.specs.Cells.{with_cells}
+use Rattle.s38_rules.specs.Parts.{over_body, space_part}
+use Rattle.s38_rules.specs.Held.{Held}
 use Rattle.s38_objects.proofs.BodyLaws.{cells_kept, space_kept}
 use Rattle.s38_objects.proofs.IndexLaws.{indexed_bodied, values_bodied}
 use Rattle.s38_objects.proofs.objects.Objects.copy_in.Goals as goal
@@ -11,11 +11,11 @@ pub invariant_of-self : goal.invariant_of-self
 invariant_of-self c =
     let m = c.self.inside in
     let f = with_cells c.args.at c.args.piece.now in
-    indexed_bodied m.by_number c.copy_in.new.objects m.by_name m.charges m.next c.args.number.0 (space_body f) c.self.invariant (space_kept f (cells_kept c.args.at c.args.piece.now)) c.copy_in.ensures
+    indexed_bodied m.by_number c.copy_in.new.objects m.by_name m.charges m.next c.args.number.0 (over_body space_part f) c.self.invariant (space_kept f (cells_kept c.args.at c.args.piece.now)) c.copy_in.ensures
 
 pub returns : goal.returns
 returns c =
     let m = c.self.inside in
     let f = with_cells c.args.at c.args.piece.now in
     let shown : List Object → Held = λ os. record { objects = os; next = m.next; ceiling = m.ceiling } in
-    rw (← c.self.view_is) (ap shown (values_bodied m.by_number c.copy_in.new.objects m.by_name m.charges m.next c.args.number.0 (space_body f) c.self.invariant c.copy_in.ensures))
+    rw (← c.self.view_is) (ap shown (values_bodied m.by_number c.copy_in.new.objects m.by_name m.charges m.next c.args.number.0 (over_body space_part f) c.self.invariant c.copy_in.ensures))

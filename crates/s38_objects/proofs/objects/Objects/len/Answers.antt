@@ -1,5 +1,6 @@
 use Rattle.std.proofs.Common.{subst}
-use Rattle.s38_objects.specs.Held.{Held, IsLawful}
+use Rattle.s38_rules.specs.Held.{Held}
+use Rattle.s38_objects.specs.Lawful.{IsLawful}
 use Rattle.s38_objects.proofs.IndexLaws.{lawful}
 use Rattle.s38_objects.proofs.objects.Objects.len.Goals as goal
 

@@ -3,7 +3,7 @@ use Rattle.std.specs.Ordering.{nat_cmp}
 use Rattle.std.specs.BTreeMap.{is_at}
 use Rattle.std.specs.Map.{values_of}
 use Rattle.s38_rules.specs.declared.object.Object.{Object}
-use Rattle.s38_objects.specs.Held.{Held}
+use Rattle.s38_rules.specs.Held.{Held}
 use Rattle.s38_objects.proofs.NumberLaws.{lookup_object, values_without}
 use Rattle.s38_objects.proofs.ChargeLaws.{has_charge, owner_pays}
 use Rattle.s38_objects.proofs.IndexLaws.{indexed_removed}

@@ -3,47 +3,46 @@ use borrow.Follows.Closed.{read_of}
 use Rattle.std.specs.Option.{ghost_name_of}
 use Rattle.std.specs.BTreeMap.{BTreeMap, values}
 use Rattle.std.specs.Map.{values_of}
-use Rattle.s38_queues.specs.MessageQueue.{MessageQueue}
 use Rattle.s38_rules.specs.declared.object.Object.{Object}
-use Rattle.s38_rules.specs.State.{change_in, queue_body, with_queue}
-use Rattle.s38_objects.specs.Held.{Held, queue_held}
+use Rattle.s38_rules.specs.Held.{Held, change_in}
+use Rattle.s38_rules.specs.Parts.{over_body, over_object, part_in}
 use Rattle.s38_objects.specs.Changes.{with_body}
-use Rattle.s38_objects.proofs.BodyLaws.{queue_pages}
 use Rattle.s38_objects.proofs.NumberLaws.{body_unchanged, body_written, lookup_object}
 use Rattle.s38_objects.proofs.IndexLaws.{indexed_bodied, indexed_same, values_bodied}
-use Rattle.s38_objects.proofs.objects.Objects.queue_mut.Goals as goal
+use Rattle.s38_objects.proofs.objects.Objects.part_mut.Goals as goal
 
 pub invariant_of-self-lent : goal.invariant_of-self-lent
-invariant_of-self-lent c =
+invariant_of-self-lent g c =
     let m = c.self.inside in
     let o = c.in-Some.object.now in
     let n = c.args.number.0 in
     λ _. (
-      λ w. let f = queue_body (λ _. w) in let x = with_body f o in
-          indexed_bodied m.by_number (c.get_mut.follows.lender x) m.by_name m.charges m.next n f c.self.invariant (queue_pages (λ _. w))
+      λ w. let f = over_body g.P.BodyPart.part (λ _. w) in let x = with_body f o in
+          indexed_bodied m.by_number (c.get_mut.follows.lender x) m.by_name m.charges m.next n f c.self.invariant (c.requires w)
           (body_written n f o (f o.body) m.by_number.entries (c.get_mut.follows.lender x).entries c.in-Some.ensures.value (c.get_mut.follows.holds x).0 refl),
       indexed_same m.by_number (c.get_mut.follows.lender o) m.by_name m.charges m.next c.self.invariant
           (body_unchanged n o o.body m.by_number.entries (c.get_mut.follows.lender o).entries c.in-Some.ensures.value (c.get_mut.follows.holds o).0 refl),
     )
 
 pub returns-in-Some : goal.returns-in-Some
-returns-in-Some c =
+returns-in-Some g c =
     let m = c.self.inside in
     let o = c.in-Some.object.now in
     let n = c.args.number.0 in
+    let p = g.P.BodyPart.part in
     let shown : List Object → Held = λ os. record { objects = os; next = m.next; ceiling = m.ceiling } in
-    let lent : (w : MessageQueue) → values (c.get_mut.follows.lender (with_body (queue_body (λ _. w)) o)) ≡ change_in (values m.by_number) n (with_queue (λ _. w)) =
-    λ w. let f = queue_body (λ _. w) in let x = with_body f o in
+    let lent : (w : g.row.P.Denot) → values (c.get_mut.follows.lender (with_body (over_body p (λ _. w)) o)) ≡ change_in (values m.by_number) n (over_object p (λ _. w)) =
+    λ w. let f = over_body p (λ _. w) in let x = with_body f o in
     values_bodied m.by_number (c.get_mut.follows.lender x) m.by_name m.charges m.next n f c.self.invariant
     (body_written n f o (f o.body) m.by_number.entries (c.get_mut.follows.lender x).entries c.in-Some.ensures.value (c.get_mut.follows.holds x).0 refl) in
     let kept : values (c.get_mut.follows.lender o) ≡ values m.by_number =
     ap (λ (es : List (ℕ × Object)). values_of es) (body_unchanged n o o.body m.by_number.entries (c.get_mut.follows.lender o).entries c.in-Some.ensures.value (c.get_mut.follows.holds o).0 refl) in
-    let held = c.queue_in_body.ensures.queue ∙ ap queue_held (c.in-Some.ensures.value ∙ lookup_object m.next n m.by_number.entries c.self.invariant.numbered) in
-    rw (← c.self.view_is) ((λ i. read_of (ghost_name_of c.queue_in_body.result) (λ w. shown (lent w i)) (shown (kept i))), record { writes_back = tt; value = held })
+    let held = c.of_mut.ensures.value ∙ ap (part_in p) (c.in-Some.ensures.value ∙ lookup_object m.next n m.by_number.entries c.self.invariant.numbered) in
+    rw (← c.self.view_is) ((λ i. read_of (ghost_name_of c.of_mut.result) (λ w. shown (lent w i)) (shown (kept i))), record { writes_back = tt; value = held })
 
 pub returns-in-None : goal.returns-in-None
-returns-in-None c =
+returns-in-None g c =
     let m = c.self.inside in
     let shown : BTreeMap ℕ Object → Held = λ x. record { objects = values x; next = m.next; ceiling = m.ceiling } in
-    let none = ap queue_held (c.in-None.ensures.value ∙ lookup_object m.next c.args.number.0 m.by_number.entries c.self.invariant.numbered) in
+    let none = ap (part_in g.P.BodyPart.part) (c.in-None.ensures.value ∙ lookup_object m.next c.args.number.0 m.by_number.entries c.self.invariant.numbered) in
     rw (← c.self.view_is) (ap (λ (x : BTreeMap ℕ Object). inr (shown x)) c.get_mut.follows.holds-at-none, record { writes_back = tt; value = none })

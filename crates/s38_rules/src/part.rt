@@ -1,0 +1,66 @@
+//! What a body of one kind holds, read and lent to be written; one impl for each kind.
+ghost use Rattle.std.specs.Prelude.{◌≡◌};
+ghost use Rattle.std.specs.Borrow.{sem};
+ghost use Rattle.std.specs.Option.{option_copied, option_copied_mut};
+ghost use Rattle.s38_rules.specs.Lending.{LendsPart};
+ghost use Rattle.s38_rules.specs.Parts.{IsPart, Part, queue_lawful, queue_part, space_lawful, space_part};
+
+use crate::object::Body;
+use s38_memory::Tagged;
+use s38_queues::Queue;
+
+/// What a body of one kind holds.
+pub trait BodyPart {
+    ghost part: { Part Self };
+
+    /// What the body holds; None exactly where it is of another kind.
+    fn of(body: &Body) -> Option<&Self>
+        ensures { option_copied result ≡ part.of body.now };
+
+    /// The same, to be written.
+    fn of_mut(body: &mut Body) -> Option<&mut Self>
+        ensures* writes_back { sem 𝓛 (LendsPart Self.row part body.entry result) }
+        ensures value { option_copied_mut result ≡ part.of body.old };
+
+    ghost lawful: { IsPart Self part };
+}
+
+impl BodyPart for Queue {
+    ghost part = { queue_part };
+
+    ghost lawful = { queue_lawful };
+
+    fn of(body: &Body) -> Option<&Queue> {
+        match body {
+            Body::Queue(queue) => Some(queue),
+            _ => None,
+        }
+    }
+
+    fn of_mut(body: &mut Body) -> Option<&mut Queue> {
+        match body {
+            Body::Queue(queue) => Some(queue),
+            _ => None,
+        }
+    }
+}
+
+impl BodyPart for Tagged {
+    ghost part = { space_part };
+
+    ghost lawful = { space_lawful };
+
+    fn of(body: &Body) -> Option<&Tagged> {
+        match body {
+            Body::Space(cells) => Some(cells),
+            _ => None,
+        }
+    }
+
+    fn of_mut(body: &mut Body) -> Option<&mut Tagged> {
+        match body {
+            Body::Space(cells) => Some(cells),
+            _ => None,
+        }
+    }
+}
