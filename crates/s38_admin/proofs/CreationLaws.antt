@@ -15,15 +15,15 @@ use Rattle.s38_rules.proofs.RuleLaws.{fails_none, first_none, not_false}
 
 -- a program that may be made meets the rules of creation
 pub crtpg_created : (s : State) (p : ℕ) (ops : List Operand) → crtpg_fails s p ops ≡ None
-    → creation_fails s.held (user_of s p) (new_program s.held ops) (template_rule (template_at s ops)) ≡ None
+    → (own : Option Exception) × (creation_fails s.held (user_of s p) (new_program s.held ops) own ≡ None)
 unfolding crtpg_fails
-crtpg_created s p ops h = (first_none _ _ h).0
+crtpg_created s p ops h = (template_rule (template_at s ops), (first_none _ _ h).0)
 
 -- and so does a space
 pub crts_created : (s : State) (p : ℕ) (ops : List Operand) → crts_fails s p ops ≡ None
-    → creation_fails s.held (user_of s p) (new_space s ops) (length_rule s ops 5) ≡ None
+    → (own : Option Exception) × (creation_fails s.held (user_of s p) (new_space s ops) own ≡ None)
 unfolding crts_fails
-crts_created s p ops h = h
+crts_created s p ops h = (length_rule s ops 5, h)
 
 own_met : (h : Held) (owner : ℕ) (made : Creating) (own : Option Exception) → creation_fails h owner made own ≡ None → own ≡ None
 unfolding creation_fails

@@ -9,9 +9,9 @@ use s38_base::limits::MACHINE_CONTEXT;
 use s38_base::{Category, Exception, Id, Kind, NoMemory, ObjNum, Op, Pointer, Rights, UserNum};
 use s38_code::{Operand, Request, Val};
 use s38_invoke::World;
-use s38_objects::Objects;
+use s38_objects::{Objects, kind_of};
 use s38_operands::{
-    Needs, id_at, is_list, is_machine, kind_of, need, pointer_at, rights_at, target,
+    Needs, id_at, is_list, is_machine, need, pointer_at, rights_at, target,
 };
 use s38_rules::{Located, Named, Object, PointerKind, Sought};
 use std::alloc::Global;

@@ -10,7 +10,7 @@ ghost use Rattle.s38_rules.specs.Parts.{on_space};
 ghost use Rattle.s38_rules.specs.Spaces.{cells_put, cpybwp_changes, cpybwp_fails, cpybwp_gives, crts_changes, crts_fails, is_space_length, is_unaligned, length_at, length_rule, mods_changes, mods_fails, new_space, pages_for_length, setdp_fails, setdp_gives, setsppfp_gives, spaces_row};
 
 use s38_base::exceptions::{BOUNDARY_ALIGNMENT, DECIMAL_DATA, LENGTH_INVALID, SPACE_ADDRESSING};
-use s38_base::{Category, Exception, Kind, NoMemory, ObjNum, Op, Pointer, Rights};
+use s38_base::{Category, Exception, Kind, NoMemory, ObjNum, Op, Pointer, Rights, UserNum};
 use s38_code::{Operand, Request, Val};
 use s38_invoke::World;
 use s38_memory::{Cell, Tagged};
@@ -18,10 +18,10 @@ use s38_objects::Objects;
 use s38_operands::{
     Needs, attr_at, count_at, creation_changes, creation_fails, creation_gives, creation_needs,
     destruction_changes, destruction_needs, fails, first_pointer, in_context, is_aligned,
-    is_in_space, is_within, need, number_at, on_object, owner_in, pages_rule, place, pointer_at,
+    is_in_space, is_within, need, number_at, on_object, pages_rule, place, pointer_at,
     source_cells, target,
 };
-use s38_rules::{Body, Creating, Named, PointerKind, Sought};
+use s38_rules::{Body, Creating, Named, Object, PointerKind, Sought};
 use std::alloc::Global;
 
 // ---- lengths
@@ -118,6 +118,15 @@ fn crts(
 }
 
 // ---- MODS
+
+fn owner_in(object_used: Option<&Object>) -> UserNum
+    ensures { result.0 ≡ owner_in (option_copied object_used.entry) }
+{
+    match object_used {
+        None => ObjNum(0),
+        Some(object_used) => object_used.owner,
+    }
+}
 
 /// The owner of a space pays for so many pages of it.
 fn owner_rule(objects: &Objects, space: ObjNum, pages: u64) -> Option<Exception>

@@ -12,9 +12,9 @@ use s38_base::limits::MACHINE_CONTEXT;
 use s38_base::{Attr, Exception, Kind, Pointer};
 use s38_code::Operand;
 use s38_memory::Tagged;
-use s38_objects::Objects;
-use s38_operands::{fails, is_aligned, is_within, kind_of, pointer_at};
-use s38_rules::{Body, Named, Need, Object, PointerKind, Sought};
+use s38_objects::{Objects, kind_of};
+use s38_operands::{fails, is_aligned, is_within, pointer_at};
+use s38_rules::{BodyPart, Named, Need, Object, PointerKind, Sought};
 
 fn is_base(pointer: Pointer, offset: u32, attr: Attr) -> bool
     ensures { result ≡ is_base pointer offset attr }
@@ -48,21 +48,12 @@ fn cells_rule(k: u8, space: Option<&Tagged>, at: u64, attr: Attr) -> Option<Exce
     }
 }
 
-fn space_of(body: &Body) -> Option<&Tagged>
-    ensures { option_copied result ≡ space_part.of body.now }
-{
-    match body {
-        Body::Space(space) => Some(space),
-        _ => None,
-    }
-}
-
 fn space_rule(k: u8, object_used: Option<&Object>, at: u64, attr: Attr) -> Option<Exception>
     ensures { result ≡ space_rule k (option_copied object_used.entry) at attr }
 {
     match object_used {
         None => Some(Exception::plain(OBJECT_DESTROYED, k)),
-        Some(object_used) => cells_rule(k, space_of(&object_used.body), at, attr),
+        Some(object_used) => cells_rule(k, Tagged::of(&object_used.body), at, attr),
     }
 }
 
