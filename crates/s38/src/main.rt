@@ -2,28 +2,13 @@
 //! templates and prints a line for each.
 #![tactic(auto)]
 
-mod command;
-mod outcome;
-#[cfg(test)]
-mod rows;
-#[cfg(test)]
-mod rows_computed;
-#[cfg(test)]
-mod rows_created;
-mod run;
-mod tell;
-mod templates;
-#[cfg(test)]
-mod tests;
-mod top;
-
 use s38_io::{Sink, StdSink, StdSource};
+use s38_top::plain_top;
 use std::alloc::{AllocError, Global};
 use std::env::Env;
 use std::io::ErrorKind;
 use std::process::ExitCode;
 use std::{env, io};
-use top::plain_top;
 
 /// The words of the command line behind the program's own.
 fn command_line<R: Env + AllocGlobal>(rt: &R) -> io::Result<Vec<String>> {
