@@ -9,7 +9,7 @@ ghost use Rattle.s38_template.specs.Places.{HasTemplate, place_of};
 ghost use Rattle.s38_top.specs.Decks.{MadeAt, checked_of, checked_template, made_for};
 
 use s38_base::{Name, NoMemory, Seq, TryClone};
-use s38_code::{Checked, CheckedTemplate, Deck, Job, CreateResult, Template};
+use s38_code::{Checked, CheckedTemplate, CreateResult, Deck, Job, Template};
 use s38_create::checked;
 use s38_template::{template_name, template_places};
 use std::alloc::Global;
