@@ -1,3 +1,1 @@
-pub mod Commands
-pub mod Decks
-pub mod Outcome
+pub mod CommandLine

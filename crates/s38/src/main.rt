@@ -2,28 +2,15 @@
 //! templates and prints a line for each.
 #![tactic(auto)]
 
-mod command;
-mod outcome;
-#[cfg(test)]
-mod rows;
-#[cfg(test)]
-mod rows_computed;
-#[cfg(test)]
-mod rows_created;
-mod run;
-mod tell;
-mod templates;
-#[cfg(test)]
-mod tests;
-mod top;
+mod refusal;
+mod service;
 
-use s38_io::{Sink, StdSink, StdSource};
-use std::alloc::{AllocError, Global};
+use refusal::{refusal_of, refuse};
+use s38_io::{StdSink, StdSource};
+use service::serve;
 use std::env::Env;
-use std::io::ErrorKind;
 use std::process::ExitCode;
 use std::{env, io};
-use top::plain_top;
 
 /// The words of the command line behind the program's own.
 fn command_line<R: Env + AllocGlobal>(rt: &R) -> io::Result<Vec<String>> {
@@ -36,42 +23,12 @@ fn command_line<R: Env + AllocGlobal>(rt: &R) -> io::Result<Vec<String>> {
     Ok(words)
 }
 
-/// The words behind the first, which is the store's path.
-fn behind_path(alloc: Global, words: &[String]) -> Result<Vec<&str>, AllocError> {
-    let mut behind = Vec::new(alloc);
-    for (place, word) in words.iter().enumerate() {
-        if place > 0 {
-            behind.push(word.as_str())?;
-        }
-    }
-    Ok(behind)
-}
-
-/// Says why a command line could not be taken, and gives its status.
-fn refuse<O: Sink>(fault: ErrorKind, out: &mut O) -> u8 {
-    if fault == ErrorKind::OutOfMemory {
-        let _ = out.put(b"NO MEMORY\n");
-        return 7;
-    }
-    match out.put(b"BAD WORDS\n") {
-        Ok(()) => 1,
-        Err(_) => 6,
-    }
-}
-
 fn main(rt: HostRuntime) -> ExitCode {
-    let mut out = StdSink::new(io::writer(&rt));
-    let words = match command_line(&rt) {
-        Ok(words) => words,
-        Err(fault) => return ExitCode::from(refuse(fault.kind(), &mut out)),
-    };
-    if words.is_empty() {
-        return ExitCode::from(refuse(ErrorKind::InvalidInput, &mut out));
-    }
-    let Ok(behind) = behind_path(rt.alloc(), words.as_slice()) else {
-        return ExitCode::from(refuse(ErrorKind::OutOfMemory, &mut out));
-    };
     let mut deck = StdSource::new(rt.reader());
-    let report = plain_top(rt.alloc(), behind.as_slice(), &mut deck, (), &mut out);
-    ExitCode::from(report.status)
+    let mut out = StdSink::new(io::writer(&rt));
+    let status = match command_line(&rt) {
+        Ok(words) => serve(rt.alloc(), words.as_slice(), &mut deck, &mut out),
+        Err(fault) => refuse(refusal_of(fault.kind()), &mut out),
+    };
+    ExitCode::from(status)
 }

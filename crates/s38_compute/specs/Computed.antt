@@ -102,7 +102,7 @@ test_given _ r = Ok (kind_word (r.pointer 1) == r.word 2)
 
 -- what a string is written over
 abbrev pub written_over : Op → Readings → List ℕ
-written_over op r = if is_copy op && not r.keeps_rest then replicate (copied_len r) 0 else r.held
+written_over op r = if not r.keeps_rest && is_copy op then replicate (copied_len r) 0 else r.held
 
 unfoldable pub bytes_given : Op → Readings → Result (List ℕ) Exception
 bytes_given op r = string_given op (written_over op r) (r.bytes 2) (r.bytes 3) (r.bytes 4)

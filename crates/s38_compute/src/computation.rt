@@ -1,9 +1,9 @@
 ghost use Rattle.std.specs.Prelude.{◌≡◌, IfOk, IsTrue};
 ghost use Rattle.std.specs.Result.{ForOk};
 ghost use Rattle.s38_base.specs.Scalar.{fits};
-ghost use Rattle.s38_compute.specs.Computed.{as_branch, as_bytes, as_number, as_pointer, computed, computes_number, failure_in, is_branch, is_held, is_held_in, number_given, value_in};
+ghost use Rattle.s38_compute.specs.Computed.{as_branch, as_bytes, as_number, as_pointer, computed, computes_number, computes_string, failure_in, is_branch, is_computation, is_held, is_held_in, moves_pointer, number_given, value_in};
 
-use crate::comparisons::{test_failure, test_given};
+use crate::comparisons::{is_branch, test_failure, test_given};
 use crate::given::Given;
 use crate::numbers::number_given;
 use crate::pointers::pointer_given;
@@ -12,6 +12,48 @@ use crate::strings::{bytes_failure, bytes_given};
 use s38_base::{Attr, Bytes, Exception, NoMemory, Op, Pointer};
 use s38_code::Val;
 use std::alloc::Global;
+
+/// A number of two numbers, or of one.
+fn computes_number(op: Op) -> bool
+    ensures { result ≡ computes_number op }
+{
+    matches!(
+        op,
+        Op::Addn | Op::Subn | Op::Mult | Op::Div | Op::Rem | Op::Neg | Op::Cpynv | Op::Scale
+    )
+}
+
+fn computes_string(op: Op) -> bool
+    ensures { result ≡ computes_string op }
+{
+    matches!(
+        op,
+        Op::Cpybla
+            | Op::Cpybra
+            | Op::Cpyblap
+            | Op::Cat
+            | Op::Xlate
+            | Op::Cvthc
+            | Op::Cvtch
+            | Op::And
+            | Op::Or
+            | Op::Xor
+            | Op::Not
+    )
+}
+
+fn moves_pointer(op: Op) -> bool
+    ensures { result ≡ moves_pointer op }
+{
+    matches!(op, Op::Addspp | Op::Subspp)
+}
+
+/// Whether an instruction computes.
+pub fn is_computation(op: Op) -> bool
+    ensures { result ≡ is_computation op }
+{
+    computes_number(op) || is_branch(op) || computes_string(op) || moves_pointer(op)
+}
 
 /// What a computation signals; None also for another instruction. It takes no memory.
 #[tactic(auto, unfolding(crate::specs::Computed::computed))]

@@ -55,7 +55,7 @@ pub fn zeros(alloc: Global, len: usize) -> Result<Vec<u8>, NoMemory>
 pub fn written_over<S: Sources>(alloc: Global, sources: &S, op: Op) -> Result<Vec<u8>, NoMemory>
     ensures { IfOk result (λ made. made.items ≡ written_over op (S.readings sources.now)) }
 {
-    if is_copy(op) && !sources.keeps_rest() {
+    if !sources.keeps_rest() && is_copy(op) {
         return zeros(alloc, copied_len(sources));
     }
     Ok(sources.held(alloc)?.into_vec())

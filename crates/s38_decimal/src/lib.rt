@@ -33,6 +33,3 @@ pub use sums::{add, sub};
 pub use tens::ten;
 pub use whole::whole_part;
 pub use write::write_scalar;
-
-#[cfg(test)]
-mod tests;

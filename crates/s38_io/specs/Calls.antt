@@ -13,7 +13,11 @@ pub record CallRecord : Type 0 where
 abbrev pub fails_next : CallRecord → Bool
 fails_next calls = list_any (λ n. n == calls.made) calls.failing
 
+-- the count of faults after a call: one more where it failed, and else the same
+abbrev pub faults_after : ℕ → Bool → ℕ
+faults_after before failed = if failed then counted before else before
+
 -- one more call was made, and it failed or not
 abbrev pub after_call : CallRecord → Bool → CallRecord
 after_call calls failed =
-    record { failing = calls.failing; made = counted calls.made; faults = if failed then counted calls.faults else calls.faults }
+    record { failing = calls.failing; made = counted calls.made; faults = faults_after calls.faults failed }

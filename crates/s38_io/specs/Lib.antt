@@ -1,4 +1,6 @@
+pub mod Adapters
 pub mod Calls
 pub mod Memory
+pub mod Reading
 pub mod Sink
 pub mod Source

@@ -2,6 +2,7 @@
 //! and over a reader or a writer of the system.
 #![tactic(auto)]
 
+mod answer;
 mod calls;
 mod mem_sink;
 mod mem_source;
@@ -10,8 +11,6 @@ mod sink;
 mod source;
 mod std_sink;
 mod std_source;
-#[cfg(test)]
-mod tests;
 
 pub use mem_sink::MemSink;
 pub use mem_source::MemSource;

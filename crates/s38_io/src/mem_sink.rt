@@ -1,6 +1,6 @@
 ghost use Rattle.std.specs.Prelude.{◌≡◌, ◌++◌, [], Some, IsErr, IsTrue, OnErr, is_err};
 ghost use Rattle.s38_base.specs.Faults.{HasCause};
-ghost use Rattle.s38_io.specs.Calls.{fails_next, after_call};
+ghost use Rattle.s38_io.specs.Calls.{after_call, fails_next, faults_after};
 ghost use Rattle.s38_io.specs.Sink.{Puts};
 
 use crate::calls::Calls;
@@ -54,6 +54,7 @@ impl Sink for MemSink {
     fn put(&mut self, piece: &[u8]) -> Result<(), Failed>
         ensures puts { Puts (Some self.old.written) (Some self.new.written) result piece.now }
         ensures cause { HasCause self.old.calls.faults self.new.calls.faults result }
+        ensures count { self.new.calls.faults ≡ faults_after self.old.calls.faults (is_err result) }
 
         // It fails at the listed calls, and at others only for want of memory; then nothing is written.
         ensures listed { IsTrue (fails_next self.old.calls) → IsErr result }

@@ -1,6 +1,6 @@
-ghost use Rattle.std.specs.Prelude.{◌≡◌, ◌↔◌, ◌<◌, ◌++◌, [], Some, IfOk, IsErr, IsTrue, OnErr, length, take, drop, min};
+ghost use Rattle.std.specs.Prelude.{◌≡◌, ◌↔◌, ◌<◌, ◌++◌, [], Some, IfOk, IsErr, IsTrue, OnErr, is_err, length, take, drop, min};
 ghost use Rattle.s38_base.specs.Faults.{HasCause};
-ghost use Rattle.s38_io.specs.Calls.{fails_next};
+ghost use Rattle.s38_io.specs.Calls.{fails_next, faults_after};
 ghost use Rattle.s38_io.specs.Memory.{after_take, filled};
 ghost use Rattle.s38_io.specs.Source.{ReadsAtMost, Takes};
 
@@ -64,10 +64,11 @@ impl Source for MemSource {
         ensures bound { ReadsAtMost result into.new }
         ensures takes { Takes (Some self.old.left) (Some self.new.left) result into.new }
         ensures cause { HasCause self.old.calls.faults self.new.calls.faults result }
+        ensures count { self.new.calls.faults ≡ faults_after self.old.calls.faults (is_err result) }
 
         // It fails exactly at the listed calls, and gives less than there is room for only at the end.
         ensures listed { IsErr result ↔ IsTrue (fails_next self.old.calls) }
-        ensures count { IfOk result (λ n. n ≡ min (length into.old) (length self.old.left)) }
+        ensures taken { IfOk result (λ n. n ≡ min (length into.old) (length self.old.left)) }
         ensures filled { IfOk result (λ _. into.new ≡ filled self.old.left into.old) }
         ensures untouched { OnErr result (into.new ≡ into.old) }
         ensures after { self.new ≡ after_take self.old (length into.old) }

@@ -1,6 +1,8 @@
 ghost use Rattle.std.specs.Prelude.{◌≡◌, ◌+◌, ◌-◌, ◌<◌, ◌≤◌, ◌++◌, List, ℕ, IfOk, IsErrOf, OnErr, length, vec_len};
 ghost use Rattle.std.specs.Io.KnownBytes.{Consumes, IsAtEnd};
 ghost use Rattle.s38_base.specs.Faults.{HasCauseOf};
+ghost use Rattle.s38_io.specs.Calls.{faults_after};
+ghost use Rattle.s38_io.specs.Reading.{has_failed};
 ghost use Rattle.s38_io.specs.Source.{AddsPiece, LosesFront, ReadsAll};
 
 use crate::source::Source;
@@ -33,6 +35,9 @@ pub fn read_to_end<S: Source>(
     ensures limit { IfOk result (λ bytes. length bytes.items ≤ most) }
     ensures front { LosesFront (S.left source.old) (S.left source.new) }
     ensures cause { HasCauseOf (S.faults source.old) (S.faults source.new) result ReadFault.Failed }
+
+    // A source that failed is not asked again: with any other answer no take failed, and with this one the last did.
+    ensures count { S.faults source.new ≡ faults_after (S.faults source.old) (has_failed result) }
 {
     let mut bytes = Vec::new(alloc);
     let mut chunk = match make_chunk(alloc) {
@@ -65,6 +70,7 @@ fn add_piece<S: Source>(
     ensures ok { IfOk result (λ n. AddsPiece (S.left source.old) (S.left source.new) bytes.old.items bytes.new.items (length chunk.old) n) }
     ensures front { LosesFront (S.left source.old) (S.left source.new) }
     ensures cause { HasCauseOf (S.faults source.old) (S.faults source.new) result ReadFault.Failed }
+    ensures count { S.faults source.new ≡ faults_after (S.faults source.old) (has_failed result) }
 {
     let count = match source.take(chunk) {
         Ok(count) => count,

@@ -1,5 +1,6 @@
-ghost use Rattle.std.specs.Prelude.{List, Option, ℕ};
+ghost use Rattle.std.specs.Prelude.{◌≡◌, List, Option, ℕ, is_err};
 ghost use Rattle.s38_base.specs.Faults.{HasCause};
+ghost use Rattle.s38_io.specs.Calls.{faults_after};
 ghost use Rattle.s38_io.specs.Source.{ReadsAtMost, Takes};
 
 use s38_base::Failed;
@@ -13,10 +14,11 @@ pub trait Source {
     ghost faults: { Self → ℕ };
 
     /// Fills the front of a piece with the bytes that come next, and says how many they are: 0 for a piece
-    /// with room means the end. Behind them the piece may hold any bytes. `Failed` takes nothing away, and
-    /// comes only where the count of faults rose in this call, or stands at its last value.
+    /// with room means the end. Behind them the piece may hold any bytes. `Failed` takes nothing away. The
+    /// count of faults rises by one there, unless it stands at its last value, and nowhere else.
     fn take(&mut self, into: &mut [u8]) -> Result<usize, Failed>
         ensures bound { ReadsAtMost result into.new }
         ensures takes { Takes (left self.old) (left self.new) result into.new }
-        ensures cause { HasCause (faults self.old) (faults self.new) result };
+        ensures cause { HasCause (faults self.old) (faults self.new) result }
+        ensures count { faults self.new ≡ faults_after (faults self.old) (is_err result) };
 }

@@ -2,10 +2,11 @@ ghost use Rattle.std.specs.Prelude.{◌≡◌, ◌≤◌, IfOk, length};
 ghost use Rattle.std.specs.Io.KnownBytes.{Keeps, WriteAppends};
 ghost use Rattle.s38_io.specs.Sink.{Puts};
 
+use crate::answer::{Answer, of_flush, of_write};
 use crate::calls::counted;
 use crate::sink::Sink;
 use s38_base::Failed;
-use std::io::{ErrorKind, Write};
+use std::io::Write;
 use std::marker::Model;
 
 /// A sink over a writer of the system, which flushes each piece. It tells what the writer tells of the bytes
@@ -74,24 +75,18 @@ fn write_once<W: Write>(writer: &mut W, rest: &[u8]) -> Result<usize, Failed>
     ensures bound { IfOk result (λ n. n ≤ length rest.now) }
     ensures bytes { WriteAppends (W.contents writer.old) (W.contents writer.new) result rest.now }
 {
-    match writer.write(rest) {
-        Ok(0) => Err(Failed),
-        Ok(count) => Ok(count),
-        Err(error) => {
-            if error.kind() == ErrorKind::Interrupted {
-                Ok(0)
-            } else {
-                Err(Failed)
-            }
-        }
+    match of_write(writer.write(rest)) {
+        Answer::Took(count) => Ok(count),
+        Answer::Again => Ok(0),
+        Answer::Fault => Err(Failed),
     }
 }
 
 fn flush<W: Write>(writer: &mut W) -> Result<(), Failed>
     ensures bytes { Keeps (W.contents writer.old) (W.contents writer.new) }
 {
-    match writer.flush() {
-        Ok(()) => Ok(()),
-        Err(_) => Err(Failed),
+    match of_flush(writer.flush()) {
+        Answer::Fault => Err(Failed),
+        _ => Ok(()),
     }
 }

@@ -1,10 +1,11 @@
 ghost use Rattle.std.specs.Prelude.{◌≡◌};
 ghost use Rattle.s38_io.specs.Source.{ReadsAtMost, Takes};
 
+use crate::answer::{Answer, of_read};
 use crate::calls::counted;
 use crate::source::Source;
 use s38_base::Failed;
-use std::io::{ErrorKind, Read};
+use std::io::Read;
 use std::marker::Model;
 
 /// A source over a reader of the system. It tells what the reader tells of the bytes to come, and that is
@@ -54,13 +55,10 @@ fn read_once<R: Read>(reader: &mut R, into: &mut [u8]) -> Result<usize, Failed>
     ensures bytes { Takes (R.remaining reader.old) (R.remaining reader.new) result into.new }
 {
     for _ in 0..u64::MAX {
-        match reader.read(into) {
-            Ok(count) => return Ok(count),
-            Err(error) => {
-                if error.kind() != ErrorKind::Interrupted {
-                    return Err(Failed);
-                }
-            }
+        match of_read(reader.read(into)) {
+            Answer::Took(count) => return Ok(count),
+            Answer::Again => {}
+            Answer::Fault => return Err(Failed),
         }
     }
     Err(Failed)

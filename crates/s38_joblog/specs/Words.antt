@@ -1,6 +1,7 @@
 -- Words of a log line: numbers, pointers, values, exceptions and causes.
 use Rattle.std.specs.Prelude.{ℕ, ◌+◌, ◌/◌, ◌%◌, Bool, true, false, ◌==◌, List, [], ◌∷◌, ◌++◌, drop, codes, decimal, bit_and, Option, Some, None, nat_le, if◌then◌else◌}
 use Rattle.std.specs.List.{flat_map}
+use Rattle.s38_base.specs.RightNames as rights
 use Rattle.s38_base.specs.declared.exception.Exception.{Exception}
 use Rattle.s38_base.specs.declared.exception.Rule.{Rule}
 use Rattle.s38_base.specs.declared.exception.Rule.TheVariants.{Plain, Missing, NoSpecial, Held, Unit, StoreFull, Creation}
@@ -37,15 +38,15 @@ named_bit bits bit name = if bit_and bits bit == bit then 43 ∷ name else []
 -- the names of the rights, each behind a +
 abbrev pub right_names : ℕ → List ℕ
 right_names bits =
-    named_bit bits 128 (codes "OBJCTL") ++ (named_bit bits 64 (codes "OBJMGT") ++ (named_bit bits 32 (codes "AUTPTR") ++ (named_bit bits 16 (codes "SPACE")
-    ++ (named_bit bits 8 (codes "RETRIEVE") ++ (named_bit bits 4 (codes "INSERT") ++ (named_bit bits 2 (codes "DELETE") ++ named_bit bits 1 (codes "UPDATE")))))))
+    named_bit bits rights.objctl (codes "OBJCTL") ++ (named_bit bits rights.objmgt (codes "OBJMGT") ++ (named_bit bits rights.autptr (codes "AUTPTR") ++ (named_bit bits rights.space (codes "SPACE")
+    ++ (named_bit bits rights.retrieve (codes "RETRIEVE") ++ (named_bit bits rights.insert (codes "INSERT") ++ (named_bit bits rights.delete (codes "DELETE") ++ named_bit bits rights.update (codes "UPDATE")))))))
 
 -- the names joined by +, and ALL or NONE at the ends
 unfoldable pub rights_word : ℕ → List ℕ
-rights_word bits = if bits == 255 then codes "ALL" else (if bits == 0 then codes "NONE" else drop 1 (right_names bits))
+rights_word bits = if bits == rights.all_rights then codes "ALL" else (if bits == rights.no_rights then codes "NONE" else drop 1 (right_names bits))
 
 abbrev pub special_names : ℕ → List ℕ
-special_names bits = named_bit bits 128 (codes "ALLOBJ") ++ named_bit bits 64 (codes "PROFILE")
+special_names bits = named_bit bits rights.allobj (codes "ALLOBJ") ++ named_bit bits rights.profile (codes "PROFILE")
 
 unfoldable pub special_word : ℕ → List ℕ
 special_word bits = if bits == 0 then codes "NONE" else drop 1 (special_names bits)
@@ -54,7 +55,7 @@ special_word bits = if bits == 0 then codes "NONE" else drop 1 (special_names bi
 
 abbrev pub pointer_text : Option Pointer → List ℕ
 pointer_text None = codes "-"
-pointer_text (Some (System object rights)) = codes "S" ++ (decimal object.0 ++ (codes "/" ++ hex_byte rights.0))
+pointer_text (Some (System object held)) = codes "S" ++ (decimal object.0 ++ (codes "/" ++ hex_byte held.0))
 pointer_text (Some (Space object offset)) = codes "A" ++ (decimal object.0 ++ (codes "+" ++ decimal offset))
 pointer_text (Some (Item object offset attr)) = codes "D" ++ (decimal object.0 ++ (codes "+" ++ decimal offset))
 
@@ -81,7 +82,7 @@ state_word Lenr = codes "LENR"
 -- each part of a detail stands behind a blank
 unfoldable pub detail_text : Rule → List ℕ
 detail_text Plain = []
-detail_text (Missing rights) = codes " " ++ rights_word rights.0
+detail_text (Missing missing) = codes " " ++ rights_word missing.0
 detail_text (NoSpecial special) = codes " " ++ special_word special.0
 detail_text (Held process state) = codes " " ++ (decimal process ++ (codes " " ++ state_word state))
 detail_text (Unit process) = codes " " ++ decimal process

@@ -8,6 +8,3 @@ mod words;
 
 pub use check::check_text;
 pub use log::{bad_line, last_line, log_text};
-
-#[cfg(test)]
-mod tests;

@@ -22,14 +22,14 @@ fn right_names(alloc: Global, bits: u8) -> Result<Text, NoMemory>
     ensures { IfOk result (λ text. text ≡ right_names bits) }
 {
     let mut text = Text::new(alloc);
-    add_named_bit(&mut text, bits, 128, b"OBJCTL")?;
-    add_named_bit(&mut text, bits, 64, b"OBJMGT")?;
-    add_named_bit(&mut text, bits, 32, b"AUTPTR")?;
-    add_named_bit(&mut text, bits, 16, b"SPACE")?;
-    add_named_bit(&mut text, bits, 8, b"RETRIEVE")?;
-    add_named_bit(&mut text, bits, 4, b"INSERT")?;
-    add_named_bit(&mut text, bits, 2, b"DELETE")?;
-    add_named_bit(&mut text, bits, 1, b"UPDATE")?;
+    add_named_bit(&mut text, bits, Rights::OBJCTL.0, b"OBJCTL")?;
+    add_named_bit(&mut text, bits, Rights::OBJMGT.0, b"OBJMGT")?;
+    add_named_bit(&mut text, bits, Rights::AUTPTR.0, b"AUTPTR")?;
+    add_named_bit(&mut text, bits, Rights::SPACE.0, b"SPACE")?;
+    add_named_bit(&mut text, bits, Rights::RETRIEVE.0, b"RETRIEVE")?;
+    add_named_bit(&mut text, bits, Rights::INSERT.0, b"INSERT")?;
+    add_named_bit(&mut text, bits, Rights::DELETE.0, b"DELETE")?;
+    add_named_bit(&mut text, bits, Rights::UPDATE.0, b"UPDATE")?;
     Ok(text)
 }
 
@@ -38,8 +38,8 @@ fn special_names(alloc: Global, bits: u8) -> Result<Text, NoMemory>
     ensures { IfOk result (λ text. text ≡ special_names bits) }
 {
     let mut text = Text::new(alloc);
-    add_named_bit(&mut text, bits, 128, b"ALLOBJ")?;
-    add_named_bit(&mut text, bits, 64, b"PROFILE")?;
+    add_named_bit(&mut text, bits, Special::ALLOBJ.0, b"ALLOBJ")?;
+    add_named_bit(&mut text, bits, Special::PROFILE.0, b"PROFILE")?;
     Ok(text)
 }
 

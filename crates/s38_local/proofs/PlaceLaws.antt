@@ -1,5 +1,5 @@
 -- A receiver that is taken out of the variables and put back.
-use Rattle.std.proofs.Common.{◌≡◌, ◌≢◌, ℕ, zero, suc, ◌<◌, Bool, true, false, List, [], ◌∷◌, length, get_or, refl, sym, ◌∙◌, ap, arith}
+use Rattle.std.proofs.Common.{◌≡◌, ◌≢◌, ℕ, zero, suc, ◌<◌, ◌≤◌, Bool, true, false, List, [], ◌∷◌, length, get_or, refl, sym, ◌∙◌, ap, arith}
 use Rattle.std.proofs.lemmas.Bool.Decides.{nat_tests}
 use Rattle.std.proofs.lemmas.List.{set-set}
 use Rattle.std.proofs.lemmas.Option.{slice_get_read}
@@ -7,15 +7,19 @@ use Rattle.std.specs.Prelude.{Option, Some, None, Result, Ok, Err, ℤ, ◌==◌
 use Rattle.s38_base.specs.declared.attr.Attr.{Attr}
 use Rattle.s38_base.specs.declared.exception.Exception.{Exception}
 use Rattle.s38_base.specs.declared.op.Op.{Op}
+use Rattle.s38_base.specs.declared.op.Op.TheVariants.{Cvtch}
 use Rattle.s38_code.specs.declared.program.Arg.{Arg}
 use Rattle.s38_code.specs.declared.program.Arg.TheVariants as args
 use Rattle.s38_code.specs.declared.reply.Val.{Val}
 use Rattle.s38_code.specs.declared.reply.Val.TheVariants as vals
-use Rattle.s38_rules.specs.declared.local.LocalEnd.{LocalEnd}
-use Rattle.s38_rules.specs.Compute.{string_given}
-use Rattle.s38_rules.specs.Local.{number_put_at, receives_bytes, string_at, with_number}
-use Rattle.s38_rules.specs.Variables.{bytes_of, value_bytes}
-use Rattle.s38_local.specs.Overlap.{bytes_behind, bytes_past, end_at, end_behind, is_item, own_bytes, reads, value_behind}
+use Rattle.s38_compute.specs.Compute.{string_given}
+use Rattle.s38_compute.specs.Written.{bytes_behind, failed}
+use Rattle.s38_local.specs.declared.local_end.LocalEnd.{LocalEnd}
+use Rattle.s38_local.specs.declared.local_end.LocalEnd.TheVariants as ends
+use Rattle.s38_local.specs.Local.{operand}
+use Rattle.s38_local.specs.Overlap.{bytes_past, end_at, end_behind, is_item, item_of, own_bytes, reads, string_run, value_behind}
+use Rattle.s38_local.specs.Received.{Ran, bytes_put, bytes_put_at, bytes_received, number_put_at, with_number}
+use Rattle.s38_local.specs.Variables.{bytes_of, held_by, value_bytes}
 
 -- what was taken from a place stood there
 pub taken : (xs : List Val) (i : ℕ) (r v : Val) → i < length xs → r ≡ get_or xs i r → v ≡ get_or xs i r → slice_get xs i ≡ Some v
@@ -67,43 +71,113 @@ third_or true q r h = refl
 third_or false true r h = refl
 third_or false false r h = h
 
-pub first_past : (xs : List Val) (i : ℕ) (given : List Arg) (own : List ℕ) (out : Val) → own ≡ own_bytes xs i given → bytes_past i own (slice_set xs i out) (slice_get given 1) ≡ bytes_of xs (slice_get given 1)
-first_past xs i given own out is = source_past xs i own out (slice_get given 1) (λ h. kept xs i given own true is (first_or (is_item i (slice_get given 1)) (is_item i (slice_get given 2)) (is_item i (slice_get given 3)) h))
+pub first_past : (xs : List Val) (i : ℕ) (given : List Arg) (own : List ℕ) (out : Val) → own ≡ own_bytes xs i given → bytes_past i own (slice_set xs i out) (operand given 2) ≡ bytes_of xs (operand given 2)
+first_past xs i given own out is = source_past xs i own out (operand given 2) (λ h. kept xs i given own true is (first_or (is_item i (operand given 2)) (is_item i (operand given 3)) (is_item i (operand given 4)) h))
 
-pub second_past : (xs : List Val) (i : ℕ) (given : List Arg) (own : List ℕ) (out : Val) → own ≡ own_bytes xs i given → bytes_past i own (slice_set xs i out) (slice_get given 2) ≡ bytes_of xs (slice_get given 2)
-second_past xs i given own out is = source_past xs i own out (slice_get given 2) (λ h. kept xs i given own true is (second_or (is_item i (slice_get given 1)) (is_item i (slice_get given 2)) (is_item i (slice_get given 3)) h))
+pub second_past : (xs : List Val) (i : ℕ) (given : List Arg) (own : List ℕ) (out : Val) → own ≡ own_bytes xs i given → bytes_past i own (slice_set xs i out) (operand given 3) ≡ bytes_of xs (operand given 3)
+second_past xs i given own out is = source_past xs i own out (operand given 3) (λ h. kept xs i given own true is (second_or (is_item i (operand given 2)) (is_item i (operand given 3)) (is_item i (operand given 4)) h))
 
-pub third_past : (xs : List Val) (i : ℕ) (given : List Arg) (own : List ℕ) (out : Val) → own ≡ own_bytes xs i given → bytes_past i own (slice_set xs i out) (slice_get given 3) ≡ bytes_of xs (slice_get given 3)
-third_past xs i given own out is = source_past xs i own out (slice_get given 3) (λ h. kept xs i given own true is (third_or (is_item i (slice_get given 1)) (is_item i (slice_get given 2)) (is_item i (slice_get given 3)) h))
+pub third_past : (xs : List Val) (i : ℕ) (given : List Arg) (own : List ℕ) (out : Val) → own ≡ own_bytes xs i given → bytes_past i own (slice_set xs i out) (operand given 4) ≡ bytes_of xs (operand given 4)
+third_past xs i given own out is = source_past xs i own out (operand given 4) (λ h. kept xs i given own true is (third_or (is_item i (operand given 2)) (is_item i (operand given 3)) (is_item i (operand given 4)) h))
 
-received_end : (xs : List Val) (i : ℕ) (r : Result (List ℕ) Exception) → end_behind r ≡ (receives_bytes xs i r).end
-received_end xs i (Ok bytes) = refl
-received_end xs i (Err x) = refl
+-- where the receiver has no bytes, nothing is signalled
+signals_none : (op : Op) (a b c : List ℕ) → failed (string_given op [] a b c) ≡ None
+unfolding string_given
+signals_none Cvtch [] b c = refl
+signals_none Cvtch (x ∷ a) b c = let longer : (length (x ∷ a) == 0) ≡ false = grind (arith, nat_tests) in rw longer refl
+signals_none _ a b c = refl
 
-received_values : (xs : List Val) (i : ℕ) (into : List ℕ) (r : Result (List ℕ) Exception) → slice_get xs i ≡ Some (vals.Bytes into) → slice_set xs i (vals.Bytes (bytes_behind into r)) ≡ (receives_bytes xs i r).values
-received_values xs i into (Ok bytes) there = refl
+received_end : (xs : List Val) (to : Option Arg) (r : Result (List ℕ) Exception) → end_behind (failed r) ≡ (bytes_received xs to r).end
+received_end xs to (Ok bytes) = refl
+received_end xs to (Err x) = refl
+
+-- a receiver without bytes gets none
+pub none_end : (xs : List Val) (to : Option Arg) (op : Op) (a b c held : List ℕ) → held ≡ [] → ends.Next ≡ (bytes_received xs to (string_given op held a b c)).end
+none_end xs to op a b c held none =
+    ap end_behind (sym (signals_none op a b c)) ∙ received_end xs to (string_given op [] a b c) ∙ ap (λ h. (bytes_received xs to (string_given op h a b c)).end) (sym none)
+
+-- and stays
+pub none_values : (xs : List Val) (to : Option Arg) (r : Result (List ℕ) Exception) → ((bytes : List ℕ) → bytes_put xs to bytes ≡ xs) → xs ≡ (bytes_received xs to r).values
+none_values xs to (Ok bytes) stays = sym (stays bytes)
+none_values xs to (Err x) stays = refl
+
+received_values : (xs : List Val) (i : ℕ) (into : List ℕ) (r : Result (List ℕ) Exception) → slice_get xs i ≡ Some (vals.Bytes into) → slice_set xs i (vals.Bytes (bytes_behind into r)) ≡ (bytes_received xs (Some (args.Item i)) r).values
+received_values xs i into (Ok bytes) there = sym (ap (bytes_put_at xs i bytes) there)
 received_values xs i into (Err x) there = set_own xs i (vals.Bytes into) there
 
-end_by : (xs : List Val) (i : ℕ) (v : Val) (op : Op) (a b c : List ℕ) → end_at op v a b c ≡ (string_at xs i (Some v) op a b c).end
-end_by xs i (vals.Bytes into) op a b c = received_end xs i (string_given op into a b c)
-end_by xs i (vals.Ptr p) op a b c = refl
-end_by xs i (vals.Branch t) op a b c = refl
-end_by xs i (vals.Code p) op a b c = refl
+end_by : (xs : List Val) (i : ℕ) (v : Val) (op : Op) (a b c : List ℕ) → end_at op v a b c ≡ (bytes_received xs (Some (args.Item i)) (string_given op (value_bytes (Some v)) a b c)).end
+end_by xs i (vals.Bytes into) op a b c = received_end xs (Some (args.Item i)) (string_given op into a b c)
+end_by xs i (vals.Ptr p) op a b c = none_end xs (Some (args.Item i)) op a b c [] refl
+end_by xs i (vals.Branch t) op a b c = none_end xs (Some (args.Item i)) op a b c [] refl
+end_by xs i (vals.Code p) op a b c = none_end xs (Some (args.Item i)) op a b c [] refl
 
-values_by : (xs : List Val) (i : ℕ) (v : Val) (op : Op) (a b c : List ℕ) → slice_get xs i ≡ Some v → slice_set xs i (value_behind op v a b c) ≡ (string_at xs i (Some v) op a b c).values
+kept_by : (xs : List Val) (i : ℕ) (v : Val) (r : Result (List ℕ) Exception) → slice_get xs i ≡ Some v → ((bytes : List ℕ) → bytes_put_at xs i bytes (Some v) ≡ xs) → slice_set xs i v ≡ (bytes_received xs (Some (args.Item i)) r).values
+kept_by xs i v r there stays =
+    set_own xs i v there ∙ none_values xs (Some (args.Item i)) r (λ bytes. ap (bytes_put_at xs i bytes) there ∙ stays bytes)
+
+values_by : (xs : List Val) (i : ℕ) (v : Val) (op : Op) (a b c : List ℕ) → slice_get xs i ≡ Some v → slice_set xs i (value_behind op v a b c) ≡ (bytes_received xs (Some (args.Item i)) (string_given op (value_bytes (Some v)) a b c)).values
 values_by xs i (vals.Bytes into) op a b c there = received_values xs i into (string_given op into a b c) there
-values_by xs i (vals.Ptr p) op a b c there = set_own xs i (vals.Ptr p) there
-values_by xs i (vals.Branch t) op a b c there = set_own xs i (vals.Branch t) there
-values_by xs i (vals.Code p) op a b c there = set_own xs i (vals.Code p) there
+values_by xs i (vals.Ptr p) op a b c there = kept_by xs i (vals.Ptr p) (string_given op [] a b c) there (λ bytes. refl)
+values_by xs i (vals.Branch t) op a b c there = kept_by xs i (vals.Branch t) (string_given op [] a b c) there (λ bytes. refl)
+values_by xs i (vals.Code p) op a b c there = kept_by xs i (vals.Code p) (string_given op [] a b c) there (λ bytes. refl)
 
--- how a string instruction ends, by the receiver that was taken out
-pub string_end : (xs : List Val) (i : ℕ) (v : Val) (op : Op) (a b c a' b' c' : List ℕ) (e : LocalEnd) → slice_get xs i ≡ Some v → a ≡ a' → b ≡ b' → c ≡ c' → e ≡ end_at op v a b c → e ≡ (string_at xs i (slice_get xs i) op a' b' c').end
-string_end xs i v op a b c a' b' c' e there p q r is =
-    is ∙ ap (λ x. end_at op v x b c) p ∙ ap (λ x. end_at op v a' x c) q ∙ ap (λ x. end_at op v a' b' x) r
-    ∙ end_by xs i v op a' b' c' ∙ ap (λ o. (string_at xs i o op a' b' c').end) (sym there)
+-- ---- a string instruction by its receiver
+
+is_the_item : (o : Option Arg) (i : ℕ) → item_of o ≡ Some i → o ≡ Some (args.Item i)
+is_the_item None i h = cc
+is_the_item (Some (args.Item k)) i h = let e : k ≡ i = cc in ap (λ j. Some (args.Item j)) e
+is_the_item (Some _) i h = cc
+
+run_at : (xs : List Val) (i : ℕ) (o : Option Val) (op : Op) (given : List Arg) (a b c : List ℕ) → item_of (operand given 1) ≡ Some i → slice_get xs i ≡ o
+    → a ≡ bytes_of xs (operand given 2) → b ≡ bytes_of xs (operand given 3) → c ≡ bytes_of xs (operand given 4)
+    → bytes_received xs (Some (args.Item i)) (string_given op (value_bytes o) a b c) ≡ string_run xs op given
+run_at xs i o op given a b c first there p q r =
+    ap (λ v. bytes_received xs (Some (args.Item i)) (string_given op (value_bytes v) a b c)) (sym there)
+    ∙ ap (λ x. bytes_received xs (Some (args.Item i)) (string_given op (value_bytes (slice_get xs i)) x b c)) p
+    ∙ ap (λ x. bytes_received xs (Some (args.Item i)) (string_given op (value_bytes (slice_get xs i)) (bytes_of xs (operand given 2)) x c)) q
+    ∙ ap (λ x. bytes_received xs (Some (args.Item i)) (string_given op (value_bytes (slice_get xs i)) (bytes_of xs (operand given 2)) (bytes_of xs (operand given 3)) x)) r
+    ∙ ap (λ to. bytes_received xs to (string_given op (held_by xs to) (bytes_of xs (operand given 2)) (bytes_of xs (operand given 3)) (bytes_of xs (operand given 4)))) (sym (is_the_item (operand given 1) i first))
+
+-- how it ends, by the receiver that was taken out
+pub string_end : (xs : List Val) (i : ℕ) (v : Val) (op : Op) (given : List Arg) (a b c : List ℕ) (e : LocalEnd) → slice_get xs i ≡ Some v → item_of (operand given 1) ≡ Some i
+    → a ≡ bytes_of xs (operand given 2) → b ≡ bytes_of xs (operand given 3) → c ≡ bytes_of xs (operand given 4) → e ≡ end_at op v a b c → e ≡ (string_run xs op given).end
+string_end xs i v op given a b c e there first p q r is =
+    is ∙ end_by xs i v op a b c ∙ ap (λ (x : Ran). x.end) (run_at xs i (Some v) op given a b c first there p q r)
 
 -- and what it leaves
-pub string_values : (xs : List Val) (i : ℕ) (out w v : Val) (op : Op) (a b c a' b' c' : List ℕ) → slice_get xs i ≡ Some v → a ≡ a' → b ≡ b' → c ≡ c' → w ≡ value_behind op v a b c → slice_set (slice_set xs i out) i w ≡ (string_at xs i (slice_get xs i) op a' b' c').values
-string_values xs i out w v op a b c a' b' c' there p q r is =
-    set-set xs i out w ∙ ap (slice_set xs i) (is ∙ ap (λ x. value_behind op v x b c) p ∙ ap (λ x. value_behind op v a' x c) q ∙ ap (λ x. value_behind op v a' b' x) r)
-    ∙ values_by xs i v op a' b' c' there ∙ ap (λ o. (string_at xs i o op a' b' c').values) (sym there)
+pub string_values : (xs : List Val) (i : ℕ) (out w v : Val) (op : Op) (given : List Arg) (a b c : List ℕ) → slice_get xs i ≡ Some v → item_of (operand given 1) ≡ Some i
+    → a ≡ bytes_of xs (operand given 2) → b ≡ bytes_of xs (operand given 3) → c ≡ bytes_of xs (operand given 4) → w ≡ value_behind op v a b c
+    → slice_set (slice_set xs i out) i w ≡ (string_run xs op given).values
+string_values xs i out w v op given a b c there first p q r is =
+    set-set xs i out w ∙ ap (slice_set xs i) is ∙ values_by xs i v op a b c there ∙ ap (λ (x : Ran). x.values) (run_at xs i (Some v) op given a b c first there p q r)
+
+absent : (xs : List Val) (i : ℕ) → length xs ≤ i → slice_get xs i ≡ None
+absent [] i h = refl
+absent (x ∷ xs) zero h = absurd (omega arith)
+absent (x ∷ xs) (suc i) h = absent xs i (omega arith)
+
+-- a receiver that is not there gets nothing
+pub absent_end : (xs : List Val) (i : ℕ) (op : Op) (given : List Arg) → item_of (operand given 1) ≡ Some i → length xs ≤ i → ends.Next ≡ (string_run xs op given).end
+absent_end xs i op given first past =
+    none_end xs (operand given 1) op _ _ _ (held_by xs (operand given 1)) (ap (held_by xs) (is_the_item (operand given 1) i first) ∙ ap value_bytes (absent xs i past))
+
+pub absent_values : (xs : List Val) (i : ℕ) (op : Op) (given : List Arg) → item_of (operand given 1) ≡ Some i → length xs ≤ i → xs ≡ (string_run xs op given).values
+absent_values xs i op given first past =
+    none_values xs (operand given 1) _ (λ bytes. ap (λ o. bytes_put xs o bytes) (is_the_item (operand given 1) i first) ∙ ap (bytes_put_at xs i bytes) (absent xs i past))
+
+no_item_holds : (xs : List Val) (o : Option Arg) → item_of o ≡ None → held_by xs o ≡ []
+no_item_holds xs None h = refl
+no_item_holds xs (Some (args.Item i)) h = cc
+no_item_holds xs (Some _) h = refl
+
+no_item_put : (xs : List Val) (o : Option Arg) (bytes : List ℕ) → item_of o ≡ None → bytes_put xs o bytes ≡ xs
+no_item_put xs None bytes h = refl
+no_item_put xs (Some (args.Item i)) bytes h = cc
+no_item_put xs (Some _) bytes h = refl
+
+-- nor does an operand that is no item
+pub other_end : (xs : List Val) (op : Op) (given : List Arg) → item_of (operand given 1) ≡ None → ends.Next ≡ (string_run xs op given).end
+other_end xs op given none = none_end xs (operand given 1) op _ _ _ (held_by xs (operand given 1)) (no_item_holds xs (operand given 1) none)
+
+pub other_values : (xs : List Val) (op : Op) (given : List Arg) → item_of (operand given 1) ≡ None → xs ≡ (string_run xs op given).values
+other_values xs op given none = none_values xs (operand given 1) _ (λ bytes. no_item_put xs (operand given 1) bytes none)

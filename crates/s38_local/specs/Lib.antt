@@ -1,1 +1,4 @@
+pub mod Local
 pub mod Overlap
+pub mod Received
+pub mod Variables

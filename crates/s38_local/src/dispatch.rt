@@ -1,22 +1,108 @@
-ghost use Rattle.std.specs.Prelude.{◌≡◌, IfOk, OnErr, OnOk};
-ghost use Rattle.std.specs.List.{list_any};
-ghost use Rattle.std.specs.Option.{option_copied};
-ghost use Rattle.s38_rules.specs.Local.{is_local, is_local_op, lies_in_space, run};
-ghost use Rattle.s38_rules.specs.Variables.{form_in, is_based};
+ghost use Rattle.std.specs.Prelude.{◌≡◌, IfOk, IsTrue, OnErr, OnOk, Some};
+ghost use Rattle.s38_base.specs.Scalar.{fits};
+ghost use Rattle.s38_compute.specs.Computed.{as_branch, as_bytes, as_number, as_pointer, bytes_given, computes_number, is_branch, number_given, pointer_given, test_given};
+ghost use Rattle.s38_local.specs.Local.{label_at, of_variables, operand, received, run};
+ghost use Rattle.s38_local.specs.Variables.{attr_of};
 
-use crate::branches::jump_to;
-use crate::numbers::{number_branch, one_source, two_sources};
-use crate::overlap::string;
-use crate::pointers::{pointer_branch, pointer_offset};
-use crate::strings::string_branch;
-use s38_base::{NoMemory, Op};
-use s38_code::{Arg, Form, Instruction, Row, Val};
-use s38_rules::LocalEnd;
+use crate::local_end::LocalEnd;
+use crate::operands::{attr_of, operand};
+use crate::overlap::string_run;
+use crate::receivers::{branch_end, jump_to, receive_number, receive_pointer};
+use crate::variables::Variables;
+use s38_base::{Exception, NoMemory, Op, Pointer};
+use s38_code::{Instruction, Row, Val};
+use s38_compute::{number_given, pointer_given, test_given};
 use std::alloc::Global;
+
+fn number_read(rows: &[Row], values: &[Val], instruction: &Instruction) -> Result<i128, Exception>
+    requires { IsTrue (computes_number instruction.now.op) }
+    ensures exact { result ≡ number_given instruction.now.op instruction.now.round (of_variables rows.now values.now instruction.now.args) }
+    ensures fits { IfOk result (λ units. IsTrue (fits (attr_of rows.now (operand instruction.now.args 1)) units)) }
+{
+    let args = instruction.args.as_slice();
+    let sources = Variables { rows, values, args };
+    number_given(&sources, instruction.op, instruction.round)
+}
+
+/// A number of numbers.
+#[tactic(auto, using(crate::proofs::ReceivedLaws::received_number))]
+fn number(rows: &[Row], values: &mut [Val], instruction: &Instruction) -> LocalEnd
+    requires { IsTrue (computes_number instruction.now.op) }
+    ensures end { result ≡ (received values.old instruction.now (Some (as_number (attr_of rows.now (operand instruction.now.args 1)) (number_given instruction.now.op instruction.now.round (of_variables rows.now values.old instruction.now.args))))).end }
+    ensures values { values.new ≡ (received values.old instruction.now (Some (as_number (attr_of rows.now (operand instruction.now.args 1)) (number_given instruction.now.op instruction.now.round (of_variables rows.now values.old instruction.now.args))))).values }
+{
+    let given = number_read(rows, values, instruction);
+    let to = operand(instruction.args.as_slice(), 1);
+    receive_number(values, to, attr_of(rows, to), given)
+}
+
+/// A branch by a comparison.
+#[tactic(auto, using(crate::proofs::ReceivedLaws::received_end, crate::proofs::ReceivedLaws::received_values))]
+fn branch(
+    alloc: Global,
+    rows: &[Row],
+    values: &[Val],
+    instruction: &Instruction,
+) -> Result<LocalEnd, NoMemory>
+    requires { IsTrue (is_branch instruction.now.op) }
+    ensures end { IfOk result (λ end. end ≡ (received values.now instruction.now (Some (as_branch (test_given instruction.now.op (of_variables rows.now values.now instruction.now.args))))).end) }
+    ensures values { values.now ≡ (received values.now instruction.now (Some (as_branch (test_given instruction.now.op (of_variables rows.now values.now instruction.now.args))))).values }
+{
+    let args = instruction.args.as_slice();
+    let sources = Variables { rows, values, args };
+    let test = test_given(alloc, &sources, instruction.op)?;
+    Ok(branch_end(test, operand(args, label_at(instruction.op))))
+}
+
+fn label_at(op: Op) -> usize
+    ensures { result ≡ label_at op }
+{
+    match op {
+        Op::Cmpptrt => 3,
+        _ => 4,
+    }
+}
+
+/// Bytes of bytes.
+#[tactic(auto, using(crate::proofs::ReceivedLaws::received_bytes), unfolding(s38_compute::specs::Computed::bytes_given))]
+fn string(
+    alloc: Global,
+    rows: &[Row],
+    values: &mut [Val],
+    instruction: &Instruction,
+) -> Result<LocalEnd, NoMemory>
+    ensures end { IfOk result (λ end. end ≡ (received values.old instruction.now (Some (as_bytes (bytes_given instruction.now.op (of_variables rows.now values.old instruction.now.args))))).end) }
+    ensures values { OnOk result (values.new ≡ (received values.old instruction.now (Some (as_bytes (bytes_given instruction.now.op (of_variables rows.now values.old instruction.now.args))))).values) }
+    ensures err { OnErr result (values.new ≡ values.old) }
+{
+    let _ = rows;
+    string_run(alloc, instruction.op, values, instruction.args.as_slice())
+}
+
+fn pointer_read(
+    rows: &[Row],
+    values: &[Val],
+    instruction: &Instruction,
+) -> Result<Pointer, Exception>
+    ensures { result ≡ pointer_given instruction.now.op (of_variables rows.now values.now instruction.now.args) }
+{
+    let args = instruction.args.as_slice();
+    pointer_given(&Variables { rows, values, args }, instruction.op)
+}
+
+/// A space pointer that is moved.
+#[tactic(auto, using(crate::proofs::ReceivedLaws::received_pointer))]
+fn pointer(rows: &[Row], values: &mut [Val], instruction: &Instruction) -> LocalEnd
+    ensures end { result ≡ (received values.old instruction.now (Some (as_pointer (pointer_given instruction.now.op (of_variables rows.now values.old instruction.now.args))))).end }
+    ensures values { values.new ≡ (received values.old instruction.now (Some (as_pointer (pointer_given instruction.now.op (of_variables rows.now values.old instruction.now.args))))).values }
+{
+    let given = pointer_read(rows, values, instruction);
+    receive_pointer(values, operand(instruction.args.as_slice(), 1), given)
+}
 
 /// Does a local instruction: reads its sources, then writes its receiver. A signal leaves all variables as they
 /// were, and so does an error. Memory is taken only where the receiver of a string is a source too.
-#[tactic(auto, unfolding(s38_rules::specs::Local::run, s38_rules::specs::Local::number_branch, s38_rules::specs::Local::string_branch, s38_rules::specs::Local::pointer_branch))]
+#[tactic(auto, unfolding(crate::specs::Local::run, s38_compute::specs::Computed::computed))]
 pub fn run_local(
     alloc: Global,
     instruction: &Instruction,
@@ -28,11 +114,10 @@ pub fn run_local(
     ensures err { OnErr result (values.new ≡ values.old) }
 {
     match instruction.op {
-        Op::Addn | Op::Subn | Op::Mult | Op::Div | Op::Rem => {
-            Ok(two_sources(rows, values, instruction))
+        Op::Addn | Op::Subn | Op::Mult | Op::Div | Op::Rem | Op::Neg | Op::Cpynv | Op::Scale => {
+            Ok(number(rows, values, instruction))
         }
-        Op::Neg | Op::Cpynv | Op::Scale => Ok(one_source(rows, values, instruction)),
-        Op::Cmpnvb => Ok(number_branch(rows, values, instruction)),
+        Op::Cmpnvb | Op::Cmpblab | Op::Cmpptrt => branch(alloc, rows, values, instruction),
         Op::Cpybla
         | Op::Cpybra
         | Op::Cpyblap
@@ -43,86 +128,10 @@ pub fn run_local(
         | Op::And
         | Op::Or
         | Op::Xor
-        | Op::Not => string(alloc, values, instruction),
-        Op::Cmpblab => Ok(string_branch(values, instruction)),
-        Op::B => Ok(jump_to(instruction.args.as_slice().get(0))),
+        | Op::Not => string(alloc, rows, values, instruction),
+        Op::Addspp | Op::Subspp => Ok(pointer(rows, values, instruction)),
+        Op::B => Ok(jump_to(operand(instruction.args.as_slice(), 1))),
         Op::Rtx => Ok(LocalEnd::Return),
-        Op::Cmpptrt => Ok(pointer_branch(values, instruction)),
-        Op::Addspp | Op::Subspp => Ok(pointer_offset(rows, values, instruction)),
         _ => Ok(LocalEnd::Next),
     }
-}
-
-#[tactic(auto, unfolding(s38_rules::specs::Local::is_local_op))]
-fn is_local_op(op: Op) -> bool
-    ensures { result ≡ is_local_op op }
-{
-    matches!(
-        op,
-        Op::Addn
-            | Op::Subn
-            | Op::Mult
-            | Op::Div
-            | Op::Rem
-            | Op::Neg
-            | Op::Cpynv
-            | Op::Scale
-            | Op::Cmpnvb
-            | Op::Cpybla
-            | Op::Cpybra
-            | Op::Cpyblap
-            | Op::Cat
-            | Op::Xlate
-            | Op::Cvthc
-            | Op::Cvtch
-            | Op::And
-            | Op::Or
-            | Op::Xor
-            | Op::Not
-            | Op::Cmpblab
-            | Op::B
-            | Op::Rtx
-            | Op::Cmpptrt
-            | Op::Addspp
-            | Op::Subspp
-    )
-}
-
-fn form_in(row: Option<&Row>) -> Option<&Form>
-    ensures { option_copied result ≡ form_in (option_copied row.entry) }
-{
-    match row {
-        None => None,
-        Some(row) => Some(&row.form),
-    }
-}
-
-fn is_based(form: Option<&Form>) -> bool
-    ensures { result ≡ is_based (option_copied form.entry) }
-{
-    matches!(form, Some(Form::Based { .. }))
-}
-
-fn lies_in_space(rows: &[Row], arg: &Arg) -> bool
-    ensures { result ≡ lies_in_space rows.now arg.now }
-{
-    match arg {
-        Arg::Item(item) => is_based(form_in(rows.get(*item as usize))),
-        _ => false,
-    }
-}
-
-fn any_in_space(rows: &[Row], args: &[Arg]) -> bool
-    ensures { result ≡ list_any (lies_in_space rows.now) args.now }
-{
-    args.iter().any(|arg| lies_in_space(rows, arg))
-}
-
-/// Whether an instruction is done by the process alone: it computes, branches or returns, and no operand lies in
-/// a space.
-#[tactic(auto, unfolding(s38_rules::specs::Local::is_local))]
-pub fn is_local(rows: &[Row], instruction: &Instruction) -> bool
-    ensures { result ≡ is_local rows.now instruction.now }
-{
-    is_local_op(instruction.op) && !any_in_space(rows, instruction.args.as_slice())
 }

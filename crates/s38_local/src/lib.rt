@@ -1,23 +1,24 @@
-//! Local instructions: numbers, strings, comparisons, branches and space pointers among the variables of one
-//! invocation. Nothing else is read or changed. What a computation gives for its sources is of use wherever they
-//! lie, so those calls are public too.
+//! Local instructions: computations, branches and returns among the variables of one invocation. Nothing else is
+//! read or changed.
 #![tactic(auto)]
 
-mod branches;
 mod dispatch;
-mod given;
-mod numbers;
+mod local_end;
+mod locality;
 mod operands;
 mod overlap;
-mod pointers;
 mod receivers;
-mod strings;
+mod variables;
+mod written;
 
-pub use branches::holds;
-pub use dispatch::{is_local, run_local};
-pub use given::{one_computed, signal, signalled, two_computed};
-pub use pointers::{kind_word, pointer_moved};
-pub use strings::write_string;
+pub use dispatch::run_local;
+pub use local_end::LocalEnd;
+pub use locality::is_local;
 
-#[cfg(test)]
-mod tests;
+/// What is sent between threads.
+fn sends<T: Send + Sync>() {}
+
+/// Each value of this crate may be sent and shared.
+pub fn all_may_be_sent() {
+    sends::<LocalEnd>();
+}

@@ -1,7 +1,7 @@
-ghost use Rattle.std.specs.Prelude.{◌≡◌, IfSome, MatchOption, Some, None};
-ghost use Rattle.std.specs.Option.{option_copied};
-ghost use Rattle.s38_rules.specs.Local.{number_of, whole_of, word_of};
-ghost use Rattle.s38_rules.specs.Variables.{attr_in, attr_of, attr_of_form, bytes_of, pointer_of, value_bytes, value_pointer};
+ghost use Rattle.std.specs.Prelude.{◌≡◌, IfSome};
+ghost use Rattle.std.specs.Option.{option_copied, option_map};
+ghost use Rattle.s38_local.specs.Local.{number_of, operand, whole_of, word_of};
+ghost use Rattle.s38_local.specs.Variables.{attr_in, attr_of, attr_of_form, bytes_of, pointer_of, held_by, value_bytes, value_pointer};
 
 use s38_base::{Attr, Pointer};
 use s38_code::{Arg, Form, Row, Val};
@@ -25,6 +25,13 @@ fn attr_in(row: Option<&Row>) -> Attr
         None => Attr::Pointer,
         Some(row) => attr_of_form(&row.form),
     }
+}
+
+/// The operand at a place from 1 on.
+pub fn operand(args: &[Arg], k: usize) -> Option<&Arg>
+    ensures { option_copied result ≡ operand args.now k }
+{
+    args.get(k.saturating_sub(1))
 }
 
 /// The attribute of an item or a literal.
@@ -80,14 +87,19 @@ pub fn pointer_of(values: &[Val], arg: Option<&Arg>) -> Option<Pointer>
 
 /// The number of an item or a literal; None where its bytes have no value.
 pub fn number_of(rows: &[Row], values: &[Val], arg: Option<&Arg>) -> Option<Dec>
-    ensures value { MatchOption result
-        (number_of rows.now values.now (option_copied arg.entry) ≡ None)
-        (λ number. number_of rows.now values.now (option_copied arg.entry) ≡ Some number.units) }
-    ensures attr { IfSome result (λ number. number.attr ≡ attr_of rows.now (option_copied arg.entry)) }
+    ensures units { option_map (λ d. d.units) result ≡ number_of rows.now values.now (option_copied arg.entry) }
+    ensures attr { IfSome result (λ d. d.attr ≡ attr_of rows.now (option_copied arg.entry)) }
 {
-    match read_scalar(attr_of(rows, arg), bytes_of(values, arg)) {
-        Ok(number) => Some(number),
-        Err(_) => None,
+    read_scalar(attr_of(rows, arg), bytes_of(values, arg)).ok()
+}
+
+/// What a receiver holds; only an item is one.
+pub fn held_by<'a>(values: &'a [Val], arg: Option<&'a Arg>) -> &'a [u8]
+    ensures { result.now ≡ held_by values.now (option_copied arg.entry) }
+{
+    match arg {
+        Some(Arg::Item(item)) => value_bytes(values.get(*item as usize)),
+        _ => &[],
     }
 }
 

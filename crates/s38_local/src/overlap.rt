@@ -1,16 +1,25 @@
-ghost use Rattle.std.specs.Prelude.{◌≡◌, ◌<◌, ◌==◌, IfOk, OnErr, OnOk, length, slice_get};
+ghost use Rattle.std.specs.Prelude.{◌≡◌, ◌<◌, ◌==◌, IfOk, OnErr, OnOk, Some, length};
 ghost use Rattle.std.specs.Option.{option_copied};
-ghost use Rattle.s38_rules.specs.Local.{string, string_at, string_by};
-ghost use Rattle.s38_rules.specs.Variables.{bytes_of};
-ghost use Rattle.s38_local.specs.Overlap.{bytes_past, end_at, is_item, own_bytes, reads, value_behind};
+ghost use Rattle.s38_local.specs.Local.{operand};
+ghost use Rattle.s38_local.specs.Overlap.{bytes_past, is_item, item_of, own_bytes, reads, string_run};
 
-use crate::operands::{bytes_of, value_bytes};
-use crate::strings::write_string;
+use crate::local_end::LocalEnd;
+use crate::operands::{bytes_of, operand, value_bytes};
+use crate::written::written;
 use s38_base::{Bytes, NoMemory, Op, Seq};
-use s38_code::{Arg, Instruction, Val};
-use s38_rules::LocalEnd;
+use s38_code::{Arg, Val};
 use std::alloc::Global;
 use std::mem;
+
+/// The item that an operand is.
+fn item_of(arg: Option<&Arg>) -> Option<usize>
+    ensures { result ≡ item_of (option_copied arg.entry) }
+{
+    match arg {
+        Some(Arg::Item(item)) => Some(*item as usize),
+        _ => None,
+    }
+}
 
 fn is_item(at: usize, arg: Option<&Arg>) -> bool
     ensures { result ≡ is_item at (option_copied arg.entry) }
@@ -24,7 +33,7 @@ fn is_item(at: usize, arg: Option<&Arg>) -> bool
 fn reads(at: usize, args: &[Arg]) -> bool
     ensures { result ≡ reads at args.now }
 {
-    is_item(at, args.get(1)) || is_item(at, args.get(2)) || is_item(at, args.get(3))
+    is_item(at, operand(args, 2)) || is_item(at, operand(args, 3)) || is_item(at, operand(args, 4))
 }
 
 /// The bytes of the receiver, where it is a source too.
@@ -46,9 +55,9 @@ fn bytes_past<'a>(
     args: &'a [Arg],
     k: usize,
 ) -> &'a [u8]
-    ensures { result.now ≡ bytes_past at own.now values.now (slice_get args.now k) }
+    ensures { result.now ≡ bytes_past at own.now values.now (operand args.now k) }
 {
-    let arg = args.get(k);
+    let arg = operand(args, k);
     if is_item(at, arg) {
         own.as_slice()
     } else {
@@ -56,31 +65,18 @@ fn bytes_past<'a>(
     }
 }
 
-/// The receiver, once its bytes are written.
-fn written(op: Op, value: Val, a: &[u8], b: &[u8], c: &[u8]) -> (Val, LocalEnd)
-    ensures value { result.0 ≡ value_behind op value a.now b.now c.now }
-    ensures end { result.1 ≡ end_at op value a.now b.now c.now }
-{
-    match value {
-        Val::Bytes(bytes) => {
-            let mut held = bytes.into_vec();
-            let end = write_string(op, held.as_mut_slice(), a, b, c);
-            (Val::Bytes(Seq::from_vec(held)), end)
-        }
-        other => (other, LocalEnd::Next),
-    }
-}
-
+/// Writes the receiver at a place by the sources.
 fn write_at(op: Op, values: &mut [Val], at: usize, args: &[Arg], own: &Bytes) -> LocalEnd
     requires within { at < length values.old }
     requires own { own.now ≡ own_bytes values.old at args.now }
-    ensures end { result ≡ (string_at values.old at (slice_get values.old at) op (bytes_of values.old (slice_get args.now 1)) (bytes_of values.old (slice_get args.now 2)) (bytes_of values.old (slice_get args.now 3))).end }
-    ensures values { values.new ≡ (string_at values.old at (slice_get values.old at) op (bytes_of values.old (slice_get args.now 1)) (bytes_of values.old (slice_get args.now 2)) (bytes_of values.old (slice_get args.now 3))).values }
+    requires item { item_of (operand args.now 1) ≡ Some at }
+    ensures end { result ≡ (string_run values.old op args.now).end }
+    ensures values { values.new ≡ (string_run values.old op args.now).values }
 {
     let taken = mem::replace(&mut values[at], Val::Branch(false));
-    let a = bytes_past(at, own, values, args, 1);
-    let b = bytes_past(at, own, values, args, 2);
-    let c = bytes_past(at, own, values, args, 3);
+    let a = bytes_past(at, own, values, args, 2);
+    let b = bytes_past(at, own, values, args, 3);
+    let c = bytes_past(at, own, values, args, 4);
     let (value, end) = written(op, taken, a, b, c);
     values[at] = value;
     end
@@ -93,8 +89,9 @@ fn string_at(
     at: usize,
     args: &[Arg],
 ) -> Result<LocalEnd, NoMemory>
-    ensures end { IfOk result (λ end. end ≡ (string_at values.old at (slice_get values.old at) op (bytes_of values.old (slice_get args.now 1)) (bytes_of values.old (slice_get args.now 2)) (bytes_of values.old (slice_get args.now 3))).end) }
-    ensures values { OnOk result (values.new ≡ (string_at values.old at (slice_get values.old at) op (bytes_of values.old (slice_get args.now 1)) (bytes_of values.old (slice_get args.now 2)) (bytes_of values.old (slice_get args.now 3))).values) }
+    requires item { item_of (operand args.now 1) ≡ Some at }
+    ensures end { IfOk result (λ end. end ≡ (string_run values.old op args.now).end) }
+    ensures values { OnOk result (values.new ≡ (string_run values.old op args.now).values) }
     ensures err { OnErr result (values.new ≡ values.old) }
 {
     if values.len() <= at {
@@ -107,19 +104,19 @@ fn string_at(
 }
 
 /// A string instruction. A receiver that is a source too needs memory for its own bytes.
-#[tactic(auto, unfolding(s38_rules::specs::Local::string))]
-pub fn string(
+#[tactic(auto, using(crate::proofs::PlaceLaws::other_end, crate::proofs::PlaceLaws::other_values))]
+pub fn string_run(
     alloc: Global,
+    op: Op,
     values: &mut [Val],
-    instruction: &Instruction,
+    args: &[Arg],
 ) -> Result<LocalEnd, NoMemory>
-    ensures end { IfOk result (λ end. end ≡ (string values.old instruction.now).end) }
-    ensures values { OnOk result (values.new ≡ (string values.old instruction.now).values) }
+    ensures end { IfOk result (λ end. end ≡ (string_run values.old op args.now).end) }
+    ensures values { OnOk result (values.new ≡ (string_run values.old op args.now).values) }
     ensures err { OnErr result (values.new ≡ values.old) }
 {
-    let args = instruction.args.as_slice();
-    match args.get(0) {
-        Some(Arg::Item(item)) => string_at(alloc, instruction.op, values, *item as usize, args),
-        _ => Ok(LocalEnd::Next),
+    match item_of(operand(args, 1)) {
+        None => Ok(LocalEnd::Next),
+        Some(at) => string_at(alloc, op, values, at, args),
     }
 }

@@ -2,14 +2,14 @@ ghost use Rattle.std.specs.Prelude.{◌≡◌, ◌<◌, Some, IsTrue, length, sl
 ghost use Rattle.std.specs.Option.{option_copied};
 ghost use Rattle.std.specs.Result.{ForOk};
 ghost use Rattle.s38_base.specs.Scalar.{fits};
-ghost use Rattle.s38_rules.specs.Local.{number_put, number_put_at, receives_number, receives_pointer, with_number};
-ghost use Rattle.s38_rules.specs.Variables.{put_in};
+ghost use Rattle.s38_local.specs.Received.{branch_end, jump_to, jumps, number_put, number_put_at, number_received, pointer_received, with_number};
+ghost use Rattle.s38_local.specs.Variables.{put_in};
 ghost use Rattle.s38_code.specs.declared.reply.Val.{Val};
 
+use crate::local_end::LocalEnd;
 use s38_base::{Attr, Exception, Pointer, Seq};
 use s38_code::{Arg, Val};
 use s38_decimal::write_scalar;
-use s38_rules::LocalEnd;
 use std::mem;
 
 /// The value, with a number written in its bytes.
@@ -61,8 +61,8 @@ pub fn receive_number(
     given: Result<i128, Exception>,
 ) -> LocalEnd
     requires { ForOk given (λ units. IsTrue (fits attr units)) }
-    ensures end { result ≡ (receives_number values.old (option_copied to.entry) attr given).end }
-    ensures values { values.new ≡ (receives_number values.old (option_copied to.entry) attr given).values }
+    ensures end { result ≡ (number_received values.old (option_copied to.entry) attr given).end }
+    ensures values { values.new ≡ (number_received values.old (option_copied to.entry) attr given).values }
 {
     match given {
         Err(refusal) => LocalEnd::Signal(refusal),
@@ -93,8 +93,8 @@ pub fn receive_pointer(
     to: Option<&Arg>,
     given: Result<Pointer, Exception>,
 ) -> LocalEnd
-    ensures end { result ≡ (receives_pointer values.old (option_copied to.entry) given).end }
-    ensures values { values.new ≡ (receives_pointer values.old (option_copied to.entry) given).values }
+    ensures end { result ≡ (pointer_received values.old (option_copied to.entry) given).end }
+    ensures values { values.new ≡ (pointer_received values.old (option_copied to.entry) given).values }
 {
     match given {
         Err(exception) => LocalEnd::Signal(exception),
@@ -102,5 +102,32 @@ pub fn receive_pointer(
             pointer_put(values, to, pointer);
             LocalEnd::Next
         }
+    }
+}
+
+/// Goes on at a label.
+pub fn jump_to(label: Option<&Arg>) -> LocalEnd
+    ensures { result ≡ jump_to (option_copied label.entry) }
+{
+    match label {
+        Some(Arg::Jump(at)) => LocalEnd::Jump { at: *at },
+        _ => LocalEnd::Next,
+    }
+}
+
+/// Goes on at a label where the test holds.
+fn jump(test: bool, label: Option<&Arg>) -> LocalEnd
+    ensures { result ≡ jumps test (option_copied label.entry) }
+{
+    if test { jump_to(label) } else { LocalEnd::Next }
+}
+
+/// Goes on at a label where the test holds, or the exception is signalled.
+pub fn branch_end(test: Result<bool, Exception>, label: Option<&Arg>) -> LocalEnd
+    ensures { result ≡ branch_end (option_copied label.entry) test }
+{
+    match test {
+        Err(exception) => LocalEnd::Signal(exception),
+        Ok(test) => jump(test, label),
     }
 }

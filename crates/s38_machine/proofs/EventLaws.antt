@@ -6,9 +6,9 @@ use Rattle.s38_code.specs.declared.event.Event.TheVariants.{Act}
 use Rattle.s38_code.specs.declared.event.Request.{Request}
 use Rattle.s38_code.specs.declared.reply.Val.{Val}
 use Rattle.s38_rules.specs.State.{State}
-use Rattle.s38_rules.specs.Computed.{receiver_at}
+use Rattle.s38_rules.specs.Computing.{receiver_at}
 use Rattle.s38_rules.specs.Operands.{delivered}
-use Rattle.s38_rules.specs.Effect.{value_of}
+use Rattle.s38_rules.specs.Rows.{row}
 use Rattle.s38_machine.specs.Events.{receiver_of, value_of_event}
 
 -- the kept part of an event's value
@@ -17,5 +17,5 @@ Keeps w p event value = (s : State) (shift : ℕ) → (delivered s shift (receiv
 
 pub of_act : (w : State) (p depth : ℕ) (request : Request) (event : Event) (value : Option Val)
     → event ≡ Act depth request → Keeps w p event value
-    → (s : State) (shift : ℕ) → (delivered s shift (receiver_at request.op request.operands) value).state ≡ (delivered s shift (receiver_at request.op request.operands) (value_of w p depth request.op request.round request.operands)).state
+    → (s : State) (shift : ℕ) → (delivered s shift (receiver_at request.op request.operands) value).state ≡ (delivered s shift (receiver_at request.op request.operands) ((row request.op).gives w p depth request)).state
 of_act w p depth request event value same keeps = subst (λ (e : Event). Keeps w p e value) same keeps

@@ -4,9 +4,9 @@ use Rattle.s38_code.specs.declared.event.Event.{Event}
 use Rattle.s38_code.specs.declared.event.Event.TheVariants.{Start, Act, Finish}
 use Rattle.s38_code.specs.declared.operand.Operand.{Operand}
 use Rattle.s38_code.specs.declared.reply.Val.{Val}
+use Rattle.s38_rules.specs.Computing.{receiver_at}
+use Rattle.s38_rules.specs.Rows.{row}
 use Rattle.s38_rules.specs.State.{State}
-use Rattle.s38_rules.specs.Computed.{receiver_at}
-use Rattle.s38_rules.specs.Effect.{value_of}
 
 abbrev pub receiver_of : Event → Option Operand
 receiver_of Start = None
@@ -15,5 +15,5 @@ receiver_of (Finish cause) = None
 
 abbrev pub value_of_event : State → ℕ → Event → Option Val
 value_of_event s process Start = None
-value_of_event s process (Act depth request) = value_of s process depth request.op request.round request.operands
+value_of_event s process (Act depth request) = (row request.op).gives s process depth request
 value_of_event s process (Finish cause) = None

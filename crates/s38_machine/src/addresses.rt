@@ -1,23 +1,20 @@
 //! The address rules: what a pointer has to be, and where an item in a space has to lie.
-ghost use Rattle.std.specs.Prelude.{◌≡◌, ◌+◌, ◌<◌, ◌^◌, filter, length};
-ghost use Rattle.std.specs.Option.{option_copied};
-ghost use Rattle.s38_rules.specs.State.{cells_of};
-ghost use Rattle.s38_rules.specs.Verdict.{address_rule, address_rules, address_rules_from, base_rule, first_of, is_base, is_looked_at, is_pointer, is_sought, item_rule, named_rule, needs_rule, object_rule, place_rule, pointer_rule, space_rule, stands_at};
-ghost use Rattle.s38_machine.specs.Stored.{cells_or};
+ghost use Rattle.std.specs.Prelude.{◌≡◌, ◌+◌, ◌<◌, ◌^◌, [], length};
+ghost use Rattle.std.specs.Option.{option_copied, unwrap_or};
+ghost use Rattle.s38_rules.specs.Verdict.{address_rule, address_rules, base_rule, by_operand, cells_rule, is_base, is_looked_at, is_pointer, is_sought, item_rule, named_rule, needs_rule, object_rule, place_rule, pointer_rule, space_rule};
+ghost use Rattle.s38_rules.specs.Parts.{space_part};
 
-use crate::failures::{fails, plain};
-use crate::objects::{kind_of, object, space_in};
-use crate::pointers::{is_pointer_attr, object_of, offset_of, same_attr};
-use crate::reads::pointer_at;
-use crate::storage::{is_aligned, is_within};
-use crate::world::World;
+use s38_base::exceptions::{
+    BOUNDARY_ALIGNMENT, OBJECT_DESTROYED, OBJECT_TYPE_INVALID, POINTER_MISSING,
+    POINTER_TYPE_INVALID, SPACE_ADDRESSING,
+};
+use s38_base::limits::MACHINE_CONTEXT;
 use s38_base::{Attr, Exception, Kind, Pointer};
 use s38_code::Operand;
 use s38_memory::Tagged;
-use s38_rules::{
-    BOUNDARY_ALIGNMENT, Named, Need, OBJECT_DESTROYED, OBJECT_TYPE_INVALID, Object,
-    POINTER_MISSING, POINTER_TYPE_INVALID, PointerKind, SPACE_ADDRESSING, Sought,
-};
+use s38_objects::{Objects, kind_of};
+use s38_operands::{fails, is_aligned, is_within, pointer_at};
+use s38_rules::{BodyPart, Named, Need, Object, PointerKind, Sought};
 
 fn is_base(pointer: Pointer, offset: u32, attr: Attr) -> bool
     ensures { result ≡ is_base pointer offset attr }
@@ -25,55 +22,58 @@ fn is_base(pointer: Pointer, offset: u32, attr: Attr) -> bool
     match pointer {
         Pointer::System { .. } => false,
         Pointer::Space { .. } => true,
-        Pointer::Item { attr: item, .. } => offset == 0 && same_attr(item, attr),
+        Pointer::Item { attr: item, .. } => offset == 0 && item.is_same(attr),
     }
 }
 
 fn place_rule(k: u8, space: Option<&Tagged>, at: u64, attr: Attr) -> Option<Exception>
-    ensures { result ≡ place_rule k (cells_or (option_copied space.entry)) at attr }
+    ensures { result ≡ place_rule k (unwrap_or (option_copied space.entry) []) at attr }
 {
     if !is_within(space, at, attr.length()) {
-        return Some(plain(SPACE_ADDRESSING, k));
+        return Some(Exception::plain(SPACE_ADDRESSING, k));
     }
     fails(
-        is_pointer_attr(attr) && !is_aligned(at),
+        attr.is_pointer() && !is_aligned(at),
         BOUNDARY_ALIGNMENT,
         k,
     )
+}
+
+fn cells_rule(k: u8, space: Option<&Tagged>, at: u64, attr: Attr) -> Option<Exception>
+    ensures { result ≡ cells_rule k (option_copied space.entry) at attr }
+{
+    match space {
+        None => Some(Exception::plain(OBJECT_TYPE_INVALID, k)),
+        Some(_) => place_rule(k, space, at, attr),
+    }
 }
 
 fn space_rule(k: u8, object_used: Option<&Object>, at: u64, attr: Attr) -> Option<Exception>
     ensures { result ≡ space_rule k (option_copied object_used.entry) at attr }
 {
     match object_used {
-        None => Some(plain(OBJECT_DESTROYED, k)),
-        Some(object_used) => {
-            if Kind::Space.code() == kind_of(&object_used.body).code() {
-                place_rule(k, space_in(Some(object_used)), at, attr)
-            } else {
-                Some(plain(OBJECT_TYPE_INVALID, k))
-            }
-        }
+        None => Some(Exception::plain(OBJECT_DESTROYED, k)),
+        Some(object_used) => cells_rule(k, Tagged::of(&object_used.body), at, attr),
     }
 }
 
 fn base_rule(
-    world: &World,
+    objects: &Objects,
     k: u8,
     base: Option<Pointer>,
     offset: u32,
     attr: Attr,
 ) -> Option<Exception>
-    ensures { result ≡ base_rule world.now k base offset attr }
+    ensures { result ≡ base_rule objects.now k base offset attr }
 {
     match base {
-        None => Some(plain(POINTER_MISSING, k)),
+        None => Some(Exception::plain(POINTER_MISSING, k)),
         Some(pointer) => {
             if is_base(pointer, offset, attr) {
-                let at = u64::from(offset_of(pointer)) + u64::from(offset);
-                space_rule(k, object(world, object_of(pointer)), at, attr)
+                let at = u64::from(pointer.offset()) + u64::from(offset);
+                space_rule(k, objects.get(pointer.object()), at, attr)
             } else {
-                Some(plain(POINTER_TYPE_INVALID, k))
+                Some(Exception::plain(POINTER_TYPE_INVALID, k))
             }
         }
     }
@@ -81,11 +81,11 @@ fn base_rule(
 
 /// An item in a space: its base is a pointer into a space, or to the very item, and it lies inside.
 #[tactic(auto, unfolding(s38_rules::specs::Verdict::item_rule))]
-fn item_rule(world: &World, k: u8, operand: &Operand) -> Option<Exception>
-    ensures { result ≡ item_rule world.now k operand.now }
+fn item_rule(objects: &Objects, k: u8, operand: &Operand) -> Option<Exception>
+    ensures { result ≡ item_rule objects.now k operand.now }
 {
     match operand {
-        Operand::InSpace { base, offset, attr } => base_rule(world, k, *base, *offset, *attr),
+        Operand::InSpace { base, offset, attr } => base_rule(objects, k, *base, *offset, *attr),
         _ => None,
     }
 }
@@ -109,7 +109,7 @@ fn is_sought(sought: Sought, object_used: &Object) -> bool
     match sought {
         Sought::Any => true,
         Sought::Of(needed) => needed.code() == kind.code(),
-        Sought::Container => Kind::Context.code() == kind.code() && object_used.number.0 != 1,
+        Sought::Container => Kind::Context.code() == kind.code() && object_used.number.0 != MACHINE_CONTEXT.0,
         Sought::Ignored => true,
     }
 }
@@ -133,16 +133,16 @@ fn object_rule(need: &Need, object_used: Option<&Object>) -> Option<Exception>
     }
 }
 
-fn pointer_rule(world: &World, need: &Need, pointer: Option<Pointer>) -> Option<Exception>
-    ensures { result ≡ pointer_rule world.now need.now pointer }
+fn pointer_rule(objects: &Objects, need: &Need, pointer: Option<Pointer>) -> Option<Exception>
+    ensures { result ≡ pointer_rule objects.now need.now pointer }
 {
     match pointer {
-        None => Some(plain(POINTER_MISSING, need.place)),
+        None => Some(Exception::plain(POINTER_MISSING, need.place)),
         Some(pointer) => {
             if is_pointer(need.pointer, pointer) {
-                object_rule(need, object(world, object_of(pointer)))
+                object_rule(need, objects.get(pointer.object()))
             } else {
-                Some(plain(POINTER_TYPE_INVALID, need.place))
+                Some(Exception::plain(POINTER_TYPE_INVALID, need.place))
             }
         }
     }
@@ -150,58 +150,58 @@ fn pointer_rule(world: &World, need: &Need, pointer: Option<Pointer>) -> Option<
 
 /// There is a pointer, of the kind that is used, to an object that is there, of the kind that is used.
 #[tactic(auto, unfolding(s38_rules::specs::Verdict::address_rule))]
-fn address_rule(world: &World, operands: &[Operand], need: &Need) -> Option<Exception>
-    ensures { result ≡ address_rule world.now operands.now need.now }
+fn address_rule(objects: &Objects, operands: &[Operand], need: &Need) -> Option<Exception>
+    ensures { result ≡ address_rule objects.now operands.now need.now }
 {
     match need.named {
         Named::Written => pointer_rule(
-            world,
+            objects,
             need,
-            pointer_at(world, operands, need.place as usize),
+            pointer_at(objects, operands, need.place as usize),
         ),
-        Named::Implied(number) => object_rule(need, object(world, number)),
+        Named::Implied(number) => object_rule(need, objects.get(number)),
     }
 }
 
 /// The pointers of the needs at one place.
-fn needs_rule(world: &World, operands: &[Operand], needs: &[Need], k: u8) -> Option<Exception>
-    ensures { result ≡ needs_rule world.now operands.now needs.now k }
+fn needs_rule(objects: &Objects, operands: &[Operand], needs: &[Need], k: u8) -> Option<Exception>
+    ensures { result ≡ needs_rule (address_rule objects.now operands.now) needs.now k }
 {
     match needs {
         [] => None,
         [need, more @ ..] => {
             if need.place != k {
-                return needs_rule(world, operands, more, k);
+                return needs_rule(objects, operands, more, k);
             }
-            match address_rule(world, operands, need) {
-                None => needs_rule(world, operands, more, k),
+            match address_rule(objects, operands, need) {
+                None => needs_rule(objects, operands, more, k),
                 Some(failure) => Some(failure),
             }
         }
     }
 }
 
-fn address_rules_from(
-    world: &World,
+fn by_operand(
+    objects: &Objects,
     operands: &[Operand],
     needs: &[Need],
     k: u64,
     rest: &[Operand],
 ) -> Option<Exception>
     requires { k + length rest.now < 2 ^ 64 }
-    ensures { result ≡ address_rules_from world.now operands.now needs.now k rest.now }
+    ensures { result ≡ by_operand (item_rule objects.now) (address_rule objects.now operands.now) needs.now k rest.now }
 {
     match rest {
-        [] => needs_rule(world, operands, needs, 0),
+        [] => needs_rule(objects, operands, needs, 0),
         [operand, more @ ..] => {
             let place = k.min(255) as u8;
-            if let Some(failure) = item_rule(world, place, operand) {
+            if let Some(failure) = item_rule(objects, place, operand) {
                 return Some(failure);
             }
-            if let Some(failure) = needs_rule(world, operands, needs, place) {
+            if let Some(failure) = needs_rule(objects, operands, needs, place) {
                 return Some(failure);
             }
-            address_rules_from(world, operands, needs, k + 1, more)
+            by_operand(objects, operands, needs, k + 1, more)
         }
     }
 }
@@ -209,8 +209,8 @@ fn address_rules_from(
 /// The first address rule that fails: those of each operand in order, and then those of objects that no operand
 /// names.
 #[tactic(auto, unfolding(s38_rules::specs::Verdict::address_rules))]
-pub fn address_rules(world: &World, operands: &[Operand], needs: &[Need]) -> Option<Exception>
-    ensures { result ≡ address_rules world.now operands.now needs.now }
+pub fn address_rules(objects: &Objects, operands: &[Operand], needs: &[Need]) -> Option<Exception>
+    ensures { result ≡ address_rules objects.now operands.now needs.now }
 {
-    address_rules_from(world, operands, needs, 1, operands)
+    by_operand(objects, operands, needs, 1, operands)
 }

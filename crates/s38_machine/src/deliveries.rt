@@ -2,13 +2,13 @@
 ghost use Rattle.std.specs.Prelude.{◌≡◌, ◌∷◌, ℕ, [], IfOk};
 ghost use Rattle.std.specs.Option.{option_copied};
 ghost use Rattle.s38_rules.specs.State.{State};
-ghost use Rattle.s38_rules.specs.Operands.{delivered, put_value};
+ghost use Rattle.s38_rules.specs.Operands.{delivered};
 
-use crate::operands::is_in_space;
-use crate::pointers::{start_of, target_of};
-use crate::world::World;
-use s38_base::{NoMemory, ObjNum, Seq};
+use s38_base::{NoMemory, Pointer, Seq};
 use s38_code::{Operand, Val, Vals};
+use s38_invoke::World;
+use s38_objects::Objects;
+use s38_operands::{is_in_space, put_value};
 use std::alloc::Global;
 
 fn one(alloc: Global, value: Val) -> Result<Vals, NoMemory>
@@ -39,26 +39,16 @@ pub fn parted(
     }
 }
 
-fn put_value(world: &mut World, number: ObjNum, at: u64, value: &Val)
-    ensures { world.new ≡ put_value world.old number.0 at value.now }
-{
-    match value {
-        Val::Bytes(bytes) => world.objects.write(number, at, bytes.as_slice()),
-        Val::Ptr(pointer) => world.objects.set_pointer(number, at, *pointer),
-        _ => {}
-    }
-}
-
 /// A value goes into the space of its receiver, so many bytes behind its beginning; it takes no memory.
-pub fn put(world: &mut World, shift: u16, receiver: Option<&Operand>, value: Option<Val>)
+pub fn put(world: &mut World<Objects>, shift: u16, receiver: Option<&Operand>, value: Option<Val>)
     ensures { world.new ≡ (delivered world.old shift (option_copied receiver.entry) value).state }
 {
     match value {
         None => {}
         Some(value) => match receiver {
             Some(Operand::InSpace { base, offset, .. }) => {
-                let at = start_of(*base, *offset) + u64::from(shift);
-                put_value(world, target_of(*base), at, &value);
+                let at = Pointer::start(*base, *offset) + u64::from(shift);
+                put_value(&mut world.objects, Pointer::target(*base), at, &value);
             }
             _ => {}
         },

@@ -1,55 +1,83 @@
 //! A permitted event takes effect.
-ghost use Rattle.std.specs.Prelude.{◌≡◌, ◌<◌, ℕ, true, Some, IfOk, OnOk, OnErr, length, slice_get, slice_set};
-ghost use Rattle.std.specs.Option.{option_map};
-ghost use Rattle.s38_code.specs.declared.reply.Val.{Val};
-ghost use Rattle.s38_rules.specs.declared.process.Standing.{Standing};
+ghost use Rattle.std.specs.Prelude.{◌≡◌, ℕ, None, IfOk, OnOk, OnErr, length};
+ghost use Rattle.s38_code.specs.declared.event.Event.{Event};
 ghost use Rattle.s38_rules.specs.declared.verdict.Verdict.{Verdict};
-ghost use Rattle.s38_rules.specs.State.{State, standing};
-ghost use Rattle.s38_rules.specs.Computed.{receiver_at};
+ghost use Rattle.s38_rules.specs.Computing.{receiver_at};
+ghost use Rattle.s38_rules.specs.Effect.{effect, effect_of};
 ghost use Rattle.s38_rules.specs.Operands.{delivered};
-ghost use Rattle.s38_rules.specs.Effect.{effect, effect_of, end_at, start_at, started_as, value_of};
+ghost use Rattle.s38_rules.specs.Rows.{row};
+ghost use Rattle.s38_rules.specs.State.{State};
 ghost use Rattle.s38_rules.specs.Step.{awake};
-ghost use Rattle.s38_rules.specs.Verdict.{conditions, verdict_of};
+ghost use Rattle.s38_rules.specs.Verdict.{awake_verdict};
 ghost use Rattle.s38_machine.specs.Events.{receiver_of, value_of_event};
 
-use crate::changes::change;
-use crate::computations::{receiver_at, shift_at};
-use crate::deliveries::put;
-use crate::processes::standing;
-use crate::starts::started_as;
-use crate::world::World;
-use s38_base::NoMemory;
-use s38_code::{Event, Request, Val};
-use s38_rules::{Standing, Started};
+use crate::deliveries::{parted, put};
+use crate::rows;
+use s38_base::{NoMemory, Seq};
+use s38_code::{Event, Request, Val, Vals};
+use s38_invoke::{World, end, start};
+use s38_objects::Objects;
+use s38_operands::{receiver_at, shift_at};
 use std::alloc::Global;
+
+/// The values of the reply to an instruction, and what goes into the space of its receiver.
+#[tactic(auto, unfolding(s38_rules::specs::Effect::effect))]
+fn act_values(
+    alloc: Global,
+    world: &World<Objects>,
+    process: u32,
+    depth: u16,
+    request: &Request,
+) -> Result<(Vals, Option<Val>), NoMemory>
+    ensures values { IfOk result (λ parts. parts.0 ≡ (effect (row request.now.op) world.now process depth request.now).values) }
+    ensures kept { IfOk result (λ parts. (s : State) (shift : ℕ) → (delivered s shift (receiver_at request.now.op request.now.operands) parts.1).state
+        ≡ (delivered s shift (receiver_at request.now.op request.now.operands) ((row request.now.op).gives world.now process depth request.now)).state) }
+{
+    let value = rows::value(alloc, world, process, depth, request)?;
+    parted(
+        alloc,
+        receiver_at(request.op, request.operands.as_slice()),
+        value,
+    )
+}
+
+/// The values of the reply to a permitted event, and what goes into the space of its receiver.
+#[tactic(auto, unfolding(s38_rules::specs::Effect::effect_of))]
+pub fn parted_values(
+    alloc: Global,
+    world: &World<Objects>,
+    process: u32,
+    event: &Event,
+) -> Result<(Vals, Option<Val>), NoMemory>
+    ensures values { IfOk result (λ parts. parts.0 ≡ (effect_of world.now process event.now).values) }
+    ensures kept { IfOk result (λ parts. (s : State) (shift : ℕ) → (delivered s shift (receiver_of event.now) parts.1).state
+        ≡ (delivered s shift (receiver_of event.now) (value_of_event world.now process event.now)).state) }
+{
+    match event {
+        Event::Act { depth, request } => act_values(alloc, world, process, *depth, request),
+        _ => Ok((Seq::new(alloc), None)),
+    }
+}
 
 /// An instruction changes what it changes, and then its value goes into the space of its receiver.
 #[tactic(auto, unfolding(s38_rules::specs::Effect::effect))]
 fn act(
     alloc: Global,
-    world: &mut World,
+    world: &mut World<Objects>,
     process: u32,
     depth: u16,
     request: &Request,
     value: Option<Val>,
 ) -> Result<(), NoMemory>
-    requires conditions { conditions world.old process depth request.now.op request.now.round request.now.operands ≡ None }
+    requires conditions { (row request.now.op).fails world.old process depth request.now ≡ None }
     requires value { (s : State) (shift : ℕ) → (delivered s shift (receiver_at request.now.op request.now.operands) value).state
-        ≡ (delivered s shift (receiver_at request.now.op request.now.operands) (value_of world.old process depth request.now.op request.now.round request.now.operands)).state }
-    ensures ok { OnOk result (world.new ≡ (effect world.old process depth request.now.op request.now.round request.now.operands).state) }
+        ≡ (delivered s shift (receiver_at request.now.op request.now.operands) ((row request.now.op).gives world.old process depth request.now)).state }
+    ensures ok { OnOk result (world.new ≡ (effect (row request.now.op) world.old process depth request.now).state) }
     ensures err { OnErr result (world.new ≡ world.old) }
 {
     let operands = request.operands.as_slice();
-    let shift = shift_at(world, request.op, operands);
-    match change(
-        alloc,
-        world,
-        process,
-        depth,
-        request.op,
-        request.round,
-        operands,
-    ) {
+    let shift = shift_at(&world.objects, request.op, operands);
+    match rows::apply(alloc, world, process, depth, request) {
         Ok(()) => {
             put(world, shift, receiver_at(request.op, operands), value);
             Ok(())
@@ -58,68 +86,15 @@ fn act(
     }
 }
 
-fn set_started(standings: &mut [Standing], at: usize, started: Started)
-    requires { at < length standings.old }
-    ensures { (x : Standing) → slice_get standings.old at ≡ Some x → standings.new ≡ slice_set standings.old at (record x { started = Some started }) }
-{
-    let standing = &mut standings[at];
-    standing.started = Some(started);
-}
-
-fn set_ended(standings: &mut [Standing], at: usize)
-    requires { at < length standings.old }
-    ensures { (x : Standing) → slice_get standings.old at ≡ Some x → standings.new ≡ slice_set standings.old at (record x { ended = true }) }
-{
-    let standing = &mut standings[at];
-    standing.ended = true;
-}
-
-/// What a process knows from its start, where the machine has it.
-fn start_of(alloc: Global, world: &World, process: u32) -> Result<Option<Started>, NoMemory>
-    ensures { IfOk result (λ made. made ≡ option_map (λ x. started_as world.now x.job) (standing world.now process)) }
-{
-    match standing(world, process) {
-        None => Ok(None),
-        Some(x) => Ok(Some(started_as(alloc, world, &x.job)?)),
-    }
-}
-
-fn start(alloc: Global, world: &mut World, process: u32) -> Result<(), NoMemory>
-    ensures ok { OnOk result (world.new ≡ start_at world.old process (standing world.old process)) }
-    ensures err { OnErr result (world.new ≡ world.old) }
-{
-    match start_of(alloc, world, process) {
-        Err(fault) => Err(fault),
-        Ok(None) => Ok(()),
-        Ok(Some(started)) => {
-            let at = (process as usize).saturating_sub(1);
-            set_started(&mut world.processes, at, started);
-            Ok(())
-        }
-    }
-}
-
-fn end(world: &mut World, process: u32)
-    ensures { world.new ≡ end_at world.old process (standing world.old process) }
-{
-    match standing(world, process) {
-        None => {}
-        Some(_) => {
-            let at = (process as usize).saturating_sub(1);
-            set_ended(&mut world.processes, at);
-        }
-    }
-}
-
 #[tactic(auto, using(crate::proofs::VerdictLaws::permitted_conditions), unfolding(s38_rules::specs::Effect::effect_of))]
 fn take_effect(
     alloc: Global,
-    world: &mut World,
+    world: &mut World<Objects>,
     process: u32,
     event: &Event,
     value: Option<Val>,
 ) -> Result<(), NoMemory>
-    requires permit { verdict_of world.old process event.now ≡ Verdict.Permit }
+    requires permit { awake_verdict world.old process event.now ≡ Verdict.Permit }
     requires value { (s : State) (shift : ℕ) → (delivered s shift (receiver_of event.now) value).state ≡ (delivered s shift (receiver_of event.now) (value_of_event world.old process event.now)).state }
     ensures ok { OnOk result (world.new ≡ (effect_of world.old process event.now).state) }
     ensures err { OnErr result (world.new ≡ world.old) }
@@ -139,12 +114,12 @@ fn take_effect(
 #[tactic(auto, using(s38_rules::proofs::Laws::effect_keeps))]
 pub fn apply(
     alloc: Global,
-    world: &mut World,
+    world: &mut World<Objects>,
     process: u32,
     event: &Event,
     value: Option<Val>,
 ) -> Result<(), NoMemory>
-    requires permit { verdict_of world.old process event.now ≡ Verdict.Permit }
+    requires permit { awake_verdict world.old process event.now ≡ Verdict.Permit }
     requires value { (s : State) (shift : ℕ) → (delivered s shift (receiver_of event.now) value).state ≡ (delivered s shift (receiver_of event.now) (value_of_event world.old process event.now)).state }
     ensures ok { OnOk result (world.new ≡ awake (effect_of world.old process event.now).state) }
     ensures err { OnErr result (world.new ≡ world.old) }

@@ -99,13 +99,13 @@ impl Log {
         Ok(())
     }
 
-    /// Adds the entry of an answer; it takes no memory.
-    pub fn push(&mut self, process: u32, event: Event, reply: Reply)
+    /// Adds the entry of an answer, and the moment at which it was answered; it takes no memory.
+    pub fn push(&mut self, process: u32, event: Event, reply: Reply, mark: u64)
         requires room { 0 < self.old.spare }
         requires first { 0 < process }
         requires last { process ≤ self.old.processes }
         ensures history { self.new.history ≡ self.old.history ++ entry_after self.old.history process event reply ∷ [] }
-        ensures marks { self.new.marks ≡ self.old.marks ++ 0 ∷ [] }
+        ensures marks { self.new.marks ≡ self.old.marks ++ mark ∷ [] }
         ensures processes { self.new.processes ≡ self.old.processes }
     {
         let at = process as usize - 1;
@@ -119,7 +119,7 @@ impl Log {
                 reply,
             },
         );
-        push_reserved(&mut self.marks, 0);
+        push_reserved(&mut self.marks, mark);
         let all = self.entries.len();
         count(&mut self.counts, at, all);
     }

@@ -1,40 +1,35 @@
-ghost use Rattle.std.specs.Prelude.{◌≡◌, ◌<◌, ◌≤◌, ℕ, IfOk, IsErrOf, OnErr, length};
-ghost use Rattle.s38_code.specs.declared.event.Event.{Event};
-ghost use Rattle.s38_rules.specs.State.{State, ready};
-ghost use Rattle.s38_rules.specs.Computed.{receiver_at};
-ghost use Rattle.s38_rules.specs.Operands.{delivered};
-ghost use Rattle.s38_machine.specs.Events.{receiver_of, value_of_event};
-ghost use Rattle.s38_rules.specs.Verdict.{verdict_of};
-ghost use Rattle.s38_rules.specs.Effect.{effect, effect_of, value_of};
+ghost use Rattle.std.specs.Prelude.{◌≡◌, ◌<◌, ◌≤◌, IfOk, IsErrOf, OnErr, length};
 ghost use Rattle.s38_rules.specs.declared.verdict.Verdict.{Verdict};
-ghost use Rattle.s38_rules.specs.Step.{by_verdict, step};
-ghost use Rattle.s38_rules.specs.Legal.{IsSound, MayAsk, after, after_by, begun};
+ghost use Rattle.s38_rules.specs.Legal.{IsProcess, IsSound, after, after_by, begun, no_moment};
 ghost use Rattle.s38_rules.specs.Opening.{opened};
+ghost use Rattle.s38_rules.specs.State.{ready};
+ghost use Rattle.s38_rules.specs.Step.{by_verdict, step};
+ghost use Rattle.s38_rules.specs.Verdict.{awake_verdict, verdict_of};
 
-use crate::computations::receiver_at;
-use crate::deliveries::parted;
-use crate::effects::apply;
+use crate::effects::{apply, parted_values};
 use crate::log::Log;
 use crate::opening::opened;
-use crate::processes::{ready, waits};
-use crate::values::value_of;
-use crate::verdicts::verdict_of;
-use crate::world::World;
-use s38_base::{Exception, NoMemory, Seq, TryClone};
-use s38_code::{Checked, Entry, Event, Job, Reply, Request, StepFault, Stepper, Val, Vals};
+use crate::verdicts::{awake_verdict, verdict_of};
+use s38_base::{Exception, NoMemory, TryClone};
+use s38_code::{Checked, Entry, Event, Job, Reply, StepFault, Stepper};
+use s38_invoke::World;
+use s38_objects::Objects;
 use s38_rules::Verdict;
 use std::alloc::Global;
 use std::marker::Model;
 use std::snapshot::Snapshot;
+
+/// The moment at which each entry is answered while there is no store.
+const NO_MOMENT: u64 = 0;
 
 /// The machine: its objects and processes, and the history of its answers. Contracts see what it was started
 /// with, its state, its history and its marks.
 #[derive(Drop)]
 pub struct Machine {
     alloc: Global,
-    world: World,
+    world: World<Objects>,
     log: Log,
-    origin: Snapshot<World>,
+    origin: Snapshot<World<Objects>>,
 }
 
 impl Model for Machine {
@@ -46,50 +41,6 @@ impl Model for Machine {
     ghost view = { λ m. record { origin = m.origin.value; state = m.world; history = m.log.history; marks = m.log.marks } };
 
     ghost invariant = { λ m. m.log.processes ≡ length m.world.processes };
-}
-
-/// The values of the reply to an instruction, and what goes into the space of its receiver.
-#[tactic(auto, unfolding(s38_rules::specs::Effect::effect))]
-fn act_values(
-    alloc: Global,
-    world: &World,
-    process: u32,
-    depth: u16,
-    request: &Request,
-) -> Result<(Vals, Option<Val>), NoMemory>
-    ensures values { IfOk result (λ parts. parts.0 ≡ (effect world.now process depth request.now.op request.now.round request.now.operands).values) }
-    ensures kept { IfOk result (λ parts. (s : State) (shift : ℕ) → (delivered s shift (receiver_at request.now.op request.now.operands) parts.1).state
-        ≡ (delivered s shift (receiver_at request.now.op request.now.operands) (value_of world.now process depth request.now.op request.now.round request.now.operands)).state) }
-{
-    let operands = request.operands.as_slice();
-    let value = value_of(
-        alloc,
-        world,
-        process,
-        depth,
-        request.op,
-        request.round,
-        operands,
-    )?;
-    parted(alloc, receiver_at(request.op, operands), value)
-}
-
-/// The values of the reply to a permitted event, and what goes into the space of its receiver.
-#[tactic(auto, unfolding(s38_rules::specs::Effect::effect_of))]
-fn parted_values(
-    alloc: Global,
-    world: &World,
-    process: u32,
-    event: &Event,
-) -> Result<(Vals, Option<Val>), NoMemory>
-    ensures values { IfOk result (λ parts. parts.0 ≡ (effect_of world.now process event.now).values) }
-    ensures kept { IfOk result (λ parts. (s : State) (shift : ℕ) → (delivered s shift (receiver_of event.now) parts.1).state
-        ≡ (delivered s shift (receiver_of event.now) (value_of_event world.now process event.now)).state) }
-{
-    match event {
-        Event::Act { depth, request } => act_values(alloc, world, process, *depth, request),
-        _ => Ok((Seq::new(alloc), None)),
-    }
 }
 
 impl Machine {
@@ -139,7 +90,7 @@ impl Machine {
     pub fn ready(&self, process: u32) -> bool
         ensures { result ≡ ready self.now.state process }
     {
-        ready(&self.world, process)
+        self.world.ready(process)
     }
 
     /// Whether an event may take effect, waits, or is refused by the first rule that fails.
@@ -153,9 +104,9 @@ impl Machine {
     fn permit(&mut self, process: u32, event: &Event) -> Result<Reply, NoMemory>
         requires first { 0 < process }
         requires last { process ≤ length self.old.state.processes }
-        requires permit { verdict_of self.old.state process event.now ≡ Verdict.Permit }
+        requires permit { awake_verdict self.old.state process event.now ≡ Verdict.Permit }
         ensures ok { IfOk result (λ r. (r ≡ (by_verdict self.old.state process event.now Verdict.Permit).reply)
-            × (self.new ≡ after_by self.old process event.now (by_verdict self.old.state process event.now Verdict.Permit))) }
+            × (self.new ≡ after_by self.old no_moment process event.now (by_verdict self.old.state process event.now Verdict.Permit))) }
         ensures err { OnErr result (self.new ≡ self.old) }
     {
         let (values, value) = parted_values(self.alloc, &self.world, process, event)?;
@@ -167,7 +118,7 @@ impl Machine {
             Ok(()) => {}
             Err(fault) => return Err(fault),
         }
-        self.log.push(process, asked, entered);
+        self.log.push(process, asked, entered, NO_MOMENT);
         Ok(reply)
     }
 
@@ -181,12 +132,12 @@ impl Machine {
         requires first { 0 < process }
         requires last { process ≤ length self.old.state.processes }
         ensures ok { IfOk result (λ r. (r ≡ (by_verdict self.old.state process event.now (Verdict.Refuse exception)).reply)
-            × (self.new ≡ after_by self.old process event.now (by_verdict self.old.state process event.now (Verdict.Refuse exception)))) }
+            × (self.new ≡ after_by self.old no_moment process event.now (by_verdict self.old.state process event.now (Verdict.Refuse exception)))) }
         ensures err { OnErr result (self.new ≡ self.old) }
     {
         let asked = event.try_clone(self.alloc)?;
         self.log.reserve()?;
-        self.log.push(process, asked, Reply::Signal(exception));
+        self.log.push(process, asked, Reply::Signal(exception), NO_MOMENT);
         Ok(Reply::Signal(exception))
     }
 
@@ -195,7 +146,7 @@ impl Machine {
         requires first { 0 < process }
         requires last { process ≤ length self.old.state.processes }
         ensures ok { IfOk result (λ r. (r ≡ (by_verdict self.old.state process event.now Verdict.Wait).reply)
-            × (self.new ≡ after_by self.old process event.now (by_verdict self.old.state process event.now Verdict.Wait))) }
+            × (self.new ≡ after_by self.old no_moment process event.now (by_verdict self.old.state process event.now Verdict.Wait))) }
         ensures err { OnErr result (self.new ≡ self.old) }
     {
         let asked = event.try_clone(self.alloc)?;
@@ -204,16 +155,16 @@ impl Machine {
             Ok(()) => {}
             Err(_) => return Err(NoMemory),
         }
-        self.log.push(process, asked, Reply::MustWait);
+        self.log.push(process, asked, Reply::MustWait, NO_MOMENT);
         Ok(Reply::MustWait)
     }
 
     fn answer(&mut self, process: u32, event: &Event, verdict: Verdict) -> Result<Reply, NoMemory>
         requires first { 0 < process }
         requires last { process ≤ length self.old.state.processes }
-        requires verdict { verdict_of self.old.state process event.now ≡ verdict }
+        requires verdict { awake_verdict self.old.state process event.now ≡ verdict }
         ensures ok { IfOk result (λ r. (r ≡ (by_verdict self.old.state process event.now verdict).reply)
-            × (self.new ≡ after_by self.old process event.now (by_verdict self.old.state process event.now verdict))) }
+            × (self.new ≡ after_by self.old no_moment process event.now (by_verdict self.old.state process event.now verdict))) }
         ensures err { OnErr result (self.new ≡ self.old) }
     {
         match verdict {
@@ -227,23 +178,23 @@ impl Machine {
     fn step_or(&mut self, process: u32, event: &Event) -> Result<Reply, NoMemory>
         requires first { 0 < process }
         requires last { process ≤ length self.old.state.processes }
-        ensures ok { IfOk result (λ r. (r ≡ (step self.old.state process event.now).reply) × (self.new ≡ after self.old process event.now)) }
+        ensures ok { IfOk result (λ r. (r ≡ (step self.old.state process event.now).reply) × (self.new ≡ after self.old no_moment process event.now)) }
         ensures err { OnErr result (self.new ≡ self.old) }
     {
-        if waits(&self.world, process) {
+        if self.world.waits(process) {
             return Ok(Reply::MustWait);
         }
-        let verdict = verdict_of(&self.world, process, event);
+        let verdict = awake_verdict(&self.world, process, event);
         self.answer(process, event, verdict)
     }
 
-    /// Answers one event of a process: it takes effect, is refused by the first rule that fails, or waits. The
+    /// Answers one event of a job's process: it takes effect, is refused by the first rule that fails, or waits. The
     /// answer is entered in the history, but that to a process which waits already. Memory is taken before
     /// anything changes; where it is refused, machine and history are as they were. This machine never stops.
     pub fn step(&mut self, process: u32, event: &Event) -> Result<Reply, StepFault>
         requires sound { IsSound self.old }
-        requires may { MayAsk self.old.origin process }
-        ensures ok { IfOk result (λ r. (r ≡ (step self.old.state process event.now).reply) × (self.new ≡ after self.old process event.now)) }
+        requires may { IsProcess self.old.origin process }
+        ensures ok { IfOk result (λ r. (r ≡ (step self.old.state process event.now).reply) × (self.new ≡ after self.old no_moment process event.now)) }
         ensures err { OnErr result (self.new ≡ self.old) }
         ensures sound { IsSound self.new }
         ensures going { IsErrOf result StepFault.Stopped → ⊥ }
@@ -259,7 +210,7 @@ impl Stepper for Machine {
     ghost use Rattle.std.specs.Prelude.{None, Option, ℕ};
     ghost use Rattle.s38_code.specs.declared.event.Event.{Event};
     ghost use Rattle.s38_rules.specs.State.{State};
-    ghost use Rattle.s38_rules.specs.Legal.{IsSound, MayAsk};
+    ghost use Rattle.s38_rules.specs.Legal.{IsProcess, IsSound, IsStep};
 
     ghost Origin = { State };
 
@@ -271,7 +222,9 @@ impl Stepper for Machine {
 
     ghost is_sound = { IsSound };
 
-    ghost may_ask = { λ origin process event entries. MayAsk origin process };
+    ghost steps = { IsStep };
+
+    ghost may_ask = { λ origin process event entries. IsProcess origin process };
 
     fn step(&mut self, process: u32, event: &Event) -> Result<Reply, StepFault> {
         Machine::step(self, process, event)

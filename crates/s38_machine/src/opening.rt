@@ -1,15 +1,15 @@
 ghost use Rattle.std.specs.Prelude.{◌≡◌, ◌<◌, ◌≤◌, ◌^◌, None, IsTrue, IfOk, OnOk};
-ghost use Rattle.s38_objects.specs.Held.{with_added};
-ghost use Rattle.s38_rules.specs.State.{found_in};
+ghost use Rattle.s38_rules.specs.Held.{found, with_added};
 ghost use Rattle.s38_base.specs.NameText.{is_name};
-ghost use Rattle.s38_rules.specs.Opening.{general_context, locked_queue, machine_context, named, officer, officer_rows, opened, opening, owned, plain_user, standings};
+ghost use Rattle.s38_rules.specs.Opening.{general_context, held_first, locked_queue, machine_context, named, officer, officer_rows, opened, opening, owned, plain_user, process_entries};
 
-use crate::world::World;
 use s38_base::{Id, Kind, Name, NoMemory, ObjNum, Rights, Seq, Special, TryClone};
+use s38_base::limits::BODY_LIMIT;
 use s38_code::{Checked, Job};
+use s38_invoke::World;
 use s38_objects::Objects;
 use s38_queues::{Order, Queue};
-use s38_rules::{Body, Object, PrivateRow, RowList, Standing};
+use s38_rules::{Body, Object, PrivateRow, ProcessEntry, RowList};
 use std::alloc::Global;
 
 fn named(kind: Kind, name: &[u8]) -> Id
@@ -102,7 +102,7 @@ fn locked_queue(alloc: Global) -> Result<Object, NoMemory>
 fn add(objects: &mut Objects, object: Object) -> Result<(), NoMemory>
     requires unused { objects.old.next ≤ object.number.0 }
     requires small { object.number.0 < 2 ^ 63 }
-    requires unnamed { found_in objects.old.objects object.context.0 object.id ≡ None }
+    requires unnamed { found objects.old object.context.0 object.id ≡ None }
     ensures { OnOk result (objects.new ≡ with_added objects.old object) }
 {
     match objects.add(object) {
@@ -114,7 +114,7 @@ fn add(objects: &mut Objects, object: Object) -> Result<(), NoMemory>
 /// The objects that the machine begins with.
 #[tactic(auto, unfolding(s38_rules::specs::Opening::opening, s38_base::specs::Ids::same_id))]
 fn opening(alloc: Global) -> Result<Objects, NoMemory>
-    ensures { IfOk result (λ objects. objects ≡ record { objects = opening; next = 6; ceiling = 5 }) }
+    ensures { IfOk result (λ objects. objects ≡ held_first) }
 {
     let mut objects = Objects::new(alloc);
     add(&mut objects, machine_context(alloc)?)?;
@@ -127,29 +127,30 @@ fn opening(alloc: Global) -> Result<Objects, NoMemory>
 }
 
 /// No process has started.
-fn standings(alloc: Global, jobs: &[Job]) -> Result<Vec<Standing>, NoMemory>
-    ensures { IfOk result (λ made. made.items ≡ standings jobs.now) }
+fn process_entries(alloc: Global, jobs: &[Job]) -> Result<Vec<ProcessEntry>, NoMemory>
+    ensures { IfOk result (λ made. made.items ≡ process_entries jobs.now) }
 {
     let mut made = Vec::new(alloc);
     for job in jobs {
-        let standing = Standing {
+        let entry = ProcessEntry {
             job: job.try_clone(alloc)?,
             started: None,
             ended: false,
         };
-        made.push(standing)?;
+        made.push(entry)?;
     }
     Ok(made)
 }
 
 /// The state in which the jobs find the machine, with the deck's templates.
-pub fn opened(alloc: Global, templates: Checked, jobs: &[Job]) -> Result<World, NoMemory>
+pub fn opened(alloc: Global, templates: Checked, jobs: &[Job]) -> Result<World<Objects>, NoMemory>
     ensures { IfOk result (λ world. world ≡ opened templates jobs.now) }
 {
     let objects = opening(alloc)?;
-    let processes = standings(alloc, jobs)?;
+    let processes = process_entries(alloc, jobs)?;
     Ok(World {
         objects,
+        limit: BODY_LIMIT,
         templates,
         processes,
         waiting: Vec::new(alloc),

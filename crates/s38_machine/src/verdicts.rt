@@ -1,160 +1,86 @@
 //! What becomes of an event: the first rule that fails.
-ghost use Rattle.std.specs.Prelude.{◌≡◌, ◌+◌, ◌<◌, ◌^◌, length};
+ghost use Rattle.std.specs.Prelude.{◌≡◌, ℕ};
 ghost use Rattle.std.specs.Option.{option_copied};
-ghost use Rattle.s38_rules.specs.State.{found};
-ghost use Rattle.s38_rules.specs.Verdict.{absent, absent_context, context_id, of_failure, profile_id, refusal, start_failure, start_verdict, verdict_of};
+ghost use Rattle.s38_code.specs.declared.event.Event.{Event};
+ghost use Rattle.s38_rules.specs.Rows.{row};
+ghost use Rattle.s38_rules.specs.State.{State};
+ghost use Rattle.s38_rules.specs.Verdict.{awake_verdict, of_failure, refused_by, start_verdict, verdict_of};
 
 use crate::addresses::address_rules;
-use crate::conditions::conditions;
-use crate::failures::plain;
-use crate::needs::needs_of;
-use crate::objects::found;
-use crate::processes::{acting, is_early, standing};
-use crate::rights::rights_failure;
-use crate::world::World;
-use s38_base::{Exception, Id, Kind, Name, ObjNum, Op};
-use s38_code::{Event, Job, Operand, Request};
-use s38_rules::{OBJECT_NOT_FOUND, Object, Standing, Verdict};
-
-/// The machine context.
-const MACHINE_CONTEXT: ObjNum = ObjNum(1);
+use crate::rights::rights_rules;
+use crate::rows;
+use s38_base::Exception;
+use s38_code::{Event, Request};
+use s38_invoke::{World, start_failure};
+use s38_objects::Objects;
+use s38_rules::{ProcessEntry, Verdict};
 
 /// The first rule that an instruction fails: address rules, then rights, then its conditions and limits.
-#[tactic(auto, unfolding(s38_rules::specs::Verdict::refusal))]
-fn refusal(
-    world: &World,
+#[tactic(auto, unfolding(s38_rules::specs::Verdict::refused_by))]
+fn refused_by(
+    world: &World<Objects>,
     process: u32,
     depth: u16,
-    op: Op,
-    round: bool,
-    operands: &[Operand],
+    request: &Request,
 ) -> Option<Exception>
-    ensures { result ≡ refusal world.now process depth op round operands.now }
+    ensures { result ≡ refused_by (row request.now.op) world.now process depth request.now }
 {
-    let needs = needs_of(world, process, depth, op, operands);
-    if let Some(failure) = address_rules(world, operands, needs.as_slice()) {
+    let needs = rows::needs(world, process, depth, request);
+    let operands = request.operands.as_slice();
+    if let Some(failure) = address_rules(&world.objects, operands, needs.as_slice()) {
         return Some(failure);
     }
-    let users = acting(world, process, depth);
-    if let Some(failure) = rights_failure(world, &users, operands, needs.as_slice()) {
+    if let Some(failure) = rights_rules(world, process, depth, operands, needs.as_slice()) {
         return Some(failure);
     }
-    conditions(world, process, depth, op, round, operands)
+    rows::conditions(world, process, depth, request)
 }
 
-fn absent(object_found: Option<&Object>, operand: u8) -> Option<Exception>
-    ensures { result ≡ absent (option_copied object_found.entry) operand }
+fn of_failure(failure: Option<Exception>) -> Verdict
+    ensures { (s : State) (process : ℕ) (event : Event) → result ≡ of_failure s process event failure }
 {
-    match object_found {
-        None => Some(plain(OBJECT_NOT_FOUND, operand)),
-        Some(_) => None,
-    }
-}
-
-/// The identification of a user's profile.
-pub fn profile_id(name: &Name) -> Id
-    ensures { result ≡ profile_id name.now }
-{
-    Id {
-        kind: Kind::Profile,
-        sub: 0,
-        name: *name,
-    }
-}
-
-/// The identification of a context of a job's list.
-pub fn context_id(name: &Name) -> Id
-    ensures { result ≡ context_id name.now }
-{
-    Id {
-        kind: Kind::Context,
-        sub: 0,
-        name: *name,
-    }
-}
-
-/// The object of an identification in the machine context.
-pub fn found_in_machine<'a>(world: &'a World, id: &Id) -> Option<&'a Object>
-    ensures { option_copied result ≡ found world.now 1 id.now }
-{
-    found(world, MACHINE_CONTEXT, id)
-}
-
-fn absent_context(world: &World, names: &[Name], operand: u64) -> Option<Exception>
-    requires { operand + length names.now < 2 ^ 64 }
-    ensures { result ≡ absent_context world.now names.now operand }
-{
-    match names {
-        [] => None,
-        [name, more @ ..] => {
-            let place = operand.min(255) as u8;
-            match absent(found_in_machine(world, &context_id(name)), place) {
-                None => absent_context(world, more, operand + 1),
-                Some(failure) => Some(failure),
-            }
-        }
-    }
-}
-
-/// A start finds the profile of the job's user, and the contexts of its list.
-#[tactic(auto, unfolding(s38_rules::specs::Verdict::start_failure))]
-fn start_failure(world: &World, job: &Job) -> Option<Exception>
-    ensures { result ≡ start_failure world.now job.now }
-{
-    match absent(found_in_machine(world, &profile_id(&job.user)), 1) {
-        None => absent_context(world, job.contexts.as_slice(), 2),
-        Some(failure) => Some(failure),
-    }
-}
-
-fn of_failure(world: &World, failure: Option<Exception>) -> Verdict
-    ensures { result ≡ of_failure world.now failure }
-{
-    let _ = world;
     match failure {
         None => Verdict::Permit,
         Some(exception) => Verdict::Refuse(exception),
     }
 }
 
-fn start_verdict(world: &World, standing: Option<&Standing>) -> Verdict
-    ensures { result ≡ start_verdict world.now (option_copied standing.entry) }
+fn start_verdict(world: &World<Objects>, process: u32, entry: Option<&ProcessEntry>) -> Verdict
+    ensures { result ≡ start_verdict world.now process (option_copied entry.entry) }
 {
-    match standing {
+    let _ = process;
+    match entry {
         None => Verdict::Permit,
         Some(x) => {
-            if is_early(world, x.job.stage) {
-                Verdict::Wait
-            } else {
-                of_failure(world, start_failure(world, &x.job))
+            if world.is_early(x.job.stage) {
+                return Verdict::Wait;
             }
+            of_failure(start_failure(&world.objects, &x.job))
         }
     }
 }
 
-fn act_verdict(world: &World, process: u32, depth: u16, request: &Request) -> Verdict
-    ensures { result ≡ of_failure world.now (refusal world.now process depth request.now.op request.now.round request.now.operands) }
-{
-    let failure = refusal(
-        world,
-        process,
-        depth,
-        request.op,
-        request.round,
-        request.operands.as_slice(),
-    );
-    of_failure(world, failure)
-}
-
-/// What becomes of an event: a start waits for the earlier stages; an instruction is refused by the first rule
-/// that fails; an end never.
-#[tactic(auto, unfolding(s38_rules::specs::Verdict::verdict_of))]
-pub fn verdict_of(world: &World, process: u32, event: &Event) -> Verdict
-    ensures { result ≡ verdict_of world.now process event.now }
+/// What becomes of an event of a process that doesn't wait: a start waits for the earlier stages; an instruction is
+/// refused by the first rule that fails; an end never.
+#[tactic(auto, unfolding(s38_rules::specs::Verdict::awake_verdict))]
+pub fn awake_verdict(world: &World<Objects>, process: u32, event: &Event) -> Verdict
+    ensures { result ≡ awake_verdict world.now process event.now }
 {
     match event {
-        Event::Start => start_verdict(world, standing(world, process)),
-        Event::Act { depth, request } => act_verdict(world, process, *depth, request),
+        Event::Start => start_verdict(world, process, world.process_entry(process)),
+        Event::Act { depth, request } => of_failure(refused_by(world, process, *depth, request)),
         Event::Finish { .. } => Verdict::Permit,
+    }
+}
+
+/// What becomes of an event; a process that waits goes on waiting.
+#[tactic(auto, unfolding(s38_rules::specs::Verdict::verdict_of))]
+pub fn verdict_of(world: &World<Objects>, process: u32, event: &Event) -> Verdict
+    ensures { result ≡ verdict_of world.now process event.now }
+{
+    if world.waits(process) {
+        Verdict::Wait
+    } else {
+        awake_verdict(world, process, event)
     }
 }

@@ -6,8 +6,6 @@ mod fault;
 mod image;
 mod storage;
 mod tagged;
-#[cfg(test)]
-mod tests;
 
 pub use cell::Cell;
 pub use fault::MemoryFault;

@@ -13,6 +13,7 @@ mod table;
 mod tests;
 
 pub use objects::Objects;
+pub use table::kind_of;
 
 /// What is sent between threads.
 fn sends<T: Send + Sync>() {}

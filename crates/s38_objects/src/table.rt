@@ -9,7 +9,7 @@ use s38_base::{Id, Kind, ObjNum, Rights, Special, UserNum};
 use s38_rules::{Body, Header, Object, PrivateRow, Table, TableRows};
 
 /// The kind of object that a body makes.
-fn kind_of(body: &Body) -> Kind
+pub fn kind_of(body: &Body) -> Kind
     ensures { result ≡ kind_of body.now }
 {
     match body {

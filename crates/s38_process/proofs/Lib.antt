@@ -1,2 +1,3 @@
+pub mod Alone
 mod PlaceLaws
 mod SettleLaws

@@ -2,9 +2,9 @@
 use Rattle.std.specs.Prelude.{Bool, false, not, Option, Some, None, nat_le, slice_get, if◌then◌else◌}
 use Rattle.s38_code.specs.declared.event.Event.{Event}
 use Rattle.s38_code.specs.declared.program.Instruction.{Instruction}
-use Rattle.s38_rules.specs.Process.{Doing, code_in, is_return}
-use Rattle.s38_process.specs.declared.process.Next.{Next}
-use Rattle.s38_process.specs.declared.process.Next.TheVariants.{Step, Ended}
+use Rattle.s38_process.specs.Process.{ProcessState, code_in, is_return}
+use Rattle.s38_process.specs.declared.next.Next.{Next}
+use Rattle.s38_process.specs.declared.next.Next.TheVariants.{Step, Ended}
 
 abbrev pub asked : Next → Option Event
 asked (Step event) = Some event
@@ -15,5 +15,5 @@ is_acting_at None = false
 is_acting_at (Some i) = not (is_return i.op)
 
 -- a running process asks for an instruction, and not for its end
-abbrev pub is_acting : Doing → Bool
+abbrev pub is_acting : ProcessState → Bool
 is_acting d = if nat_le d.budget d.done then false else is_acting_at (slice_get (code_in d.made) d.at)

@@ -1,2 +1,5 @@
 pub mod Asked
-pub mod Standing
+pub mod Process
+pub mod Progress
+pub mod Replies
+pub mod Requests

@@ -1,14 +1,19 @@
 //! A process: it asks one event after another, and goes on by the replies.
 #![tactic(auto)]
 
-mod alone;
+mod local_run;
 mod made;
+mod next;
 mod process;
 mod progress;
 mod request;
+mod status;
+mod unsettled;
 mod variables;
 
-pub use process::{Next, Process};
+pub use next::Next;
+pub use process::Process;
+pub use status::Status;
 
 /// What is sent between threads.
 fn sends<T: Send + Sync>() {}
@@ -16,7 +21,5 @@ fn sends<T: Send + Sync>() {}
 /// Each value of this crate may be sent and shared.
 pub fn all_may_be_sent() {
     sends::<Process>();
+    sends::<Status>();
 }
-
-#[cfg(test)]
-mod tests;

@@ -1,8 +1,8 @@
 ghost use Rattle.std.specs.Prelude.{◌≡◌};
-ghost use Rattle.s38_rules.specs.Process.{begun_by, code_in, rows_in};
+ghost use Rattle.s38_process.specs.Process.{begun_by, code_in, rows_in};
 
-use s38_code::{EndCause, Instruction, CreateResult, Row};
-use s38_rules::Status;
+use crate::status::Status;
+use s38_code::{CreateResult, EndCause, Instruction, Row};
 
 /// The declarations of a program; a template that was refused has none.
 pub fn rows_of(made: &CreateResult) -> &[Row]

@@ -1,4 +1,4 @@
-use s38_rules::Status;
+use crate::status::Status;
 
 /// Where a process stands: the place of its next instruction, how many were done, and whether it runs.
 #[derive(Clone, Copy)]

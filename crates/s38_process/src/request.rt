@@ -1,6 +1,6 @@
 ghost use Rattle.std.specs.Prelude.{◌≡◌, ◌++◌, IfOk, OnOk};
 ghost use Rattle.std.specs.Option.{option_copied};
-ghost use Rattle.s38_rules.specs.Process.{item_by, item_operand, operand_of, operands_of, request_of, source_by};
+ghost use Rattle.s38_process.specs.Requests.{item_by, item_operand, operand_of, operands_of, request_of, source_by};
 
 use crate::variables::{form_in, is_receiver, value_bytes, value_pointer};
 use s38_base::{Attr, NoMemory, Seq, TryClone};
@@ -118,7 +118,7 @@ fn add_operands(
 }
 
 /// What an instruction asks, with the values of the variables put in.
-#[tactic(auto, unfolding(s38_rules::specs::Process::request_of))]
+#[tactic(auto, unfolding(crate::specs::Requests::request_of))]
 pub fn request_of(
     alloc: Global,
     rows: &[Row],

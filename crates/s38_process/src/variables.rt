@@ -1,11 +1,15 @@
 ghost use Rattle.std.specs.Prelude.{◌≡◌, ◌<◌, ◌+◌, ◌^◌, ◌||◌, IfOk, IsTrue, Some, length, slice_get, slice_set};
 ghost use Rattle.std.specs.Option.{option_copied};
 ghost use Rattle.s38_code.specs.declared.class.Class.{Class};
-ghost use Rattle.s38_rules.specs.Process.{copies_left, copies_right, first_by, first_value, first_values, is_receiver, is_taken, label_in, label_of, merged, merged_bytes, place_behind, put, received, takes_value};
-ghost use Rattle.s38_rules.specs.Variables.{form_in, is_based, value_bytes, value_pointer};
+ghost use Rattle.s38_compute.specs.Computed.{copies_left, copies_right};
+ghost use Rattle.s38_process.specs.Process.{first_by, first_value, first_values, next_instruction};
+ghost use Rattle.s38_process.specs.Replies.{is_taken, label_in, label_of, merged, merged_bytes, put, received, takes_value};
+ghost use Rattle.s38_process.specs.Requests.{is_receiver};
+ghost use Rattle.s38_local.specs.Variables.{form_in, is_based, value_bytes, value_pointer};
 
 use s38_base::{Attr, Bytes, NoMemory, Op, Pointer, Seq, TryClone};
 use s38_code::{Arg, Class, Form, Instruction, Row, Val};
+use s38_compute::{copies_left, copies_right};
 use s38_strings::{copy_left, copy_right};
 use std::alloc::Global;
 use std::mem;
@@ -96,18 +100,6 @@ fn takes_value(rows: &[Row], class: Class, arg: &Arg) -> bool
         Arg::Item(item) => is_receiver(class) && !is_based(form_in(rows.get(*item as usize))),
         _ => is_receiver(class),
     }
-}
-
-fn copies_left(op: Op) -> bool
-    ensures { result ≡ copies_left op }
-{
-    matches!(op, Op::Cpybla | Op::Xlate)
-}
-
-fn copies_right(op: Op) -> bool
-    ensures { result ≡ copies_right op }
-{
-    matches!(op, Op::Cpybra)
 }
 
 /// Writes the bytes that came into those that stand there.
@@ -230,9 +222,9 @@ fn label_in(args: &[Arg]) -> Option<u32>
 }
 
 /// The place behind an instruction that was answered with these values.
-pub fn place_behind(instruction: &Instruction, given: &[Val], at: usize) -> usize
+pub fn next_instruction(instruction: &Instruction, given: &[Val], at: usize) -> usize
     requires { at + 1 < 2 ^ 64 }
-    ensures { result ≡ place_behind (Some instruction.now) given.now at }
+    ensures { result ≡ next_instruction (Some instruction.now) given.now at }
 {
     if !is_taken(given) {
         return at + 1;

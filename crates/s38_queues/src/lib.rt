@@ -16,6 +16,3 @@ pub fn all_may_be_sent() {
     sends::<Message>();
     sends::<QueueFault>();
 }
-
-#[cfg(test)]
-mod tests;

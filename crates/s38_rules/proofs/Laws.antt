@@ -107,6 +107,13 @@ keeps_resolving Rslvsp = record { kept = λ s p d r. refl }
 keeps_resolving Setspfp = record { kept = λ s p d r. refl }
 keeps_resolving _ = record { kept = λ s p d r. refl }
 
+-- and resolving changes nothing at all
+pub resolving_still : (op : Op) (s : State) (p d : ℕ) (r : Request) → (resolving_row op).changes s p d r ≡ s
+unfolding resolving_row
+resolving_still Rslvsp s p d r = refl
+resolving_still Setspfp s p d r = refl
+resolving_still _ s p d r = refl
+
 keeps_spaces : (op : Op) → KeepsProcesses (spaces_row op)
 unfolding spaces_row crts_changes
 keeps_spaces Setsppfp = record { kept = λ s p d r. refl }

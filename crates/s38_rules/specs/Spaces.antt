@@ -48,28 +48,32 @@ length_rule s ops k =
     first (fails (is_none (number_at s.held ops k)) exceptions.decimal_data k)
     (fails (not (is_space_length s.limit (count_at s.held ops k))) exceptions.length_invalid k)
 
+-- the length that an operand says, 0 where it is none of a space
+abbrev pub length_at : State → List Operand → ℕ → ℕ
+length_at s ops k = if is_space_length s.limit (count_at s.held ops k) then count_at s.held ops k else 0
+
 -- the pages of a space of so many bytes
 abbrev pub pages_for_length : ℕ → ℕ
 pages_for_length n = 1 + space_pages (n / cell_bytes)
 
 -- ---- CRTS
 
-abbrev pub new_space : Held → List Operand → Creating
-new_space h ops = in_context kinds.Space (pages_for_length (count_at h ops 5)) h ops
+abbrev pub new_space : State → List Operand → Creating
+new_space s ops = in_context kinds.Space (pages_for_length (length_at s ops 5)) s.held ops
 
 unfoldable pub crts_fails : State → ℕ → List Operand → Option Exception
-crts_fails s p ops = creation_fails s.held (user_of s p) (new_space s.held ops) (length_rule s ops 5)
+crts_fails s p ops = creation_fails s.held (user_of s p) (new_space s ops) (length_rule s ops 5)
 
 -- a space of zero bytes
 unfoldable pub crts_changes : State → ℕ → List Operand → State
 crts_changes s p ops =
-    record s { held = creation_changes s.held (user_of s p) (new_space s.held ops) (bodies.Space (resized (count_at s.held ops 5) [])) }
+    record s { held = creation_changes s.held (user_of s p) (new_space s ops) (bodies.Space (resized (length_at s ops 5) [])) }
 
 abbrev pub crts : Instruction
 crts = record {
   needs = λ s p d r. creation_needs r.operands;
   fails = λ s p d r. crts_fails s p r.operands;
-  gives = λ s p d r. Some (creation_gives s.held (new_space s.held r.operands));
+  gives = λ s p d r. Some (creation_gives s.held (new_space s r.operands));
   changes = λ s p d r. crts_changes s p r.operands;
 }
 
@@ -83,17 +87,17 @@ mods_needs = on_object 1 (Of kinds.Space) rights.objmgt (Some Change)
 unfoldable pub mods_fails : State → List Operand → Option Exception
 mods_fails s ops =
     first (length_rule s ops 2)
-    (pages_rule s.held (owner_in (object s.held (target s.held ops 1))) (charge_beside s.held.objects (target s.held ops 1) + pages_for_length (count_at s.held ops 2)))
+    (pages_rule s.held (owner_in (object s.held (target s.held ops 1))) (charge_beside s.held.objects (target s.held ops 1) + pages_for_length (length_at s ops 2)))
 
 -- the space is cut, or lengthened by zero bytes
-unfoldable pub mods_changes : Held → List Operand → Held
-mods_changes h ops = on_space h (target h ops 1) (resized (count_at h ops 2))
+unfoldable pub mods_changes : State → List Operand → Held
+mods_changes s ops = on_space s.held (target s.held ops 1) (resized (length_at s ops 2))
 
 abbrev pub mods : Instruction
 mods = record inert {
   needs = λ s p d r. mods_needs;
   fails = λ s p d r. mods_fails s r.operands;
-  changes = λ s p d r. record s { held = mods_changes s.held r.operands };
+  changes = λ s p d r. record s { held = mods_changes s r.operands };
 }
 
 -- ---- DESS

@@ -15,6 +15,3 @@ pub use copies::{cat, copy_left, copy_left_pad, copy_right};
 pub use hex::{Conversion, from_hex, to_hex};
 pub use order::compare;
 pub use translate::xlate;
-
-#[cfg(test)]
-mod tests;

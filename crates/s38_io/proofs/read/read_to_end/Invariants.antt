@@ -1,4 +1,4 @@
-use Rattle.std.proofs.Common.{◌<◌, ◌-◌, ◌≤◌, vec_len}
+use Rattle.std.proofs.Common.{◌≡◌, ◌<◌, ◌-◌, ◌≤◌, vec_len}
 use Rattle.std.specs.Io.KnownBytes.{Consumes}
 use Rattle.s38_io.proofs.read.read_to_end.Given as goal
 
@@ -8,7 +8,7 @@ invariant-pieces g l =
       within : vec_len l.bytes ≤ l.most;
       room : 0 < vec_len l.chunk;
       taken : Consumes (g.S.Source.left l.initial.source) (g.S.Source.left l.source) l.bytes.items;
-      later : g.S.Source.faults l.initial.source ≤ g.S.Source.faults l.source;
+      steady : g.S.Source.faults l.source ≡ g.S.Source.faults l.initial.source;
     }
 
 abbrev pub decreases-pieces : goal.decreases-pieces

@@ -6,8 +6,9 @@ pub returns-clause-end : goal.returns-clause-end
 returns-clause-end c =
     let xs = c.args.values.now in
     let out = c.replace-taken.new.dest in
-    string_end xs c.args.at c.replace-taken.result c.args.op _ _ _ _ _ _ c.written-value.result.1
+    string_end xs c.args.at c.replace-taken.result c.args.op c.args.args.now _ _ _ c.written-value.result.1
     (taken xs c.args.at c.index-values-at.result c.replace-taken.result c.requires.within c.index-values-at.is c.replace-taken.ensures.value)
+    c.requires.item
     (c.bytes_past-a.ensures ∙ first_past xs c.args.at c.args.args.now c.args.own.now out c.requires.own)
     (c.bytes_past-b.ensures ∙ second_past xs c.args.at c.args.args.now c.args.own.now out c.requires.own)
     (c.bytes_past-c.ensures ∙ third_past xs c.args.at c.args.args.now c.args.own.now out c.requires.own)
@@ -17,8 +18,9 @@ pub returns-clause-values : goal.returns-clause-values
 returns-clause-values c =
     let xs = c.args.values.now in
     let out = c.replace-taken.new.dest in
-    string_values xs c.args.at out c.written-value.result.0 c.replace-taken.result c.args.op _ _ _ _ _ _
+    string_values xs c.args.at out c.written-value.result.0 c.replace-taken.result c.args.op c.args.args.now _ _ _
     (taken xs c.args.at c.index-values-at.result c.replace-taken.result c.requires.within c.index-values-at.is c.replace-taken.ensures.value)
+    c.requires.item
     (c.bytes_past-a.ensures ∙ first_past xs c.args.at c.args.args.now c.args.own.now out c.requires.own)
     (c.bytes_past-b.ensures ∙ second_past xs c.args.at c.args.args.now c.args.own.now out c.requires.own)
     (c.bytes_past-c.ensures ∙ third_past xs c.args.at c.args.args.now c.args.own.now out c.requires.own)

@@ -1,7 +1,7 @@
 use Rattle.std.proofs.Common.{ap, ◌∙◌}
 use Rattle.std.specs.Int.{w128}
 use Rattle.std.proofs.lemmas.Int.{to_z-of_z}
-use Rattle.s38_rules.specs.Local.{with_number}
+use Rattle.s38_local.specs.Received.{with_number}
 use Rattle.s38_local.proofs.PlaceLaws.{number_back, taken}
 use Rattle.s38_local.proofs.receivers.write_number.Goals as goal
 

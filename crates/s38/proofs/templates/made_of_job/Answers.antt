@@ -1,5 +1,0 @@
-use Rattle.s38.proofs.DeckLaws.{made_at}
-use Rattle.s38.proofs.templates.made_of_job.Goals as goal
-
-pub made_at-requires : goal.made_at-requires
-made_at-requires c = made_at c.args.deck.now c.args.job.now c.args.templates.now c.place_of_job-at.result c.requires.has c.requires.checked c.place_of_job-at.ensures

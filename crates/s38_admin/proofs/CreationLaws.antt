@@ -1,0 +1,48 @@
+-- What a creation, or a change of length, that does not fail has met.
+use Rattle.std.proofs.Common.{◌≡◌, ◌∙◌, ℕ, Bool, true, List, None, refl, cond}
+use Rattle.s38_base.specs.declared.exception.Exception.{Exception}
+use Rattle.std.specs.Prelude.{Option}
+use Rattle.s38_code.specs.declared.operand.Operand.{Operand}
+use Rattle.s38_rules.specs.declared.creating.Creating.{Creating}
+use Rattle.s38_rules.specs.Creation.{creation_fails}
+use Rattle.s38_rules.specs.Held.{Held}
+use Rattle.s38_rules.specs.Operands.{count_at}
+use Rattle.s38_rules.specs.Programs.{crtpg_fails, new_program, template_at, template_rule}
+use Rattle.s38_rules.specs.Spaces.{crts_fails, is_space_length, length_at, length_rule, mods_fails, new_space}
+use Rattle.s38_rules.specs.State.{State}
+use Rattle.s38_rules.specs.Users.{user_of}
+use Rattle.s38_rules.proofs.RuleLaws.{fails_none, first_none, not_false}
+
+-- a program that may be made meets the rules of creation
+pub crtpg_created : (s : State) (p : ℕ) (ops : List Operand) → crtpg_fails s p ops ≡ None
+    → (own : Option Exception) × (creation_fails s.held (user_of s p) (new_program s.held ops) own ≡ None)
+unfolding crtpg_fails
+crtpg_created s p ops h = (template_rule (template_at s ops), (first_none _ _ h).0)
+
+-- and so does a space
+pub crts_created : (s : State) (p : ℕ) (ops : List Operand) → crts_fails s p ops ≡ None
+    → (own : Option Exception) × (creation_fails s.held (user_of s p) (new_space s ops) own ≡ None)
+unfolding crts_fails
+crts_created s p ops h = (length_rule s ops 5, h)
+
+own_met : (h : Held) (owner : ℕ) (made : Creating) (own : Option Exception) → creation_fails h owner made own ≡ None → own ≡ None
+unfolding creation_fails
+own_met h owner made own none = (first_none _ _ (first_none _ _ none).1).0
+
+long_by : (b : Bool) (limit n : ℕ) → is_space_length limit n ≡ b → b ≡ true → is_space_length limit (cond b n 0) ≡ true
+long_by b limit n h yes = rw yes (h ∙ yes)
+
+length_long : (s : State) (ops : List Operand) (k : ℕ) → length_rule s ops k ≡ None → is_space_length s.limit (length_at s ops k) ≡ true
+length_long s ops k h =
+    let good : is_space_length s.limit (count_at s.held ops k) ≡ true = not_false _ (fails_none _ _ _ (first_none _ _ h).1) in
+    long_by (is_space_length s.limit (count_at s.held ops k)) s.limit (count_at s.held ops k) refl good
+
+-- a space that may be made has a length
+pub crts_long : (s : State) (p : ℕ) (ops : List Operand) → crts_fails s p ops ≡ None → is_space_length s.limit (length_at s ops 5) ≡ true
+unfolding crts_fails
+crts_long s p ops h = length_long s ops 5 (own_met s.held (user_of s p) (new_space s ops) (length_rule s ops 5) h)
+
+-- and so has one that may be changed
+pub mods_long : (s : State) (ops : List Operand) → mods_fails s ops ≡ None → is_space_length s.limit (length_at s ops 2) ≡ true
+unfolding mods_fails
+mods_long s ops h = length_long s ops 2 (first_none _ _ h).0

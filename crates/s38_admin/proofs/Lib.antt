@@ -1,0 +1,2 @@
+mod CreationLaws
+mod RoomLaws

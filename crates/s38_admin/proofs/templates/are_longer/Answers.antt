@@ -1,0 +1,9 @@
+use Rattle.std.proofs.Common.{rules, ◌∙◌, ap, sym}
+use Rattle.std.specs.Prelude.{is_none}
+use Rattle.s38_admin.proofs.RoomLaws.{no_room}
+use Rattle.s38_admin.proofs.templates.are_longer.Goals as goal
+
+pub returns : goal.returns
+returns c =
+    let e = ap is_none c.room_after.ensures ∙ no_room c.args.lines.now c.args.limit in
+    rw (sym e) (search rules)

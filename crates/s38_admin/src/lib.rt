@@ -1,0 +1,8 @@
+//! The instructions over contexts, profiles, authority, programs, locks and spaces: what each needs, when it fails
+//! beside, what it gives and what it changes, by family.
+#![tactic(auto)]
+
+pub mod programs;
+pub mod resolving;
+pub mod spaces;
+mod templates;

@@ -1,0 +1,173 @@
+//! Programs as objects: made of the deck's templates, and destroyed.
+ghost use Rattle.std.specs.Prelude.{◌≡◌, None, IfOk, OnOk, OnErr};
+ghost use Rattle.std.specs.Option.{option_copied};
+ghost use Rattle.s38_rules.specs.Programs.{created_program, crtpg_changes, crtpg_fails, new_program, program_in, programs_row, template_at};
+
+use crate::templates::{is_larger, program_in, template_in, template_rule};
+use s38_base::exceptions::LIMIT_EXCEEDED;
+use s38_base::{Exception, Kind, NoMemory, Op, TryClone};
+use s38_code::{CheckedTemplate, Code, Operand, Request, Val};
+use s38_invoke::World;
+use s38_objects::Objects;
+use s38_operands::{
+    Needs, creation_changes, creation_fails, creation_gives, creation_needs, destruction_changes,
+    destruction_needs, fails, in_context, place,
+};
+use s38_rules::{Body, Creating};
+use std::alloc::Global;
+
+// ---- CRTPG
+
+/// The template that operand 5 names.
+fn template_at<'a>(
+    world: &'a World<Objects>,
+    operands: &[Operand],
+) -> Option<&'a CheckedTemplate>
+    ensures { option_copied result ≡ template_at world.now operands.now }
+{
+    template_in(world.templates.as_slice(), place(operands, 5))
+}
+
+fn new_program(objects: &Objects, operands: &[Operand]) -> Creating
+    ensures { result ≡ new_program objects.now operands.now }
+{
+    in_context(Kind::Program, 1, objects, operands)
+}
+
+/// The name is free, the template makes a program, the owner pays for it, and its text is not too long.
+#[tactic(auto, unfolding(s38_rules::specs::Programs::crtpg_fails))]
+fn crtpg_fails(world: &World<Objects>, process: u32, operands: &[Operand]) -> Option<Exception>
+    ensures { result ≡ crtpg_fails world.now process operands.now }
+{
+    let objects = &world.objects;
+    let template = template_at(world, operands);
+    let created = new_program(objects, operands);
+    let owner = world.user_of(process);
+    if let Some(failure) = creation_fails(objects, owner, &created, template_rule(template)) {
+        return Some(failure);
+    }
+    fails(is_larger(template, world.limit), LIMIT_EXCEEDED, 0)
+}
+
+/// The program of the template, to be held by an object too.
+fn program_copy(
+    alloc: Global,
+    world: &World<Objects>,
+    operands: &[Operand],
+) -> Result<Option<Code>, NoMemory>
+    ensures { IfOk result (λ code. code ≡ program_in (template_at world.now operands.now)) }
+{
+    match program_in(template_at(world, operands)) {
+        None => Ok(None),
+        Some(code) => Ok(Some(code.try_clone(alloc)?)),
+    }
+}
+
+/// An object of the program that a template makes.
+#[tactic(auto, using(crate::proofs::CreationLaws::crtpg_created), unfolding(s38_rules::specs::Programs::crtpg_changes))]
+fn crtpg(
+    alloc: Global,
+    world: &mut World<Objects>,
+    process: u32,
+    operands: &[Operand],
+) -> Result<(), NoMemory>
+    requires { crtpg_fails world.old process operands.now ≡ None }
+    ensures ok { OnOk result (world.new ≡ crtpg_changes world.old process operands.now) }
+    ensures err { OnErr result (world.new ≡ world.old) }
+{
+    let owner = world.user_of(process);
+    let created = new_program(&world.objects, operands);
+    match program_copy(alloc, world, operands) {
+        Ok(Some(code)) => creation_changes(
+            alloc,
+            &mut world.objects,
+            owner,
+            &created,
+            Body::Program(code),
+        ),
+        Ok(None) => Ok(()),
+        Err(fault) => Err(fault),
+    }
+}
+
+// ---- the family
+
+/// What an instruction of programs needs.
+#[tactic(auto, unfolding(s38_rules::specs::Programs::programs_row))]
+pub fn needs(world: &World<Objects>, process: u32, depth: u16, request: &Request) -> Needs
+    ensures { result ≡ (programs_row request.now.op).needs world.now process depth request.now }
+{
+    let _ = world;
+    let _ = process;
+    let _ = depth;
+    match request.op {
+        Op::Crtpg => creation_needs(request.operands.as_slice()),
+        Op::Despg => destruction_needs(Kind::Program),
+        _ => Needs::none(),
+    }
+}
+
+/// The first of its conditions and limits that fails.
+#[tactic(auto, unfolding(s38_rules::specs::Programs::programs_row))]
+pub fn conditions(
+    world: &World<Objects>,
+    process: u32,
+    depth: u16,
+    request: &Request,
+) -> Option<Exception>
+    ensures { result ≡ (programs_row request.now.op).fails world.now process depth request.now }
+{
+    let _ = depth;
+    match request.op {
+        Op::Crtpg => crtpg_fails(world, process, request.operands.as_slice()),
+        _ => None,
+    }
+}
+
+/// The value for its receiver.
+#[tactic(auto, unfolding(s38_rules::specs::Programs::programs_row))]
+pub fn value(
+    alloc: Global,
+    world: &World<Objects>,
+    process: u32,
+    depth: u16,
+    request: &Request,
+) -> Result<Option<Val>, NoMemory>
+    ensures { IfOk result (λ value. value ≡ (programs_row request.now.op).gives world.now process depth request.now) }
+{
+    let _ = alloc;
+    let _ = process;
+    let _ = depth;
+    let objects = &world.objects;
+    match request.op {
+        Op::Crtpg => Ok(Some(creation_gives(
+            objects,
+            &new_program(objects, request.operands.as_slice()),
+        ))),
+        _ => Ok(None),
+    }
+}
+
+/// What it changes, where it doesn't fail; where memory is refused nothing changes.
+#[tactic(auto, unfolding(s38_rules::specs::Programs::programs_row))]
+pub fn apply(
+    alloc: Global,
+    world: &mut World<Objects>,
+    process: u32,
+    depth: u16,
+    request: &Request,
+) -> Result<(), NoMemory>
+    requires { (programs_row request.now.op).fails world.old process depth request.now ≡ None }
+    ensures ok { OnOk result (world.new ≡ (programs_row request.now.op).changes world.old process depth request.now) }
+    ensures err { OnErr result (world.new ≡ world.old) }
+{
+    let operands = request.operands.as_slice();
+    match request.op {
+        Op::Crtpg => crtpg(alloc, world, process, operands),
+        Op::Despg => {
+            destruction_changes(&mut world.objects, operands);
+            Ok(())
+        }
+        _ => Ok(()),
+    }
+}

@@ -1,0 +1,380 @@
+//! Spaces: made, lengthened or cut, and destroyed; pointers into them; copies of cells with their tags.
+ghost use Rattle.std.specs.Prelude.{◌≡◌, ◌+◌, ◌≤◌, [], All, Some, None, IfOk, OnOk, OnErr, true};
+ghost use Rattle.std.specs.Option.{option_copied};
+ghost use Rattle.s38_base.specs.Limits.{furthest};
+ghost use Rattle.s38_memory.specs.Cell.{IsCell};
+ghost use Rattle.s38_memory.specs.Tagged.{resized};
+ghost use Rattle.s38_rules.specs.Creation.{pages_rule};
+ghost use Rattle.s38_rules.specs.Held.{charge_beside, object, owner_in};
+ghost use Rattle.s38_rules.specs.Parts.{on_space};
+ghost use Rattle.s38_rules.specs.Spaces.{cells_put, cpybwp_changes, cpybwp_fails, cpybwp_gives, crts_changes, crts_fails, is_space_length, is_unaligned, length_at, length_rule, mods_changes, mods_fails, new_space, pages_for_length, setdp_fails, setdp_gives, setsppfp_gives, spaces_row};
+
+use s38_base::exceptions::{BOUNDARY_ALIGNMENT, DECIMAL_DATA, LENGTH_INVALID, SPACE_ADDRESSING};
+use s38_base::{Category, Exception, Kind, NoMemory, ObjNum, Op, Pointer, Rights, UserNum};
+use s38_code::{Operand, Request, Val};
+use s38_invoke::World;
+use s38_memory::{Cell, Tagged};
+use s38_objects::Objects;
+use s38_operands::{
+    Needs, attr_at, count_at, creation_changes, creation_fails, creation_gives, creation_needs,
+    destruction_changes, destruction_needs, fails, first_pointer, in_context, is_aligned,
+    is_in_space, is_within, need, number_at, on_object, pages_rule, place, pointer_at,
+    source_cells, target,
+};
+use s38_rules::{Body, Creating, Named, Object, PointerKind, Sought};
+use std::alloc::Global;
+
+// ---- lengths
+
+/// A multiple of 16 bytes, from 16 to the limit of a body.
+fn is_space_length(limit: u32, len: u128) -> bool
+    ensures { result ≡ is_space_length limit len }
+{
+    16 <= len && len <= u128::from(limit) && len % 16 == 0
+}
+
+/// The number at an operand has a value, and is the length of a space.
+fn length_rule(world: &World<Objects>, operands: &[Operand], k: u8) -> Option<Exception>
+    ensures { result ≡ length_rule world.now operands.now k }
+{
+    let objects = &world.objects;
+    if number_at(objects, operands, k as usize).is_none() {
+        return Some(Exception::plain(DECIMAL_DATA, k));
+    }
+    let len = count_at(objects, operands, k as usize);
+    fails(!is_space_length(world.limit, len), LENGTH_INVALID, k)
+}
+
+/// The length that an operand says, 0 where it is none of a space.
+fn length_at(world: &World<Objects>, operands: &[Operand], k: usize) -> u32
+    ensures { result ≡ length_at world.now operands.now k }
+{
+    let len = count_at(&world.objects, operands, k);
+    if is_space_length(world.limit, len) { len as u32 } else { 0 }
+}
+
+/// The pages of a space of so many bytes.
+fn pages_for_length(len: u32) -> u64
+    ensures { result ≡ pages_for_length len }
+{
+    1 + (16 * (u64::from(len) / 16) + 511) / 512
+}
+
+// ---- CRTS
+
+fn new_space(world: &World<Objects>, operands: &[Operand]) -> Creating
+    ensures { result ≡ new_space world.now operands.now }
+{
+    let pages = pages_for_length(length_at(world, operands, 5));
+    in_context(Kind::Space, pages, &world.objects, operands)
+}
+
+#[tactic(auto, unfolding(s38_rules::specs::Spaces::crts_fails))]
+fn crts_fails(world: &World<Objects>, process: u32, operands: &[Operand]) -> Option<Exception>
+    ensures { result ≡ crts_fails world.now process operands.now }
+{
+    let created = new_space(world, operands);
+    let own = length_rule(world, operands, 5);
+    creation_fails(&world.objects, world.user_of(process), &created, own)
+}
+
+/// Storage of zero bytes.
+fn zero_space(alloc: Global, limit: u32, len: u32) -> Result<Tagged, NoMemory>
+    requires long { is_space_length limit len ≡ true }
+    requires small { limit ≤ furthest }
+    ensures { IfOk result (λ space. space ≡ resized len []) }
+{
+    match Tagged::new(alloc, len) {
+        Ok(space) => Ok(space),
+        Err(_) => Err(NoMemory),
+    }
+}
+
+/// A space of zero bytes.
+#[tactic(auto, using(crate::proofs::CreationLaws::crts_created, crate::proofs::CreationLaws::crts_long), unfolding(s38_rules::specs::Spaces::crts_changes))]
+fn crts(
+    alloc: Global,
+    world: &mut World<Objects>,
+    process: u32,
+    operands: &[Operand],
+) -> Result<(), NoMemory>
+    requires { crts_fails world.old process operands.now ≡ None }
+    ensures ok { OnOk result (world.new ≡ crts_changes world.old process operands.now) }
+    ensures err { OnErr result (world.new ≡ world.old) }
+{
+    let owner = world.user_of(process);
+    let created = new_space(world, operands);
+    let len = length_at(world, operands, 5);
+    match zero_space(alloc, world.limit, len) {
+        Ok(space) => creation_changes(
+            alloc,
+            &mut world.objects,
+            owner,
+            &created,
+            Body::Space(space),
+        ),
+        Err(fault) => Err(fault),
+    }
+}
+
+// ---- MODS
+
+fn owner_in(object_used: Option<&Object>) -> UserNum
+    ensures { result.0 ≡ owner_in (option_copied object_used.entry) }
+{
+    match object_used {
+        None => ObjNum(0),
+        Some(object_used) => object_used.owner,
+    }
+}
+
+/// The owner of a space pays for so many pages of it.
+fn owner_rule(objects: &Objects, space: ObjNum, pages: u64) -> Option<Exception>
+    ensures { result ≡ pages_rule objects.now (owner_in (object objects.now space.0)) (charge_beside objects.now.objects space.0 + pages) }
+{
+    let others = objects.charge_beside(space);
+    pages_rule(objects, owner_in(objects.get(space)), others, pages)
+}
+
+/// The owner of the space pays for its new length.
+#[tactic(auto, unfolding(s38_rules::specs::Spaces::mods_fails))]
+fn mods_fails(world: &World<Objects>, operands: &[Operand]) -> Option<Exception>
+    ensures { result ≡ mods_fails world.now operands.now }
+{
+    if let Some(failure) = length_rule(world, operands, 2) {
+        return Some(failure);
+    }
+    let space = target(&world.objects, operands, 1);
+    let pages = pages_for_length(length_at(world, operands, 2));
+    owner_rule(&world.objects, space, pages)
+}
+
+/// A space of this length, cut or lengthened by zero bytes.
+fn resize(objects: &mut Objects, limit: u32, space: ObjNum, len: u32) -> Result<(), NoMemory>
+    requires long { is_space_length limit len ≡ true }
+    requires small { limit ≤ furthest }
+    ensures ok { OnOk result (objects.new ≡ on_space objects.old space.0 (resized len)) }
+    ensures err { OnErr result (objects.new ≡ objects.old) }
+{
+    objects.resize(space, len)
+}
+
+/// The space is cut, or lengthened by zero bytes.
+#[tactic(auto, using(crate::proofs::CreationLaws::mods_long), unfolding(s38_rules::specs::Spaces::mods_changes))]
+fn mods(world: &mut World<Objects>, operands: &[Operand]) -> Result<(), NoMemory>
+    requires { mods_fails world.old operands.now ≡ None }
+    ensures ok { OnOk result (world.new ≡ record world.old { held = mods_changes world.old operands.now }) }
+    ensures err { OnErr result (world.new ≡ world.old) }
+{
+    let len = length_at(world, operands, 2);
+    let space = target(&world.objects, operands, 1);
+    let limit = world.limit;
+    resize(&mut world.objects, limit, space, len)
+}
+
+// ---- pointers into spaces
+
+/// A pointer to the first byte of the space.
+#[tactic(auto, unfolding(s38_rules::specs::Spaces::setsppfp_gives))]
+fn setsppfp_gives(objects: &Objects, operands: &[Operand]) -> Val
+    ensures { result ≡ setsppfp_gives objects.now operands.now }
+{
+    match pointer_at(objects, operands, 2) {
+        None => Val::Ptr(None),
+        Some(pointer) => Val::Ptr(Some(Pointer::Space {
+            object: pointer.object(),
+            offset: 0,
+        })),
+    }
+}
+
+/// The item lies inside the space.
+#[tactic(auto, unfolding(s38_rules::specs::Spaces::setdp_fails))]
+fn setdp_fails(objects: &Objects, operands: &[Operand]) -> Option<Exception>
+    ensures { result ≡ setdp_fails objects.now operands.now }
+{
+    let at = Pointer::start(pointer_at(objects, operands, 2), 0);
+    let space = objects.space(target(objects, operands, 2));
+    let len = attr_at(operands, 3).length();
+    fails(!is_within(space, at, len), SPACE_ADDRESSING, 2)
+}
+
+/// A pointer to an item of the attribute.
+#[tactic(auto, unfolding(s38_rules::specs::Spaces::setdp_gives))]
+fn setdp_gives(objects: &Objects, operands: &[Operand]) -> Val
+    ensures { result ≡ setdp_gives objects.now operands.now }
+{
+    match pointer_at(objects, operands, 2) {
+        None => Val::Ptr(None),
+        Some(pointer) => Val::Ptr(Some(Pointer::Item {
+            object: pointer.object(),
+            offset: pointer.offset(),
+            attr: attr_at(operands, 3),
+        })),
+    }
+}
+
+// ---- CPYBWP
+
+fn is_unaligned(operand: Option<&Operand>) -> bool
+    ensures { result ≡ is_unaligned (option_copied operand.entry) }
+{
+    match operand {
+        Some(Operand::InSpace { base, offset, .. }) => !is_aligned(Pointer::start(*base, *offset)),
+        _ => false,
+    }
+}
+
+/// What is copied, and where it goes, begins with a cell.
+#[tactic(auto, unfolding(s38_rules::specs::Spaces::cpybwp_fails))]
+fn cpybwp_fails(operands: &[Operand]) -> Option<Exception>
+    ensures { result ≡ cpybwp_fails operands.now }
+{
+    if is_unaligned(place(operands, 1)) {
+        return Some(Exception::plain(BOUNDARY_ALIGNMENT, 1));
+    }
+    fails(is_unaligned(place(operands, 2)), BOUNDARY_ALIGNMENT, 2)
+}
+
+/// A variable gets the pointer of the cell.
+#[tactic(auto, unfolding(s38_rules::specs::Spaces::cpybwp_gives))]
+fn cpybwp_gives(
+    alloc: Global,
+    objects: &Objects,
+    operands: &[Operand],
+) -> Result<Option<Val>, NoMemory>
+    ensures { IfOk result (λ value. value ≡ cpybwp_gives objects.now operands.now) }
+{
+    if is_in_space(place(operands, 1)) {
+        return Ok(None);
+    }
+    let cells = source_cells(alloc, objects, operands, 2)?;
+    Ok(Some(Val::Ptr(first_pointer(cells.as_slice()))))
+}
+
+fn put_cells(objects: &mut Objects, receiver: Option<&Operand>, cells: &[Cell])
+    requires { All IsCell cells.now }
+    ensures { objects.new ≡ cells_put objects.old (option_copied receiver.entry) cells.now }
+{
+    match receiver {
+        Some(Operand::InSpace { base, offset, .. }) => {
+            let at = Pointer::start(*base, *offset);
+            objects.copy_in(Pointer::target(*base), at, cells);
+        }
+        _ => {}
+    }
+}
+
+/// Cells go with their tags into the space.
+#[tactic(auto, unfolding(s38_rules::specs::Spaces::cpybwp_changes))]
+fn cpybwp(alloc: Global, objects: &mut Objects, operands: &[Operand]) -> Result<(), NoMemory>
+    ensures ok { OnOk result (objects.new ≡ cpybwp_changes objects.old operands.now) }
+    ensures err { OnErr result (objects.new ≡ objects.old) }
+{
+    match source_cells(alloc, objects, operands, 2) {
+        Ok(cells) => {
+            put_cells(objects, place(operands, 1), cells.as_slice());
+            Ok(())
+        }
+        Err(fault) => Err(fault),
+    }
+}
+
+// ---- the family
+
+/// What an instruction of spaces needs.
+#[tactic(auto, unfolding(s38_rules::specs::Spaces::spaces_row, s38_rules::specs::Spaces::mods_needs, s38_rules::specs::Spaces::setsppfp_needs, s38_rules::specs::Spaces::setdp_needs))]
+pub fn needs(world: &World<Objects>, process: u32, depth: u16, request: &Request) -> Needs
+    ensures { result ≡ (spaces_row request.now.op).needs world.now process depth request.now }
+{
+    let _ = world;
+    let _ = process;
+    let _ = depth;
+    let space = Sought::Of(Kind::Space);
+    match request.op {
+        Op::Setsppfp => on_object(2, space, Rights::SPACE, None),
+        Op::Setdp => need(
+            2,
+            Named::Written,
+            PointerKind::Space,
+            space,
+            Rights(0),
+            None,
+        ),
+        Op::Crts => creation_needs(request.operands.as_slice()),
+        Op::Mods => on_object(1, space, Rights::OBJMGT, Some(Category::Change)),
+        Op::Dess => destruction_needs(Kind::Space),
+        _ => Needs::none(),
+    }
+}
+
+/// The first of its conditions and limits that fails.
+#[tactic(auto, unfolding(s38_rules::specs::Spaces::spaces_row))]
+pub fn conditions(
+    world: &World<Objects>,
+    process: u32,
+    depth: u16,
+    request: &Request,
+) -> Option<Exception>
+    ensures { result ≡ (spaces_row request.now.op).fails world.now process depth request.now }
+{
+    let _ = depth;
+    let operands = request.operands.as_slice();
+    match request.op {
+        Op::Setdp => setdp_fails(&world.objects, operands),
+        Op::Cpybwp => cpybwp_fails(operands),
+        Op::Crts => crts_fails(world, process, operands),
+        Op::Mods => mods_fails(world, operands),
+        _ => None,
+    }
+}
+
+/// The value for its receiver.
+#[tactic(auto, unfolding(s38_rules::specs::Spaces::spaces_row))]
+pub fn value(
+    alloc: Global,
+    world: &World<Objects>,
+    process: u32,
+    depth: u16,
+    request: &Request,
+) -> Result<Option<Val>, NoMemory>
+    ensures { IfOk result (λ value. value ≡ (spaces_row request.now.op).gives world.now process depth request.now) }
+{
+    let _ = process;
+    let _ = depth;
+    let objects = &world.objects;
+    let operands = request.operands.as_slice();
+    match request.op {
+        Op::Setsppfp => Ok(Some(setsppfp_gives(objects, operands))),
+        Op::Setdp => Ok(Some(setdp_gives(objects, operands))),
+        Op::Cpybwp => cpybwp_gives(alloc, objects, operands),
+        Op::Crts => Ok(Some(creation_gives(objects, &new_space(world, operands)))),
+        _ => Ok(None),
+    }
+}
+
+/// What it changes, where it doesn't fail; where memory is refused nothing changes.
+#[tactic(auto, unfolding(s38_rules::specs::Spaces::spaces_row))]
+pub fn apply(
+    alloc: Global,
+    world: &mut World<Objects>,
+    process: u32,
+    depth: u16,
+    request: &Request,
+) -> Result<(), NoMemory>
+    requires { (spaces_row request.now.op).fails world.old process depth request.now ≡ None }
+    ensures ok { OnOk result (world.new ≡ (spaces_row request.now.op).changes world.old process depth request.now) }
+    ensures err { OnErr result (world.new ≡ world.old) }
+{
+    let operands = request.operands.as_slice();
+    match request.op {
+        Op::Cpybwp => cpybwp(alloc, &mut world.objects, operands),
+        Op::Crts => crts(alloc, world, process, operands),
+        Op::Mods => mods(world, operands),
+        Op::Dess => {
+            destruction_changes(&mut world.objects, operands);
+            Ok(())
+        }
+        _ => Ok(()),
+    }
+}

@@ -1,0 +1,17 @@
+//! What no clause of the leaf crates says: worked values from outside, exact texts, and that calls succeed.
+#![tactic(auto)]
+
+#[cfg(test)]
+mod adapters;
+#[cfg(test)]
+mod decimals;
+#[cfg(test)]
+mod logs;
+#[cfg(test)]
+mod messages;
+#[cfg(test)]
+mod sources;
+#[cfg(test)]
+mod storage;
+#[cfg(test)]
+mod texts;

@@ -1,0 +1,40 @@
+//! Queues with keys: messages are put and taken, and faults have their texts.
+
+use s38_queues::{Order, Queue, QueueFault};
+use std::test::Fail;
+
+/// A key and a text, and what the put of them answers.
+const PUTS: [(&[u8], &[u8], Result<(), QueueFault>); 4] = [
+    (b"k1", b"abcd", Ok(())),
+    (b"k", b"abcd", Err(QueueFault::BadKey)),
+    (b"k2", b"abcde", Err(QueueFault::TooLong)),
+    (b"k2", b"", Ok(())),
+];
+
+/// The text of each fault.
+const FAULTS: [(QueueFault, &str); 4] = [
+    (
+        QueueFault::BadKey,
+        "the key has not the length of the queue's keys",
+    ),
+    (
+        QueueFault::TooLong,
+        "the message is longer than the queue's longest",
+    ),
+    (QueueFault::Full, "the queue's image would be too large"),
+    (QueueFault::NoMemory, "no memory"),
+];
+
+#[test]
+fn messages_are_put_and_taken(rt: HostRuntime) -> Result<(), Fail> {
+    let mut queue = Queue::new(rt.alloc(), Order::Fifo, 2, 4);
+    for (key, text, want) in PUTS {
+        assert_eq!(rt; queue.put(key, text), want);
+    }
+    assert!(rt; queue.len() == 2);
+    assert_eq!(rt; queue.take(0).text.as_slice(), b"abcd".as_slice());
+    for (fault, text) in FAULTS {
+        assert_eq!(rt; format!(in rt.alloc(); "{fault}")?.as_str(), text);
+    }
+    Ok(())
+}

@@ -1,0 +1,99 @@
+-- A local instruction: its operands are items of the invocation and literals, and it changes the invocation's
+-- variables alone. Sources are read before a receiver is written, and a signal leaves all variables as they are.
+use Rattle.std.specs.Prelude.{ℕ, ◌-◌, ◌&&◌, ◌||◌, Bool, true, false, not, ℤ, pos, List, length, Option, Some, None, Result, Ok, Err, slice_get}
+use Rattle.std.specs.List.{list_any}
+use Rattle.s38_base.specs.declared.exception.Exception.{Exception}
+use Rattle.s38_base.specs.declared.op.Op.{Op}
+use Rattle.s38_base.specs.declared.op.Op.TheVariants.{B, Rtx, Cmpptrt}
+use Rattle.s38_base.specs.Scalar.{value_of}
+use Rattle.s38_code.specs.declared.program.Arg.{Arg}
+use Rattle.s38_code.specs.declared.program.Arg.TheVariants as args
+use Rattle.s38_code.specs.declared.program.Instruction.{Instruction}
+use Rattle.s38_code.specs.declared.program.Row.{Row}
+use Rattle.s38_code.specs.declared.reply.Val.{Val}
+use Rattle.s38_code.specs.declared.reply.Val.TheVariants as vals
+use Rattle.s38_compute.specs.declared.given.Given.{Given}
+use Rattle.s38_compute.specs.declared.given.Given.TheVariants as givens
+use Rattle.s38_compute.specs.Computed.{computed, is_computation}
+use Rattle.s38_compute.specs.Readings.{Readings}
+use Rattle.s38_local.specs.declared.local_end.LocalEnd.TheVariants as ends
+use Rattle.s38_local.specs.Received.{Ran, bytes_put, goes_on, jump_to, jumps, number_put, signals}
+use Rattle.s38_local.specs.Variables.{attr_of, bytes_of, form_in, held_by, is_based, pointer_of, put_in}
+
+-- ---- operands, numbered from 1
+
+abbrev pub operand : List Arg → ℕ → Option Arg
+operand given k = slice_get given (k - 1)
+
+abbrev pub number_of : List Row → List Val → Option Arg → Option ℤ
+number_of rows values arg = value_of (attr_of rows arg) (bytes_of values arg)
+
+abbrev pub word_of : Option Arg → ℕ
+word_of (Some (args.Word w)) = w
+word_of _ = 0
+
+abbrev pub whole_of : Option Arg → ℤ
+whole_of (Some (args.Whole z)) = z
+whole_of _ = pos 0
+
+-- what is read among variables
+abbrev pub of_variables : List Row → List Val → List Arg → Readings
+of_variables rows values given = record {
+  number = λ k. number_of rows values (operand given k);
+  attr = λ k. attr_of rows (operand given k);
+  bytes = λ k. bytes_of values (operand given k);
+  pointer = λ k. pointer_of values (operand given k);
+  word = λ k. word_of (operand given k);
+  power = whole_of (operand given 3);
+  receiver = attr_of rows (operand given 1);
+  room = length (held_by values (operand given 1));
+  held = held_by values (operand given 1);
+  keeps_rest = true;
+}
+
+-- ---- what an instruction does
+
+-- the operand at which a comparison has its label
+abbrev pub label_at : Op → ℕ
+label_at Cmpptrt = 3
+label_at _ = 4
+
+-- the receiver is operand 1
+abbrev pub received : List Val → Instruction → Option (Result Given Exception) → Ran
+received values i None = goes_on values
+received values i (Some (Err x)) = signals values x
+received values i (Some (Ok (givens.Number attr z))) = goes_on (number_put values (operand i.args 1) attr z)
+received values i (Some (Ok (givens.Bytes bytes))) = goes_on (bytes_put values (operand i.args 1) bytes)
+received values i (Some (Ok (givens.Pointer p))) = goes_on (put_in values (operand i.args 1) (vals.Ptr (Some p)))
+received values i (Some (Ok (givens.Branch taken))) =
+    record { end = jumps taken (operand i.args (label_at i.op)); values = values }
+
+abbrev pub run_by : List Row → List Val → Instruction → Op → Ran
+run_by rows values i B = record { end = jump_to (operand i.args 1); values = values }
+run_by rows values i Rtx = record { end = ends.Return; values = values }
+run_by rows values i op = received values i (computed op i.round (of_variables rows values i.args))
+
+-- what an instruction does to an invocation; one that is not local does nothing
+unfoldable pub run : List Row → List Val → Instruction → Ran
+run rows values i = run_by rows values i i.op
+
+-- ---- which instructions are local
+
+-- it goes on elsewhere
+abbrev pub is_transfer : Op → Bool
+is_transfer B = true
+is_transfer Rtx = true
+is_transfer _ = false
+
+-- a computation, a branch, or a return
+unfoldable pub is_local_op : Op → Bool
+is_local_op op = is_computation op || is_transfer op
+
+-- an item that lies in a space
+abbrev pub lies_in_space : List Row → Arg → Bool
+lies_in_space rows (args.Item i) = is_based (form_in (slice_get rows i))
+lies_in_space rows _ = false
+
+-- a local instruction has no operand in a space; with one it is asked of the machine
+unfoldable pub is_local : List Row → Instruction → Bool
+is_local rows i = is_local_op i.op && not (list_any (lies_in_space rows) i.args)

@@ -1,0 +1,77 @@
+-- How a local instruction ends, and what the variables hold behind it.
+use Rattle.std.specs.Prelude.{ℕ, ◌==◌, Bool, ℤ, List, length, Option, Some, None, Result, Ok, Err, slice_get, slice_set, if◌then◌else◌}
+use Rattle.s38_base.specs.declared.attr.Attr.{Attr}
+use Rattle.s38_base.specs.declared.exception.Exception.{Exception}
+use Rattle.s38_base.specs.declared.pointer.Pointer.{Pointer}
+use Rattle.s38_base.specs.Scalar.{image_of, length_of}
+use Rattle.s38_code.specs.declared.program.Arg.{Arg}
+use Rattle.s38_code.specs.declared.program.Arg.TheVariants as args
+use Rattle.s38_code.specs.declared.reply.Val.{Val}
+use Rattle.s38_code.specs.declared.reply.Val.TheVariants as vals
+use Rattle.s38_local.specs.declared.local_end.LocalEnd.{LocalEnd}
+use Rattle.s38_local.specs.declared.local_end.LocalEnd.TheVariants as ends
+use Rattle.s38_local.specs.Variables.{put_in}
+
+pub record Ran : Type 0 where
+  pub end : LocalEnd
+  pub values : List Val
+
+-- ---- ends
+
+abbrev pub goes_on : List Val → Ran
+goes_on values = record { end = ends.Next; values = values }
+
+-- a signal leaves all variables as they are
+abbrev pub signals : List Val → Exception → Ran
+signals values x = record { end = ends.Signal x; values = values }
+
+-- to the place of a label
+abbrev pub jump_to : Option Arg → LocalEnd
+jump_to (Some (args.Jump at)) = ends.Jump at
+jump_to _ = ends.Next
+
+-- where the test holds
+abbrev pub jumps : Bool → Option Arg → LocalEnd
+jumps test label = if test then jump_to label else ends.Next
+
+-- ---- receivers
+
+-- a number is written where bytes of its attribute's length stand
+abbrev pub with_number : Attr → ℤ → Val → Val
+with_number attr z (vals.Bytes old) = vals.Bytes (if length old == length_of attr then image_of attr z else old)
+with_number attr z v = v
+
+abbrev pub number_put_at : List Val → ℕ → Attr → ℤ → Option Val → List Val
+number_put_at values i attr z None = values
+number_put_at values i attr z (Some v) = slice_set values i (with_number attr z v)
+
+abbrev pub number_put : List Val → Option Arg → Attr → ℤ → List Val
+number_put values (Some (args.Item i)) attr z = number_put_at values i attr z (slice_get values i)
+number_put values _ attr z = values
+
+-- a receiver that holds no bytes gets none
+abbrev pub bytes_put_at : List Val → ℕ → List ℕ → Option Val → List Val
+bytes_put_at values i bytes (Some (vals.Bytes old)) = slice_set values i (vals.Bytes bytes)
+bytes_put_at values i bytes _ = values
+
+abbrev pub bytes_put : List Val → Option Arg → List ℕ → List Val
+bytes_put values (Some (args.Item i)) bytes = bytes_put_at values i bytes (slice_get values i)
+bytes_put values _ bytes = values
+
+-- ---- what is given goes to its receiver, or is signalled
+
+abbrev pub number_received : List Val → Option Arg → Attr → Result ℤ Exception → Ran
+number_received values to attr (Err x) = signals values x
+number_received values to attr (Ok z) = goes_on (number_put values to attr z)
+
+abbrev pub bytes_received : List Val → Option Arg → Result (List ℕ) Exception → Ran
+bytes_received values to (Err x) = signals values x
+bytes_received values to (Ok bytes) = goes_on (bytes_put values to bytes)
+
+abbrev pub pointer_received : List Val → Option Arg → Result Pointer Exception → Ran
+pointer_received values to (Err x) = signals values x
+pointer_received values to (Ok p) = goes_on (put_in values to (vals.Ptr (Some p)))
+
+abbrev pub branch_end : Option Arg → Result Bool Exception → LocalEnd
+branch_end label (Err x) = ends.Signal x
+branch_end label (Ok taken) = jumps taken label

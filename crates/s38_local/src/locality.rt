@@ -1,0 +1,63 @@
+ghost use Rattle.std.specs.Prelude.{◌≡◌};
+ghost use Rattle.std.specs.List.{list_any};
+ghost use Rattle.std.specs.Option.{option_copied};
+ghost use Rattle.s38_local.specs.Local.{is_local, is_local_op, is_transfer, lies_in_space};
+ghost use Rattle.s38_local.specs.Variables.{form_in, is_based};
+
+use s38_base::Op;
+use s38_code::{Arg, Form, Instruction, Row};
+use s38_compute::is_computation;
+
+/// It goes on elsewhere.
+fn is_transfer(op: Op) -> bool
+    ensures { result ≡ is_transfer op }
+{
+    matches!(op, Op::B | Op::Rtx)
+}
+
+/// A computation, a branch, or a return.
+#[tactic(auto, unfolding(crate::specs::Local::is_local_op))]
+fn is_local_op(op: Op) -> bool
+    ensures { result ≡ is_local_op op }
+{
+    is_computation(op) || is_transfer(op)
+}
+
+fn form_in(row: Option<&Row>) -> Option<&Form>
+    ensures { option_copied result ≡ form_in (option_copied row.entry) }
+{
+    match row {
+        None => None,
+        Some(row) => Some(&row.form),
+    }
+}
+
+fn is_based(form: Option<&Form>) -> bool
+    ensures { result ≡ is_based (option_copied form.entry) }
+{
+    matches!(form, Some(Form::Based { .. }))
+}
+
+fn lies_in_space(rows: &[Row], arg: &Arg) -> bool
+    ensures { result ≡ lies_in_space rows.now arg.now }
+{
+    match arg {
+        Arg::Item(item) => is_based(form_in(rows.get(*item as usize))),
+        _ => false,
+    }
+}
+
+fn any_in_space(rows: &[Row], args: &[Arg]) -> bool
+    ensures { result ≡ list_any (lies_in_space rows.now) args.now }
+{
+    args.iter().any(|arg| lies_in_space(rows, arg))
+}
+
+/// Whether an instruction is done by the process itself: it computes, branches or returns, and no operand lies in
+/// a space.
+#[tactic(auto, unfolding(crate::specs::Local::is_local))]
+pub fn is_local(rows: &[Row], instruction: &Instruction) -> bool
+    ensures { result ≡ is_local rows.now instruction.now }
+{
+    is_local_op(instruction.op) && !any_in_space(rows, instruction.args.as_slice())
+}

@@ -1,0 +1,5 @@
+use Rattle.std.proofs.Common.{length}
+use Rattle.s38_machine.proofs.addresses.+by_operand.Given as goal
+
+abbrev pub decreases-by_operand : goal.decreases-by_operand
+decreases-by_operand l = length l.rest.now

@@ -1,4 +1,0 @@
-use Rattle.s38_machine.proofs.computations.+is_hex_piece.Given as goal
-
-abbrev pub decreases-is_hex_piece : goal.decreases-is_hex_piece
-decreases-is_hex_piece l = l.len

@@ -1,5 +1,0 @@
-use Rattle.std.proofs.Common.{length}
-use Rattle.s38_machine.proofs.needs.+search_in.Given as goal
-
-abbrev pub decreases-search_in : goal.decreases-search_in
-decreases-search_in l = length l.contexts.now

@@ -1,5 +1,0 @@
-use Rattle.std.proofs.Common.{length}
-use Rattle.s38_machine.proofs.verdicts.+absent_context.Given as goal
-
-abbrev pub decreases-absent_context : goal.decreases-absent_context
-decreases-absent_context l = length l.names.now

@@ -1,0 +1,89 @@
+//! The row of an instruction, by its family.
+ghost use Rattle.std.specs.Prelude.{◌≡◌, None, IfOk, OnOk, OnErr};
+ghost use Rattle.s38_rules.specs.Rows.{row};
+
+use s38_admin::{programs, resolving, spaces};
+use s38_base::{Exception, NoMemory};
+use s38_code::{Family, Request, Val, family_of};
+use s38_data::queues;
+use s38_invoke::World;
+use s38_objects::Objects;
+use s38_operands::{Needs, computing_fails, computing_gives, computing_needs};
+use std::alloc::Global;
+
+/// What an instruction needs of its operands, in their order.
+#[tactic(auto, unfolding(s38_rules::specs::Rows::row_in))]
+pub fn needs(world: &World<Objects>, process: u32, depth: u16, request: &Request) -> Needs
+    ensures { result ≡ (row request.now.op).needs world.now process depth request.now }
+{
+    match family_of(request.op) {
+        Family::Computing => computing_needs(request.op),
+        Family::Resolving => resolving::needs(world, process, depth, request),
+        Family::Programs => programs::needs(world, process, depth, request),
+        Family::Spaces => spaces::needs(world, process, depth, request),
+        Family::Queues => queues::needs(world, process, depth, request),
+        _ => Needs::none(),
+    }
+}
+
+/// The first of its conditions and limits that fails.
+#[tactic(auto, unfolding(s38_rules::specs::Rows::row_in))]
+pub fn conditions(
+    world: &World<Objects>,
+    process: u32,
+    depth: u16,
+    request: &Request,
+) -> Option<Exception>
+    ensures { result ≡ (row request.now.op).fails world.now process depth request.now }
+{
+    match family_of(request.op) {
+        Family::Computing => computing_fails(&world.objects, request),
+        Family::Resolving => resolving::conditions(world, process, depth, request),
+        Family::Programs => programs::conditions(world, process, depth, request),
+        Family::Spaces => spaces::conditions(world, process, depth, request),
+        Family::Queues => queues::conditions(world, process, depth, request),
+        _ => None,
+    }
+}
+
+/// The value for its receiver; None where it gives none.
+#[tactic(auto, unfolding(s38_rules::specs::Rows::row_in))]
+pub fn value(
+    alloc: Global,
+    world: &World<Objects>,
+    process: u32,
+    depth: u16,
+    request: &Request,
+) -> Result<Option<Val>, NoMemory>
+    ensures { IfOk result (λ value. value ≡ (row request.now.op).gives world.now process depth request.now) }
+{
+    match family_of(request.op) {
+        Family::Computing => computing_gives(alloc, &world.objects, request),
+        Family::Resolving => resolving::value(alloc, world, process, depth, request),
+        Family::Programs => programs::value(alloc, world, process, depth, request),
+        Family::Spaces => spaces::value(alloc, world, process, depth, request),
+        Family::Queues => queues::value(alloc, world, process, depth, request),
+        _ => Ok(None),
+    }
+}
+
+/// What it changes, where it doesn't fail; where memory is refused nothing changes.
+#[tactic(auto, using(s38_rules::proofs::Laws::resolving_still), unfolding(s38_rules::specs::Rows::row_in))]
+pub fn apply(
+    alloc: Global,
+    world: &mut World<Objects>,
+    process: u32,
+    depth: u16,
+    request: &Request,
+) -> Result<(), NoMemory>
+    requires { (row request.now.op).fails world.old process depth request.now ≡ None }
+    ensures ok { OnOk result (world.new ≡ (row request.now.op).changes world.old process depth request.now) }
+    ensures err { OnErr result (world.new ≡ world.old) }
+{
+    match family_of(request.op) {
+        Family::Programs => programs::apply(alloc, world, process, depth, request),
+        Family::Spaces => spaces::apply(alloc, world, process, depth, request),
+        Family::Queues => queues::apply(alloc, world, process, depth, request),
+        _ => Ok(()),
+    }
+}

@@ -1,0 +1,183 @@
+-- The local run of a process: it ends within the budget, and a settled process has none before it.
+use Rattle.std.proofs.Common.{◌≡◌, ℕ, zero, suc, ◌+◌, ◌-◌, ◌<◌, ◌≤◌, ◌⊎◌, inl, inr, Bool, true, false, cond, List, refl, sym, ◌∙◌, ap, arith, nat_le}
+use Rattle.std.proofs.lemmas.Bool.Decides.{nat_tests}
+use Rattle.std.specs.Prelude.{Option, Some, None, slice_get}
+use Rattle.s38_code.specs.declared.event.EndCause.{EndCause}
+use Rattle.s38_code.specs.declared.event.Event.{Event}
+use Rattle.s38_code.specs.declared.event.Event.TheVariants.{Start, Act, Finish}
+use Rattle.s38_code.specs.declared.made.CreateResult.{CreateResult}
+use Rattle.s38_code.specs.declared.program.Instruction.{Instruction}
+use Rattle.s38_code.specs.declared.reply.Reply.{Reply}
+use Rattle.s38_code.specs.declared.reply.Reply.TheVariants.{MustWait}
+use Rattle.s38_code.specs.declared.reply.Val.{Val}
+use Rattle.s38_local.specs.declared.local_end.LocalEnd.{LocalEnd}
+use Rattle.s38_local.specs.declared.local_end.LocalEnd.TheVariants.{Next, Jump, Return, Signal}
+use Rattle.s38_process.specs.declared.status.Status.{Status}
+use Rattle.s38_process.specs.declared.status.Status.TheVariants.{Fresh, Running, Ending, Ended}
+use Rattle.s38_local.specs.Local.{run}
+use Rattle.s38_process.specs.Process.{ProcessState, absorbed, after_asked, after_local, code_in, event_of, fresh, local_by, local_in, local_next, rows_in, settled, local_step, stepped, local_steps}
+
+-- it stays where it stands, or is running and comes to its end
+abbrev pub Moves : Status → Status → Type 0
+Moves s t = (t ≡ s) ⊎ ((s ≡ Running) × ((c : EndCause) × (t ≡ Ending c)))
+
+-- the same process, after local instructions
+pub record IsLater (d e : ProcessState) : Type 0 where
+  pub made : e.made ≡ d.made
+  pub budget : e.budget ≡ d.budget
+  pub done : d.done ≤ e.done
+  pub within : d.done ≤ d.budget → e.done ≤ e.budget
+  pub status : Moves d.status e.status
+
+-- after one of them
+pub record IsNext (d e : ProcessState) : Type 0 where
+  pub made : e.made ≡ d.made
+  pub budget : e.budget ≡ d.budget
+  pub done : e.done ≡ d.done + 1
+  pub room : d.done < d.budget
+  pub status : Moves d.status e.status
+
+-- ---- when an instruction is local
+
+acts_room : (b : Bool) (d : ProcessState) (o : Option Instruction) (i : Instruction) → nat_le d.budget d.done ≡ b → cond b None o ≡ Some i → d.done < d.budget
+acts_room true d o i test h = cc
+acts_room false d o i test h = grind (arith, nat_tests)
+
+alone_running : (d : ProcessState) (s : Status) (i : Instruction) → local_by d s ≡ Some i → (s ≡ Running) × (d.done < d.budget)
+alone_running d Fresh i h = cc
+alone_running d Running i h = (refl, acts_room (nat_le d.budget d.done) d (local_in (rows_in d.made) (slice_get (code_in d.made) d.at)) i refl h)
+alone_running d (Ending c) i h = cc
+alone_running d Ended i h = cc
+
+spent_by : (d : ProcessState) (s : Status) → d.budget ≤ d.done → local_by d s ≡ None
+spent_by d Fresh spent = refl
+spent_by d Running spent = let test : nat_le d.budget d.done ≡ true = grind (arith, nat_tests) in rw test refl
+spent_by d (Ending c) spent = refl
+spent_by d Ended spent = refl
+
+-- ---- one step
+
+after_is_next : (d : ProcessState) (values : List Val) (e : LocalEnd) → d.status ≡ Running → d.done < d.budget → IsNext d (after_local d values e)
+after_is_next d values Next running room = record { made = refl; budget = refl; done = refl; room = room; status = inl refl }
+after_is_next d values (Jump at) running room = record { made = refl; budget = refl; done = refl; room = room; status = inl refl }
+after_is_next d values Return running room = record { made = refl; budget = refl; done = refl; room = room; status = inl refl }
+after_is_next d values (Signal x) running room = record { made = refl; budget = refl; done = refl; room = room; status = inr (running, (_, refl)) }
+
+-- a local instruction counts
+pub step_next : (d : ProcessState) (i : Instruction) → local_next d ≡ Some i → IsNext d (local_step d)
+unfolding local_step
+step_next d i h =
+    let at = alone_running d d.status i h in
+    let ran = run (rows_in d.made) d.values i in
+    rw h (after_is_next d ran.values ran.end at.0 at.1)
+
+-- without one the process stays
+pub step_still : (d : ProcessState) → local_next d ≡ None → local_step d ≡ d
+unfolding local_step
+step_still d h = ap (stepped d) h
+
+-- ---- many steps
+
+pub steps_still : (n : ℕ) (d : ProcessState) → local_next d ≡ None → local_steps n d ≡ d
+unfolding local_steps
+steps_still zero d h = refl
+steps_still (suc n) d h = ap (local_steps n) (step_still d h) ∙ steps_still n d h
+
+pub settled_still : (d : ProcessState) → local_next d ≡ None → settled d ≡ d
+unfolding settled
+settled_still d h = steps_still (d.budget - d.done) d h
+
+one_more : (k : ℕ) (d : ProcessState) → k ≡ d.budget - d.done → d.done < d.budget → k ≡ suc (d.budget - (d.done + 1))
+one_more k d h room = omega arith
+
+steps_more : (k : ℕ) (d : ProcessState) → local_steps (suc k) d ≡ local_steps k (local_step d)
+unfolding local_steps
+steps_more k d = refl
+
+settled_by : (o : Option Instruction) (d : ProcessState) → local_next d ≡ o → settled (local_step d) ≡ settled d
+unfolding settled
+settled_by None d h = ap settled (step_still d h)
+settled_by (Some i) d h =
+    let next = step_next d i h in
+    let left : d.budget - d.done ≡ suc ((local_step d).budget - (local_step d).done) = omega (arith, next.budget, next.done, next.room) in
+    sym (ap (λ k. local_steps k d) left ∙ steps_more ((local_step d).budget - (local_step d).done) d)
+
+-- a step leads to the same rest
+pub settled_step : (d : ProcessState) → settled (local_step d) ≡ settled d
+settled_step d = settled_by (local_next d) d refl
+
+rests_by : (n : ℕ) (d : ProcessState) (o : Option Instruction) → local_next d ≡ o → d.budget - d.done ≤ n → local_next (local_steps n d) ≡ None
+unfolding local_steps
+rests_by zero d o h enough = spent_by d d.status (omega arith)
+rests_by (suc n) d None h enough = ap local_next (steps_still (suc n) d h) ∙ h
+rests_by (suc n) d (Some i) h enough =
+    let next = step_next d i h in
+    rests_by n (local_step d) (local_next (local_step d)) refl (omega (arith, next.budget, next.done))
+
+-- a settled process has no local instruction before it
+pub settled_rests : (d : ProcessState) → local_next (settled d) ≡ None
+unfolding settled
+settled_rests d = rests_by (d.budget - d.done) d (local_next d) refl (omega arith)
+
+pub settled_again : (d : ProcessState) → settled (settled d) ≡ settled d
+settled_again d = settled_still (settled d) (settled_rests d)
+
+-- so is what has not started
+pub fresh_settled : (made : CreateResult) (budget : ℕ) → settled (fresh made budget) ≡ fresh made budget
+fresh_settled made budget = settled_still (fresh made budget) refl
+
+-- and what has gone on by a reply
+pub absorbed_settled : (d : ProcessState) (r : Reply) → settled (absorbed d r) ≡ absorbed d r
+unfolding absorbed
+absorbed_settled d r = settled_again (after_asked d (event_of d) r)
+
+end_waits : (d : ProcessState) (o : Option Event) → after_asked d o MustWait ≡ d
+end_waits d None = refl
+end_waits d (Some Start) = refl
+end_waits d (Some (Act depth request)) = refl
+end_waits d (Some (Finish cause)) = refl
+
+-- a settled process that has to wait stays
+pub absorbed_waits : (d : ProcessState) → settled d ≡ d → absorbed d MustWait ≡ d
+unfolding absorbed
+absorbed_waits d rests = ap settled (end_waits d (event_of d)) ∙ rests
+
+-- ---- what stays meanwhile
+
+pub later_same : (d : ProcessState) → IsLater d d
+later_same d = record { made = refl; budget = refl; done = omega arith; within = λ h. h; status = inl refl }
+
+moves_on : (s t u : Status) → Moves s t → Moves t u → Moves s u
+moves_on s t u a b = elim b as (λ _. Moves s u) [
+  | inl same ↦ elim a as (λ _. Moves s u) [
+    | inl before ↦ inl (same ∙ before)
+    | inr before ↦ inr (before.0, (before.1.0, same ∙ before.1.1))
+  ]
+  | inr ends ↦ elim a as (λ _. Moves s u) [
+    | inl before ↦ inr (sym before ∙ ends.0, ends.1)
+    | inr before ↦ absurd (apart before.1.0 (sym before.1.1 ∙ ends.0))
+  ]
+]
+  where
+    apart : (c : EndCause) → Ending c ≡ Running → ⊥
+    apart c h = cc
+
+later_on : (d e f : ProcessState) → IsNext d e → IsLater e f → IsLater d f
+later_on d e f a b = record {
+  made = b.made ∙ a.made;
+  budget = b.budget ∙ a.budget;
+  done = omega (arith, a.done, b.done);
+  within = λ h. b.within (omega (arith, a.done, a.room, a.budget));
+  status = moves_on d.status e.status f.status a.status b.status;
+}
+
+steps_later : (n : ℕ) (d : ProcessState) (o : Option Instruction) → local_next d ≡ o → IsLater d (local_steps n d)
+unfolding local_steps
+steps_later zero d o h = later_same d
+steps_later (suc n) d None h = rw (steps_still (suc n) d h) (later_same d)
+steps_later (suc n) d (Some i) h = later_on d (local_step d) (local_steps n (local_step d)) (step_next d i h) (steps_later n (local_step d) (local_next (local_step d)) refl)
+
+-- local instructions change neither program nor budget, and count
+pub settled_later : (d : ProcessState) → IsLater d (settled d)
+unfolding settled
+settled_later d = steps_later (d.budget - d.done) d (local_next d) refl

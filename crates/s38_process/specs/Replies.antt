@@ -1,0 +1,54 @@
+-- What a reply brings to the variables, and where the process goes on.
+use Rattle.std.specs.Prelude.{ℕ, ◌&&◌, Bool, false, not, List, [], ◌∷◌, Option, Some, None, slice_get, slice_set, if◌then◌else◌}
+use Rattle.std.specs.Option.{option_or}
+use Rattle.s38_base.specs.declared.op.Op.{Op}
+use Rattle.s38_code.specs.declared.class.Class.{Class}
+use Rattle.s38_code.specs.declared.program.Arg.{Arg}
+use Rattle.s38_code.specs.declared.program.Arg.TheVariants as args
+use Rattle.s38_code.specs.declared.program.Row.{Row}
+use Rattle.s38_code.specs.declared.reply.Val.{Val}
+use Rattle.s38_code.specs.declared.reply.Val.TheVariants as vals
+use Rattle.s38_compute.specs.Computed.{copies_left, copies_right}
+use Rattle.s38_local.specs.Variables.{form_in, is_based}
+use Rattle.s38_process.specs.Requests.{is_receiver}
+use Rattle.s38_strings.specs.Copies.{copied_left, copied_right}
+
+-- a copy into a receiver that is longer brings the copied bytes and no others, and the others stay
+abbrev pub merged_bytes : Op → List ℕ → List ℕ → List ℕ
+merged_bytes op old new =
+    if copies_left op then copied_left old new else (if copies_right op then copied_right old new else new)
+
+abbrev pub merged : Op → Option Val → Val → Val
+merged op (Some (vals.Bytes old)) (vals.Bytes new) = vals.Bytes (merged_bytes op old new)
+merged op old v = v
+
+abbrev pub put : Op → List Val → Arg → Val → List Val
+put op values (args.Item i) v = slice_set values i (merged op (slice_get values i) v)
+put op values _ v = values
+
+-- a receiver gets a value, but for one in a space, which the machine has changed there
+abbrev pub takes_value : List Row → Class → Arg → Bool
+takes_value rows class (args.Item i) = is_receiver class && not (is_based (form_in (slice_get rows i)))
+takes_value rows class _ = is_receiver class
+
+-- the variables behind a reply, whose values go to the receivers in order
+abbrev pub received : Op → List Row → List Class → List Arg → List Val → List Val → List Val
+received op rows (class ∷ more) (arg ∷ rest) [] values = values
+received op rows (class ∷ more) (arg ∷ rest) (v ∷ vs) values =
+    if takes_value rows class arg then received op rows more rest vs (put op values arg v)
+    else received op rows more rest (v ∷ vs) values
+received op rows _ _ vs values = values
+
+-- a comparison that was asked tells whether it branches
+abbrev pub is_taken : List Val → Bool
+is_taken (vals.Branch taken ∷ vs) = taken
+is_taken _ = false
+
+abbrev pub label_of : Arg → Option ℕ
+label_of (args.Jump at) = Some at
+label_of _ = None
+
+-- the first label
+abbrev pub label_in : List Arg → Option ℕ
+label_in [] = None
+label_in (arg ∷ rest) = option_or (label_of arg) (label_in rest)

@@ -1,0 +1,246 @@
+ghost use Rattle.std.specs.Prelude.{◌≡◌, ◌<◌, ◌+◌, IfOk, OnOk, OnErr, Some, length, slice_get};
+ghost use Rattle.std.specs.Option.{option_copied};
+ghost use Rattle.s38_process.specs.Asked.{asked, is_acting};
+ghost use Rattle.s38_process.specs.declared.status.Status.{Status};
+ghost use Rattle.s38_process.specs.Process.{acts, after_act, after_asked, after_end, after_event, after_start, code_in, event_of, fresh, next_instruction, received_by, returns, rows_in, runs, settled, unhandled};
+
+use crate::local_run::{is_return, run_locally, unhandled};
+use crate::made::{begun_by, code_of, rows_of};
+use crate::next::Next;
+use crate::progress::Progress;
+use crate::request::request_of;
+use crate::status::Status;
+use crate::variables::{first_values, next_instruction, receive};
+use s38_base::{NoMemory, try_clones};
+use s38_code::{CreateResult, EndCause, Event, Instruction, Job, Reply, Val, classes};
+use std::alloc::Global;
+use std::marker::Model;
+
+/// A process somewhere in its local run. Contracts see its state as it stands.
+#[derive(Drop)]
+pub struct Unsettled {
+    alloc: Global,
+    made: CreateResult,
+    values: Vec<Val>,
+    budget: u32,
+    progress: Progress,
+}
+
+impl Model for Unsettled {
+    ghost use Rattle.std.specs.Prelude.{◌≤◌};
+    ghost use Rattle.s38_process.specs.Process.{ProcessState};
+    ghost use Rattle.s38_process.specs.Progress.{process_state};
+
+    ghost Value = { ProcessState };
+
+    ghost view = { λ p. process_state p.made p.budget p.values.items p.progress };
+
+    ghost invariant = { λ p. p.progress.done ≤ p.budget };
+}
+
+impl Unsettled {
+    /// A process that has not started, over what creation made of the job's template.
+    pub fn begin(alloc: Global, job: &Job, made: CreateResult) -> Result<Unsettled, NoMemory>
+        ensures { IfOk result (λ process. process ≡ fresh made job.now.budget) }
+    {
+        let values = first_values(alloc, rows_of(&made))?;
+        Ok(Unsettled {
+            alloc,
+            made,
+            values,
+            budget: job.budget,
+            progress: Progress {
+                at: 0,
+                done: 0,
+                status: Status::Fresh,
+            },
+        })
+    }
+
+    /// Does local instructions up to the next shared one, or up to the end.
+    pub fn run_locally(&mut self) -> Result<(), NoMemory>
+        ensures ok { OnOk result (self.new ≡ settled self.old) }
+        ensures same { settled self.new ≡ settled self.old }
+    {
+        run_locally(
+            self.alloc,
+            &self.made,
+            self.budget,
+            self.values.as_mut_slice(),
+            &mut self.progress,
+        )
+    }
+
+    /// The instruction that comes next.
+    fn instruction(&self) -> Option<&Instruction>
+        ensures { option_copied result ≡ slice_get (code_in self.now.made) self.now.at }
+    {
+        code_of(&self.made).get(self.progress.at)
+    }
+
+    fn returns(&self) -> Event
+        ensures { result ≡ returns self.now }
+    {
+        let cause = if self.budget - self.progress.done <= 1 {
+            EndCause::Budget
+        } else {
+            EndCause::Return
+        };
+        Event::Finish { cause }
+    }
+
+    fn acts(&self, instruction: &Instruction) -> Result<Event, NoMemory>
+        ensures { IfOk result (λ event. event ≡ acts self.now (Some instruction.now)) }
+    {
+        if is_return(instruction.op) {
+            return Ok(self.returns());
+        }
+        let rows = rows_of(&self.made);
+        Ok(Event::Act {
+            depth: 1,
+            request: request_of(self.alloc, rows, self.values.as_slice(), instruction)?,
+        })
+    }
+
+    fn runs(&self) -> Result<Event, NoMemory>
+        ensures { IfOk result (λ event. event ≡ runs self.now) }
+    {
+        if self.budget <= self.progress.done {
+            return Ok(Event::Finish {
+                cause: EndCause::Budget,
+            });
+        }
+        match self.instruction() {
+            None => Ok(self.returns()),
+            Some(instruction) => self.acts(instruction),
+        }
+    }
+
+    /// What the process asks where it stands.
+    #[tactic(auto, unfolding(crate::specs::Process::event_of))]
+    pub fn asks(&self) -> Result<Next, NoMemory>
+        ensures { IfOk result (λ next. asked next ≡ event_of self.now) }
+    {
+        match self.progress.status {
+            Status::Fresh => Ok(Next::Step(Event::Start)),
+            Status::Running => Ok(Next::Step(self.runs()?)),
+            Status::Ending(cause) => Ok(Next::Step(Event::Finish { cause })),
+            Status::Ended => Ok(Next::Ended),
+        }
+    }
+
+    fn go_on_from_start(&mut self, reply: &Reply)
+        ensures { self.new ≡ after_start self.old reply.now }
+    {
+        match reply {
+            Reply::Done(_) => self.progress.status = begun_by(&self.made),
+            Reply::Signal(exception) => {
+                self.progress.status = Status::Ending(EndCause::Start { id: exception.id });
+            }
+            Reply::MustWait => {}
+        }
+    }
+
+    fn go_on_from_end(&mut self, reply: &Reply)
+        ensures { self.new ≡ after_end self.old reply.now }
+    {
+        match reply {
+            Reply::Done(_) => self.progress.status = Status::Ended,
+            Reply::Signal(_) => self.progress.status = Status::Ended,
+            Reply::MustWait => {}
+        }
+    }
+
+    /// Whether the next instruction asks something of the machine.
+    fn is_acting(&self) -> bool
+        ensures { result ≡ is_acting self.now }
+    {
+        if self.budget <= self.progress.done {
+            return false;
+        }
+        match self.instruction() {
+            None => false,
+            Some(instruction) => !is_return(instruction.op),
+        }
+    }
+
+    fn take_values(&mut self, given: Vec<Val>)
+        requires room { self.old.done < self.old.budget }
+        requires within { self.old.at < length (code_in self.old.made) }
+        ensures { self.new ≡ (let i = slice_get (code_in self.old.made) self.old.at in record self.old { values = received_by (rows_in self.old.made) i given.items self.old.values; at = next_instruction i given.items self.old.at; done = self.old.done + 1 }) }
+    {
+        let instruction = &code_of(&self.made)[self.progress.at];
+        let next = next_instruction(instruction, given.as_slice(), self.progress.at);
+        receive(
+            instruction.op,
+            &mut self.values,
+            rows_of(&self.made),
+            classes(instruction.op),
+            instruction.args.as_slice(),
+            given,
+        );
+        self.progress.at = next;
+        self.progress.done += 1;
+    }
+
+    fn take_signal(&mut self, id: u16)
+        requires { self.old.done < self.old.budget }
+        ensures { self.new ≡ record self.old { done = self.old.done + 1; status = Status.Ending (unhandled self.old id) } }
+    {
+        let cause = unhandled(self.progress.done, self.budget, id);
+        self.progress.done += 1;
+        self.progress.status = Status::Ending(cause);
+    }
+
+    fn go_on_from_act(&mut self, reply: &Reply) -> Result<(), NoMemory>
+        requires room { self.old.done < self.old.budget }
+        requires within { self.old.at < length (code_in self.old.made) }
+        ensures ok { OnOk result (self.new ≡ after_act self.old reply.now) }
+        ensures err { OnErr result (self.new ≡ self.old) }
+    {
+        match reply {
+            Reply::Done(values) => {
+                let given = try_clones(self.alloc, values.as_slice())?;
+                self.take_values(given.into_vec());
+                Ok(())
+            }
+            Reply::Signal(exception) => {
+                self.take_signal(exception.id);
+                Ok(())
+            }
+            Reply::MustWait => Ok(()),
+        }
+    }
+
+    fn go_on(&mut self, reply: &Reply) -> Result<(), NoMemory>
+        ensures ok { OnOk result (self.new ≡ after_event self.old (runs self.old) reply.now) }
+        ensures err { OnErr result (self.new ≡ self.old) }
+    {
+        if self.is_acting() {
+            self.go_on_from_act(reply)
+        } else {
+            self.go_on_from_end(reply);
+            Ok(())
+        }
+    }
+
+    /// Goes on by the reply to what it asks where it stands.
+    #[tactic(auto, unfolding(crate::specs::Process::event_of))]
+    pub fn answer(&mut self, reply: &Reply) -> Result<(), NoMemory>
+        ensures ok { OnOk result (self.new ≡ after_asked self.old (event_of self.old) reply.now) }
+        ensures err { OnErr result (self.new ≡ self.old) }
+    {
+        match self.progress.status {
+            Status::Fresh => {
+                self.go_on_from_start(reply);
+                Ok(())
+            }
+            Status::Running => self.go_on(reply),
+            Status::Ending(_) => {
+                self.go_on_from_end(reply);
+                Ok(())
+            }
+            Status::Ended => Ok(()),
+        }
+    }
+}

@@ -1,0 +1,34 @@
+//! What is answered where a take of the source or the put of the text fails.
+
+use crate::answers::{Answer, answer};
+use crate::commands::{TWO_JOBS, TWO_LOGS};
+use std::test::Fail;
+
+/// The words, a deck, the takes and the puts that fail, the text that is written, the status, and how many entries.
+const FAULTS: [(&[&str], &str, &[u32], &[u32], &str, u8, usize); 8] = [
+    (&["serial"], TWO_JOBS, &[0], &[], "DECK FAULT;", 5, 0),
+    (&["serial"], TWO_JOBS, &[1], &[], "DECK FAULT;", 5, 0),
+    (&["serial"], TWO_JOBS, &[0, 1], &[], "DECK FAULT;", 5, 0),
+    (&["serial"], TWO_JOBS, &[2], &[], TWO_LOGS, 0, 9),
+    (&["serial"], TWO_JOBS, &[], &[0], "", 6, 9),
+    (&["check"], TWO_JOBS, &[], &[0], "", 6, 0),
+    (&["serial"], "STAGE;", &[], &[0], "", 6, 0),
+    (&["run"], TWO_JOBS, &[], &[0], "", 6, 0),
+];
+
+#[test]
+fn each_take_and_put_may_fail(rt: HostRuntime) -> Result<(), Fail> {
+    for (words, deck, takes, puts, text, status, entries) in FAULTS {
+        let answer = answer(rt.alloc(), words, &[deck], takes, puts, &[text])?;
+        assert_eq!(rt;
+            answer,
+            Answer {
+                status,
+                same_text: true,
+                entries,
+                same_disk: true
+            }
+        );
+    }
+    Ok(())
+}

@@ -1,0 +1,23 @@
+//! Decks with the exact text that the program writes of them: what is tested of the whole program.
+#![tactic(auto)]
+
+#[cfg(test)]
+mod answers;
+#[cfg(test)]
+mod commands;
+#[cfg(test)]
+mod computed;
+#[cfg(test)]
+mod decks;
+#[cfg(test)]
+mod faults;
+#[cfg(test)]
+mod pages;
+#[cfg(test)]
+mod programs;
+#[cfg(test)]
+mod refused;
+#[cfg(test)]
+mod rules;
+#[cfg(test)]
+mod spaces;

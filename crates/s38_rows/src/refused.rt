@@ -1,0 +1,54 @@
+//! Templates that creation refuses: their job ends with the cause, and `check` tells it.
+
+use crate::answers::answers;
+use std::test::Fail;
+
+/// A deck up to the lines of its second template.
+const BEFORE: &str =
+    "PROGRAM GOOD;DCL A PKD:20:0;DCL B PKD:18:0;DCL C PKD:31:0;MULT C,A,B;END;PROGRAM P;";
+
+/// What is behind them: the jobs of both templates.
+const BEHIND: &str = "END;STAGE;JOB A USER QSECOFR RUN P;JOB B USER QSECOFR RUN GOOD;";
+
+/// The lines of a template, and its cause.
+const REFUSED: [(&str, &str); 12] = [
+    ("RTX;RTX;B NOWHERE;", "2A08 3"),
+    (
+        "DCL A PKD:20:0;DCL B PKD:19:0;DCL C PKD:31:0;MULT C,A,B;",
+        "2A06 1",
+    ),
+    ("DCL A PKD:32:0;", "2A02 1"),
+    ("DCL A CHAR:2;DCL B CHAR:2 INIT 'ABC';", "2A02 2"),
+    ("DCL A PTR;DCL A PTR;", "2A03 2"),
+    ("DCL A BASED B 0 PTR;", "2A03 1"),
+    ("DCL A PARM 1 PTR;", "2A03 1"),
+    ("DCL A EXCM 0C0A THERE;LABEL THERE;", "2A03 1"),
+    ("DCL P PTR;CRTQ P,*NONE,SPACE/00/Q,NONE,FIFO,0,8;", "2A05 1"),
+    ("DCL P PTR;CRTQ P,*NONE,QUEUE/00/Q,NONE,LIFO,0,8;", "2A04 1"),
+    ("DCL P PTR;LOCK P,LSRD,NOWAIT;", "2A04 1"),
+    ("RTX;ENQ Q,*NONE,'A';", "2A07 2"),
+];
+
+/// A command, and what it writes before and behind the cause.
+const COMMANDS: [(&str, &str, &str); 2] = [
+    (
+        "serial",
+        "JOB 1 A USER QSECOFR;1 START OK;2 FINISH CREATE ",
+        ";JOB 2 B USER QSECOFR;3 START OK;4 FINISH RETURN;DONE 4;",
+    ),
+    ("check", "GOOD OK;P ", ";DONE 2;"),
+];
+
+#[test]
+fn a_refused_template_ends_its_job_and_is_told_by_check(rt: HostRuntime) -> Result<(), Fail> {
+    for (code, cause) in REFUSED {
+        for (word, before, behind) in COMMANDS {
+            let deck = [BEFORE, code, BEHIND];
+            assert!(rt;
+                answers(rt.alloc(), &[word], &deck, &[before, cause, behind], 0)?,
+                "{code}"
+            );
+        }
+    }
+    Ok(())
+}

@@ -1,0 +1,8 @@
+use Rattle.std.proofs.Common.{ℕ, List, sym, ◌∙◌, ap}
+use Rattle.std.specs.Prelude.{slice_get}
+use Rattle.s38_top.proofs.DeckLaws.{all_templates}
+use Rattle.s38_top.proofs.run.of_deck.Goals as goal
+
+pub checked_templates-requires : goal.checked_templates-requires
+checked_templates-requires c = λ k lines h.
+    all_templates c.args.deck.templates c.requires.templates k lines (ap (λ (ts : List (List (List ℕ))). slice_get ts k) (sym c.as_slice.ensures.items) ∙ h)

@@ -1,0 +1,7 @@
+use Rattle.s38_top.proofs.TopLaws.{refused}
+use Rattle.s38_top.proofs.run.of_text.Goals as goal
+
+pub returns-in-Err-Bad : goal.returns-in-Err-Bad
+returns-in-Err-Bad c =
+    rw c.in-Err-Bad.field-0-is
+    (refused c.args.text.now c.in-Err-Bad.field-0 c.in-Err-Bad.line c.in-Err-Bad.code c.in-Err-Bad.field-0-is c.in-Err-Bad.ensures.bad c.in-Err-Bad.ensures.none)

@@ -1,0 +1,15 @@
+use Rattle.std.proofs.Common.{List, sym, subst}
+use Rattle.s38_code.specs.declared.entry.Entry.{Entry}
+use Rattle.s38_top.specs.Decks.{IsRunOf}
+use Rattle.s38_top.proofs.TopLaws.{run_of}
+use Rattle.s38_top.proofs.run.run_deck.Goals as goal
+
+pub returns-clause-run : goal.returns-clause-run
+returns-clause-run c =
+    subst (λ (es : List Entry). IsRunOf c.args.deck es) (sym c.end-history.ensures.0)
+    (run_of c.args.deck c.in_ok-made.made.items c.args.templates c.in_ok-machine.machine c.in_ok-machine-2.machine c.in_ok-made.ensures.len c.in_ok-made.ensures.each
+    c.requires.checked
+    (rw c.as_slice-2.ensures.items at c.in_ok-machine.ensures)
+    c.in_ok-machine-2.ensures.sound
+    (rw c.as_slice-3.ensures.items at c.in_ok-machine-2.ensures.origin)
+    (rw (c.as_slice-3.ensures.items, c.as_slice-4.ensures.value) at c.in_ok-machine-2.ensures.ran))

@@ -1,0 +1,180 @@
+-- What the program may come to, what it then answers and prints, and what it rests on.
+use Rattle.std.specs.Prelude.{◌≡◌, ◌⊎◌, ℕ, IsTrue, List, [], ◌∷◌, ◌++◌, length, take, Option, Some, None, is_some, Err, codes}
+use Rattle.std.specs.Io.KnownBytes.{Appends, Keeps}
+use Rattle.s38_base.specs.Faults.{Rose}
+use Rattle.s38_io.specs.Source.{ReadsAll}
+use Rattle.s38_io.specs.Sink.{AppendsFront}
+use Rattle.s38_code.specs.declared.deck.Deck.{Deck}
+use Rattle.s38_code.specs.declared.entry.Entry.{Entry}
+use Rattle.s38_code.specs.declared.made.CheckedTemplate.{CheckedTemplate}
+use Rattle.s38_joblog.specs.Check.{check_text}
+use Rattle.s38_joblog.specs.Log.{bad_line, last_line, log_text}
+use Rattle.s38_template.specs.Grammar.{Spells}
+use Rattle.s38_template.specs.Reading.{read_of}
+use Rattle.s38_template.specs.declared.fault.DeckFault.TheVariants as faults
+use Rattle.s38_top.specs.declared.command.Command.{Command}
+use Rattle.s38_top.specs.declared.command.Command.TheVariants.{Serial, Check}
+use Rattle.s38_top.specs.declared.outcome.Outcome.{Outcome}
+use Rattle.s38_top.specs.declared.outcome.Outcome.TheVariants.{BadWords, BadDeck, DeckFault, NoMemory, Complete, Checked}
+use Rattle.s38_top.specs.Commands.{command_of}
+use Rattle.s38_top.specs.Decks.{IsRunOf, checked_of}
+
+-- how many bytes of a deck are taken at most
+abbrev pub most : ℕ
+most = 4194560
+
+-- ---- what is answered
+
+abbrev pub status_of : Outcome → ℕ
+status_of BadWords = 1
+status_of (BadDeck line code) = 2
+status_of DeckFault = 5
+status_of NoMemory = 7
+status_of (Complete whole) = 0
+status_of (Checked checked) = 0
+
+abbrev pub history_of : Outcome → List Entry
+history_of BadWords = []
+history_of (BadDeck line code) = []
+history_of DeckFault = []
+history_of NoMemory = []
+history_of (Complete whole) = whole.history.items
+history_of (Checked checked) = []
+
+abbrev pub marks_of : Outcome → List ℕ
+marks_of BadWords = []
+marks_of (BadDeck line code) = []
+marks_of DeckFault = []
+marks_of NoMemory = []
+marks_of (Complete whole) = whole.marks.items
+marks_of (Checked checked) = []
+
+abbrev pub line : List ℕ → List ℕ
+line text = text ++ 10 ∷ []
+
+-- the log of the run, and the line DONE with the length of the history
+abbrev pub run_text : Deck → List Entry → List ℕ
+run_text deck history = log_text history deck.jobs ++ last_line (length history)
+
+-- a line for each template, and the line DONE with their number
+abbrev pub checked_text : List CheckedTemplate → List ℕ
+checked_text templates = check_text templates ++ last_line (length templates)
+
+abbrev pub text_of : Outcome → List ℕ
+text_of BadWords = line (codes "BAD WORDS")
+text_of (BadDeck number code) = bad_line number code
+text_of DeckFault = line (codes "DECK FAULT")
+text_of NoMemory = line (codes "NO MEMORY")
+text_of (Complete whole) = run_text whole.deck whole.history.items
+text_of (Checked checked) = checked_text checked.templates
+
+-- ---- what it rests on
+
+-- the words are a command
+abbrev pub IsServed : List (List ℕ) → Type 0
+IsServed words = IsTrue (is_some (command_of words))
+
+-- a line of the text that was taken is the first bad one, with this code, and the text spells no deck
+pub record NoDeck (old new : Option (List ℕ)) (line code : ℕ) : Type 0 where
+  pub text : List ℕ
+  pub read : ReadsAll most old new text
+  pub first : read_of text ≡ Err (faults.Bad line code)
+  pub none : (deck : Deck) → Spells text deck → ⊥
+
+-- the text that was taken spells the deck
+pub record HasDeck (old new : Option (List ℕ)) (deck : Deck) : Type 0 where
+  pub text : List ℕ
+  pub read : ReadsAll most old new text
+  pub is : Spells text deck
+
+-- the history is that of the whole runs of its jobs
+pub record RanDeck (old new : Option (List ℕ)) (deck : Deck) (history : List Entry) : Type 0 where
+  pub taken : HasDeck old new deck
+  pub run : IsRunOf deck history
+
+-- each of its templates was checked
+pub record CheckedAll (old new : Option (List ℕ)) (deck : Deck) (templates : List CheckedTemplate) : Type 0 where
+  pub taken : HasDeck old new deck
+  pub each : templates ≡ checked_of deck
+
+-- each outcome has its cause; want of memory alone is free
+abbrev pub Holds : List (List ℕ) → Option (List ℕ) → Option (List ℕ) → ℕ → ℕ → Outcome → Type 0
+Holds words old new before now BadWords = (command_of words ≡ None) × Keeps old new
+Holds words old new before now (BadDeck line code) = IsServed words × NoDeck old new line code
+Holds words old new before now DeckFault = IsServed words × Rose before now
+Holds words old new before now NoMemory = Unit {0}
+Holds words old new before now (Complete whole) =
+    (command_of words ≡ Some Serial) × (RanDeck old new whole.deck whole.history.items × (length whole.marks.items ≡ length whole.history.items))
+Holds words old new before now (Checked checked) = (command_of words ≡ Some Check) × CheckedAll old new checked.deck checked.templates
+
+-- ---- how it is told
+
+-- a fault of the sink changes the status, unless memory was wanted before
+abbrev pub faulted : Outcome → ℕ
+faulted BadWords = 6
+faulted (BadDeck line code) = 6
+faulted DeckFault = 6
+faulted NoMemory = 7
+faulted (Complete whole) = 6
+faulted (Checked checked) = 6
+
+-- the text was written, or the sink failed and a prefix of it was
+abbrev pub Tells : Option (List ℕ) → Option (List ℕ) → ℕ → ℕ → ℕ → Outcome → Type 0
+Tells old new before now status o =
+    ((status ≡ status_of o) × Appends old new (text_of o))
+    ⊎ ((status ≡ faulted o) × (Rose before now × AppendsFront old new (text_of o)))
+
+-- the program came to an outcome that holds, and told it
+pub record Ends (words : List (List ℕ)) (left left' : Option (List ℕ)) (taken taken' : ℕ) (written written' : Option (List ℕ)) (put put' : ℕ) (status : ℕ) (history : List Entry) (marks : List ℕ) : Type 0 where
+  pub outcome : Outcome
+  pub holds : Holds words left left' taken taken' outcome
+  pub tells : Tells written written' put put' status outcome
+  pub kept : history ≡ history_of outcome
+  pub marked : marks ≡ marks_of outcome
+
+-- ---- status 0
+
+-- a deck was spelled, the history is that of its whole runs, its text was written, and the input was read to its
+-- end
+pub record IsComplete (left left' written written' : Option (List ℕ)) (history : List Entry) : Type 0 where
+  pub deck : Deck
+  pub ran : RanDeck left left' deck history
+  pub told : Appends written written' (run_text deck history)
+  pub finished : (bytes : List ℕ) → left ≡ Some bytes → left' ≡ Some []
+
+-- a deck was spelled, what creation makes of each of its templates was written, the input was read to its end, and
+-- nothing was run
+pub record IsChecked (left left' written written' : Option (List ℕ)) (history : List Entry) : Type 0 where
+  pub deck : Deck
+  pub taken : HasDeck left left' deck
+  pub told : Appends written written' (checked_text (checked_of deck))
+  pub finished : (bytes : List ℕ) → left ≡ Some bytes → left' ≡ Some []
+  pub still : history ≡ []
+
+-- what status 0 says of each command
+abbrev pub Serves : Option Command → Option (List ℕ) → Option (List ℕ) → Option (List ℕ) → Option (List ℕ) → List Entry → Type 0
+Serves None left left' written written' history = ⊥
+Serves (Some Serial) left left' written written' history = IsComplete left left' written written' history
+Serves (Some Check) left left' written written' history = IsChecked left left' written written' history
+
+-- ---- completeness
+
+-- good words, a good deck, and no count of faults that rose
+pub record IsGood (words : List (List ℕ)) (left : Option (List ℕ)) (taken taken' put put' : ℕ) : Type 0 where
+  pub served : IsServed words
+  pub text : List ℕ
+  pub told : left ≡ Some text
+  pub deck : Deck
+  pub is : Spells (take most text) deck
+  pub source : Rose taken taken' → ⊥
+  pub sink : Rose put put' → ⊥
+
+-- what a text comes to under a command
+abbrev pub OfText : Command → List ℕ → Outcome → Type 0
+OfText command text BadWords = ⊥
+OfText command text (BadDeck line code) = (read_of text ≡ Err (faults.Bad line code)) × ((deck : Deck) → Spells text deck → ⊥)
+OfText command text DeckFault = ⊥
+OfText command text NoMemory = Unit {0}
+OfText command text (Complete whole) =
+    (command ≡ Serial) × (Spells text whole.deck × (IsRunOf whole.deck whole.history.items × (length whole.marks.items ≡ length whole.history.items)))
+OfText command text (Checked checked) = (command ≡ Check) × (Spells text checked.deck × (checked.templates ≡ checked_of checked.deck))

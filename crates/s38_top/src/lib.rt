@@ -1,0 +1,11 @@
+//! The program as one call: the words, a deck's source, a disk and a sink come to a status, a history and its marks.
+#![tactic(auto)]
+
+mod command;
+mod outcome;
+mod run;
+mod tell;
+mod templates;
+mod top;
+
+pub use top::{Report, plain_top};

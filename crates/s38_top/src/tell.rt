@@ -1,0 +1,115 @@
+ghost use Rattle.std.specs.Prelude.{◌≡◌, ◌⊎◌, ◌++◌, IfOk, MatchBool};
+ghost use Rattle.std.specs.Io.KnownBytes.{Appends};
+ghost use Rattle.s38_base.specs.Faults.{Rose};
+ghost use Rattle.s38_io.specs.Sink.{AppendsFront};
+ghost use Rattle.s38_joblog.specs.Log.{last_line};
+ghost use Rattle.s38_top.specs.Outcome.{checked_text, run_text, text_of};
+
+use crate::outcome::{CheckedDeck, Outcome, Whole};
+use s38_base::NoMemory;
+use s38_code::{CheckedTemplate, Deck, Entry};
+use s38_io::Sink;
+use s38_joblog::{bad_line, check_text, last_line, log_text};
+use std::alloc::Global;
+
+/// An outcome, and whether its text was written whole.
+#[derive(Drop)]
+pub struct Told {
+    pub outcome: Outcome,
+    pub written: bool,
+}
+
+/// A text, and the last line behind it.
+fn with_last_line(alloc: Global, text: Vec<u8>, count: usize) -> Result<Vec<u8>, NoMemory>
+    ensures { IfOk result (λ more. more.items ≡ text.items ++ last_line count) }
+{
+    let mut text = text;
+    let last = last_line(alloc, count as u64)?;
+    text.extend_from_slice(last.as_slice())?;
+    Ok(text)
+}
+
+/// The log of a run, and its last line.
+fn run_text(alloc: Global, deck: &Deck, history: &[Entry]) -> Result<Vec<u8>, NoMemory>
+    ensures { IfOk result (λ text. text.items ≡ run_text deck.now history.now) }
+{
+    let logs = log_text(alloc, history, deck.jobs.as_slice())?;
+    with_last_line(alloc, logs, history.len())
+}
+
+/// A line for each template, and the last line.
+fn checked_text(alloc: Global, templates: &[CheckedTemplate]) -> Result<Vec<u8>, NoMemory>
+    ensures { IfOk result (λ text. text.items ≡ checked_text templates.now) }
+{
+    let lines = check_text(alloc, templates)?;
+    with_last_line(alloc, lines, templates.len())
+}
+
+fn put<O: Sink>(out: &mut O, text: &[u8]) -> bool
+    ensures { MatchBool result (Appends (O.written out.old) (O.written out.new) text.now)
+        (Rose (O.faults out.old) (O.faults out.new) × AppendsFront (O.written out.old) (O.written out.new) text.now) }
+{
+    match out.put(text) {
+        Ok(()) => true,
+        Err(_) => false,
+    }
+}
+
+fn tell_text<O: Sink>(outcome: Outcome, text: &[u8], out: &mut O) -> Told
+    requires { text.now ≡ text_of outcome }
+    ensures outcome { result.outcome ≡ outcome }
+    ensures told { MatchBool result.written (Appends (O.written out.old) (O.written out.new) (text_of result.outcome))
+        (Rose (O.faults out.old) (O.faults out.new) × AppendsFront (O.written out.old) (O.written out.new) (text_of result.outcome)) }
+{
+    let written = put(out, text);
+    Told { outcome, written }
+}
+
+fn tell_run<O: Sink>(alloc: Global, whole: Whole, out: &mut O) -> Told
+    ensures outcome { (result.outcome ≡ Outcome.Complete whole) ⊎ (result.outcome ≡ Outcome.NoMemory) }
+    ensures told { MatchBool result.written (Appends (O.written out.old) (O.written out.new) (text_of result.outcome))
+        (Rose (O.faults out.old) (O.faults out.new) × AppendsFront (O.written out.old) (O.written out.new) (text_of result.outcome)) }
+{
+    match run_text(alloc, &whole.deck, whole.history.as_slice()) {
+        Err(_) => tell_text(Outcome::NoMemory, b"NO MEMORY\n", out),
+        Ok(text) => tell_text(Outcome::Complete(whole), text.as_slice(), out),
+    }
+}
+
+fn tell_check<O: Sink>(alloc: Global, checked: CheckedDeck, out: &mut O) -> Told
+    ensures outcome { (result.outcome ≡ Outcome.Checked checked) ⊎ (result.outcome ≡ Outcome.NoMemory) }
+    ensures told { MatchBool result.written (Appends (O.written out.old) (O.written out.new) (text_of result.outcome))
+        (Rose (O.faults out.old) (O.faults out.new) × AppendsFront (O.written out.old) (O.written out.new) (text_of result.outcome)) }
+{
+    match checked_text(alloc, checked.templates.as_slice()) {
+        Err(_) => tell_text(Outcome::NoMemory, b"NO MEMORY\n", out),
+        Ok(text) => tell_text(Outcome::Checked(checked), text.as_slice(), out),
+    }
+}
+
+fn tell_bad<O: Sink>(alloc: Global, line: u32, code: u8, out: &mut O) -> Told
+    ensures outcome { (result.outcome ≡ Outcome.BadDeck line code) ⊎ (result.outcome ≡ Outcome.NoMemory) }
+    ensures told { MatchBool result.written (Appends (O.written out.old) (O.written out.new) (text_of result.outcome))
+        (Rose (O.faults out.old) (O.faults out.new) × AppendsFront (O.written out.old) (O.written out.new) (text_of result.outcome)) }
+{
+    match bad_line(alloc, line, code) {
+        Err(_) => tell_text(Outcome::NoMemory, b"NO MEMORY\n", out),
+        Ok(text) => tell_text(Outcome::BadDeck { line, code }, text.as_slice(), out),
+    }
+}
+
+/// Writes the text of an outcome in one piece. Where memory is wanted for it, the outcome is that.
+pub fn tell<O: Sink>(alloc: Global, outcome: Outcome, out: &mut O) -> Told
+    ensures outcome { (result.outcome ≡ outcome) ⊎ (result.outcome ≡ Outcome.NoMemory) }
+    ensures told { MatchBool result.written (Appends (O.written out.old) (O.written out.new) (text_of result.outcome))
+        (Rose (O.faults out.old) (O.faults out.new) × AppendsFront (O.written out.old) (O.written out.new) (text_of result.outcome)) }
+{
+    match outcome {
+        Outcome::BadWords => tell_text(Outcome::BadWords, b"BAD WORDS\n", out),
+        Outcome::BadDeck { line, code } => tell_bad(alloc, line, code, out),
+        Outcome::DeckFault => tell_text(Outcome::DeckFault, b"DECK FAULT\n", out),
+        Outcome::NoMemory => tell_text(Outcome::NoMemory, b"NO MEMORY\n", out),
+        Outcome::Complete(whole) => tell_run(alloc, whole, out),
+        Outcome::Checked(checked) => tell_check(alloc, checked, out),
+    }
+}

@@ -1,0 +1,109 @@
+ghost use Rattle.std.specs.Prelude.{◌≡◌, ◌⊎◌, ◌≤◌, Some, None, length, map, if◌then◌else◌};
+ghost use Rattle.s38_top.specs.Commands.{command_of};
+ghost use Rattle.s38_top.specs.Outcome.{Ends, IsGood, Serves, faulted, history_of, marks_of, status_of};
+
+use crate::outcome::{Outcome, Whole};
+use crate::run::decide;
+use crate::tell::{Told, tell};
+use s38_code::Entry;
+use s38_io::{Sink, Source};
+use std::alloc::Global;
+
+/// What the program came to: its status, the history, a mark for each entry, and the disk that was handed in.
+#[derive(Drop)]
+pub struct Report<D> {
+    pub status: u8,
+    pub history: Vec<Entry>,
+    pub marks: Vec<u64>,
+    /// None only where the status is 7.
+    pub disk: Option<D>,
+}
+
+fn status(told: &Told) -> u8
+    ensures { result ≡ (if told.now.written then status_of told.now.outcome else faulted told.now.outcome) }
+{
+    let written = told.written;
+    match &told.outcome {
+        Outcome::BadWords => { if written { 1 } else { 6 } }
+        Outcome::BadDeck { .. } => { if written { 2 } else { 6 } }
+        Outcome::DeckFault => { if written { 5 } else { 6 } }
+        Outcome::NoMemory => 7,
+        Outcome::Complete(_) => { if written { 0 } else { 6 } }
+        Outcome::Checked(_) => { if written { 0 } else { 6 } }
+    }
+}
+
+/// The history and the marks of an outcome.
+fn entries(alloc: Global, outcome: Outcome) -> (Vec<Entry>, Vec<u64>)
+    ensures history { result.0.items ≡ history_of outcome }
+    ensures marks { result.1.items ≡ marks_of outcome }
+{
+    match outcome {
+        Outcome::Complete(whole) => {
+            let Whole {
+                deck: _,
+                history,
+                marks,
+            } = whole;
+            (history, marks)
+        }
+        _ => (Vec::new(alloc), Vec::new(alloc)),
+    }
+}
+
+/// The disk, but with want of memory.
+fn disk_after<D: Drop>(outcome: &Outcome, disk: D) -> Option<D>
+    ensures { (status_of outcome.now ≡ 7) ⊎ (result ≡ Some disk) }
+{
+    match outcome {
+        Outcome::NoMemory => None,
+        _ => Some(disk),
+    }
+}
+
+fn report_of<D: Drop>(alloc: Global, told: Told, disk: D) -> Report<D>
+    ensures status { result.status ≡ (if told.written then status_of told.outcome else faulted told.outcome) }
+    ensures history { result.history.items ≡ history_of told.outcome }
+    ensures marks { result.marks.items ≡ marks_of told.outcome }
+    ensures disk { (result.status ≡ 7) ⊎ (result.disk ≡ Some disk) }
+{
+    let status = status(&told);
+    let disk = disk_after(&told.outcome, disk);
+    let (history, marks) = entries(alloc, told.outcome);
+    Report {
+        status,
+        history,
+        marks,
+        disk,
+    }
+}
+
+/// Serves the words. Under `serial` the deck of the source is read, its jobs are run on a machine of its own, and
+/// the log of the run is written. Under `check` it is read, and a line for each of its templates is written: what
+/// creation makes of it. The disk that is handed in comes back untouched.
+pub fn plain_top<D: Drop, I: Source, O: Sink>(
+    alloc: Global,
+    words: &[&str],
+    deck: &mut I,
+    disk: D,
+    out: &mut O,
+) -> Report<D>
+    // Each status has its cause, and its text is written.
+    ensures ends { Ends (map (λ w. w.now) words.now) (I.left deck.old) (I.left deck.new) (I.faults deck.old) (I.faults deck.new)
+        (O.written out.old) (O.written out.new) (O.faults out.old) (O.faults out.new) result.status result.history.items result.marks.items }
+
+    // The disk is wanting only for want of memory.
+    ensures disk { (result.status ≡ 7) ⊎ (result.disk ≡ Some disk) }
+
+    // With status 0 of serial the history is the one-thread machine's for the deck, and its log was written; with
+    // status 0 of check what creation makes of each template was written.
+    ensures serves { result.status ≡ 0 → Serves (command_of (map (λ w. w.now) words.now)) (I.left deck.old) (I.left deck.new) (O.written out.old) (O.written out.new) result.history.items }
+
+    // A good deck is run or checked, unless memory is wanted.
+    ensures good { IsGood (map (λ w. w.now) words.now) (I.left deck.old) (I.faults deck.old) (I.faults deck.new) (O.faults out.old) (O.faults out.new)
+        → (result.status ≡ 0) ⊎ (result.status ≡ 7) }
+{
+    let outcome = decide(alloc, words, deck);
+    let told = tell(alloc, outcome, out);
+    report_of(alloc, told, disk)
+}
