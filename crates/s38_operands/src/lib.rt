@@ -13,6 +13,8 @@ mod operands;
 mod queues;
 mod reads;
 mod storage;
+#[cfg(test)]
+mod tests;
 mod values;
 
 pub use computing::{
