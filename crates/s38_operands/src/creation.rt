@@ -1,0 +1,265 @@
+//! How objects are made, whatever their kind: the identification is new in its context, the owner may pay for the
+//! object, and a number is left.
+ghost use Rattle.std.specs.Prelude.{◌≡◌, ◌+◌, ◌≤◌, ◌^◌, false, nat_lt, IfOk, None, OnOk, OnErr, Option};
+ghost use Rattle.std.specs.Option.{option_copied};
+ghost use Rattle.s38_base.specs.declared.exception.Exception.{Exception};
+ghost use Rattle.s38_rules.specs.Creation.{creation_changes, creation_fails, creation_gives, creation_limits, creation_needs, in_context, is_taken, limit_in, maker_rows, name_rule, new_object, new_pointer, number_rule, of_kind, pages_rule};
+ghost use Rattle.s38_rules.specs.Headers.{header_in};
+ghost use Rattle.s38_rules.specs.Held.{ceiling_for, found, object, with_object};
+
+use crate::failures::fails;
+use crate::needs::{Needs, on_object};
+use crate::operands::{id_at, is_given, rights_at};
+use crate::reads::target;
+use s38_base::exceptions::{DUPLICATE_IDENTIFICATION, LIMIT_EXCEEDED, PAGES_EXCEEDED};
+use s38_base::limits::{CEILING_STEP, LAST_NUMBER, MOST_OBJECTS};
+use s38_base::{Category, Exception, Id, Kind, NoMemory, ObjNum, Pointer, Rights, Seq, UserNum};
+use s38_code::{Operand, Val};
+use s38_objects::Objects;
+use s38_rules::{Body, Creating, Header, Object, PrivateRow, RowList, Sought, Table};
+use std::alloc::Global;
+
+/// The same name, of this kind of object.
+fn of_kind(kind: Kind, id: Option<&Id>) -> Option<Id>
+    ensures { result ≡ of_kind kind (option_copied id.entry) }
+{
+    match id {
+        None => None,
+        Some(id) => Some(Id { kind, ..*id }),
+    }
+}
+
+/// An object in the context of operand 2, with the identification of operand 3 and the public rights of operand 4.
+pub fn in_context(kind: Kind, pages: u64, objects: &Objects, operands: &[Operand]) -> Creating
+    ensures { result ≡ in_context kind pages objects.now operands.now }
+{
+    Creating {
+        context: target(objects, operands, 2),
+        id: of_kind(kind, id_at(operands, 3)),
+        place: 3,
+        public: rights_at(operands, 4),
+        pages,
+    }
+}
+
+/// INSERT on the context that the new object is put into, where one is given.
+#[tactic(auto, unfolding(s38_rules::specs::Creation::creation_needs))]
+pub fn creation_needs(operands: &[Operand]) -> Needs
+    ensures { result ≡ creation_needs operands.now }
+{
+    if is_given(operands, 2) {
+        on_object(2, Sought::Container, Rights::INSERT, Some(Category::Change))
+    } else {
+        Needs::none()
+    }
+}
+
+fn is_taken(objects: &Objects, context: ObjNum, id: Option<Id>) -> bool
+    ensures { result ≡ is_taken objects.now context.0 id }
+{
+    match id {
+        None => false,
+        Some(id) => objects.find_object(context, &id).is_some(),
+    }
+}
+
+/// Another object of the context has the identification.
+pub fn name_rule(objects: &Objects, made: &Creating) -> Option<Exception>
+    ensures { result ≡ name_rule objects.now made.now }
+{
+    fails(
+        is_taken(objects, made.context, made.id),
+        DUPLICATE_IDENTIFICATION,
+        made.place,
+    )
+}
+
+/// How many pages a user may own.
+fn limit_of(objects: &Objects, user: UserNum) -> u32
+    ensures { result ≡ limit_in (object objects.now user.0) }
+{
+    match objects.header(user) {
+        None => 0,
+        Some(header) => header.limit,
+    }
+}
+
+/// Whether so many pages beside a charge pass a limit.
+fn passes(limit: u32, charge: u128, pages: u64) -> bool
+    ensures { result ≡ nat_lt limit (charge + pages) }
+{
+    let limit = u128::from(limit);
+    limit < charge || limit - charge < u128::from(pages)
+}
+
+/// A user would own more pages than its profile allows: those of a charge, and so many more.
+pub fn pages_rule(objects: &Objects, user: UserNum, charge: u128, pages: u64) -> Option<Exception>
+    ensures { result ≡ pages_rule objects.now user.0 (charge + pages) }
+{
+    fails(
+        passes(limit_of(objects, user), charge, pages),
+        PAGES_EXCEEDED,
+        0,
+    )
+}
+
+fn number_rule(objects: &Objects) -> Option<Exception>
+    ensures { result ≡ number_rule objects.now }
+{
+    fails(
+        MOST_OBJECTS <= objects.len() || LAST_NUMBER < objects.next_number(),
+        LIMIT_EXCEEDED,
+        0,
+    )
+}
+
+/// The owner pays for it, and a number is left.
+#[tactic(auto, unfolding(s38_rules::specs::Creation::creation_limits))]
+pub fn creation_limits(objects: &Objects, owner: UserNum, pages: u64) -> Option<Exception>
+    ensures { result ≡ creation_limits objects.now owner.0 pages }
+{
+    if let Some(failure) = pages_rule(objects, owner, objects.charge(owner), pages) {
+        return Some(failure);
+    }
+    number_rule(objects)
+}
+
+/// The identification is new, then the row's own conditions hold, then the limits.
+#[tactic(auto, unfolding(s38_rules::specs::Creation::creation_fails))]
+pub fn creation_fails(
+    objects: &Objects,
+    owner: UserNum,
+    made: &Creating,
+    own: Option<Exception>,
+) -> Option<Exception>
+    ensures { result ≡ creation_fails objects.now owner.0 made.now own }
+{
+    if let Some(failure) = name_rule(objects, made) {
+        return Some(failure);
+    }
+    match own {
+        None => creation_limits(objects, owner, made.pages),
+        Some(failure) => Some(failure),
+    }
+}
+
+fn new_pointer(objects: &Objects, id: Option<Id>) -> Option<Pointer>
+    ensures { result ≡ new_pointer objects.now id }
+{
+    match id {
+        None => None,
+        Some(_) => Some(Pointer::System {
+            object: ObjNum(objects.next_number()),
+            rights: Rights(0),
+        }),
+    }
+}
+
+/// A system pointer to the new object, without rights.
+#[tactic(auto, unfolding(s38_rules::specs::Creation::creation_gives))]
+pub fn creation_gives(objects: &Objects, made: &Creating) -> Val
+    ensures { result ≡ creation_gives objects.now made.now }
+{
+    Val::Ptr(new_pointer(objects, made.id))
+}
+
+/// All eight rights of the user who made an object.
+fn maker_rows(alloc: Global, owner: UserNum) -> Result<RowList, NoMemory>
+    ensures { IfOk result (λ rows. rows ≡ maker_rows owner.0) }
+{
+    let mut rows = Seq::new(alloc);
+    rows.push(PrivateRow {
+        user: owner,
+        rights: Rights(0xff),
+    })?;
+    Ok(rows)
+}
+
+fn new_object(
+    alloc: Global,
+    objects: &Objects,
+    owner: UserNum,
+    made: &Creating,
+    id: Id,
+    body: Body,
+) -> Result<Object, NoMemory>
+    ensures { IfOk result (λ object. object ≡ new_object objects.now owner.0 made.now id body) }
+{
+    Ok(Object {
+        number: ObjNum(objects.next_number()),
+        id,
+        context: made.context,
+        owner,
+        public: made.public,
+        rows: maker_rows(alloc, owner)?,
+        body,
+    })
+}
+
+/// The ceiling behind the object of this number.
+fn ceiling_for(ceiling: u64, number: u64) -> u64
+    requires { number ≤ 2 ^ 62 }
+    ensures { result ≡ ceiling_for ceiling number }
+{
+    if ceiling < number {
+        ceiling + CEILING_STEP
+    } else {
+        ceiling
+    }
+}
+
+fn enter(objects: &mut Objects, object: Object) -> Result<(), NoMemory>
+    requires number { object.number.0 ≡ objects.old.next }
+    requires small { objects.old.next ≤ 2 ^ 62 }
+    requires unnamed { found objects.old object.context.0 object.id ≡ None }
+    ensures ok { OnOk result (objects.new ≡ with_object objects.old object) }
+    ensures err { OnErr result (objects.new ≡ objects.old) }
+{
+    let number = objects.next_number();
+    let ceiling = ceiling_for(objects.ceiling(), number);
+    match objects.add(object) {
+        Ok(_) => {
+            objects.raise(number + 1, ceiling);
+            Ok(())
+        }
+        Err(_) => Err(NoMemory),
+    }
+}
+
+#[tactic(auto, unfolding(s38_rules::specs::Creation::creation_changes))]
+fn create(
+    alloc: Global,
+    objects: &mut Objects,
+    owner: UserNum,
+    made: &Creating,
+    body: Body,
+) -> Result<(), NoMemory>
+    requires small { objects.old.next ≤ 2 ^ 62 }
+    requires free { is_taken objects.old made.now.context.0 made.now.id ≡ false }
+    ensures ok { OnOk result (objects.new ≡ creation_changes objects.old owner.0 made.now body) }
+    ensures err { OnErr result (objects.new ≡ objects.old) }
+{
+    match made.id {
+        None => Ok(()),
+        Some(id) => match new_object(alloc, objects, owner, made, id, body) {
+            Ok(object) => enter(objects, object),
+            Err(fault) => Err(fault),
+        },
+    }
+}
+
+/// The owner has the new object, which no rule refuses; where memory is refused nothing changes.
+#[tactic(auto, using(crate::proofs::CreationLaws::number_left, crate::proofs::CreationLaws::name_free))]
+pub fn creation_changes(
+    alloc: Global,
+    objects: &mut Objects,
+    owner: UserNum,
+    made: &Creating,
+    body: Body,
+) -> Result<(), NoMemory>
+    requires { (own : Option Exception) × (creation_fails objects.old owner.0 made.now own ≡ None) }
+    ensures ok { OnOk result (objects.new ≡ creation_changes objects.old owner.0 made.now body) }
+    ensures err { OnErr result (objects.new ≡ objects.old) }
+{
+    create(alloc, objects, owner, made, body)
+}

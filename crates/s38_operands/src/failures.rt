@@ -1,0 +1,26 @@
+//! How a failed rule is told.
+ghost use Rattle.std.specs.Prelude.{◌≡◌};
+ghost use Rattle.s38_base.specs.Signals.{fails, first};
+
+use s38_base::Exception;
+
+/// The exception where the test holds.
+pub fn fails(test: bool, id: u16, operand: u8) -> Option<Exception>
+    ensures { result ≡ fails test id operand }
+{
+    if test {
+        Some(Exception::plain(id, operand))
+    } else {
+        None
+    }
+}
+
+/// The first of two failures.
+pub fn first(earlier: Option<Exception>, later: Option<Exception>) -> Option<Exception>
+    ensures { result ≡ first earlier later }
+{
+    match earlier {
+        None => later,
+        Some(failure) => Some(failure),
+    }
+}
