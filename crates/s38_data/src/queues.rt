@@ -248,10 +248,7 @@ pub fn value(
     let objects = &world.objects;
     let operands = request.operands.as_slice();
     match request.op {
-        Op::Crtq => Ok(Some(creation_gives(
-            objects,
-            &created_queue(objects, operands),
-        ))),
+        Op::Crtq => Ok(Some(creation_gives(objects, &created_queue(objects, operands)))),
         Op::Deq => Ok(Some(deq_gives(alloc, objects, operands)?)),
         _ => Ok(None),
     }

@@ -135,7 +135,7 @@ keeps_queues _ = record { kept = λ s p d r. refl }
 keeps_inert : KeepsProcesses inert
 keeps_inert = record { kept = λ s p d r. refl }
 
-keeps_row : (f : Family) (op : Op) → KeepsProcesses (row_in f op)
+pub keeps_row : (f : Family) (op : Op) → KeepsProcesses (row_in f op)
 unfolding row_in
 keeps_row families.Computing op = record { kept = λ s p d r. refl }
 keeps_row families.Resolving op = keeps_resolving op

@@ -10,18 +10,18 @@ use Rattle.s38_code.specs.declared.entry.Entry.{Entry}
 use Rattle.s38_code.specs.declared.made.CheckedTemplate.{CheckedTemplate}
 use Rattle.s38_code.specs.declared.made.CreateResult.{CreateResult}
 use Rattle.s38_code.specs.History.{entries_of}
-use Rattle.s38_rules.specs.declared.process.Standing.{Standing}
-use Rattle.s38_rules.specs.State.{State, is_early, ready, ready_in, runs_before, standing, waits}
-use Rattle.s38_rules.specs.Legal.{MayAsk, Run, begun}
+use Rattle.s38_rules.specs.declared.process.ProcessEntry.{ProcessEntry}
+use Rattle.s38_rules.specs.State.{State, is_early, ready, ready_in, runs_before, process_entry, waits}
+use Rattle.s38_rules.specs.Legal.{IsProcess, Run, begun}
 use Rattle.s38_rules.specs.Opening as opening
-use Rattle.s38_rules.specs.Process.{Doing, RanFrom, ends_by_finish, fresh}
+use Rattle.s38_process.specs.Process.{ProcessState, RanFrom, ends_by_finish, fresh}
 use Rattle.s38_rules.proofs.Laws.{sound_begun}
 use Rattle.s38_run.specs.Running.{EachWholeOrNone, HasEnded, IsBetween, JobRan, OthersStay, RanOn, unended}
 use Rattle.s38_run.specs.Whole.{AllRan, RanWhole}
 
 -- ---- fewer have not ended
 
-same_unended : (xs ys : List Standing) → length ys ≡ length xs → ((k : ℕ) (d : Standing) → slice_index_or ys k d ≡ slice_index_or xs k d) → unended ys ≡ unended xs
+same_unended : (xs ys : List ProcessEntry) → length ys ≡ length xs → ((k : ℕ) (d : ProcessEntry) → slice_index_or ys k d ≡ slice_index_or xs k d) → unended ys ≡ unended xs
 same_unended [] [] n h = refl
 same_unended [] (y ∷ ys) n h = absurd (omega arith)
 same_unended (x ∷ xs) [] n h = absurd (omega arith)
@@ -30,7 +30,7 @@ same_unended (x ∷ xs) (y ∷ ys) n h =
     let first : y ≡ x = h 0 x in
     rw (first, rest) refl
 
-fewer_unended : (xs ys : List Standing) (at : ℕ) → at < length xs → OthersStay xs ys at → ((d : Standing) → (slice_index_or xs at d).ended ≡ false) → HasEnded ys at → unended ys < unended xs
+fewer_unended : (xs ys : List ProcessEntry) (at : ℕ) → at < length xs → OthersStay xs ys at → ((d : ProcessEntry) → (slice_index_or xs at d).ended ≡ false) → HasEnded ys at → unended ys < unended xs
 fewer_unended [] ys at lt stay opened done = absurd (omega arith)
 fewer_unended (x ∷ xs) [] at lt stay opened done = absurd (omega (arith, stay.count))
 fewer_unended (x ∷ xs) (y ∷ ys) zero lt stay opened done =
@@ -74,16 +74,16 @@ NoneReady s = (k : ℕ) → k < length s.processes → ready s (k + 1) ≡ false
 none_waiting : (s : State) (p : ℕ) → s.waiting ≡ [] → waits s p ≡ false
 none_waiting s p h = ap (λ ws. list_any (λ w. w == p) ws) h
 
-early_at : (s : State) (k : ℕ) (x : Standing) → s.waiting ≡ [] → NoneReady s → slice_get s.processes k ≡ Some x → x.ended ≡ false → is_early s.processes x.job.stage ≡ true
+early_at : (s : State) (k : ℕ) (x : ProcessEntry) → s.waiting ≡ [] → NoneReady s → slice_get s.processes k ≡ Some x → x.ended ≡ false → is_early s.processes x.job.stage ≡ true
 unfolding NoneReady
 early_at s k x w none at e =
     let here : k + 1 - 1 ≡ k = omega arith in
-    let there : standing s (k + 1) ≡ Some x = ap (λ i. slice_get s.processes i) here ∙ at in
+    let there : process_entry s (k + 1) ≡ Some x = ap (λ i. slice_get s.processes i) here ∙ at in
     let r : ready_in s (k + 1) (Some x) ≡ false = sym (ap (ready_in s (k + 1)) there) ∙ none k (slice_get_within s.processes k x at) in
     not_ready x.ended (is_early s.processes x.job.stage) (waits s (k + 1)) e (none_waiting s (k + 1) w) r
 
 -- by the stages downwards
-none_open : (n : ℕ) (s : State) (k : ℕ) (x : Standing) → s.waiting ≡ [] → NoneReady s → slice_get s.processes k ≡ Some x → x.ended ≡ false → x.job.stage < n → ⊥
+none_open : (n : ℕ) (s : State) (k : ℕ) (x : ProcessEntry) → s.waiting ≡ [] → NoneReady s → slice_get s.processes k ≡ Some x → x.ended ≡ false → x.job.stage < n → ⊥
 none_open zero s k x w none at e lt = omega arith
 none_open (suc n) s k x w none at e lt =
     let found = any_some (runs_before x.job.stage) s.processes (early_at s k x w none at e) in
@@ -95,12 +95,12 @@ ended_or : (b : Bool) → (b ≡ false → ⊥) → b ≡ true
 ended_or true h = refl
 ended_or false h = absurd (h refl)
 
-all_ended : (s : State) → s.waiting ≡ [] → NoneReady s → (k : ℕ) (x : Standing) → slice_get s.processes k ≡ Some x → x.ended ≡ true
+all_ended : (s : State) → s.waiting ≡ [] → NoneReady s → (k : ℕ) (x : ProcessEntry) → slice_get s.processes k ≡ Some x → x.ended ≡ true
 all_ended s w none k x at = ended_or x.ended (λ e. none_open (x.job.stage + 1) s k x w none at e (omega arith))
 
 -- ---- between jobs
 
-at_get : (xs : List Standing) (k : ℕ) (x : Standing) → slice_get xs k ≡ Some x → get_or xs k x ≡ x
+at_get : (xs : List ProcessEntry) (k : ℕ) (x : ProcessEntry) → slice_get xs k ≡ Some x → get_or xs k x ≡ x
 at_get xs k x h = get_or_from_slice_get xs k x x h
 
 some_same : {A : Type 0} (o : Option A) (a b : A) → o ≡ Some a → o ≡ Some b → a ≡ b
@@ -109,10 +109,10 @@ some_same o a b p q = both (sym p ∙ q)
     both : Some a ≡ Some b → a ≡ b
     both g = cc
 
-ready_open : (s : State) (k : ℕ) (x : Standing) → slice_get s.processes k ≡ Some x → ready s (k + 1) ≡ true → x.ended ≡ false
+ready_open : (s : State) (k : ℕ) (x : ProcessEntry) → slice_get s.processes k ≡ Some x → ready s (k + 1) ≡ true → x.ended ≡ false
 ready_open s k x at r =
     let here : k + 1 - 1 ≡ k = omega arith in
-    let there : standing s (k + 1) ≡ Some x = ap (λ i. slice_get s.processes i) here ∙ at in
+    let there : process_entry s (k + 1) ≡ Some x = ap (λ i. slice_get s.processes i) here ∙ at in
     first_false x.ended (sym (ap (ready_in s (k + 1)) there) ∙ r)
   where
     first_false : (ended : Bool) → (not ended && (not (is_early s.processes x.job.stage) && not (waits s (k + 1)))) ≡ true → ended ≡ false
@@ -137,28 +137,28 @@ closed_yes true A B e h = h
 closed_yes false A B e h = cc
 
 abbrev Here : List CreateResult → List Job → Run → ℕ → Type 0
-Here made jobs m k = (x : Standing) (job : Job) (one : CreateResult) → slice_get m.state.processes k ≡ Some x → slice_get jobs k ≡ Some job → slice_get made k ≡ Some one
+Here made jobs m k = (x : ProcessEntry) (job : Job) (one : CreateResult) → slice_get m.state.processes k ≡ Some x → slice_get jobs k ≡ Some job → slice_get made k ≡ Some one
     → MatchBool x.ended (RanWhole one job.budget (entries_of (k + 1) m.history)) (entries_of (k + 1) m.history ≡ [])
 
 -- of the process that ran: its whole run stands in the history
-here_ran : (made : List CreateResult) (jobs : List Job) (m m' : Run) (at : ℕ) (x0 : Standing) (job : Job) (one : CreateResult)
+here_ran : (made : List CreateResult) (jobs : List Job) (m m' : Run) (at : ℕ) (x0 : ProcessEntry) (job : Job) (one : CreateResult)
     → EachWholeOrNone made jobs m → JobRan (at + 1) one job.budget m m' → slice_get m.state.processes at ≡ Some x0 → x0.ended ≡ false
     → slice_get jobs at ≡ Some job → slice_get made at ≡ Some one → Here made jobs m' at
 here_ran made jobs m m' at x0 job one each ran x0_at x0_open job_at one_at x job' one' x_at job'_at one'_at =
     let index : at + 1 - 1 ≡ at = omega arith in
     let none = open_none x0.ended (RanWhole one job.budget (entries_of (at + 1) m.history)) (entries_of (at + 1) m.history) x0_open (each.each at x0 job one x0_at job_at one_at) in
     let whole = ran_whole (at + 1) one job.budget m m' ran none in
-    let ended : x.ended ≡ true = ap (λ (y : Standing). y.ended) (sym (at_get m'.state.processes at x x_at)) ∙ subst (λ i. (get_or m'.state.processes i x).ended ≡ true) index ((ran.ran.ended ran.ended).0.is x) in
+    let ended : x.ended ≡ true = ap (λ (y : ProcessEntry). y.ended) (sym (at_get m'.state.processes at x x_at)) ∙ subst (λ i. (get_or m'.state.processes i x).ended ≡ true) index ((ran.ran.ended ran.ended).0.is x) in
     closed_yes x.ended _ _ ended
     (subst (λ (j : Job). RanWhole one' j.budget (entries_of (at + 1) m'.history)) (some_same (slice_get jobs at) job job' job_at job'_at)
     (subst (λ (p : CreateResult). RanWhole p job.budget (entries_of (at + 1) m'.history)) (some_same (slice_get made at) one one' one_at one'_at) whole))
 
-same_place : (xs ys : List Standing) (at k : ℕ) (x : Standing) → OthersStay xs ys at → k ≢ at → slice_get ys k ≡ Some x → slice_get xs k ≡ Some x
+same_place : (xs ys : List ProcessEntry) (at k : ℕ) (x : ProcessEntry) → OthersStay xs ys at → k ≢ at → slice_get ys k ≡ Some x → slice_get xs k ≡ Some x
 same_place xs ys at k x stay ne h =
     slice_get-get_or xs k x (omega (arith, slice_get_within ys k x h, stay.count)) ∙ ap Some (sym (stay.same k x ne) ∙ at_get ys k x h)
 
 -- of the others: as before
-here_other : (made : List CreateResult) (jobs : List Job) (m m' : Run) (at : ℕ) (d0 d : Doing) (k : ℕ) → k ≢ at → EachWholeOrNone made jobs m → RanOn (at + 1) m d0 m' d → Here made jobs m' k
+here_other : (made : List CreateResult) (jobs : List Job) (m m' : Run) (at : ℕ) (d0 d : ProcessState) (k : ℕ) → k ≢ at → EachWholeOrNone made jobs m → RanOn (at + 1) m d0 m' d → Here made jobs m' k
 here_other made jobs m m' at d0 d k ne each ran x job one x_at job_at one_at =
     let same = ran.others (k + 1) (λ g. ne (omega (arith, g))) in
     let was = same_place m.state.processes m'.state.processes (at + 1 - 1) k x ran.stay (λ g. ne (omega (arith, g))) x_at in
@@ -171,7 +171,7 @@ same_or_not a b = by_test (a == b) refl
     by_test true e = inl (grind (arith, nat_tests))
     by_test false e = inr (λ g. absurd (grind (arith, nat_tests)))
 
-at_place : (made : List CreateResult) (jobs : List Job) (m m' : Run) (at : ℕ) (x0 : Standing) (job : Job) (one : CreateResult)
+at_place : (made : List CreateResult) (jobs : List Job) (m m' : Run) (at : ℕ) (x0 : ProcessEntry) (job : Job) (one : CreateResult)
     → EachWholeOrNone made jobs m → JobRan (at + 1) one job.budget m m' → slice_get m.state.processes at ≡ Some x0 → x0.ended ≡ false
     → slice_get jobs at ≡ Some job → slice_get made at ≡ Some one → (k : ℕ) → (k ≡ at) ⊎ (k ≢ at) → Here made jobs m' k
 at_place made jobs m m' at x0 job one each ran x0_at x0_open job_at one_at k (inl e) =
@@ -179,7 +179,7 @@ at_place made jobs m m' at x0 job one each ran x0_at x0_open job_at one_at k (in
 at_place made jobs m m' at x0 job one each ran x0_at x0_open job_at one_at k (inr n) =
     here_other made jobs m m' at (fresh one job.budget) ran.doing k n each ran.ran
 
-between_at : (templates : List CheckedTemplate) (made : List CreateResult) (jobs : List Job) (m m' : Run) (at : ℕ) (x0 : Standing) (job : Job) (one : CreateResult)
+between_at : (templates : List CheckedTemplate) (made : List CreateResult) (jobs : List Job) (m m' : Run) (at : ℕ) (x0 : ProcessEntry) (job : Job) (one : CreateResult)
     → IsBetween templates made jobs m → JobRan (at + 1) one job.budget m m' → slice_get m.state.processes at ≡ Some x0 → ready m.state (at + 1) ≡ true
     → slice_get jobs at ≡ Some job → slice_get made at ≡ Some one → IsBetween templates made jobs m'
 between_at templates made jobs m m' at x0 job one between ran x0_at r job_at one_at =
@@ -188,6 +188,7 @@ between_at templates made jobs m m' at x0 job one between ran x0_at r job_at one
       sound = ran.ran.sound;
       origin = ran.ran.origin ∙ between.origin;
       awake = ran.ran.awake;
+      order = ran.ran.order;
       each = record { each = λ k. at_place made jobs m m' at x0 job one between.each ran x0_at x0_open job_at one_at k (same_or_not k at) };
     }
 
@@ -201,7 +202,7 @@ between_more templates made jobs m m' at job one between ran lt r job_at one_at 
       | inr w ↦ absurd (omega (arith, w.0, lt))
     ]
 
-open_at : (s : State) (at : ℕ) → at < length s.processes → ready s (at + 1) ≡ true → (d : Standing) → (slice_index_or s.processes at d).ended ≡ false
+open_at : (s : State) (at : ℕ) → at < length s.processes → ready s (at + 1) ≡ true → (d : ProcessEntry) → (slice_index_or s.processes at d).ended ≡ false
 open_at s at lt r d = ready_open s at (get_or s.processes at d) (slice_get-get_or s.processes at d lt) r
 
 -- and fewer are left
@@ -216,9 +217,9 @@ between_falls n one budget m m' at e ran lt r =
 
 -- ---- the beginning and the end
 
-fresh_open : (jobs : List Job) (k : ℕ) (x : Standing) → slice_get (opening.standings jobs) k ≡ Some x → x.ended ≡ false
+fresh_open : (jobs : List Job) (k : ℕ) (x : ProcessEntry) → slice_get (opening.standings jobs) k ≡ Some x → x.ended ≡ false
 fresh_open [] k x h = cc
-fresh_open (job ∷ jobs) zero x h = ap (λ (y : Standing). y.ended) (sym (some_same _ _ _ refl h))
+fresh_open (job ∷ jobs) zero x h = ap (λ (y : ProcessEntry). y.ended) (sym (some_same _ _ _ refl h))
 fresh_open (job ∷ jobs) (suc k) x h = fresh_open jobs k x h
 
 open_is : (b : Bool) (A B : Type 0) → b ≡ false → B → MatchBool b A B
@@ -230,6 +231,7 @@ between_begun templates made jobs = record {
   sound = sound_begun (opening.opened templates jobs);
   origin = refl;
   awake = refl;
+  order = tt;
   each = record { each = λ k x job one at job_at one_at. open_is x.ended _ _ (fresh_open jobs k x at) refl };
 }
 
@@ -257,7 +259,7 @@ between_none templates made jobs m between none = record {
       closed_is x.0.ended _ _ ended (between.each.each k x.0 job one x.1 job_at one_at);
 }
 
-pub may_run : (templates : List CheckedTemplate) (made : List CreateResult) (jobs : List Job) (m : Run) (at n : ℕ) → n ≡ at + 1 → IsBetween templates made jobs m → at < length jobs → MayAsk m.origin n
+pub may_run : (templates : List CheckedTemplate) (made : List CreateResult) (jobs : List Job) (m : Run) (at n : ℕ) → n ≡ at + 1 → IsBetween templates made jobs m → at < length jobs → IsProcess m.origin n
 may_run templates made jobs m at n e between lt =
     let count = places templates made jobs m between in
     record { first = omega arith; last = omega (arith, count, between.sound.kept) }

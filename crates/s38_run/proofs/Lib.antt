@@ -1,4 +1,5 @@
 pub mod Asking
 pub mod JobLaws
+pub mod OrderLaws
 pub mod Running
 pub mod Stepping

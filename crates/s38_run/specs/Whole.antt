@@ -5,7 +5,7 @@ use Rattle.s38_code.specs.declared.deck.Job.{Job}
 use Rattle.s38_code.specs.declared.entry.Entry.{Entry}
 use Rattle.s38_code.specs.declared.made.CreateResult.{CreateResult}
 use Rattle.s38_code.specs.History.{entries_of}
-use Rattle.s38_rules.specs.Process.{RanFrom, fresh, ends_by_finish}
+use Rattle.s38_process.specs.Process.{RanFrom, fresh, ends_by_finish}
 
 -- the entries of one process, from its start to its end
 pub record RanWhole (made : CreateResult) (budget : ℕ) (entries : List Entry) : Type 0 where

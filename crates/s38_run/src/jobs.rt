@@ -1,7 +1,8 @@
 ghost use Rattle.std.specs.Prelude.{◌≡◌, ◌+◌, ◌-◌, ◌<◌, ◌^◌, [], ℕ, true, false, IfOk, MatchOption, OnOk, length};
 ghost use Rattle.s38_rules.specs.State.{ready};
-ghost use Rattle.s38_rules.specs.Legal.{IsSound, MayAsk, begun};
+ghost use Rattle.s38_rules.specs.Legal.{IsSound, IsProcess, begun};
 ghost use Rattle.s38_rules.specs.Opening.{opened};
+ghost use Rattle.s38_run.specs.Order.{InOrder, IsFirstReady};
 ghost use Rattle.s38_run.specs.Running.{IsBetween, JobRan};
 ghost use Rattle.s38_run.specs.Whole.{AllRan};
 
@@ -17,7 +18,7 @@ fn first_ready(machine: &Machine, jobs: usize) -> Option<usize>
     requires { jobs < 2 ^ 32 - 1 }
     ensures { MatchOption result
         ((k : ℕ) → k < jobs → ready machine.now.state (k + 1) ≡ false)
-        (λ at. (at < jobs) × (ready machine.now.state (at + 1) ≡ true)) }
+        (λ at. (at < jobs) × ((ready machine.now.state (at + 1) ≡ true) × ((k : ℕ) → k < at → ready machine.now.state (k + 1) ≡ false))) }
 {
     for at in 0..jobs {
         if machine.ready(at as u32 + 1) {
@@ -27,7 +28,7 @@ fn first_ready(machine: &Machine, jobs: usize) -> Option<usize>
     None
 }
 
-/// Runs a job whose process is ready, from its start to its end.
+/// Runs a job whose process goes first, from its start to its end.
 fn run_job(
     alloc: Global,
     machine: &mut Machine,
@@ -37,8 +38,9 @@ fn run_job(
 ) -> Result<(), NoMemory>
     requires sound { IsSound machine.old }
     requires awake { machine.old.state.waiting ≡ [] }
-    requires ready { ready machine.old.state number ≡ true }
-    requires may { MayAsk machine.old.origin number }
+    requires order { InOrder machine.old.origin machine.old.history }
+    requires first { IsFirstReady machine.old.state number }
+    requires may { IsProcess machine.old.origin number }
     ensures { OnOk result (JobRan number made.now job.now.budget machine.old machine.new) }
 {
     let own = made.try_clone(alloc)?;
@@ -61,6 +63,7 @@ pub fn serial(
     requires few { length jobs.now < 2 ^ 32 - 1 }
     ensures sound { IfOk result IsSound }
     ensures origin { IfOk result (λ m. m.origin ≡ opened machine.state.templates jobs.now) }
+    ensures order { IfOk result (λ m. InOrder m.origin m.history) }
     ensures ran { IfOk result (λ m. AllRan made.now jobs.now m.history) }
 {
     let mut machine = machine;

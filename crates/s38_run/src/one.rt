@@ -1,6 +1,6 @@
 ghost use Rattle.std.specs.Prelude.{◌≡◌, IfOk, MatchBool, OnOk, OnErr};
-ghost use Rattle.s38_rules.specs.declared.process.Status.{Status};
-ghost use Rattle.s38_rules.specs.Legal.{IsSound, MayAsk};
+ghost use Rattle.s38_process.specs.declared.status.Status.{Status};
+ghost use Rattle.s38_rules.specs.Legal.{IsSound, IsProcess};
 ghost use Rattle.s38_run.specs.Running.{RanOn, Rested, Turned};
 
 use s38_base::NoMemory;
@@ -10,7 +10,7 @@ use s38_process::{Next, Process};
 /// One event of a process is asked and answered; false where it has ended.
 fn turn(machine: &mut Machine, process: &mut Process, number: u32) -> Result<bool, NoMemory>
     requires sound { IsSound machine.old }
-    requires may { MayAsk machine.old.origin number }
+    requires may { IsProcess machine.old.origin number }
     ensures { IfOk result (λ more. MatchBool more
         (Turned number machine.old process.old machine.new process.new)
         (Rested machine.old process.old machine.new process.new)) }
@@ -35,7 +35,7 @@ pub fn run_process(
     number: u32,
 ) -> Result<(), NoMemory>
     requires ran { RanOn number machine.old process.old machine.old process.old }
-    requires may { MayAsk machine.old.origin number }
+    requires may { IsProcess machine.old.origin number }
     ensures { OnOk result (RanOn number machine.old process.old machine.new process.new × (process.new.status ≡ Status.Ended)) }
 {
     loop {
