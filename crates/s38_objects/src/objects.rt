@@ -1,6 +1,6 @@
 ghost use Rattle.std.specs.Prelude.{◌≡◌, ◌≤◌, ◌<◌, ◌%◌, ◌^◌, ◌↔◌, length, None, All, IfOk, IfErr, IsTrue, OnOk, OnErr};
 ghost use Rattle.std.specs.Borrow.{sem};
-ghost use Rattle.std.specs.Option.{option_copied, option_copied_mut, option_map};
+ghost use Rattle.std.specs.Option.{option_copied, option_copied_mut};
 ghost use Rattle.s38_memory.specs.Cell.{IsCell};
 ghost use Rattle.s38_memory.specs.Tagged.{resized};
 ghost use Rattle.s38_rules.specs.Cells.{with_bytes, with_cells, with_pointer};
@@ -8,7 +8,7 @@ ghost use Rattle.s38_queues.specs.contracts.queue.Queue.{the_row as queue_row};
 ghost use Rattle.s38_rules.specs.declared.object.Body.{Body};
 ghost use Rattle.s38_rules.specs.Held.{charge_beside, charge_in, found, nothing, number_found, object, pages_of, with_added, without};
 ghost use Rattle.s38_rules.specs.Parts.{on_space, over_body, part_at, queue_part, space_part};
-ghost use Rattle.s38_objects.specs.Lawful.{IsLawful, contents_in, number_of};
+ghost use Rattle.s38_objects.specs.Lawful.{IsLawful, contents_in};
 ghost use Rattle.s38_objects.specs.Lending.{LendsHeld};
 
 use crate::body::pages;

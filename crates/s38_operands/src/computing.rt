@@ -1,7 +1,6 @@
 //! Computations that the machine does, since an operand lies in a space.
 ghost use Rattle.std.specs.Prelude.{◌≡◌, IfOk, length, replicate};
 ghost use Rattle.std.specs.Option.{option_copied};
-ghost use Rattle.s38_compute.specs.Computed.{moves_pointer};
 ghost use Rattle.s38_rules.specs.Computing.{computing_fails, computing_gives, computing_needs, held_in, of_operands, offset_needs, power_of, receiver_at, receiver_attr, shift_at};
 ghost use Rattle.s38_rules.specs.Operands.{place as operand};
 

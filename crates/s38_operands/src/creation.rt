@@ -4,7 +4,6 @@ ghost use Rattle.std.specs.Prelude.{◌≡◌, ◌+◌, ◌≤◌, ◌^◌, fals
 ghost use Rattle.std.specs.Option.{option_copied};
 ghost use Rattle.s38_base.specs.declared.exception.Exception.{Exception};
 ghost use Rattle.s38_rules.specs.Creation.{creation_changes, creation_fails, creation_gives, creation_limits, creation_needs, in_context, is_taken, limit_in, maker_rows, name_rule, new_object, new_pointer, number_rule, of_kind, pages_rule};
-ghost use Rattle.s38_rules.specs.Headers.{header_in};
 ghost use Rattle.s38_rules.specs.Held.{ceiling_for, found, object, with_object};
 
 use crate::failures::fails;
