@@ -30,7 +30,7 @@ unfolding creation_fails
 own_met h owner made own none = (first_none _ _ (first_none _ _ none).1).0
 
 long_by : (b : Bool) (limit n : ℕ) → is_space_length limit n ≡ b → b ≡ true → is_space_length limit (cond b n 0) ≡ true
-long_by b limit n h yes = rw yes (h ∙ yes)
+long_by b limit n h good = rw good (h ∙ good)
 
 length_long : (s : State) (ops : List Operand) (k : ℕ) → length_rule s ops k ≡ None → is_space_length s.limit (length_at s ops k) ≡ true
 length_long s ops k h =

@@ -19,10 +19,7 @@ use std::alloc::Global;
 // ---- CRTPG
 
 /// The template that operand 5 names.
-fn template_at<'a>(
-    world: &'a World<Objects>,
-    operands: &[Operand],
-) -> Option<&'a CheckedTemplate>
+fn template_at<'a>(world: &'a World<Objects>, operands: &[Operand]) -> Option<&'a CheckedTemplate>
     ensures { option_copied result ≡ template_at world.now operands.now }
 {
     template_in(world.templates.as_slice(), place(operands, 5))

@@ -10,9 +10,7 @@ use s38_base::{Category, Exception, Id, Kind, NoMemory, ObjNum, Op, Pointer, Rig
 use s38_code::{Operand, Request, Val};
 use s38_invoke::World;
 use s38_objects::{Objects, kind_of};
-use s38_operands::{
-    Needs, id_at, is_list, is_machine, need, pointer_at, rights_at, target,
-};
+use s38_operands::{Needs, id_at, is_list, is_machine, need, pointer_at, rights_at, target};
 use s38_rules::{Located, Named, Object, PointerKind, Sought};
 use std::alloc::Global;
 
@@ -38,12 +36,7 @@ fn may_search(objects: &Objects, users: &[UserNum], context: ObjNum) -> bool
 }
 
 #[tactic(auto, unfolding(s38_rules::specs::Resolving::search_in))]
-fn search_in(
-    objects: &Objects,
-    users: &[UserNum],
-    contexts: &[ObjNum],
-    id: &Id,
-) -> Option<Located>
+fn search_in(objects: &Objects, users: &[UserNum], contexts: &[ObjNum], id: &Id) -> Option<Located>
     ensures { result ≡ search_in objects.now (map (λ u. u.0) users.now) contexts.now id.now }
 {
     match contexts {
@@ -150,12 +143,7 @@ fn listed_need(located: Option<Located>) -> Needs
 }
 
 #[tactic(auto, unfolding(s38_rules::specs::Resolving::rslvsp_needs))]
-fn rslvsp_needs(
-    world: &World<Objects>,
-    process: u32,
-    depth: u16,
-    operands: &[Operand],
-) -> Needs
+fn rslvsp_needs(world: &World<Objects>, process: u32, depth: u16, operands: &[Operand]) -> Needs
     ensures { result ≡ rslvsp_needs world.now process depth operands.now }
 {
     if is_list(operands, 2) {
@@ -224,12 +212,7 @@ fn pointer_to(rights: Rights, located: Option<Located>) -> Option<Pointer>
 }
 
 #[tactic(auto, unfolding(s38_rules::specs::Resolving::rslvsp_gives))]
-fn rslvsp_gives(
-    world: &World<Objects>,
-    process: u32,
-    depth: u16,
-    operands: &[Operand],
-) -> Val
+fn rslvsp_gives(world: &World<Objects>, process: u32, depth: u16, operands: &[Operand]) -> Val
     ensures { result ≡ rslvsp_gives world.now process depth operands.now }
 {
     let located = resolved(world, process, depth, operands);

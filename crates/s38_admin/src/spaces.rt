@@ -1,13 +1,12 @@
 //! Spaces: made, lengthened or cut, and destroyed; pointers into them; copies of cells with their tags.
-ghost use Rattle.std.specs.Prelude.{◌≡◌, ◌+◌, ◌≤◌, [], All, Some, None, IfOk, OnOk, OnErr, true};
+ghost use Rattle.std.specs.Prelude.{◌≡◌, ◌≤◌, [], All, Some, None, IfOk, OnOk, OnErr, true};
 ghost use Rattle.std.specs.Option.{option_copied};
 ghost use Rattle.s38_base.specs.Limits.{furthest};
 ghost use Rattle.s38_memory.specs.Cell.{IsCell};
 ghost use Rattle.s38_memory.specs.Tagged.{resized};
-ghost use Rattle.s38_rules.specs.Creation.{pages_rule};
-ghost use Rattle.s38_rules.specs.Held.{charge_beside, object, owner_in};
+ghost use Rattle.s38_rules.specs.Held.{owner_in};
 ghost use Rattle.s38_rules.specs.Parts.{on_space};
-ghost use Rattle.s38_rules.specs.Spaces.{cells_put, cpybwp_changes, cpybwp_fails, cpybwp_gives, crts_changes, crts_fails, is_space_length, is_unaligned, length_at, length_rule, mods_changes, mods_fails, new_space, pages_for_length, setdp_fails, setdp_gives, setsppfp_gives, spaces_row};
+ghost use Rattle.s38_rules.specs.Spaces.{cells_put, cpybwp_changes, cpybwp_fails, cpybwp_gives, crts_changes, crts_fails, is_space_length, is_unaligned, length_at, length_rule, mods_changes, mods_fails, new_space, owner_pays, pages_for_length, setdp_fails, setdp_gives, setsppfp_gives, spaces_row};
 
 use s38_base::exceptions::{BOUNDARY_ALIGNMENT, DECIMAL_DATA, LENGTH_INVALID, SPACE_ADDRESSING};
 use s38_base::{Category, Exception, Kind, NoMemory, ObjNum, Op, Pointer, Rights, UserNum};
@@ -50,7 +49,11 @@ fn length_at(world: &World<Objects>, operands: &[Operand], k: usize) -> u32
     ensures { result ≡ length_at world.now operands.now k }
 {
     let len = count_at(&world.objects, operands, k);
-    if is_space_length(world.limit, len) { len as u32 } else { 0 }
+    if is_space_length(world.limit, len) {
+        len as u32
+    } else {
+        0
+    }
 }
 
 /// The pages of a space of so many bytes.
@@ -78,6 +81,14 @@ fn crts_fails(world: &World<Objects>, process: u32, operands: &[Operand]) -> Opt
     creation_fails(&world.objects, world.user_of(process), &created, own)
 }
 
+/// The greatest length of a space.
+fn limit_of(world: &World<Objects>) -> u32
+    ensures limit { result ≡ world.now.limit }
+    ensures small { result ≤ furthest }
+{
+    world.limit
+}
+
 /// Storage of zero bytes.
 fn zero_space(alloc: Global, limit: u32, len: u32) -> Result<Tagged, NoMemory>
     requires long { is_space_length limit len ≡ true }
@@ -90,8 +101,46 @@ fn zero_space(alloc: Global, limit: u32, len: u32) -> Result<Tagged, NoMemory>
     }
 }
 
+/// The storage of the new space.
+fn new_cells(
+    alloc: Global,
+    world: &World<Objects>,
+    operands: &[Operand],
+) -> Result<Tagged, NoMemory>
+    requires { is_space_length world.now.limit (length_at world.now operands.now 5) ≡ true }
+    ensures { IfOk result (λ space. space ≡ resized (length_at world.now operands.now 5) []) }
+{
+    let len = length_at(world, operands, 5);
+    zero_space(alloc, limit_of(world), len)
+}
+
+/// The space of this storage.
+#[tactic(auto, using(crate::proofs::CreationLaws::crts_created), unfolding(s38_rules::specs::Spaces::crts_changes))]
+fn create_space(
+    alloc: Global,
+    world: &mut World<Objects>,
+    process: u32,
+    operands: &[Operand],
+    space: Tagged,
+) -> Result<(), NoMemory>
+    requires good { crts_fails world.old process operands.now ≡ None }
+    requires space { space ≡ resized (length_at world.old operands.now 5) [] }
+    ensures ok { OnOk result (world.new ≡ crts_changes world.old process operands.now) }
+    ensures err { OnErr result (world.new ≡ world.old) }
+{
+    let owner = world.user_of(process);
+    let created = new_space(world, operands);
+    creation_changes(
+        alloc,
+        &mut world.objects,
+        owner,
+        &created,
+        Body::Space(space),
+    )
+}
+
 /// A space of zero bytes.
-#[tactic(auto, using(crate::proofs::CreationLaws::crts_created, crate::proofs::CreationLaws::crts_long), unfolding(s38_rules::specs::Spaces::crts_changes))]
+#[tactic(auto, using(crate::proofs::CreationLaws::crts_long))]
 fn crts(
     alloc: Global,
     world: &mut World<Objects>,
@@ -102,17 +151,8 @@ fn crts(
     ensures ok { OnOk result (world.new ≡ crts_changes world.old process operands.now) }
     ensures err { OnErr result (world.new ≡ world.old) }
 {
-    let owner = world.user_of(process);
-    let created = new_space(world, operands);
-    let len = length_at(world, operands, 5);
-    match zero_space(alloc, world.limit, len) {
-        Ok(space) => creation_changes(
-            alloc,
-            &mut world.objects,
-            owner,
-            &created,
-            Body::Space(space),
-        ),
+    match new_cells(alloc, world, operands) {
+        Ok(space) => create_space(alloc, world, process, operands, space),
         Err(fault) => Err(fault),
     }
 }
@@ -128,9 +168,10 @@ fn owner_in(object_used: Option<&Object>) -> UserNum
     }
 }
 
-/// The owner of a space pays for so many pages of it.
-fn owner_rule(objects: &Objects, space: ObjNum, pages: u64) -> Option<Exception>
-    ensures { result ≡ pages_rule objects.now (owner_in (object objects.now space.0)) (charge_beside objects.now.objects space.0 + pages) }
+/// The owner of an object pays for so many pages of it.
+#[tactic(auto, unfolding(s38_rules::specs::Spaces::owner_pays))]
+fn owner_pays(objects: &Objects, space: ObjNum, pages: u64) -> Option<Exception>
+    ensures { result ≡ owner_pays objects.now space.0 pages }
 {
     let others = objects.charge_beside(space);
     pages_rule(objects, owner_in(objects.get(space)), others, pages)
@@ -146,7 +187,7 @@ fn mods_fails(world: &World<Objects>, operands: &[Operand]) -> Option<Exception>
     }
     let space = target(&world.objects, operands, 1);
     let pages = pages_for_length(length_at(world, operands, 2));
-    owner_rule(&world.objects, space, pages)
+    owner_pays(&world.objects, space, pages)
 }
 
 /// A space of this length, cut or lengthened by zero bytes.
@@ -168,7 +209,7 @@ fn mods(world: &mut World<Objects>, operands: &[Operand]) -> Result<(), NoMemory
 {
     let len = length_at(world, operands, 2);
     let space = target(&world.objects, operands, 1);
-    let limit = world.limit;
+    let limit = limit_of(world);
     resize(&mut world.objects, limit, space, len)
 }
 

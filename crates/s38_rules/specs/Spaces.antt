@@ -83,11 +83,13 @@ crts = record {
 unfoldable pub mods_needs : List Need
 mods_needs = on_object 1 (Of kinds.Space) rights.objmgt (Some Change)
 
+-- the owner of an object pays for so many pages of it
+unfoldable pub owner_pays : Held → ℕ → ℕ → Option Exception
+owner_pays h n pages = pages_rule h (owner_in (object h n)) (charge_beside h.objects n + pages)
+
 -- the owner of the space pays for its new length
 unfoldable pub mods_fails : State → List Operand → Option Exception
-mods_fails s ops =
-    first (length_rule s ops 2)
-    (pages_rule s.held (owner_in (object s.held (target s.held ops 1))) (charge_beside s.held.objects (target s.held ops 1) + pages_for_length (length_at s ops 2)))
+mods_fails s ops = first (length_rule s ops 2) (owner_pays s.held (target s.held ops 1) (pages_for_length (length_at s ops 2)))
 
 -- the space is cut, or lengthened by zero bytes
 unfoldable pub mods_changes : State → List Operand → Held
