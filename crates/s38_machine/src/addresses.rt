@@ -32,11 +32,7 @@ fn place_rule(k: u8, space: Option<&Tagged>, at: u64, attr: Attr) -> Option<Exce
     if !is_within(space, at, attr.length()) {
         return Some(Exception::plain(SPACE_ADDRESSING, k));
     }
-    fails(
-        attr.is_pointer() && !is_aligned(at),
-        BOUNDARY_ALIGNMENT,
-        k,
-    )
+    fails(attr.is_pointer() && !is_aligned(at), BOUNDARY_ALIGNMENT, k)
 }
 
 fn cells_rule(k: u8, space: Option<&Tagged>, at: u64, attr: Attr) -> Option<Exception>
@@ -109,7 +105,8 @@ fn is_sought(sought: Sought, object_used: &Object) -> bool
     match sought {
         Sought::Any => true,
         Sought::Of(needed) => needed.code() == kind.code(),
-        Sought::Container => Kind::Context.code() == kind.code() && object_used.number.0 != MACHINE_CONTEXT.0,
+        Sought::Container => Kind::Context.code() == kind.code()
+            && object_used.number.0 != MACHINE_CONTEXT.0,
         Sought::Ignored => true,
     }
 }

@@ -137,7 +137,8 @@ impl Machine {
     {
         let asked = event.try_clone(self.alloc)?;
         self.log.reserve()?;
-        self.log.push(process, asked, Reply::Signal(exception), NO_MOMENT);
+        self.log
+            .push(process, asked, Reply::Signal(exception), NO_MOMENT);
         Ok(Reply::Signal(exception))
     }
 

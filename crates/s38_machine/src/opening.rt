@@ -3,8 +3,8 @@ ghost use Rattle.s38_rules.specs.Held.{found, with_added};
 ghost use Rattle.s38_base.specs.NameText.{is_name};
 ghost use Rattle.s38_rules.specs.Opening.{general_context, held_first, locked_queue, machine_context, named, officer, officer_rows, opened, opening, owned, plain_user, process_entries};
 
-use s38_base::{Id, Kind, Name, NoMemory, ObjNum, Rights, Seq, Special, TryClone};
 use s38_base::limits::BODY_LIMIT;
+use s38_base::{Id, Kind, Name, NoMemory, ObjNum, Rights, Seq, Special, TryClone};
 use s38_code::{Checked, Job};
 use s38_invoke::World;
 use s38_objects::Objects;

@@ -1,9 +1,7 @@
 //! What becomes of an event: the first rule that fails.
-ghost use Rattle.std.specs.Prelude.{◌≡◌, ℕ};
+ghost use Rattle.std.specs.Prelude.{◌≡◌};
 ghost use Rattle.std.specs.Option.{option_copied};
-ghost use Rattle.s38_code.specs.declared.event.Event.{Event};
 ghost use Rattle.s38_rules.specs.Rows.{row};
-ghost use Rattle.s38_rules.specs.State.{State};
 ghost use Rattle.s38_rules.specs.Verdict.{awake_verdict, of_failure, refused_by, start_verdict, verdict_of};
 
 use crate::addresses::address_rules;
@@ -36,9 +34,17 @@ fn refused_by(
     rows::conditions(world, process, depth, request)
 }
 
-fn of_failure(failure: Option<Exception>) -> Verdict
-    ensures { (s : State) (process : ℕ) (event : Event) → result ≡ of_failure s process event failure }
+fn of_failure(
+    world: &World<Objects>,
+    process: u32,
+    event: &Event,
+    failure: Option<Exception>,
+) -> Verdict
+    ensures { result ≡ of_failure world.now process event.now failure }
 {
+    let _ = world;
+    let _ = process;
+    let _ = event;
     match failure {
         None => Verdict::Permit,
         Some(exception) => Verdict::Refuse(exception),
@@ -48,14 +54,14 @@ fn of_failure(failure: Option<Exception>) -> Verdict
 fn start_verdict(world: &World<Objects>, process: u32, entry: Option<&ProcessEntry>) -> Verdict
     ensures { result ≡ start_verdict world.now process (option_copied entry.entry) }
 {
-    let _ = process;
     match entry {
         None => Verdict::Permit,
         Some(x) => {
             if world.is_early(x.job.stage) {
                 return Verdict::Wait;
             }
-            of_failure(start_failure(&world.objects, &x.job))
+            let failure = start_failure(&world.objects, &x.job);
+            of_failure(world, process, &Event::Start, failure)
         }
     }
 }
@@ -68,7 +74,10 @@ pub fn awake_verdict(world: &World<Objects>, process: u32, event: &Event) -> Ver
 {
     match event {
         Event::Start => start_verdict(world, process, world.process_entry(process)),
-        Event::Act { depth, request } => of_failure(refused_by(world, process, *depth, request)),
+        Event::Act { depth, request } => {
+            let failure = refused_by(world, process, *depth, request);
+            of_failure(world, process, event, failure)
+        }
         Event::Finish { .. } => Verdict::Permit,
     }
 }
