@@ -1,5 +1,5 @@
 -- From whole runs and from texts to what the program answers.
-use Rattle.std.proofs.Common.{◌≡◌, ℕ, zero, suc, ◌<◌, ◌≤◌, ◌⊎◌, Bool, true, false, List, [], ◌∷◌, length, inl, inr, refl, sym, ◌∙◌, ap, subst, arith}
+use Rattle.std.proofs.Common.{◌≡◌, ℕ, zero, suc, ◌<◌, ◌≤◌, ◌⊎◌, All, Bool, true, false, List, [], ◌∷◌, length, inl, inr, refl, sym, ◌∙◌, ap, subst, arith}
 use Rattle.std.specs.Prelude.{MatchBool, Err, Option, Some, None, is_some, drop, min, slice_get, take, if◌then◌else◌}
 use Rattle.std.proofs.lemmas.List.{drop_all, length-take}
 use Rattle.std.proofs.lemmas.Option.{slice_get_within}
@@ -9,8 +9,9 @@ use Rattle.s38_code.specs.declared.entry.Entry.{Entry}
 use Rattle.s38_code.specs.declared.made.CheckedTemplate.{CheckedTemplate}
 use Rattle.s38_code.specs.declared.made.CreateResult.{CreateResult}
 use Rattle.s38_rules.specs.State.{State}
-use Rattle.s38_rules.specs.Legal.{IsSound, Leads, Run, begun}
+use Rattle.s38_rules.specs.Legal.{IsSound, IsUnstored, Leads, Run, begun}
 use Rattle.s38_rules.specs.Opening.{opened}
+use Rattle.s38_run.specs.Order.{InOrder}
 use Rattle.s38_run.specs.Whole.{AllRan}
 use Rattle.std.specs.Io.KnownBytes.{Appends}
 use Rattle.s38_base.specs.Faults.{Rose}
@@ -24,8 +25,8 @@ use Rattle.s38_top.specs.declared.command.Command.{Command}
 use Rattle.s38_top.specs.declared.outcome.Outcome.{Outcome}
 use Rattle.s38_top.specs.declared.outcome.Outcome.TheVariants.{BadWords, BadDeck, DeckFault, NoMemory, Complete, Checked}
 use Rattle.s38_top.specs.Commands.{command_of}
-use Rattle.s38_top.specs.Decks.{IsRunOf, checked_of, made_for}
-use Rattle.s38_top.specs.Outcome.{Ends, HasDeck, Holds, IsChecked, IsComplete, IsGood, Serves, Tells, checked_text, faulted, history_of, marks_of, most, status_of, text_of}
+use Rattle.s38_top.specs.Decks.{AreMarks, IsRunOf, checked_of, made_for}
+use Rattle.s38_top.specs.Outcome.{Ends, HasDeck, Holds, IsChecked, IsComplete, IsGood, OfText, Serves, Tells, checked_text, faulted, history_of, marks_of, most, status_of, text_of}
 
 there_is : {A : Type 0} (xs : List A) (k : ℕ) → k < length xs → (x : A) × (slice_get xs k ≡ Some x)
 there_is [] k h = absurd (omega arith)
@@ -37,16 +38,24 @@ there_is (x ∷ xs) (suc k) h = there_is xs k (omega arith)
 pub run_of : (deck : Deck) (made : List CreateResult) (ts : List CheckedTemplate) (begun_by m : Run) → length made ≡ length deck.jobs
     → ((k : ℕ) (job : Job) (one : CreateResult) → slice_get deck.jobs k ≡ Some job → slice_get made k ≡ Some one → made_for deck job ≡ Some one)
     → ts ≡ checked_of deck → begun_by ≡ begun (opened ts deck.jobs)
-    → IsSound m → m.origin ≡ opened begun_by.state.templates deck.jobs → AllRan made deck.jobs m.history → IsRunOf deck m.history
-run_of deck made ts begun_by m count each checked begins sound origin ran =
+    → IsSound m → m.origin ≡ opened begun_by.state.templates deck.jobs → InOrder m.origin m.history → AllRan made deck.jobs m.history → IsRunOf deck m.history
+run_of deck made ts begun_by m count each checked begins sound origin order ran =
     let first : m.origin ≡ opened ts deck.jobs = origin ∙ ap (λ (r : Run). opened r.state.templates deck.jobs) begins in
     record {
       state = m.state;
       legal = subst (λ (s : State). Leads s [] m.history m.state) (first ∙ ap (λ xs. opened xs deck.jobs) checked) sound.legal;
+      order = subst (λ (s : State). InOrder s m.history) (first ∙ ap (λ xs. opened xs deck.jobs) checked) order;
       each = λ k job at.
           let one = there_is made k (omega (arith, count, slice_get_within deck.jobs k job at)) in
           record { made = one.0; is = each k job one.0 at one.1; ran = ran.each k job one.0 at one.1 };
     }
+
+-- the marks of a sound machine
+pub marks_of_run : (m : Run) (history : List Entry) (marks : List ℕ) → IsSound m → history ≡ m.history → marks ≡ m.marks → AreMarks marks history
+marks_of_run m history marks sound h k = record {
+  count = ap length k ∙ sound.marked ∙ ap length (sym h);
+  stamped = subst (λ (xs : List ℕ). All IsUnstored xs) (sym k) sound.stamped;
+}
 
 -- ---- what a text comes to
 
@@ -67,6 +76,19 @@ refused text fault line code is first none = (
   where
     differ : faults.Bad line code ≡ faults.NoMemory → ⊥
     differ e = cc
+
+-- what a text comes to holds of the words and the source that it was taken from
+pub text_holds : (words : List (List ℕ)) (old new : Option (List ℕ)) (before now : ℕ) (command : Command) (text : List ℕ) (o : Outcome)
+    → command_of words ≡ Some command → ReadsAll most old new text → OfText command text o → Holds words old new before now o
+text_holds words old new before now command text BadWords is read of = absurd of
+text_holds words old new before now command text (BadDeck line code) is read of =
+    (rw is refl, record { text = text; read = read; first = of.0; none = of.1 })
+text_holds words old new before now command text DeckFault is read of = absurd of
+text_holds words old new before now command text NoMemory is read of = tt
+text_holds words old new before now command text (Complete whole) is read of =
+    (is ∙ ap Some of.0, (record { taken = record { text = text; read = read; is = of.1.0 }; run = of.1.1.0 }, of.1.1.1))
+text_holds words old new before now command text (Checked checked) is read of =
+    (is ∙ ap Some of.0, record { taken = record { text = text; read = read; is = of.1.0 }; each = of.1.1 })
 
 -- ---- the end of the program
 

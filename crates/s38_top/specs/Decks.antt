@@ -1,5 +1,5 @@
 -- The checked templates of a deck, and whole runs of its jobs.
-use Rattle.std.specs.Prelude.{◌≡◌, ◌<◌, ℕ, ◌+◌, List, [], map, Option, Some, length, slice_get}
+use Rattle.std.specs.Prelude.{◌≡◌, ◌<◌, ℕ, ◌+◌, All, List, [], map, Option, Some, length, slice_get}
 use Rattle.std.specs.Option.{option_map}
 use Rattle.s38_code.specs.declared.deck.Deck.{Deck}
 use Rattle.s38_code.specs.declared.deck.Job.{Job}
@@ -9,8 +9,9 @@ use Rattle.s38_code.specs.declared.made.CreateResult.{CreateResult}
 use Rattle.s38_code.specs.History.{entries_of}
 use Rattle.s38_create.specs.Checked.{made_of}
 use Rattle.s38_rules.specs.State.{State}
-use Rattle.s38_rules.specs.Legal.{Leads}
+use Rattle.s38_rules.specs.Legal.{IsUnstored, Leads}
 use Rattle.s38_rules.specs.Opening.{opened}
+use Rattle.s38_run.specs.Order.{InOrder}
 use Rattle.s38_run.specs.Whole.{RanWhole}
 use Rattle.s38_template.specs.Grammar.{name_of}
 use Rattle.s38_template.specs.Places.{template_of}
@@ -34,11 +35,17 @@ pub record IsRunOfJob (deck : Deck) (job : Job) (entries : List Entry) : Type 0 
   pub ran : RanWhole made job.budget entries
 
 -- the history is the one-thread machine's, from its opening with the deck's templates, for the whole runs of all
--- jobs of the deck
+-- jobs of the deck; each entry is that of a job, made by the first process that is ready
 pub record IsRunOf (deck : Deck) (history : List Entry) : Type 0 where
   pub state : State
   pub legal : Leads (opened (checked_of deck) deck.jobs) [] history state
+  pub order : InOrder (opened (checked_of deck) deck.jobs) history
   pub each : (k : ℕ) (job : Job) → slice_get deck.jobs k ≡ Some job → IsRunOfJob deck job (entries_of (k + 1) history)
+
+-- each entry has a mark, and since there is no store all are those of one moment
+pub record AreMarks (marks : List ℕ) (history : List Entry) : Type 0 where
+  pub count : length marks ≡ length history
+  pub stamped : All IsUnstored marks
 
 -- ---- on the way there
 

@@ -17,7 +17,7 @@ use Rattle.s38_top.specs.declared.command.Command.TheVariants.{Serial, Check}
 use Rattle.s38_top.specs.declared.outcome.Outcome.{Outcome}
 use Rattle.s38_top.specs.declared.outcome.Outcome.TheVariants.{BadWords, BadDeck, DeckFault, NoMemory, Complete, Checked}
 use Rattle.s38_top.specs.Commands.{command_of}
-use Rattle.s38_top.specs.Decks.{IsRunOf, checked_of}
+use Rattle.s38_top.specs.Decks.{AreMarks, IsRunOf, checked_of}
 
 -- how many bytes of a deck are taken at most
 abbrev pub most : ℕ
@@ -104,7 +104,7 @@ Holds words old new before now (BadDeck line code) = IsServed words × NoDeck ol
 Holds words old new before now DeckFault = IsServed words × Rose before now
 Holds words old new before now NoMemory = Unit {0}
 Holds words old new before now (Complete whole) =
-    (command_of words ≡ Some Serial) × (RanDeck old new whole.deck whole.history.items × (length whole.marks.items ≡ length whole.history.items))
+    (command_of words ≡ Some Serial) × (RanDeck old new whole.deck whole.history.items × AreMarks whole.marks.items whole.history.items)
 Holds words old new before now (Checked checked) = (command_of words ≡ Some Check) × CheckedAll old new checked.deck checked.templates
 
 -- ---- how it is told
@@ -176,5 +176,5 @@ OfText command text (BadDeck line code) = (read_of text ≡ Err (faults.Bad line
 OfText command text DeckFault = ⊥
 OfText command text NoMemory = Unit {0}
 OfText command text (Complete whole) =
-    (command ≡ Serial) × (Spells text whole.deck × (IsRunOf whole.deck whole.history.items × (length whole.marks.items ≡ length whole.history.items)))
+    (command ≡ Serial) × (Spells text whole.deck × (IsRunOf whole.deck whole.history.items × AreMarks whole.marks.items whole.history.items))
 OfText command text (Checked checked) = (command ≡ Check) × (Spells text checked.deck × (checked.templates ≡ checked_of checked.deck))

@@ -3,7 +3,7 @@ ghost use Rattle.s38_code.specs.declared.deck.Job.{Job};
 ghost use Rattle.s38_template.specs.Grammar.{Spells};
 ghost use Rattle.s38_template.specs.Places.{HasTemplate};
 ghost use Rattle.s38_top.specs.Commands.{command_of};
-ghost use Rattle.s38_top.specs.Decks.{IsRunOf, checked_of};
+ghost use Rattle.s38_top.specs.Decks.{AreMarks, IsRunOf, checked_of};
 ghost use Rattle.s38_top.specs.Outcome.{Holds, OfText};
 
 use crate::command::{Command, command_of};
@@ -27,7 +27,7 @@ fn run_deck(alloc: Global, deck: Deck, templates: Checked) -> Result<Whole, NoMe
     requires few { length deck.jobs ≤ 256 }
     ensures deck { IfOk result (λ whole. whole.deck ≡ deck) }
     ensures run { IfOk result (λ whole. IsRunOf deck whole.history.items) }
-    ensures marks { IfOk result (λ whole. length whole.marks.items ≡ length whole.history.items) }
+    ensures marks { IfOk result (λ whole. AreMarks whole.marks.items whole.history.items) }
 {
     let made = made_of_jobs(alloc, &deck, templates.as_slice())?;
     let machine = Machine::start(alloc, templates, deck.jobs.as_slice())?;

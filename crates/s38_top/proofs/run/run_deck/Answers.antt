@@ -1,7 +1,7 @@
 use Rattle.std.proofs.Common.{List, sym, subst}
 use Rattle.s38_code.specs.declared.entry.Entry.{Entry}
 use Rattle.s38_top.specs.Decks.{IsRunOf}
-use Rattle.s38_top.proofs.TopLaws.{run_of}
+use Rattle.s38_top.proofs.TopLaws.{marks_of_run, run_of}
 use Rattle.s38_top.proofs.run.run_deck.Goals as goal
 
 pub returns-clause-run : goal.returns-clause-run
@@ -12,4 +12,9 @@ returns-clause-run c =
     (rw c.as_slice-2.ensures.items at c.in_ok-machine.ensures)
     c.in_ok-machine-2.ensures.sound
     (rw c.as_slice-3.ensures.items at c.in_ok-machine-2.ensures.origin)
+    c.in_ok-machine-2.ensures.order
     (rw (c.as_slice-3.ensures.items, c.as_slice-4.ensures.value) at c.in_ok-machine-2.ensures.ran))
+
+pub returns-clause-marks : goal.returns-clause-marks
+returns-clause-marks c =
+    marks_of_run c.in_ok-machine-2.machine c.end-history.result.0.items c.end-history.result.1.items c.in_ok-machine-2.ensures.sound c.end-history.ensures.0 c.end-history.ensures.1
