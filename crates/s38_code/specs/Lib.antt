@@ -1,5 +1,3 @@
-pub mod Built
 pub mod Class
 pub mod History
-pub mod Mnemonic
-pub mod Tie
+pub mod Operations
