@@ -1,4 +1,4 @@
-ghost use Rattle.std.specs.Prelude.{◌≡◌};
+ghost use Rattle.std.specs.Prelude.{◌≡◌, is_some};
 ghost use Rattle.std.specs.Option.{option_map};
 ghost use Rattle.s38_words.specs.DeclarationLine.{based_of, behind_dcl, behind_init, count_of, declaration_of, declaration_said, declares_of, description_of, initial_of, is_in_range, is_initial, is_literal, parameter_of, taken_of, variable_of};
 
@@ -134,6 +134,13 @@ fn behind_dcl(line: &[u8]) -> Option<&[u8]>
     ensures { option_map (λ rest. rest.now) result ≡ behind_dcl line.now }
 {
     rest_after(b"DCL ", line)
+}
+
+/// Whether a line begins as a declaration.
+pub fn is_declaration(line: &[u8]) -> bool
+    ensures { result ≡ is_some (behind_dcl line.now) }
+{
+    behind_dcl(line).is_some()
 }
 
 /// What a line declares; None exactly where it has no form of a declaration. Bounds of attributes and ranges
