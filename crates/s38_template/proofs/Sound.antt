@@ -13,11 +13,12 @@ use Rattle.s38_template.specs.declared.said.JobSaid.{JobSaid}
 use Rattle.s38_template.specs.declared.said.Line.{Line}
 use Rattle.s38_template.specs.declared.said.Line.TheVariants.{Program, Declare, Label, Act, End, Stage, Job as JobLine}
 use Rattle.s38_template.specs.Grammar.{FitJobs, IsTemplate, SayEach, Says, Spells, acts, are_new, are_numbered, declares, goes_on, has, is_action, is_declaration, is_job, is_kept, is_plain, is_step, labels_in, labels_said, name_of, name_of_job, stage_lines, template_names, with_feed}
-use Rattle.s38_template.specs.Lines.{end_line, job, label, line_of, program, program_word, stage_line}
+use Rattle.s38_template.specs.Lines.{end_line, job, label, line_of, program, stage_line}
 use Rattle.s38_template.specs.Reading.{State, is_feed, job_of, may_end, may_stand, read_of, start, taken}
 use Rattle.s38_template.proofs.Ends.{Ends, Read, Step, reads}
 use Rattle.s38_template.proofs.JobText.{SaysJob, job_says}
 use Rattle.s38_template.proofs.LineForms.{head_name, line_told}
+use Rattle.s38_words.specs.ProgramLine.{program_word}
 
 -- ---- what lines say from a state on
 

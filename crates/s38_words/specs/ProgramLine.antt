@@ -40,24 +40,24 @@ label_of line = option_and_then declared_name (rest_after (codes "LABEL ") line)
 -- ---- a mnemonic, perhaps (R), and words of operands
 
 -- the operation, whether (R) stands behind its mnemonic, and the words of its operands
-pub record Act : Type 0 where
+pub record ActLine : Type 0 where
   pub op : Op
   pub round : Bool
   pub operands : Option (List ℕ)
 
-abbrev pub act : Op → Bool → Option (List ℕ) → Act
+abbrev pub act : Op → Bool → Option (List ℕ) → ActLine
 act op round operands = record { op = op; round = round; operands = operands }
 
-abbrev pub suffixed : Op → List ℕ → Option (List ℕ) → Act
+abbrev pub suffixed : Op → List ℕ → Option (List ℕ) → ActLine
 suffixed op text None = act op false (Some text)
 suffixed op text (Some operands) = act op true (Some operands)
 
-abbrev pub act_from : Op → Option (List ℕ) → Act
+abbrev pub act_from : Op → Option (List ℕ) → ActLine
 act_from op None = act op false None
 act_from op (Some text) = if is_word (codes "(R)") text then act op true None else suffixed op text (rest_after (codes "(R) ") text)
 
 -- the instruction of a line that begins with a mnemonic
-unfoldable pub act_of : List ℕ → Option Act
+unfoldable pub act_of : List ℕ → Option ActLine
 act_of line = option_map (λ op. act_from op (behind 32 line)) (op_of (before 32 line))
 
 -- (R) stands only where a result may be rounded
