@@ -4,4 +4,4 @@ pub mod MapLemmas
 pub mod NumberLemmas
 pub mod Parts
 pub mod RefusalLemmas
-pub mod SaidLemmas
+pub mod ParsedLemmas

@@ -1,18 +1,15 @@
 -- What a line with a form is made of.
-use Rattle.std.proofs.Common.{◌≡◌, ℕ, ◌+◌, Bool, true, false, not, cond, List, [], ◌∷◌, ◌++◌, length, drop, Option, Some, None, codes, sym, ap, subst, ◌∙◌, refl, inl, inr}
+use Rattle.std.proofs.Common.{◌≡◌, ℕ, Bool, true, List, ◌++◌, length, drop, Option, Some, None, codes, ap, subst, ◌∙◌, refl, inl, inr}
 use Rattle.std.proofs.lemmas.Bool.{cases_Bool}
 use Rattle.std.proofs.lemmas.Option.{same_Some, cond_some}
 use Rattle.std.proofs.lemmas.Slice.Eq.{bytes_eq-Decides}
 use Rattle.std.specs.Option.{option_map}
 use Rattle.s38_words.specs.DeclarationLine.{declaration_of}
 use Rattle.s38_words.specs.Text.{before, behind, is_word, rest_after}
-use Rattle.s38_words.specs.declared.declarations.DeclarationLine.{DeclarationLine}
 use Rattle.s38_template.specs.declared.said.JobSaid.{JobSaid}
 use Rattle.s38_template.specs.declared.said.Line.{Line}
-use Rattle.s38_template.specs.declared.said.Line.TheVariants.{Program, Declare, Label, Act, End, Stage, Job}
-use Rattle.s38_template.specs.Cut.{cut}
-use Rattle.s38_template.specs.Grammar.{name_of}
-use Rattle.s38_template.specs.Lines.{begun_by, declare, end_line, is_instruction, job, job_in, job_word, label, line_of, program, rest_said, said_by, stage_line}
+use Rattle.s38_template.specs.declared.said.Line.TheVariants.{Program, Act, End, Stage, Job}
+use Rattle.s38_template.specs.Lines.{begun_by, declare, end_line, is_instruction, job, job_in, job_word, label, line_of, rest_said, said_by, stage_line}
 use Rattle.s38_template.proofs.JobText.{after_joins}
 use Rattle.s38_template.proofs.Options.{map_some, then_some}
 use Rattle.s38_template.proofs.Texts.{before_cut}

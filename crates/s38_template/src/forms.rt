@@ -32,7 +32,7 @@ fn are_formed(text: Option<&[u8]>) -> bool
 
 /// Whether `(R)` stands only where it may, and each word has the form of some operand.
 fn is_act(act: InstructionLine<'_>) -> bool
-    ensures { result ≡ is_act (act_in act) }
+    ensures { result ≡ is_act (act_in act.entry) }
 {
     rounds_right(act.round, act.op) && are_formed(act.operands)
 }

@@ -21,7 +21,7 @@ pub use declarations::{
 pub use forms::has_form;
 pub use literals::{is_text, number_literal, text_literal, text_value};
 pub use names::{declared_name, exception_code, identification, object_name};
-pub use numbers::{Numeral, natural, number, whole};
+pub use numbers::{Numeral, natural, number, signed, whole};
 pub use operations::{operation, operations_are_read};
 pub use program_lines::{Head, InstructionLine, instruction, label, program_head, rounds_right};
 pub use right_words::rights;

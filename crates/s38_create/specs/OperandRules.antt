@@ -8,15 +8,15 @@ use Rattle.s38_base.specs.declared.attr.Attr.{Attr}
 use Rattle.s38_base.specs.declared.attr.Attr.TheVariants.{Packed, Zoned, Binary, Chars, Pointer}
 use Rattle.s38_base.specs.declared.id.Kind.{Kind}
 use Rattle.s38_base.specs.declared.op.Op.{Op}
-use Rattle.s38_code.specs.Class.{classes}
-use Rattle.s38_code.specs.Tie.{made_kind, tie_of}
+use Rattle.s38_code.specs.Operations.{classes}
+use Rattle.s38_code.specs.OperandRule.{made_kind, operand_rule}
 use Rattle.s38_code.specs.declared.program.Arg.{Arg}
 use Rattle.s38_code.specs.declared.program.Arg.TheVariants as args
 use Rattle.s38_code.specs.declared.program.Form.{Form}
 use Rattle.s38_code.specs.declared.program.Form.TheVariants as forms
 use Rattle.s38_code.specs.declared.program.Row.{Row}
-use Rattle.s38_code.specs.declared.tie.Tie.{Tie}
-use Rattle.s38_code.specs.declared.tie.Tie.TheVariants.{Free, EqualLengths, EqualTables, OneByte, TwiceTheSource, TwiceTheReceiver, TwoLocalBytes, ShortBinary, Parameters, QueueLengths, EntryLength}
+use Rattle.s38_code.specs.declared.rule.OperandRule.{OperandRule}
+use Rattle.s38_code.specs.declared.rule.OperandRule.TheVariants.{Free, EqualLengths, EqualTables, OneByte, TwiceTheSource, TwiceTheReceiver, TwoLocalBytes, ShortBinary, Parameters, QueueLengths, EntryLength}
 use Rattle.s38_create.specs.Suits.{is_natural_to, is_nothing, item_suits, operand_attr, all_suit}
 use Rattle.s38_decimal.specs.Need.{has_receiver, need_of}
 
@@ -93,18 +93,18 @@ is_from_one_to most z = is_natural_to most z && nat_le 1 (unsigned_abs z)
 abbrev pub is_key_length : ℕ → ℤ → Bool
 is_key_length order z = if order == 2 then is_from_one_to 120 z else is_natural_to 0 z
 
-unfoldable pub is_tied : List Row → Tie → List Arg → Bool
-is_tied rows Free args = true
-is_tied rows EqualLengths args = list_all (has_length rows (length_at rows args 0)) args
-is_tied rows EqualTables args = length_at rows args 2 == length_at rows args 3
-is_tied rows OneByte args = length_at rows args 2 == 1
-is_tied rows TwiceTheSource args = length_at rows args 0 == 2 * length_at rows args 1
-is_tied rows TwiceTheReceiver args = length_at rows args 1 == 2 * length_at rows args 0
-is_tied rows TwoLocalBytes args = at_suits is_two_local_bytes rows (slice_get args 0)
-is_tied rows ShortBinary args = is_short_binary (attr_at rows args 0)
-is_tied rows Parameters args = list_all (item_suits is_parameter rows) (drop 1 args)
-is_tied rows QueueLengths args = is_key_length (word_at args 4) (whole_at args 5) && is_from_one_to 4096 (whole_at args 6)
-is_tied rows EntryLength args = is_from_one_to 120 (whole_at args 4)
+unfoldable pub keeps_rule : List Row → OperandRule → List Arg → Bool
+keeps_rule rows Free args = true
+keeps_rule rows EqualLengths args = list_all (has_length rows (length_at rows args 0)) args
+keeps_rule rows EqualTables args = length_at rows args 2 == length_at rows args 3
+keeps_rule rows OneByte args = length_at rows args 2 == 1
+keeps_rule rows TwiceTheSource args = length_at rows args 0 == 2 * length_at rows args 1
+keeps_rule rows TwiceTheReceiver args = length_at rows args 1 == 2 * length_at rows args 0
+keeps_rule rows TwoLocalBytes args = at_suits is_two_local_bytes rows (slice_get args 0)
+keeps_rule rows ShortBinary args = is_short_binary (attr_at rows args 0)
+keeps_rule rows Parameters args = list_all (item_suits is_parameter rows) (drop 1 args)
+keeps_rule rows QueueLengths args = is_key_length (word_at args 4) (whole_at args 5) && is_from_one_to 4096 (whole_at args 6)
+keeps_rule rows EntryLength args = is_from_one_to 120 (whole_at args 4)
 
 -- in a row that makes an object, an identification is of that kind
 abbrev pub is_of_kind : Option Kind → Arg → Bool
@@ -114,7 +114,7 @@ is_of_kind _ _ = true
 -- the operands are the row's
 unfoldable pub fits : List Row → Op → List Arg → Bool
 fits rows op args =
-    all_suit rows (classes op) args && (list_all (is_of_kind (made_kind op)) args && is_tied rows (tie_of op) args)
+    all_suit rows (classes op) args && (list_all (is_of_kind (made_kind op)) args && keeps_rule rows (operand_rule op) args)
 
 -- ---- digits
 

@@ -1,14 +1,14 @@
 ghost use Rattle.std.specs.Prelude.{◌≡◌, drop, slice_get};
 ghost use Rattle.std.specs.List.{list_all};
 ghost use Rattle.s38_create.specs.Suits.{item_suits};
-ghost use Rattle.s38_create.specs.Ties.{at_suits, attr_at, attr_length, fits, has_length, is_from_one_to, is_key_length, is_of_kind, is_parameter, is_short_binary, is_tied, is_two_local_bytes, length_at, nothing_at, whole_at, word_at};
+ghost use Rattle.s38_create.specs.OperandRules.{at_suits, attr_at, attr_length, fits, has_length, is_from_one_to, is_key_length, is_of_kind, is_parameter, is_short_binary, keeps_rule, is_two_local_bytes, length_at, nothing_at, whole_at, word_at};
 
 use crate::attributes::operand_attr;
 use crate::items::{item_is_parameter, item_is_two_local_bytes};
 use crate::shapes::{is_natural_to, is_nothing};
 use crate::suits::all_suit;
 use s38_base::{Attr, Kind, Op};
-use s38_code::{Arg, Row, Tie, classes, made_kind, tie_of};
+use s38_code::{Arg, OperandRule, Row, classes, made_kind, operand_rule};
 
 /// The number of KEYED among the orders of a queue.
 const KEYED: u32 = 2;
@@ -129,29 +129,29 @@ fn is_key_length(order: u32, number: i64) -> bool
     }
 }
 
-#[tactic(auto, unfolding(crate::specs::Ties::is_tied))]
-fn is_tied(rows: &[Row], tie: Tie, args: &[Arg]) -> bool
-    ensures { result ≡ is_tied rows.now tie args.now }
+#[tactic(auto, unfolding(crate::specs::OperandRules::keeps_rule))]
+fn keeps_rule(rows: &[Row], rule: OperandRule, args: &[Arg]) -> bool
+    ensures { result ≡ keeps_rule rows.now rule args.now }
 {
-    match tie {
-        Tie::Free => true,
-        Tie::EqualLengths => have_length(rows, length_at(rows, args, 0), args),
-        Tie::EqualTables => length_at(rows, args, 2) == length_at(rows, args, 3),
-        Tie::OneByte => length_at(rows, args, 2) == 1,
-        Tie::TwiceTheSource => {
+    match rule {
+        OperandRule::Free => true,
+        OperandRule::EqualLengths => have_length(rows, length_at(rows, args, 0), args),
+        OperandRule::EqualTables => length_at(rows, args, 2) == length_at(rows, args, 3),
+        OperandRule::OneByte => length_at(rows, args, 2) == 1,
+        OperandRule::TwiceTheSource => {
             u32::from(length_at(rows, args, 0)) == 2 * u32::from(length_at(rows, args, 1))
         }
-        Tie::TwiceTheReceiver => {
+        OperandRule::TwiceTheReceiver => {
             u32::from(length_at(rows, args, 1)) == 2 * u32::from(length_at(rows, args, 0))
         }
-        Tie::TwoLocalBytes => is_local_at_front(rows, args),
-        Tie::ShortBinary => is_short_binary(attr_at(rows, args, 0)),
-        Tie::Parameters => passes_parameters(rows, args),
-        Tie::QueueLengths => {
+        OperandRule::TwoLocalBytes => is_local_at_front(rows, args),
+        OperandRule::ShortBinary => is_short_binary(attr_at(rows, args, 0)),
+        OperandRule::Parameters => passes_parameters(rows, args),
+        OperandRule::QueueLengths => {
             is_key_length(word_at(args, 4), whole_at(args, 5))
                 && is_from_one_to(LONGEST_MESSAGE, whole_at(args, 6))
         }
-        Tie::EntryLength => is_from_one_to(LONGEST_KEY, whole_at(args, 4)),
+        OperandRule::EntryLength => is_from_one_to(LONGEST_KEY, whole_at(args, 4)),
     }
 }
 
@@ -176,11 +176,11 @@ fn are_of_kind(kind: Option<Kind>, args: &[Arg]) -> bool
 
 /// The operands are the row's: each suits its class, an identification is of the kind that is made, and they
 /// are tied as the row says.
-#[tactic(auto, unfolding(crate::specs::Ties::fits))]
+#[tactic(auto, unfolding(crate::specs::OperandRules::fits))]
 pub fn fits(rows: &[Row], op: Op, args: &[Arg]) -> bool
     ensures { result ≡ fits rows.now op args.now }
 {
     all_suit(rows, classes(op), args)
         && are_of_kind(made_kind(op), args)
-        && is_tied(rows, tie_of(op), args)
+        && keeps_rule(rows, operand_rule(op), args)
 }
