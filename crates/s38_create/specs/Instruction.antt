@@ -2,7 +2,7 @@
 use Rattle.std.specs.Prelude.{ℕ, ◌+◌, Bool, true, not, ◌&&◌, ◌==◌, List, [], ◌∷◌, ◌++◌, map, length, nat_le, Option, Some, None, Result, Ok, Err, if◌then◌else◌}
 use Rattle.std.specs.List.{list_all}
 use Rattle.s38_base.specs.declared.op.Op.{Op}
-use Rattle.s38_code.specs.OperandRule.{may_round}
+use Rattle.s38_code.specs.Operations.{classes, is_built}
 use Rattle.s38_code.specs.declared.program.Arg.{Arg}
 use Rattle.s38_code.specs.declared.program.CreateFault.{CreateFault}
 use Rattle.s38_code.specs.declared.program.CreateFault.TheVariants.{Bad}
@@ -17,7 +17,6 @@ use Rattle.s38_base.specs.Exceptions as exceptions
 use Rattle.s38_base.specs.Relations.{relation_word}
 use Rattle.s38_base.specs.declared.op.Op.TheVariants.{Deq, Crtq}
 use Rattle.s38_base.specs.declared.words.Relation.TheVariants.{Any}
-use Rattle.s38_code.specs.Operations.{classes, is_built}
 use Rattle.s38_words.specs.ProgramLine.{ActLine, act_of, rounds_right}
 
 -- ---- an instruction of words that its row may have

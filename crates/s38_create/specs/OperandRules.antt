@@ -8,8 +8,7 @@ use Rattle.s38_base.specs.declared.attr.Attr.{Attr}
 use Rattle.s38_base.specs.declared.attr.Attr.TheVariants.{Packed, Zoned, Binary, Chars, Pointer}
 use Rattle.s38_base.specs.declared.id.Kind.{Kind}
 use Rattle.s38_base.specs.declared.op.Op.{Op}
-use Rattle.s38_code.specs.Operations.{classes}
-use Rattle.s38_code.specs.OperandRule.{made_kind, operand_rule}
+use Rattle.s38_code.specs.Operations.{classes, made_kind, operand_rule}
 use Rattle.s38_code.specs.declared.program.Arg.{Arg}
 use Rattle.s38_code.specs.declared.program.Arg.TheVariants as args
 use Rattle.s38_code.specs.declared.program.Form.{Form}

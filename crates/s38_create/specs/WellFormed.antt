@@ -2,8 +2,7 @@
 use Rattle.std.specs.Prelude.{◌≤◌, ℕ, Bool, true, IsTrue, ◌==◌, List, length, nat_le}
 use Rattle.std.specs.List.{All, list_all}
 use Rattle.s38_base.specs.Scalar.{length_of}
-use Rattle.s38_code.specs.Operations.{is_built, classes}
-use Rattle.s38_code.specs.OperandRule.{made_kind, operand_rule}
+use Rattle.s38_code.specs.Operations.{is_built, classes, made_kind, operand_rule}
 use Rattle.s38_code.specs.declared.program.Arg.{Arg}
 use Rattle.s38_code.specs.declared.program.Arg.TheVariants as args
 use Rattle.s38_code.specs.declared.program.Instruction.{Instruction}

@@ -1,6 +1,6 @@
 ghost use Rattle.std.specs.Prelude.{◌≡◌, is_some};
 ghost use Rattle.std.specs.Option.{option_map};
-ghost use Rattle.s38_words.specs.DeclarationLine.{based_of, behind_dcl, behind_init, count_of, declaration_of, declaration_said, declares_of, description_of, initial_of, is_in_range, is_initial, is_literal, parameter_of, taken_of, variable_of};
+ghost use Rattle.s38_words.specs.DeclarationLine.{based_of, behind_dcl, behind_init, count_of, declaration_of, declaration_behind, declares_of, description_of, initial_of, is_in_range, is_initial, is_literal, parameter_of, taken_of, variable_of};
 
 use crate::attribute_words::attribute;
 use crate::literals::is_text;
@@ -122,8 +122,8 @@ fn what_is_declared(text: &[u8]) -> Option<Declares>
     variable(text)
 }
 
-fn declaration_said(text: &[u8]) -> Option<DeclarationLine>
-    ensures { result ≡ declaration_said text.now }
+fn declaration_behind(text: &[u8]) -> Option<DeclarationLine>
+    ensures { result ≡ declaration_behind text.now }
 {
     let name = declared_name(before(b' ', text))?;
     let declares = what_is_declared(behind(b' ', text)?)?;
@@ -150,7 +150,7 @@ pub fn declaration(line: &[u8]) -> Option<DeclarationLine>
     ensures { result ≡ declaration_of line.now }
 {
     match behind_dcl(line) {
-        Some(text) => declaration_said(text),
+        Some(text) => declaration_behind(text),
         None => None,
     }
 }

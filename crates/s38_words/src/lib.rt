@@ -31,6 +31,4 @@ pub use row_words::{
 pub use texts::{before, behind, is_word, place_of, rest_after};
 
 #[cfg(test)]
-mod table_tests;
-#[cfg(test)]
 mod tests;
