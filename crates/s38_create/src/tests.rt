@@ -159,7 +159,9 @@ const OPERANDS: [(&str, &str); 8] = [
 #[test]
 fn operands_are_what_the_words_say(rt: HostRuntime) -> Result<(), Fail> {
     for (line, wanted) in OPERANDS {
-        let text = format!(in rt.alloc(); "PROGRAM P ADOPT\n{DECLARED}\nLABEL M\n{line}\nLABEL L\nEND")?;
+        let text = format!(in rt.alloc();
+            "PROGRAM P ADOPT\n{DECLARED}\nLABEL M\n{line}\nLABEL L\nEND"
+        )?;
         let program = create(rt.alloc(), &template(rt.alloc(), text.as_str())?)?;
         let operand = last_operand(&program, 0).ok_or("no operand")?;
         let told = format!(in rt.alloc(); "{operand:?}")?;
@@ -173,7 +175,10 @@ fn operands_are_what_the_words_say(rt: HostRuntime) -> Result<(), Fail> {
 fn a_template_is_accepted_or_refused(rt: HostRuntime) -> Result<(), Fail> {
     let good = checked(rt.alloc(), &template(rt.alloc(), "PROGRAM P\nRTX\nEND")?)?;
     assert!(rt; matches!(good, CreateResult::Created(_)));
-    let bad = checked(rt.alloc(), &template(rt.alloc(), "PROGRAM P\nRTX\nB X\nEND")?)?;
+    let bad = checked(
+        rt.alloc(),
+        &template(rt.alloc(), "PROGRAM P\nRTX\nB X\nEND")?,
+    )?;
     assert!(rt;
         matches!(
             bad,
