@@ -74,11 +74,18 @@ const DECLARATIONS: [(&str, Option<bool>); 12] = [
     ("DCL A EXCM 2A4 L", None),
 ];
 
+/// Whether the numbers of a declaration are in their ranges; None where the text is no declaration.
+fn range_of(text: &str) -> Option<bool> {
+    match declaration(text.as_bytes()) {
+        Some(line) => Some(is_in_range(&line.declares)),
+        None => None,
+    }
+}
+
 #[test]
 fn lines_of_declarations_are_read(rt: HostRuntime) {
     for (text, expected) in DECLARATIONS {
-        let found = declaration(text.as_bytes()).map(|line| is_in_range(&line.declares));
-        assert_eq!(rt; found, expected, "{text}");
+        assert_eq!(rt; range_of(text), expected, "{text}");
     }
 }
 
