@@ -2,7 +2,6 @@
 //! history; and what stands before a run: programs, templates and decks, and the table of mnemonics.
 #![tactic(auto)]
 
-mod built;
 mod class;
 mod code;
 mod deck;
@@ -10,28 +9,27 @@ mod entry;
 mod event;
 mod family;
 mod made;
-mod mnemonics;
 mod operand;
+mod operations;
 mod program;
 mod reply;
+mod rule;
 mod step;
-mod tie;
 
-pub use built::{is_built, is_local_built, is_shared_built};
-pub use class::{Class, classes};
+pub use class::Class;
 pub use code::Code;
 pub use deck::{Deck, Job, Jobs, Names, Template, Templates};
 pub use entry::Entry;
 pub use event::{EndCause, Event, Request};
-pub use family::{Family, family_of};
+pub use family::Family;
 pub use made::{Checked, CheckedTemplate, CreateResult};
-pub use mnemonics::mnemonic;
 pub use operand::{Operand, Operands};
+pub use operations::{classes, family_of, is_built, made_kind, may_round, mnemonic, operand_rule};
 pub use program::{Arg, Args, CreateFault, Form, Instruction, Instructions, Program, Row, Rows};
 pub use reply::{Reply, Val, Vals};
+pub use rule::OperandRule;
 pub use s38_base::{AttrList, Bytes, Op};
 pub use step::{StepFault, Stepper};
-pub use tie::{Tie, made_kind, may_round, tie_of};
 
 /// What is sent between threads.
 fn sends<T: Send + Sync>() {}

@@ -5,38 +5,36 @@ use Rattle.std.specs.List.{All, list_all}
 use Rattle.std.proofs.lemmas.List.Elements.{All-append, All-cons, All-nil}
 use Rattle.std.proofs.lemmas.List.Folds.{list_all-map}
 use Rattle.s38_base.specs.declared.op.Op.{Op}
-use Rattle.s38_code.specs.Built.{is_built}
-use Rattle.s38_code.specs.Class.{classes}
-use Rattle.s38_words.specs.Operation.{op_of}
-use Rattle.s38_code.specs.Tie.{made_kind, tie_of}
-use Rattle.s38_words.specs.Text.{before}
+use Rattle.s38_code.specs.Operations.{is_built, classes, made_kind, operand_rule}
+use Rattle.s38_base.specs.Exceptions as exceptions
+use Rattle.s38_words.specs.ProgramLine.{ActLine, act_of, rounds_right}
 use Rattle.s38_code.specs.declared.program.CreateFault.{CreateFault}
 use Rattle.s38_code.specs.declared.program.CreateFault.TheVariants.{Bad}
 use Rattle.s38_code.specs.declared.program.Instruction.{Instruction}
 use Rattle.s38_code.specs.declared.program.Row.{Row}
 use Rattle.s38_create.proofs.LabelLemmas.{instruction_count-label, instruction_count-more}
 use Rattle.s38_create.proofs.Parts.{and-both, if-some, no-cause}
-use Rattle.s38_create.proofs.SaidLemmas.{said_of-good, saids_from-all}
-use Rattle.s38_create.specs.Instruction.{are_words_built, by_op, by_saids, cause_of, checked, code_from, instruction_of, is_rounded, is_taken, made_of, operand_text, result_and_then, rounds_right, saids_of, unless}
+use Rattle.s38_create.proofs.ParsedLemmas.{parsed_operand-good, parsed_from-all}
+use Rattle.s38_create.specs.Instruction.{are_words_built, by_act, by_parsed, cause_of, checked, code_from, instruction_from, instruction_of, is_taken, parsed_of, result_and_then, unless}
 use Rattle.s38_create.specs.Names.{instruction_count, is_label}
-use Rattle.s38_create.specs.Said.{arg_of, is_declared, is_placed, saids_from}
+use Rattle.s38_create.specs.Parsed.{arg_of, is_declared, is_placed, parsed_from}
 use Rattle.s38_create.specs.Suits.{all_suit}
-use Rattle.s38_create.specs.Ties.{digits_needed, fits, is_of_kind, is_tied}
+use Rattle.s38_create.specs.OperandRules.{digits_needed, fits, is_of_kind, keeps_rule}
 use Rattle.s38_create.specs.WellFormed.{InstructionFits, WellFormed, is_filled, lands_in}
 use Rattle.s38_create.specs.Created.{program}
-use Rattle.s38_create.specs.declared.head.Head.{Head}
+use Rattle.s38_words.specs.declared.program_lines.Head.{Head}
 use Rattle.s38_odt.specs.Formed.{AreFormed}
-use Rattle.s38_create.specs.declared.said.Said.{Said}
+use Rattle.s38_create.specs.declared.parsed.ParsedOperand.{ParsedOperand}
 
 -- where no cause stands against it, the operands are the row's
 cause_of-none : (rows : List Row) (i : Instruction) (declared placed : Bool) → cause_of rows i declared placed ≡ None →
     (are_words_built i.op i.args ≡ true) × (fits rows i.op i.args ≡ true) × (digits_needed rows i.op i.args ≤ 38)
 unfolding cause_of
 cause_of-none rows i declared placed h =
-    let words = no-cause (are_words_built i.op i.args) 0x2A04 _ h in
-    let named = no-cause declared 0x2A07 _ words.1 in
-    let fitting = no-cause (fits rows i.op i.args) 0x2A05 _ named.1 in
-    let few = no-cause (nat_le (digits_needed rows i.op i.args) 38) 0x2A06 _ fitting.1 in
+    let words = no-cause (are_words_built i.op i.args) exceptions.operands_invalid _ h in
+    let named = no-cause declared exceptions.name_missing _ words.1 in
+    let fitting = no-cause (fits rows i.op i.args) exceptions.attributes_invalid _ named.1 in
+    let few = no-cause (nat_le (digits_needed rows i.op i.args) 38) exceptions.digits_exceeded _ fitting.1 in
     (words.0, fitting.0, leb-true (digits_needed rows i.op i.args) 38 few.0)
 
 unless-ok : (cause : Option ℕ) (number : ℕ) (i made : Instruction) → unless cause number i ≡ Ok made → (cause ≡ None) × (i ≡ made)
@@ -44,21 +42,21 @@ unless-ok None number i made h = (refl, cc)
 unless-ok (Some id) number i made h = absurd (let e : Err (Bad id number) ≡ Ok made = h in cc)
 
 fits-parts : (rows : List Row) (op : Op) (args : List _) → fits rows op args ≡ true →
-    (all_suit rows (classes op) args ≡ true) × (list_all (is_of_kind (made_kind op)) args ≡ true) × (is_tied rows (tie_of op) args ≡ true)
+    (all_suit rows (classes op) args ≡ true) × (list_all (is_of_kind (made_kind op)) args ≡ true) × (keeps_rule rows (operand_rule op) args ≡ true)
 unfolding fits
 fits-parts rows op args h =
     let first = and-both (all_suit rows (classes op) args) _ h in
     let second = and-both (list_all (is_of_kind (made_kind op)) args) _ first.1 in
     (first.0, second.0, second.1)
 
-checked-fits : (rows : List Row) (code : List (List ℕ)) (number : ℕ) (op : Op) (round : Bool) (saids : List Said) (made : Instruction) →
+checked-fits : (rows : List Row) (code : List (List ℕ)) (number : ℕ) (op : Op) (round : Bool) (parsed : List ParsedOperand) (made : Instruction) →
     is_built op ≡ true → rounds_right round op ≡ true →
-    list_all (λ s. is_filled (arg_of s)) saids ≡ true → list_all (λ s. lands_in (instruction_count code) (arg_of s)) saids ≡ true →
-    checked rows number op round saids ≡ Ok made → InstructionFits rows (instruction_count code) made
-checked-fits rows code number op round saids made built rounded filled lands h =
-    let fine = unless-ok (cause_of rows (made_of op round saids) (list_all is_declared saids) (list_all is_placed saids)) number (made_of op round saids) made h in
-    let held = cause_of-none rows (made_of op round saids) (list_all is_declared saids) (list_all is_placed saids) fine.0 in
-    let parts = fits-parts rows op (map arg_of saids) held.1 in
+    list_all (λ s. is_filled (arg_of s)) parsed ≡ true → list_all (λ s. lands_in (instruction_count code) (arg_of s)) parsed ≡ true →
+    checked rows number op round parsed ≡ Ok made → InstructionFits rows (instruction_count code) made
+checked-fits rows code number op round parsed made built rounded filled lands h =
+    let fine = unless-ok (cause_of rows (instruction_from op round parsed) (list_all is_declared parsed) (list_all is_placed parsed)) number (instruction_from op round parsed) made h in
+    let held = cause_of-none rows (instruction_from op round parsed) (list_all is_declared parsed) (list_all is_placed parsed) fine.0 in
+    let parts = fits-parts rows op (map arg_of parsed) held.1 in
     let P : Instruction → Type 0 = λ i. InstructionFits rows (instruction_count code) i in
     subst P fine.1 (record {
       built = built;
@@ -66,34 +64,34 @@ checked-fits rows code number op round saids made built rounded filled lands h =
       rounded = rounded;
       suited = parts.0;
       kinds = parts.1;
-      tied = parts.2;
+      ruled = parts.2;
       digits = held.2;
-      filled = list_all-map is_filled arg_of saids ∙ filled;
-      jumps = list_all-map (lands_in (instruction_count code)) arg_of saids ∙ lands;
+      filled = list_all-map is_filled arg_of parsed ∙ filled;
+      jumps = list_all-map (lands_in (instruction_count code)) arg_of parsed ∙ lands;
     })
 
-by_saids-fits : (rows : List Row) (code : List (List ℕ)) (number : ℕ) (line : List ℕ) (op : Op) (made : Instruction) (o : Option (List Said)) →
-    saids_of rows code line op ≡ o → by_saids rows number op (is_rounded line) o ≡ Ok made → InstructionFits rows (instruction_count code) made
-by_saids-fits rows code number line op made None is h = absurd (let e : Err (Bad 0x2A04 number) ≡ Ok made = h in cc)
-by_saids-fits rows code number line op made (Some saids) is h =
-    let taken = if-some (is_taken op line) (saids_from rows code [] (classes op) (operand_text line)) saids is in
-    let both = and-both (is_built op) (rounds_right (is_rounded line) op) taken.0 in
-    checked-fits rows code number op (is_rounded line) saids made both.0 both.1
-    (saids_from-all (λ s. is_filled (arg_of s)) rows code [] (classes op) (operand_text line) saids
-    (λ class word said found. (said_of-good rows code class word said found).filled) refl taken.1)
-    (saids_from-all (λ s. lands_in (instruction_count code) (arg_of s)) rows code [] (classes op) (operand_text line) saids
-    (λ class word said found. (said_of-good rows code class word said found).lands) refl taken.1)
+by_parsed-fits : (rows : List Row) (code : List (List ℕ)) (number : ℕ) (act : ActLine) (made : Instruction) (o : Option (List ParsedOperand)) →
+    parsed_of rows code act ≡ o → by_parsed rows number act.op act.round o ≡ Ok made → InstructionFits rows (instruction_count code) made
+by_parsed-fits rows code number act made None is h = absurd (let e : Err (Bad exceptions.operands_invalid number) ≡ Ok made = h in cc)
+by_parsed-fits rows code number act made (Some parsed) is h =
+    let taken = if-some (is_taken act) (parsed_from rows code [] (classes act.op) act.operands) parsed is in
+    let both = and-both (is_built act.op) (rounds_right act.round act.op) taken.0 in
+    checked-fits rows code number act.op act.round parsed made both.0 both.1
+    (parsed_from-all (λ s. is_filled (arg_of s)) rows code [] (classes act.op) act.operands parsed
+    (λ class word operand found. (parsed_operand-good rows code class word operand found).filled) refl taken.1)
+    (parsed_from-all (λ s. lands_in (instruction_count code) (arg_of s)) rows code [] (classes act.op) act.operands parsed
+    (λ class word operand found. (parsed_operand-good rows code class word operand found).lands) refl taken.1)
     h
 
-by_op-fits : (rows : List Row) (code : List (List ℕ)) (number : ℕ) (line : List ℕ) (made : Instruction) (o : Option Op) →
-    by_op rows code number line o ≡ Ok made → InstructionFits rows (instruction_count code) made
-by_op-fits rows code number line made None h = absurd (let e : Err (Bad 0x2A04 number) ≡ Ok made = h in cc)
-by_op-fits rows code number line made (Some op) h = by_saids-fits rows code number line op made (saids_of rows code line op) refl h
+by_act-fits : (rows : List Row) (code : List (List ℕ)) (number : ℕ) (made : Instruction) (o : Option ActLine) →
+    by_act rows code number o ≡ Ok made → InstructionFits rows (instruction_count code) made
+by_act-fits rows code number made None h = absurd (let e : Err (Bad exceptions.operands_invalid number) ≡ Ok made = h in cc)
+by_act-fits rows code number made (Some act) h = by_parsed-fits rows code number act made (parsed_of rows code act) refl h
 
 instruction_of-fits : (rows : List Row) (code : List (List ℕ)) (number : ℕ) (line : List ℕ) (made : Instruction) →
     instruction_of rows code number line ≡ Ok made → InstructionFits rows (instruction_count code) made
 unfolding instruction_of
-instruction_of-fits rows code number line made h = by_op-fits rows code number line made (op_of (before 32 line)) h
+instruction_of-fits rows code number line made h = by_act-fits rows code number made (act_of line) h
 
 -- ---- code
 

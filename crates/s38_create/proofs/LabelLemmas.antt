@@ -7,7 +7,8 @@ use Rattle.std.specs.Option.{is_some, option_map_or, option_or}
 use Rattle.std.specs.Str.{bytes_eq}
 use Rattle.std.specs.Cmp.Lexicographic.{slice_cmp}
 use Rattle.std.specs.BTreeMap.{BTreeMap, get, is_at}
-use Rattle.s38_create.specs.Names.{instruction_count, is_instruction, is_label, label_from, label_in, label_of}
+use Rattle.s38_create.specs.Names.{instruction_count, is_instruction, is_label, label_from, label_in}
+use Rattle.s38_words.specs.ProgramLine.{label_of}
 use Rattle.s38_create.specs.Labels.{EntersNew}
 use Rattle.s38_create.proofs.MapLemmas.{option_or-entered}
 

@@ -6,14 +6,14 @@ use Rattle.s38_base.specs.declared.attr.Attr.{Attr}
 use Rattle.s38_base.specs.declared.attr.Attr.TheVariants.{Pointer}
 use Rattle.s38_base.specs.declared.op.Op.{Op}
 use Rattle.s38_base.specs.declared.op.Op.TheVariants.{Addn, Subn, Mult, Div, Rem, Neg, Cpynv, Scale, Cmpnvb}
-use Rattle.s38_code.specs.Class.{classes}
+use Rattle.s38_code.specs.Operations.{classes}
 use Rattle.s38_code.specs.declared.class.Class.{Class}
 use Rattle.s38_code.specs.declared.class.Class.TheVariants.{NumberSource, NumberReceiver, ComparisonWord, Label, PowerLiteral}
 use Rattle.s38_code.specs.declared.program.Arg.{Arg}
 use Rattle.s38_code.specs.declared.program.Arg.TheVariants.{Item}
 use Rattle.s38_code.specs.declared.program.Row.{Row}
 use Rattle.s38_create.specs.Suits.{is_number, item_attr, operand_attr, all_suit, suits}
-use Rattle.s38_create.specs.Ties.{fits, number_at}
+use Rattle.s38_create.specs.OperandRules.{fits, number_at}
 use Rattle.s38_decimal.specs.Need.{has_one, has_second}
 use Rattle.s38_create.proofs.Parts.{and-both}
 

@@ -1,18 +1,18 @@
 -- Creation refuses at a place, and never for want of memory.
 use Rattle.std.proofs.Common.{◌≡◌, ℕ, ◌+◌, Bool, true, false, cond, List, [], ◌∷◌, ◌++◌, length, Option, Some, None, Result, Ok, Err}
 use Rattle.s38_base.specs.declared.op.Op.{Op}
-use Rattle.s38_words.specs.Operation.{op_of}
-use Rattle.s38_words.specs.Text.{before}
+use Rattle.s38_base.specs.Exceptions as exceptions
+use Rattle.s38_words.specs.ProgramLine.{ActLine, act_of, head_of}
 use Rattle.s38_code.specs.declared.program.CreateFault.{CreateFault}
 use Rattle.s38_code.specs.declared.program.CreateFault.TheVariants.{Bad, NoMemory}
 use Rattle.s38_code.specs.declared.program.Instruction.{Instruction}
 use Rattle.s38_code.specs.declared.program.Program.{Program}
 use Rattle.s38_code.specs.declared.program.Row.{Row}
-use Rattle.s38_create.specs.Created.{code, created, created_by, created_inner, declarations, head_of, inner, is_ended, is_small, line_at, program, with_rows}
-use Rattle.s38_create.specs.Instruction.{by_op, by_saids, code_from, instruction_of, is_rounded, made_of, result_and_then, saids_of, unless}
+use Rattle.s38_create.specs.Created.{code, created, created_by, created_inner, declarations, inner, is_ended, is_small, line_at, program, with_rows}
+use Rattle.s38_create.specs.Instruction.{by_act, by_parsed, code_from, instruction_from, instruction_of, parsed_of, result_and_then, unless}
 use Rattle.s38_create.specs.Names.{is_label}
-use Rattle.s38_create.specs.declared.head.Head.{Head}
-use Rattle.s38_create.specs.declared.said.Said.{Said}
+use Rattle.s38_words.specs.declared.program_lines.Head.{Head}
+use Rattle.s38_create.specs.declared.parsed.ParsedOperand.{ParsedOperand}
 use Rattle.s38_odt.specs.Table.{and_then, more_rows, row_of, rows_from, rows_of}
 
 -- it is not refused for want of memory
@@ -56,17 +56,17 @@ unless-decided : (cause : Option ℕ) (number : ℕ) (i : Instruction) → Decid
 unless-decided None number i h = ok-decided i h
 unless-decided (Some id) number i h = bad-decided {A = Instruction} id number h
 
-by_saids-decided : (rows : List Row) (number : ℕ) (op : Op) (round : Bool) (o : Option (List Said)) → Decided (by_saids rows number op round o)
-by_saids-decided rows number op round None h = bad-decided {A = Instruction} 0x2A04 number h
-by_saids-decided rows number op round (Some saids) h = unless-decided _ number (made_of op round saids) h
+by_parsed-decided : (rows : List Row) (number : ℕ) (op : Op) (round : Bool) (o : Option (List ParsedOperand)) → Decided (by_parsed rows number op round o)
+by_parsed-decided rows number op round None h = bad-decided {A = Instruction} exceptions.operands_invalid number h
+by_parsed-decided rows number op round (Some parsed) h = unless-decided _ number (instruction_from op round parsed) h
 
-by_op-decided : (rows : List Row) (code : List (List ℕ)) (number : ℕ) (line : List ℕ) (o : Option Op) → Decided (by_op rows code number line o)
-by_op-decided rows code number line None h = bad-decided {A = Instruction} 0x2A04 number h
-by_op-decided rows code number line (Some op) h = by_saids-decided rows number op (is_rounded line) (saids_of rows code line op) h
+by_act-decided : (rows : List Row) (code : List (List ℕ)) (number : ℕ) (o : Option ActLine) → Decided (by_act rows code number o)
+by_act-decided rows code number None h = bad-decided {A = Instruction} exceptions.operands_invalid number h
+by_act-decided rows code number (Some act) h = by_parsed-decided rows number act.op act.round (parsed_of rows code act) h
 
 instruction_of-decided : (rows : List Row) (code : List (List ℕ)) (number : ℕ) (line : List ℕ) → Decided (instruction_of rows code number line)
 unfolding instruction_of
-instruction_of-decided rows code number line = by_op-decided rows code number line (op_of (before 32 line))
+instruction_of-decided rows code number line = by_act-decided rows code number (act_of line)
 
 if-decided : {A : Type 0} (b : Bool) (r s : Result A CreateFault) → Decided r → Decided s → Decided (cond b r s)
 if-decided true r s first second h = first h
@@ -91,16 +91,16 @@ with_rows-decided lines head code rows =
 
 created_inner-decided : (lines : List (List ℕ)) (head : Head) (body : List (List ℕ)) → Decided (created_inner lines head body)
 created_inner-decided lines head body =
-    if-decided (is_small body) (result_and_then (with_rows lines head (code body)) (rows_of (declarations body))) (Err (Bad 0x2A04 0))
+    if-decided (is_small body) (result_and_then (with_rows lines head (code body)) (rows_of (declarations body))) (Err (Bad exceptions.operands_invalid 0))
     (result_and_then-decided (with_rows lines head (code body)) (rows_of (declarations body)) (with_rows-decided lines head (code body)) (rows_of-decided (declarations body)))
-    (bad-decided {A = Program} 0x2A04 0)
+    (bad-decided {A = Program} exceptions.operands_invalid 0)
 
 created_by-decided : (lines : List (List ℕ)) (o : Option Head) → Decided (created_by lines o)
-created_by-decided lines None h = bad-decided {A = Program} 0x2A04 0 h
+created_by-decided lines None h = bad-decided {A = Program} exceptions.operands_invalid 0 h
 created_by-decided lines (Some head) h = created_inner-decided lines head (inner lines) h
 
 pub created-decided : (lines : List (List ℕ)) → created lines ≡ Err NoMemory → ⊥
 unfolding created
 created-decided lines =
-    if-decided (is_ended lines) (created_by lines (head_of (line_at lines 0))) (Err (Bad 0x2A04 0))
-    (created_by-decided lines (head_of (line_at lines 0))) (bad-decided {A = Program} 0x2A04 0)
+    if-decided (is_ended lines) (created_by lines (head_of (line_at lines 0))) (Err (Bad exceptions.operands_invalid 0))
+    (created_by-decided lines (head_of (line_at lines 0))) (bad-decided {A = Program} exceptions.operands_invalid 0)

@@ -1,9 +1,11 @@
 -- The program that a template makes: a head, declarations, code and END.
-use Rattle.std.specs.Prelude.{ℕ, ◌-◌, Bool, true, false, ◌&&◌, List, [], take, drop, length, slice_index_or, codes, Option, Some, None, is_some, nat_le, Result, Ok, Err, if◌then◌else◌}
+use Rattle.std.specs.Prelude.{ℕ, ◌-◌, Bool, ◌&&◌, List, [], take, drop, length, slice_index_or, codes, Option, Some, None, is_some, nat_le, Result, Ok, Err, if◌then◌else◌}
 use Rattle.std.specs.List.{prefix_len}
-use Rattle.std.specs.Option.{option_and_then}
-use Rattle.s38_words.specs.Name.{declared_name}
-use Rattle.s38_words.specs.Text.{is_word, before, behind, rest_after}
+use Rattle.s38_base.specs.Exceptions as exceptions
+use Rattle.s38_words.specs.DeclarationLine.{behind_dcl}
+use Rattle.s38_words.specs.ProgramLine.{head_of}
+use Rattle.s38_words.specs.Text.{is_word}
+use Rattle.s38_words.specs.declared.program_lines.Head.{Head}
 use Rattle.s38_code.specs.declared.program.CreateFault.{CreateFault}
 use Rattle.s38_code.specs.declared.program.CreateFault.TheVariants.{Bad}
 use Rattle.s38_code.specs.declared.program.Instruction.{Instruction}
@@ -12,27 +14,6 @@ use Rattle.s38_code.specs.declared.program.Row.{Row}
 use Rattle.s38_create.specs.Instruction.{code_from, result_and_then}
 use Rattle.s38_create.specs.Names.{instruction_count}
 use Rattle.s38_odt.specs.Table.{rows_of}
-use Rattle.s38_create.specs.declared.head.Head.{Head}
-
--- ---- the head
-
-abbrev pub adopting : Bool → Bool → Head
-adopting adopts propagates = record { adopts = adopts; propagates = propagates }
-
--- ADOPT, PROPAGATE, both in this order, or nothing
-abbrev pub adoption : Option (List ℕ) → Option Head
-adoption None = Some (adopting false false)
-adoption (Some text) =
-    if is_word (codes "ADOPT") text then Some (adopting true false)
-    else (if is_word (codes "PROPAGATE") text then Some (adopting false true)
-    else (if is_word (codes "ADOPT PROPAGATE") text then Some (adopting true true) else None))
-
-abbrev pub head_said : List ℕ → Option Head
-head_said text = option_and_then (λ name. adoption (behind 32 text)) (declared_name (before 32 text))
-
--- what a line PROGRAM name and its further words say
-unfoldable pub head_of : List ℕ → Option Head
-head_of line = option_and_then head_said (rest_after (codes "PROGRAM ") line)
 
 -- ---- lines
 
@@ -47,7 +28,7 @@ abbrev pub inner : List (List ℕ) → List (List ℕ)
 inner lines = take (length lines - 2) (drop 1 lines)
 
 abbrev pub is_declaration : List ℕ → Bool
-is_declaration line = is_some (rest_after (codes "DCL ") line)
+is_declaration line = is_some (behind_dcl line)
 
 -- how many lines stand before the first that is no declaration
 abbrev pub declaration_count : List (List ℕ) → ℕ
@@ -67,13 +48,13 @@ is_small body = nat_le (declaration_count body) 1024 && nat_le (instruction_coun
 
 -- a template that no deck has: its form is none, or it is too large
 abbrev pub no_template : Result Program CreateFault
-no_template = Err (Bad 0x2A04 0)
+no_template = Err (Bad exceptions.operands_invalid 0)
 
 abbrev pub program : List (List ℕ) → Head → List Row → List Instruction → Program
 program lines head rows code = record { template = lines; rows = rows; code = code; adopts = head.adopts; propagates = head.propagates }
 
 abbrev pub with_code : List (List ℕ) → Head → List Row → Result (List Instruction) CreateFault → Result Program CreateFault
-with_code lines head rows made = result_and_then (λ code. Ok (program lines head rows code)) made
+with_code lines head rows instructions = result_and_then (λ code. Ok (program lines head rows code)) instructions
 
 abbrev pub with_rows : List (List ℕ) → Head → List (List ℕ) → List Row → Result Program CreateFault
 with_rows lines head code rows = with_code lines head rows (code_from rows code [] code)

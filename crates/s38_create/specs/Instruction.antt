@@ -1,59 +1,41 @@
--- An instruction: its mnemonic, perhaps (R), and behind a blank its operands, parted by commas; and the causes for
--- which a line makes none.
-use Rattle.std.specs.Prelude.{ℕ, ◌+◌, Bool, true, not, ◌&&◌, ◌||◌, ◌==◌, List, [], ◌∷◌, ◌++◌, map, length, codes, nat_le, is_some, Option, Some, None, Result, Ok, Err, if◌then◌else◌}
+-- The instruction that a line makes, and the causes for which a line makes none.
+use Rattle.std.specs.Prelude.{ℕ, ◌+◌, Bool, true, not, ◌&&◌, ◌==◌, List, [], ◌∷◌, ◌++◌, map, length, nat_le, Option, Some, None, Result, Ok, Err, if◌then◌else◌}
 use Rattle.std.specs.List.{list_all}
-use Rattle.std.specs.Option.{option_and_then, option_or}
 use Rattle.s38_base.specs.declared.op.Op.{Op}
-use Rattle.s38_base.specs.declared.op.Op.TheVariants.{Deq, Crtq}
-use Rattle.s38_code.specs.Built.{is_built}
-use Rattle.s38_code.specs.Class.{classes}
-use Rattle.s38_words.specs.Operation.{op_of}
-use Rattle.s38_code.specs.Tie.{may_round}
-use Rattle.s38_words.specs.Text.{before, behind, rest_after}
+use Rattle.s38_code.specs.Operations.{classes, is_built}
 use Rattle.s38_code.specs.declared.program.Arg.{Arg}
 use Rattle.s38_code.specs.declared.program.CreateFault.{CreateFault}
 use Rattle.s38_code.specs.declared.program.CreateFault.TheVariants.{Bad}
 use Rattle.s38_code.specs.declared.program.Instruction.{Instruction}
 use Rattle.s38_code.specs.declared.program.Row.{Row}
 use Rattle.s38_create.specs.Names.{is_label}
-use Rattle.s38_create.specs.Said.{arg_of, is_declared, is_placed, saids_from}
+use Rattle.s38_create.specs.Parsed.{arg_of, is_declared, is_placed, parsed_from}
 use Rattle.s38_create.specs.Suits.{is_natural_to}
-use Rattle.s38_create.specs.Ties.{digits_needed, fits, nothing_at, whole_at, word_at}
-use Rattle.s38_create.specs.declared.said.Said.{Said}
-
--- ---- words of a line
-
--- what stands behind (R), where that stands behind the mnemonic
-abbrev pub behind_suffix : List ℕ → Option (List ℕ)
-behind_suffix line = option_and_then (rest_after (codes "(R) ")) (behind 32 line)
-
-abbrev pub is_rounded : List ℕ → Bool
-is_rounded line = is_some (behind_suffix line)
-
-abbrev pub operand_text : List ℕ → Option (List ℕ)
-operand_text line = option_or (behind_suffix line) (behind 32 line)
+use Rattle.s38_create.specs.OperandRules.{digits_needed, fits, nothing_at, whole_at, word_at}
+use Rattle.s38_create.specs.declared.parsed.ParsedOperand.{ParsedOperand}
+use Rattle.s38_base.specs.Exceptions as exceptions
+use Rattle.s38_base.specs.Relations.{relation_word}
+use Rattle.s38_base.specs.declared.op.Op.TheVariants.{Deq, Crtq}
+use Rattle.s38_base.specs.declared.words.Relation.TheVariants.{Any}
+use Rattle.s38_words.specs.ProgramLine.{ActLine, act_of, rounds_right}
 
 -- ---- an instruction of words that its row may have
 
--- (R) stands only where a result may be rounded
-abbrev pub rounds_right : Bool → Op → Bool
-rounds_right round op = not round || may_round op
+abbrev pub is_taken : ActLine → Bool
+is_taken act = is_built act.op && rounds_right act.round act.op
 
-abbrev pub is_taken : Op → List ℕ → Bool
-is_taken op line = is_built op && rounds_right (is_rounded line) op
+-- the parsed operands of a line, where it has those of the row
+abbrev pub parsed_of : List Row → List (List ℕ) → ActLine → Option (List ParsedOperand)
+parsed_of rows code act = if is_taken act then parsed_from rows code [] (classes act.op) act.operands else None
 
--- what the words of a line say, where it has those of the row
-abbrev pub saids_of : List Row → List (List ℕ) → List ℕ → Op → Option (List Said)
-saids_of rows code line op = if is_taken op line then saids_from rows code [] (classes op) (operand_text line) else None
-
-abbrev pub made_of : Op → Bool → List Said → Instruction
-made_of op round saids = record { op = op; round = round; args = map arg_of saids }
+abbrev pub instruction_from : Op → Bool → List ParsedOperand → Instruction
+instruction_from op round parsed = record { op = op; round = round; args = map arg_of parsed }
 
 -- ---- words that are not built yet
 
 -- the next message, whatever its key, and without waiting
 abbrev pub takes_any : List Arg → Bool
-takes_any args = (word_at args 2 == 6) && (nothing_at args 3 && (word_at args 4 == 0))
+takes_any args = (word_at args 2 == relation_word Any) && (nothing_at args 3 && (word_at args 4 == 0))
 
 -- in order of arrival, without keys
 abbrev pub is_plain_queue : List Arg → Bool
@@ -70,32 +52,32 @@ are_words_built op args = true
 -- that are not the row's, too many digits, a missing label
 unfoldable pub cause_of : List Row → Instruction → Bool → Bool → Option ℕ
 cause_of rows i declared placed =
-    if not (are_words_built i.op i.args) then Some 0x2A04
-    else (if not declared then Some 0x2A07
-    else (if not (fits rows i.op i.args) then Some 0x2A05
-    else (if not (nat_le (digits_needed rows i.op i.args) 38) then Some 0x2A06
-    else (if not placed then Some 0x2A08 else None))))
+    if not (are_words_built i.op i.args) then Some exceptions.operands_invalid
+    else (if not declared then Some exceptions.name_missing
+    else (if not (fits rows i.op i.args) then Some exceptions.attributes_invalid
+    else (if not (nat_le (digits_needed rows i.op i.args) 38) then Some exceptions.digits_exceeded
+    else (if not placed then Some exceptions.label_missing else None))))
 
 abbrev pub unless : Option ℕ → ℕ → Instruction → Result Instruction CreateFault
 unless None number i = Ok i
 unless (Some cause) number i = Err (Bad cause number)
 
 -- the instruction that these words say, where there is no cause against it
-abbrev pub checked : List Row → ℕ → Op → Bool → List Said → Result Instruction CreateFault
-checked rows number op round saids =
-    unless (cause_of rows (made_of op round saids) (list_all is_declared saids) (list_all is_placed saids)) number (made_of op round saids)
+abbrev pub checked : List Row → ℕ → Op → Bool → List ParsedOperand → Result Instruction CreateFault
+checked rows number op round parsed =
+    unless (cause_of rows (instruction_from op round parsed) (list_all is_declared parsed) (list_all is_placed parsed)) number (instruction_from op round parsed)
 
-abbrev pub by_saids : List Row → ℕ → Op → Bool → Option (List Said) → Result Instruction CreateFault
-by_saids rows number op round None = Err (Bad 0x2A04 number)
-by_saids rows number op round (Some saids) = checked rows number op round saids
+abbrev pub by_parsed : List Row → ℕ → Op → Bool → Option (List ParsedOperand) → Result Instruction CreateFault
+by_parsed rows number op round None = Err (Bad exceptions.operands_invalid number)
+by_parsed rows number op round (Some parsed) = checked rows number op round parsed
 
-abbrev pub by_op : List Row → List (List ℕ) → ℕ → List ℕ → Option Op → Result Instruction CreateFault
-by_op rows code number line None = Err (Bad 0x2A04 number)
-by_op rows code number line (Some op) = by_saids rows number op (is_rounded line) (saids_of rows code line op)
+abbrev pub by_act : List Row → List (List ℕ) → ℕ → Option ActLine → Result Instruction CreateFault
+by_act rows code number None = Err (Bad exceptions.operands_invalid number)
+by_act rows code number (Some act) = by_parsed rows number act.op act.round (parsed_of rows code act)
 
 -- what a line makes as the instruction of a number, counted from 1
 unfoldable pub instruction_of : List Row → List (List ℕ) → ℕ → List ℕ → Result Instruction CreateFault
-instruction_of rows code number line = by_op rows code number line (op_of (before 32 line))
+instruction_of rows code number line = by_act rows code number (act_of line)
 
 -- ---- code
 

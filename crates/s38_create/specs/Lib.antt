@@ -3,7 +3,7 @@ pub mod Created
 pub mod Instruction
 pub mod Labels
 pub mod Names
-pub mod Said
+pub mod OperandRules
+pub mod Parsed
 pub mod Suits
-pub mod Ties
 pub mod WellFormed

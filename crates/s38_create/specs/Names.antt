@@ -1,14 +1,9 @@
 -- The labels of a program, and the places in its code for which they stand.
-use Rattle.std.specs.Prelude.{ℕ, ◌+◌, Bool, false, not, List, [], ◌∷◌, codes, Option, Some, None, is_some, if◌then◌else◌}
+use Rattle.std.specs.Prelude.{ℕ, ◌+◌, Bool, false, not, List, [], ◌∷◌, Option, Some, None, is_some, if◌then◌else◌}
 use Rattle.std.specs.List.{count_by}
-use Rattle.std.specs.Option.{option_and_then, option_map_or}
+use Rattle.std.specs.Option.{option_map_or}
 use Rattle.std.specs.Str.{bytes_eq}
-use Rattle.s38_words.specs.Name.{declared_name}
-use Rattle.s38_words.specs.Text.{rest_after}
-
--- the name in a line LABEL name
-unfoldable pub label_of : List ℕ → Option (List ℕ)
-label_of line = option_and_then declared_name (rest_after (codes "LABEL ") line)
+use Rattle.s38_words.specs.ProgramLine.{label_of}
 
 abbrev pub is_label : List ℕ → Bool
 is_label line = is_some (label_of line)

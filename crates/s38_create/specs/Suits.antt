@@ -2,7 +2,7 @@
 use Rattle.std.specs.Prelude.{ℕ, ◌-◌, ◌%◌, ℤ, pos, negsuc, unsigned_abs, Bool, true, false, not, ◌&&◌, ◌||◌, ◌==◌, List, [], ◌∷◌, length, slice_get, nat_le, Option, Some, None}
 use Rattle.std.specs.List.{list_all}
 use Rattle.std.specs.Option.{option_and_then}
-use Rattle.s38_base.specs.Scalar.{is_bounded, is_numeric, length_of}
+use Rattle.s38_base.specs.Scalar.{is_bounded, is_numeric, is_pointer_attr, length_of}
 use Rattle.s38_base.specs.declared.attr.Attr.{Attr}
 use Rattle.s38_base.specs.declared.attr.Attr.TheVariants.{Packed, Zoned, Binary, Chars, Pointer}
 use Rattle.s38_code.specs.declared.class.Class.{Class}
@@ -12,7 +12,7 @@ use Rattle.s38_code.specs.declared.program.Arg.TheVariants as args
 use Rattle.s38_code.specs.declared.program.Form.{Form}
 use Rattle.s38_code.specs.declared.program.Form.TheVariants as forms
 use Rattle.s38_code.specs.declared.program.Row.{Row}
-use Rattle.s38_create.specs.Said.{is_argument}
+use Rattle.s38_create.specs.Parsed.{is_argument}
 
 -- ---- attributes of operands
 
@@ -36,13 +36,6 @@ abbrev pub operand_attr : List Row → Arg → Option Attr
 operand_attr rows (args.Item item) = row_attr rows item
 operand_attr rows (args.Literal attr bytes) = Some attr
 operand_attr rows _ = None
-
-abbrev pub is_pointer_attr : Attr → Bool
-is_pointer_attr (Packed digits fraction) = false
-is_pointer_attr (Zoned digits fraction) = false
-is_pointer_attr (Binary size) = false
-is_pointer_attr (Chars len) = false
-is_pointer_attr Pointer = true
 
 abbrev pub is_number : Option Attr → Bool
 is_number None = false

@@ -2,18 +2,17 @@
 use Rattle.std.specs.Prelude.{◌≤◌, ℕ, Bool, true, IsTrue, ◌==◌, List, length, nat_le}
 use Rattle.std.specs.List.{All, list_all}
 use Rattle.s38_base.specs.Scalar.{length_of}
-use Rattle.s38_code.specs.Built.{is_built}
-use Rattle.s38_code.specs.Class.{classes}
-use Rattle.s38_code.specs.Tie.{made_kind, tie_of}
+use Rattle.s38_code.specs.Operations.{is_built, classes, made_kind, operand_rule}
 use Rattle.s38_code.specs.declared.program.Arg.{Arg}
 use Rattle.s38_code.specs.declared.program.Arg.TheVariants as args
 use Rattle.s38_code.specs.declared.program.Instruction.{Instruction}
 use Rattle.s38_code.specs.declared.program.Program.{Program}
 use Rattle.s38_code.specs.declared.program.Row.{Row}
-use Rattle.s38_create.specs.Instruction.{are_words_built, rounds_right}
+use Rattle.s38_create.specs.Instruction.{are_words_built}
+use Rattle.s38_words.specs.ProgramLine.{rounds_right}
 use Rattle.s38_create.specs.Suits.{all_suit}
 use Rattle.s38_odt.specs.Formed.{AreFormed}
-use Rattle.s38_create.specs.Ties.{digits_needed, is_of_kind, is_tied}
+use Rattle.s38_create.specs.OperandRules.{digits_needed, is_of_kind, keeps_rule}
 
 -- a literal has as many bytes as its attribute says
 abbrev pub is_filled : Arg → Bool
@@ -33,7 +32,7 @@ pub record InstructionFits (rows : List Row) (count : ℕ) (instruction : Instru
   -- an operand for each class, which suits it
   pub suited : IsTrue (all_suit rows (classes instruction.op) instruction.args)
   pub kinds : IsTrue (list_all (is_of_kind (made_kind instruction.op)) instruction.args)
-  pub tied : IsTrue (is_tied rows (tie_of instruction.op) instruction.args)
+  pub ruled : IsTrue (keeps_rule rows (operand_rule instruction.op) instruction.args)
   pub digits : digits_needed rows instruction.op instruction.args ≤ 38
   pub filled : IsTrue (list_all is_filled instruction.args)
   pub jumps : IsTrue (list_all (lands_in count) instruction.args)

@@ -1,5 +1,5 @@
 ghost use Rattle.std.specs.Prelude.{◌≡◌};
-ghost use Rattle.s38_create.specs.Suits.{are_bytes, form_attr, is_number, is_pointer, is_pointer_attr, item_attr, operand_attr, row_attr};
+ghost use Rattle.s38_create.specs.Suits.{are_bytes, form_attr, is_number, is_pointer, item_attr, operand_attr, row_attr};
 
 use s38_base::Attr;
 use s38_code::{Arg, Form, Row};
@@ -46,12 +46,6 @@ pub fn operand_attr(rows: &[Row], arg: &Arg) -> Option<Attr>
     }
 }
 
-pub fn is_pointer_attr(attr: Attr) -> bool
-    ensures { result ≡ is_pointer_attr attr }
-{
-    matches!(attr, Attr::Pointer)
-}
-
 pub fn is_number(attr: Option<Attr>) -> bool
     ensures { result ≡ is_number attr }
 {
@@ -66,7 +60,7 @@ pub fn are_bytes(attr: Option<Attr>) -> bool
     ensures { result ≡ are_bytes attr }
 {
     match attr {
-        Some(attr) => !is_pointer_attr(attr),
+        Some(attr) => !attr.is_pointer(),
         None => false,
     }
 }
@@ -75,7 +69,7 @@ pub fn is_pointer(attr: Option<Attr>) -> bool
     ensures { result ≡ is_pointer attr }
 {
     match attr {
-        Some(attr) => is_pointer_attr(attr),
+        Some(attr) => attr.is_pointer(),
         None => false,
     }
 }

@@ -2,37 +2,19 @@ ghost use Rattle.std.specs.Prelude.{◌≡◌};
 ghost use Rattle.s38_create.specs.Instruction.{are_words_built, cause_of, is_plain_queue, takes_any};
 
 use crate::digits::digits_needed;
+use crate::operand_rules::{fits, nothing_at, whole_at, word_at};
 use crate::shapes::is_natural_to;
-use crate::ties::{fits, nothing_at, whole_at, word_at};
-use s38_base::Op;
+use s38_base::{Op, Relation, exceptions};
 use s38_code::{Arg, Instruction, Row};
-
-/// Number or class of the operands is not the row's, or a word is not built.
-pub const NOT_OF_ROW: u16 = 0x2A04;
-
-/// A name is not declared.
-pub const NOT_DECLARED: u16 = 0x2A07;
-
-/// The attributes are not the row's.
-pub const NOT_FITTING: u16 = 0x2A05;
-
-/// More digits are needed than there are.
-pub const TOO_MANY_DIGITS: u16 = 0x2A06;
-
-/// The label is missing.
-pub const NO_LABEL: u16 = 0x2A08;
 
 /// The most digits of a computation.
 const MOST_DIGITS: u8 = 38;
-
-/// The number of ANY among the relations.
-const ANY: u32 = 6;
 
 /// The next message is taken, whatever its key, and without waiting.
 fn takes_any(args: &[Arg]) -> bool
     ensures { result ≡ takes_any args.now }
 {
-    word_at(args, 2) == ANY && nothing_at(args, 3) && word_at(args, 4) == 0
+    word_at(args, 2) == Relation::Any.word() && nothing_at(args, 3) && word_at(args, 4) == 0
 }
 
 /// The queue keeps its messages in the order of their arrival, without keys.
@@ -67,19 +49,19 @@ pub fn cause(
 {
     let args = instruction.args.as_slice();
     if !are_words_built(instruction.op, args) {
-        return Some(NOT_OF_ROW);
+        return Some(exceptions::OPERANDS_INVALID);
     }
     if !is_declared {
-        return Some(NOT_DECLARED);
+        return Some(exceptions::NAME_MISSING);
     }
     if !fits(rows, instruction.op, args) {
-        return Some(NOT_FITTING);
+        return Some(exceptions::ATTRIBUTES_INVALID);
     }
     if digits_needed(rows, instruction.op, args) > MOST_DIGITS {
-        return Some(TOO_MANY_DIGITS);
+        return Some(exceptions::DIGITS_EXCEEDED);
     }
     if !is_placed {
-        return Some(NO_LABEL);
+        return Some(exceptions::LABEL_MISSING);
     }
     None
 }

@@ -9,8 +9,8 @@ use std::alloc::Global;
 /// What creation makes of a template: its program, where it can be shared, or the cause for which it is refused
 /// with the number of its first bad declaration or instruction.
 pub fn checked(alloc: Global, template: &Template) -> Result<CreateResult, NoMemory>
-    ensures made { IfOk result (λ made. made ≡ made_of template.now) }
-    ensures formed { IfOk result (λ made. IsFormed made) }
+    ensures made { IfOk result (λ created. created ≡ made_of template.now) }
+    ensures formed { IfOk result (λ created. IsFormed created) }
 {
     match create(alloc, template) {
         Ok(program) => Ok(CreateResult::Created(Code::new(alloc, program)?)),

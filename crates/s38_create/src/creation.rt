@@ -4,15 +4,14 @@ ghost use Rattle.s38_create.specs.Names.{instruction_count};
 ghost use Rattle.s38_create.specs.WellFormed.{WellFormed};
 ghost use Rattle.s38_odt.specs.Formed.{AreFormed};
 
-use crate::causes::NOT_OF_ROW;
 use crate::frame::{declaration_count, instruction_count, is_ended};
-use crate::head::{Head, head_of};
 use crate::instruction::instructions;
 use crate::labels::labels_of;
 use crate::scope::Scope;
-use s38_base::{Bytes, TryClone};
+use s38_base::{Bytes, TryClone, exceptions};
 use s38_code::{CreateFault, Program, Template};
 use s38_odt::{Odt, definition_table};
+use s38_words::{Head, program_head};
 use std::alloc::Global;
 
 /// The most declarations of a program.
@@ -23,7 +22,7 @@ const MOST_INSTRUCTIONS: usize = 16384;
 
 /// A template that no deck has.
 const NO_TEMPLATE: CreateFault = CreateFault::Bad {
-    id: NOT_OF_ROW,
+    id: exceptions::OPERANDS_INVALID,
     number: 0,
 };
 
@@ -39,7 +38,7 @@ fn with_rows(
     requires formed { AreFormed table }
     requires code { instruction_count code.now ≤ 16384 }
     ensures formed { IfOk result (λ program. WellFormed program) }
-    ensures made { IfOk result (λ program. with_rows template.now head code.now table ≡ Ok program) }
+    ensures created { IfOk result (λ program. with_rows template.now head code.now table ≡ Ok program) }
     ensures bad { IfErr result (λ fault. (fault ≡ CreateFault.NoMemory) ⊎ (with_rows template.now head code.now table ≡ Err fault)) }
 {
     let labels = labels_of(alloc, code)?;
@@ -48,12 +47,12 @@ fn with_rows(
         code,
         labels,
     };
-    let made = instructions(alloc, &scope)?;
+    let code = instructions(alloc, &scope)?;
     let template = template.try_clone(alloc)?;
     Ok(Program {
         template,
         rows: scope.table.into_rows(),
-        code: made,
+        code,
         adopts: head.adopts,
         propagates: head.propagates,
     })
@@ -75,7 +74,7 @@ fn created_inner(
     body: &[Bytes],
 ) -> Result<Program, CreateFault>
     ensures formed { IfOk result (λ program. WellFormed program) }
-    ensures made { IfOk result (λ program. created_inner template.now head body.now ≡ Ok program) }
+    ensures created { IfOk result (λ program. created_inner template.now head body.now ≡ Ok program) }
     ensures bad { IfErr result (λ fault. (fault ≡ CreateFault.NoMemory) ⊎ (created_inner template.now head body.now ≡ Err fault)) }
 {
     if !is_small(body) {
@@ -93,7 +92,7 @@ fn created_by(
 ) -> Result<Program, CreateFault>
     requires { 2 ≤ length template.now }
     ensures formed { IfOk result (λ program. WellFormed program) }
-    ensures made { IfOk result (λ program. created_by template.now head ≡ Ok program) }
+    ensures created { IfOk result (λ program. created_by template.now head ≡ Ok program) }
     ensures bad { IfErr result (λ fault. (fault ≡ CreateFault.NoMemory) ⊎ (created_by template.now head ≡ Err fault)) }
 {
     let lines = template.lines();
@@ -107,7 +106,7 @@ fn created_by(
 /// instruction, with its cause.
 #[tactic(auto, unfolding(crate::specs::Created::created))]
 pub fn create(alloc: Global, template: &Template) -> Result<Program, CreateFault>
-    ensures made { IfOk result (λ program. created template.now ≡ Ok program) }
+    ensures created { IfOk result (λ program. created template.now ≡ Ok program) }
     ensures formed { IfOk result (λ program. WellFormed program) }
     ensures bad { IfErr result (λ fault. (fault ≡ CreateFault.NoMemory) ⊎ (created template.now ≡ Err fault)) }
 {
@@ -115,7 +114,7 @@ pub fn create(alloc: Global, template: &Template) -> Result<Program, CreateFault
     if !is_ended(lines) {
         return Err(NO_TEMPLATE);
     }
-    created_by(alloc, template, head_of(lines[0].as_slice()))
+    created_by(alloc, template, program_head(lines[0].as_slice()))
 }
 
 /// A template is refused at a place, and never for want of memory: what the definition answers is a program or

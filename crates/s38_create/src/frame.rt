@@ -2,9 +2,9 @@ ghost use Rattle.std.specs.Prelude.{◌≡◌, ◌≤◌, length};
 ghost use Rattle.s38_create.specs.Created.{declaration_count, is_declaration, is_ended};
 ghost use Rattle.s38_create.specs.Names.{instruction_count};
 
-use crate::line::is_label;
+use crate::labels::is_label;
 use s38_base::Bytes;
-use s38_words::{is_word, rest_after};
+use s38_words::{is_declaration, is_word};
 
 /// The last of two or more lines is END.
 pub fn is_ended(lines: &[Bytes]) -> bool
@@ -14,12 +14,6 @@ pub fn is_ended(lines: &[Bytes]) -> bool
         return false;
     }
     is_word(b"END", lines[lines.len() - 1].as_slice())
-}
-
-fn is_declaration(line: &[u8]) -> bool
-    ensures { result ≡ is_declaration line.now }
-{
-    rest_after(b"DCL ", line).is_some()
 }
 
 /// How many lines stand before the first that is no declaration.

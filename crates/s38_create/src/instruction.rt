@@ -1,82 +1,82 @@
 ghost use Rattle.std.specs.Prelude.{◌≡◌, ◌⊎◌, ◌+◌, ◌≤◌, Ok, Err, [], map, IfOk, IfErr};
 ghost use Rattle.std.specs.List.{list_all};
 ghost use Rattle.std.specs.Option.{option_map};
-ghost use Rattle.s38_create.specs.Instruction.{checked, code_from, instruction_of, is_taken, rounds_right, saids_of};
+ghost use Rattle.s38_create.specs.Instruction.{checked, code_from, instruction_of, is_taken, parsed_of};
+ghost use Rattle.s38_words.specs.Views.{act_in};
 ghost use Rattle.s38_create.specs.Names.{instruction_count};
 ghost use Rattle.s38_create.specs.Labels.{HasLabels};
-ghost use Rattle.s38_create.specs.Said.{arg_of, is_declared, is_placed};
+ghost use Rattle.s38_create.specs.Parsed.{arg_of, is_declared, is_placed};
 
-use crate::causes::{NOT_OF_ROW, cause};
-use crate::line::{is_label, is_rounded, operand_text};
-use crate::said::{Said, arg_of, is_declared, is_placed};
-use crate::saids::saids;
+use crate::causes::cause;
+use crate::labels::is_label;
+use crate::operands::parsed_operands;
+use crate::parsed::{ParsedOperand, arg_of, is_declared, is_placed};
 use crate::scope::Scope;
-use s38_base::{NoMemory, Op, Seq};
-use s38_code::{Arg, CreateFault, Instruction, Instructions, classes, is_built, may_round};
-use s38_words::{before, operation};
+use s38_base::{NoMemory, Op, Seq, exceptions};
+use s38_code::{Arg, CreateFault, Instruction, Instructions, classes, is_built};
+use s38_words::{InstructionLine, instruction, rounds_right};
 use std::alloc::Global;
 
 /// This machine has the instruction, and `(R)` stands in its line only where it may.
-fn is_taken(op: Op, line: &[u8]) -> bool
-    ensures { result ≡ is_taken op line.now }
+fn is_taken(act: InstructionLine<'_>) -> bool
+    ensures { result ≡ is_taken (act_in act.entry) }
 {
-    is_built(op) && (!is_rounded(line) || may_round(op))
+    is_built(act.op) && rounds_right(act.round, act.op)
 }
 
-/// What the words of a line say; None where they are not those of the row.
-fn saids_of(
+/// The parsed operands of a line; None where they are not those of the row.
+fn parsed_of(
     alloc: Global,
     scope: &Scope,
-    line: &[u8],
-    op: Op,
-) -> Result<Option<Vec<Said>>, NoMemory>
+    act: InstructionLine<'_>,
+) -> Result<Option<Vec<ParsedOperand>>, NoMemory>
     requires { HasLabels scope.now.code.now scope.now.labels }
-    ensures { IfOk result (λ saids. option_map (λ v. v.items) saids ≡ saids_of scope.now.table scope.now.code.now line.now op) }
+    ensures { IfOk result (λ parsed. option_map (λ v. v.items) parsed ≡ parsed_of scope.now.table scope.now.code.now (act_in act.entry)) }
 {
-    if !is_taken(op, line) {
+    if !is_taken(act) {
         return Ok(None);
     }
-    saids(alloc, scope, classes(op), operand_text(line))
+    parsed_operands(alloc, scope, classes(act.op), act.operands)
 }
 
-fn are_declared(saids: &[Said]) -> bool
-    ensures { result ≡ list_all is_declared saids.now }
+fn are_declared(parsed: &[ParsedOperand]) -> bool
+    ensures { result ≡ list_all is_declared parsed.now }
 {
-    saids.iter().all(is_declared)
+    parsed.iter().all(is_declared)
 }
 
-fn are_placed(saids: &[Said]) -> bool
-    ensures { result ≡ list_all is_placed saids.now }
+fn are_placed(parsed: &[ParsedOperand]) -> bool
+    ensures { result ≡ list_all is_placed parsed.now }
 {
-    saids.iter().all(is_placed)
+    parsed.iter().all(is_placed)
 }
 
-/// The operands that are said.
-fn args_of(alloc: Global, saids: Vec<Said>) -> Result<Vec<Arg>, NoMemory>
-    ensures { IfOk result (λ args. args.items ≡ map arg_of saids.items) }
+/// The operands that were parsed.
+fn args_of(alloc: Global, parsed: Vec<ParsedOperand>) -> Result<Vec<Arg>, NoMemory>
+    ensures { IfOk result (λ args. args.items ≡ map arg_of parsed.items) }
 {
-    let args = saids.into_iter().map(arg_of).collect(alloc)?;
+    let args = parsed.into_iter().map(arg_of).collect(alloc)?;
     Ok(args)
 }
 
-/// The instruction that these words say, as the one of this number, where there is no cause against it.
+/// The instruction of these parsed operands, as the one of this number, where there is no cause against it.
 fn checked(
     alloc: Global,
     scope: &Scope,
     number: u32,
     op: Op,
     round: bool,
-    saids: Vec<Said>,
+    parsed: Vec<ParsedOperand>,
 ) -> Result<Instruction, CreateFault>
-    ensures made { IfOk result (λ i. checked scope.now.table number op round saids.items ≡ Ok i) }
-    ensures bad { IfErr result (λ fault. (fault ≡ CreateFault.NoMemory) ⊎ (checked scope.now.table number op round saids.items ≡ Err fault)) }
+    ensures created { IfOk result (λ i. checked scope.now.table number op round parsed.items ≡ Ok i) }
+    ensures bad { IfErr result (λ fault. (fault ≡ CreateFault.NoMemory) ⊎ (checked scope.now.table number op round parsed.items ≡ Err fault)) }
 {
-    let declared = are_declared(saids.as_slice());
-    let placed = are_placed(saids.as_slice());
+    let declared = are_declared(parsed.as_slice());
+    let placed = are_placed(parsed.as_slice());
     let instruction = Instruction {
         op,
         round,
-        args: Seq::from_vec(args_of(alloc, saids)?),
+        args: Seq::from_vec(args_of(alloc, parsed)?),
     };
     match cause(scope.table.rows(), &instruction, declared, placed) {
         Some(id) => Err(CreateFault::Bad { id, number }),
@@ -93,18 +93,18 @@ fn instruction_of(
     line: &[u8],
 ) -> Result<Instruction, CreateFault>
     requires { HasLabels scope.now.code.now scope.now.labels }
-    ensures made { IfOk result (λ i. instruction_of scope.now.table scope.now.code.now number line.now ≡ Ok i) }
+    ensures created { IfOk result (λ i. instruction_of scope.now.table scope.now.code.now number line.now ≡ Ok i) }
     ensures bad { IfErr result (λ fault. (fault ≡ CreateFault.NoMemory) ⊎ (instruction_of scope.now.table scope.now.code.now number line.now ≡ Err fault)) }
 {
     let none = CreateFault::Bad {
-        id: NOT_OF_ROW,
+        id: exceptions::OPERANDS_INVALID,
         number,
     };
-    let Some(op) = operation(before(b' ', line)) else {
+    let Some(act) = instruction(line) else {
         return Err(none);
     };
-    match saids_of(alloc, scope, line, op)? {
-        Some(saids) => checked(alloc, scope, number, op, is_rounded(line), saids),
+    match parsed_of(alloc, scope, act)? {
+        Some(parsed) => checked(alloc, scope, number, act.op, act.round, parsed),
         None => Err(none),
     }
 }
@@ -114,16 +114,16 @@ fn instruction_of(
 pub fn instructions(alloc: Global, scope: &Scope) -> Result<Instructions, CreateFault>
     requires tied { HasLabels scope.now.code.now scope.now.labels }
     requires few { instruction_count scope.now.code.now ≤ 16384 }
-    ensures made { IfOk result (λ made. code_from scope.now.table scope.now.code.now [] scope.now.code.now ≡ Ok made) }
+    ensures created { IfOk result (λ created. code_from scope.now.table scope.now.code.now [] scope.now.code.now ≡ Ok created) }
     ensures bad { IfErr result (λ fault. (fault ≡ CreateFault.NoMemory) ⊎ (code_from scope.now.table scope.now.code.now [] scope.now.code.now ≡ Err fault)) }
 {
-    let mut made = Seq::new(alloc);
+    let mut created = Seq::new(alloc);
     for line in scope.code {
         if !is_label(line.as_slice()) {
-            let number = made.len() as u32 + 1;
+            let number = created.len() as u32 + 1;
             let instruction = instruction_of(alloc, scope, number, line.as_slice())?;
-            made.push(instruction)?;
+            created.push(instruction)?;
         }
     }
-    Ok(made)
+    Ok(created)
 }

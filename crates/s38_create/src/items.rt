@@ -1,9 +1,8 @@
 ghost use Rattle.std.specs.Prelude.{◌≡◌};
 ghost use Rattle.std.specs.Option.{option_copied};
 ghost use Rattle.s38_create.specs.Suits.{are_cells, can_be_passed, has_cells, is_handler, item_suits, row_of};
-ghost use Rattle.s38_create.specs.Ties.{is_parameter, is_two_local_bytes};
+ghost use Rattle.s38_create.specs.OperandRules.{is_parameter, is_two_local_bytes};
 
-use crate::attributes::is_pointer_attr;
 use s38_base::Attr;
 use s38_code::{Arg, Form, Row};
 
@@ -33,8 +32,8 @@ fn has_cells(form: &Form) -> bool
     ensures { result ≡ has_cells form.now }
 {
     match form {
-        Form::Local { attr, .. } => is_pointer_attr(*attr),
-        Form::Parm { attr, .. } => is_pointer_attr(*attr),
+        Form::Local { attr, .. } => attr.is_pointer(),
+        Form::Parm { attr, .. } => attr.is_pointer(),
         Form::Based { attr, .. } => are_cells(*attr),
         Form::Handler { .. } => false,
     }

@@ -1,14 +1,20 @@
 ghost use Rattle.std.specs.Prelude.{◌≡◌, ◌≤◌, IfOk, OnOk};
-ghost use Rattle.s38_create.specs.Names.{instruction_count};
+ghost use Rattle.s38_create.specs.Names.{instruction_count, is_label};
 ghost use Rattle.s38_create.specs.Labels.{EntersNew, HasLabels};
 
-use crate::line::label;
 use s38_base::{Bytes, Name, NoMemory};
+use s38_words::label;
 use std::alloc::Global;
 use std::collections::BTreeMap;
 
 /// The place in the code of each label, from 0 on.
 pub type Labels = BTreeMap<Name, u32>;
+
+pub fn is_label(line: &[u8]) -> bool
+    ensures { result ≡ is_label line.now }
+{
+    label(line).is_some()
+}
 
 /// Enters a label that is not there yet.
 fn enter(labels: &mut Labels, name: Name, at: u32) -> Result<(), NoMemory>

@@ -2,7 +2,6 @@ ghost use Rattle.std.specs.Prelude.{◌≡◌};
 ghost use Rattle.std.specs.List.{list_all};
 ghost use Rattle.s38_create.specs.Suits.{are_fields, attrs_suit, have_room, is_id, is_jump, is_list, is_machine, is_name, is_natural_to, is_nothing, is_one_scalar, is_power, is_scalar, is_size, is_word, is_word_to};
 
-use crate::attributes::is_pointer_attr;
 use s38_base::Attr;
 use s38_code::Arg;
 
@@ -96,7 +95,7 @@ pub fn is_power(arg: &Arg) -> bool
 fn is_scalar(attr: Attr) -> bool
     ensures { result ≡ is_scalar attr }
 {
-    attr.is_bounded() && !is_pointer_attr(attr)
+    attr.is_bounded() && !attr.is_pointer()
 }
 
 /// The bytes of these attributes have this room.

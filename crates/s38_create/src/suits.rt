@@ -3,7 +3,7 @@ ghost use Rattle.s38_create.specs.Suits.{all_suit, suits};
 
 use crate::attributes::{are_bytes, is_number, is_pointer, item_attr, operand_attr};
 use crate::items::{item_can_be_passed, item_has_cells, item_is_handler};
-use crate::saids::is_argument;
+use crate::operands::is_argument;
 use crate::shapes::{
     is_attribute, is_fields, is_id, is_jump, is_list, is_machine, is_name, is_nothing, is_power,
     is_size, is_word, is_word_to,

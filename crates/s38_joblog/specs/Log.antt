@@ -1,7 +1,7 @@
 -- The log of a history: for each job its line, and then the lines of its entries.
 use Rattle.std.specs.Prelude.{ℕ, Bool, ◌==◌, List, [], ◌∷◌, ◌++◌, filter, codes, decimal}
 use Rattle.std.specs.List.{flat_map, enumerate_from}
-use Rattle.s38_code.specs.Mnemonic.{mnemonic}
+use Rattle.s38_code.specs.Operations.{mnemonic}
 use Rattle.s38_code.specs.declared.deck.Job.{Job}
 use Rattle.s38_code.specs.declared.entry.Entry.{Entry}
 use Rattle.s38_code.specs.declared.event.Event.{Event}

@@ -1,18 +1,18 @@
 -- The rows that are made are formed.
-use Rattle.std.proofs.Common.{◌≡◌, ◌≤◌, ◌<◌, ◌+◌, ◌-◌, ◌*◌, ◌/◌, ℕ, ℤ, pos, Bool, true, false, cond, leb, List, [], ◌∷◌, ◌++◌, length, length-append, get_or, take, map, Option, Some, None, Result, Ok, Err, refl, sym, ◌∙◌, ap, subst, ⊎_elim, arith}
+use Rattle.std.proofs.Common.{◌≡◌, ◌≤◌, ◌<◌, ◌+◌, ◌-◌, ◌/◌, ℕ, ℤ, pos, true, leb, List, [], ◌∷◌, ◌++◌, length, length-append, get_or, take, Option, Some, None, Result, Ok, Err, refl, sym, ◌∙◌, ap, subst, ⊎_elim, arith}
 use Rattle.std.specs.Prelude.{slice_get, replicate}
-use Rattle.std.specs.List.{range_with_len}
-use Rattle.std.specs.Option.{is_some, option_and_then}
+use Rattle.std.specs.Option.{is_some}
 use Rattle.std.proofs.lemmas.Bool.{cases_lt}
 use Rattle.std.proofs.lemmas.Bool.Decides.{nat_tests}
 use Rattle.std.proofs.lemmas.List.{get_or_append_left, length-replicate, take-append-le}
 use Rattle.std.proofs.lemmas.List.FromFn.{length-map-range_with_len}
 use Rattle.std.proofs.lemmas.Option.{get_or_from_slice_get, slice_get-get_or, slice_get_within}
 use Rattle.std.proofs.Math.Seq.{get_or-append_seam, take-append_seam}
-use Rattle.s38_base.specs.Scalar.{digit_at, bits_of, fits, image_of, is_bounded, length_of, packed_byte, zoned_byte}
+use Rattle.s38_base.specs.Exceptions as exceptions
+use Rattle.s38_base.specs.Scalar.{digit_at, bits_of, fits, image_of, is_bounded, packed_byte, zoned_byte}
 use Rattle.s38_base.specs.declared.attr.Attr.{Attr}
 use Rattle.s38_base.specs.declared.attr.Attr.TheVariants.{Packed, Zoned, Binary, Chars, Pointer}
-use Rattle.s38_words.specs.DeclarationLine.{declaration_of, initial_of, is_in_range}
+use Rattle.s38_words.specs.DeclarationLine.{declaration_of, initial_of}
 use Rattle.s38_words.specs.Literal.{text_of}
 use Rattle.s38_words.specs.Number.{number_of}
 use Rattle.s38_code.specs.declared.program.CreateFault.{CreateFault}
@@ -24,8 +24,8 @@ use Rattle.s38_words.specs.declared.declarations.Declares.{Declares}
 use Rattle.s38_words.specs.declared.declarations.Declares.TheVariants.{Variable, Parameter, BasedItem, Description}
 use Rattle.s38_words.specs.declared.numbers.Numeral.{Numeral}
 use Rattle.s38_odt.specs.First.{blank_of, either_held, filled, first_of, is_exact, number_held, text_held, units_held, units_in}
-use Rattle.s38_odt.specs.Formed.{AreFormed, IsBased, IsForm, IsVariable, first_length}
-use Rattle.s38_odt.specs.Table.{and_then, attribute_bounded, bad_attribute, bad_name, base_at, base_in, based_form, checked_form, form_of, is_base_row, is_bounded_line, more_rows, new_row, place_in, refused, row_of, row_said, rows_from, variable_form}
+use Rattle.s38_odt.specs.Formed.{AreFormed, IsForm, first_length}
+use Rattle.s38_odt.specs.Table.{and_then, base_at, base_in, based_form, checked_form, form_of, is_base_row, is_bounded_line, more_rows, new_row, place_in, refused, row_of, row_from, rows_from, variable_form}
 use Rattle.s38_odt.proofs.Parts.{and_then-some, if-ok, if-some, unless-ok}
 
 -- ---- first bytes
@@ -90,7 +90,7 @@ first_of-length attr (Some literal) first h = either_held-length attr (number_of
 
 variable_form-formed : (rows : List Row) (attr : Attr) (begun : Option (List ℕ)) (form : Form) → is_bounded attr ≡ true →
     ((first : List ℕ) → begun ≡ Some first → length first ≡ first_length attr) → variable_form attr begun ≡ Ok form → IsForm rows form
-variable_form-formed rows attr None form bounded long h = absurd (let e : Err bad_attribute ≡ Ok form = h in cc)
+variable_form-formed rows attr None form bounded long h = absurd (let e : Err exceptions.declaration_invalid ≡ Ok form = h in cc)
 variable_form-formed rows attr (Some first) form bounded long h =
     let same : Local attr first ≡ form = cc in
     let P : Form → Type 0 = λ f. IsForm rows f in
@@ -98,7 +98,7 @@ variable_form-formed rows attr (Some first) form bounded long h =
 
 based_form-formed : (rows : List Row) (offset : ℕ) (attr : Attr) (base : Option ℕ) (form : Form) → is_bounded attr ≡ true → offset ≤ 16777216 →
     ((k : ℕ) → base ≡ Some k → is_base_row (slice_get rows k) ≡ true) → based_form offset attr base ≡ Ok form → IsForm rows form
-based_form-formed rows offset attr None form bounded near is h = absurd (let e : Err bad_name ≡ Ok form = h in cc)
+based_form-formed rows offset attr None form bounded near is h = absurd (let e : Err exceptions.name_invalid ≡ Ok form = h in cc)
 based_form-formed rows offset attr (Some k) form bounded near is h =
     let same : Based k offset attr ≡ form = cc in
     let P : Form → Type 0 = λ f. IsForm rows f in
@@ -118,12 +118,12 @@ form_of-formed : (rows : List Row) (literal : Option (List ℕ)) (declares : Dec
 unfolding form_of
 form_of-formed rows literal (Variable attr) form bounded h =
     variable_form-formed rows attr (first_of attr literal) form bounded (λ first e. first_of-length attr literal first e) h
-form_of-formed rows literal (Parameter k attr) form bounded h = absurd (let e : Err bad_name ≡ Ok form = h in cc)
+form_of-formed rows literal (Parameter k attr) form bounded h = absurd (let e : Err exceptions.name_invalid ≡ Ok form = h in cc)
 form_of-formed rows literal (BasedItem base offset attr) form bounded h =
     let near : offset ≤ 16777216 = grind (arith, nat_tests) in
     let attr_bounded : is_bounded attr ≡ true = grind arith in
     based_form-formed rows offset attr (base_in rows base) form attr_bounded near (λ k e. base_in-is rows base k e) h
-form_of-formed rows literal (Description code label) form bounded h = absurd (let e : Err bad_name ≡ Ok form = h in cc)
+form_of-formed rows literal (Description code label) form bounded h = absurd (let e : Err exceptions.name_invalid ≡ Ok form = h in cc)
 
 -- ---- rows
 
@@ -131,22 +131,22 @@ new_row-formed : (rows : List Row) (name : List ℕ) (made : Result Form ℕ) (r
     ((form : Form) → made ≡ Ok form → IsForm rows form) → new_row rows name made ≡ Ok row → IsForm rows row.form
 new_row-formed rows name (Err cause) row formed h = absurd (let e : Err cause ≡ Ok row = h in cc)
 new_row-formed rows name (Ok form) row formed h =
-    let parts = unless-ok (is_some (place_in rows name)) (Ok (record { name = name; form = form })) bad_name row h in
+    let parts = unless-ok (is_some (place_in rows name)) (Ok (record { name = name; form = form })) exceptions.name_invalid row h in
     let taken = parts.1 in
     let same : record { name = name; form = form } ≡ row = cc in
     let P : Row → Type 0 = λ r. IsForm rows r.form in
     subst P same (formed form refl)
 
-row_said-formed : (rows : List Row) (literal : Option (List ℕ)) (line : Option DeclarationLine) (row : Row) → row_said rows literal line ≡ Ok row → IsForm rows row.form
-row_said-formed rows literal None row h = absurd (let e : Err bad_attribute ≡ Ok row = h in cc)
-row_said-formed rows literal (Some line) row h =
+row_from-formed : (rows : List Row) (literal : Option (List ℕ)) (line : Option DeclarationLine) (row : Row) → row_from rows literal line ≡ Ok row → IsForm rows row.form
+row_from-formed rows literal None row h = absurd (let e : Err exceptions.declaration_invalid ≡ Ok row = h in cc)
+row_from-formed rows literal (Some line) row h =
     new_row-formed rows line.name (checked_form rows literal line.declares) row
-    (λ form e. let checked = if-ok (is_bounded_line line.declares) (form_of rows literal line.declares) bad_attribute form e in
+    (λ form e. let checked = if-ok (is_bounded_line line.declares) (form_of rows literal line.declares) exceptions.declaration_invalid form e in
     form_of-formed rows literal line.declares form checked.0 checked.1) h
 
 row_of-formed : (rows : List Row) (line : List ℕ) (row : Row) → row_of rows line ≡ Ok row → IsForm rows row.form
 unfolding row_of
-row_of-formed rows line row h = row_said-formed rows (initial_of line) (declaration_of line) row h
+row_of-formed rows line row h = row_from-formed rows (initial_of line) (declaration_of line) row h
 
 AreFormed-none : AreFormed []
 AreFormed-none = record { each = λ k row h. absurd (let within : k < 0 = slice_get_within [] k row h in omega arith) }

@@ -1,6 +1,6 @@
 -- A number that is too large is not held.
-use Rattle.std.proofs.Common.{◌≡◌, ℕ, ℤ, zero, suc, ◌-◌, ◌^◌, ◌<◌, ◌&&◌, Bool, true, false, cond, List, Option, Some, None, min, refl, sym, ◌∙◌, ap, arith}
-use Rattle.std.specs.Prelude.{IsTrue, unsigned_abs}
+use Rattle.std.proofs.Common.{◌≡◌, ℕ, ℤ, zero, suc, ◌-◌, ◌^◌, ◌<◌, ◌&&◌, Bool, true, false, cond, List, Option, Some, None, min, refl, ap, arith}
+use Rattle.std.specs.Prelude.{unsigned_abs}
 use Rattle.s38_base.specs.Scalar.{fits, fits_size, image_of, is_numeric, with_minus}
 use Rattle.s38_base.specs.declared.attr.Attr.{Attr}
 use Rattle.s38_words.specs.declared.numbers.Numeral.{Numeral}

@@ -1,15 +1,15 @@
 -- What a caller may rely on in declarations that were checked.
-use Rattle.std.specs.Prelude.{◌≡◌, ◌≤◌, ℕ, IsTrue, List, [], take, length, slice_get, Some, if◌then◌else◌}
-use Rattle.s38_base.specs.Scalar.{is_bounded, length_of}
+use Rattle.std.specs.Prelude.{◌≡◌, ◌≤◌, ℕ, IsTrue, List, take, length, slice_get, Some, if◌then◌else◌}
+use Rattle.s38_base.specs.Scalar.{is_bounded, is_pointer_attr, length_of}
 use Rattle.s38_base.specs.declared.attr.Attr.{Attr}
 use Rattle.s38_code.specs.declared.program.Form.{Form}
 use Rattle.s38_code.specs.declared.program.Form.TheVariants.{Local, Parm, Based, Handler}
 use Rattle.s38_code.specs.declared.program.Row.{Row}
-use Rattle.s38_odt.specs.Table.{is_base_row, is_pointer}
+use Rattle.s38_odt.specs.Table.{is_base_row}
 
 -- how many bytes a variable begins with: none for a pointer
 abbrev pub first_length : Attr → ℕ
-first_length attr = if is_pointer attr then 0 else length_of attr
+first_length attr = if is_pointer_attr attr then 0 else length_of attr
 
 -- its attribute keeps the bounds of a declaration, and it begins with as many bytes as the attribute has
 pub record IsVariable (attr : Attr) (first : List ℕ) : Type 0 where

@@ -4,9 +4,9 @@ use Rattle.std.specs.List.{position_from}
 use Rattle.std.specs.Option.{option_and_then}
 use Rattle.std.specs.Str.{bytes_eq}
 use Rattle.s38_base.specs.NameText.{is_name}
-use Rattle.s38_base.specs.Scalar.{is_bounded}
+use Rattle.s38_base.specs.Exceptions as exceptions
+use Rattle.s38_base.specs.Scalar.{is_bounded, is_pointer_attr}
 use Rattle.s38_base.specs.declared.attr.Attr.{Attr}
-use Rattle.s38_base.specs.declared.attr.Attr.TheVariants.{Packed, Zoned, Binary, Chars, Pointer}
 use Rattle.s38_words.specs.DeclarationLine.{declaration_of, initial_of, is_in_range}
 use Rattle.s38_code.specs.declared.program.CreateFault.{CreateFault}
 use Rattle.s38_code.specs.declared.program.CreateFault.TheVariants.{Bad}
@@ -17,14 +17,6 @@ use Rattle.s38_words.specs.declared.declarations.DeclarationLine.{DeclarationLin
 use Rattle.s38_words.specs.declared.declarations.Declares.{Declares}
 use Rattle.s38_words.specs.declared.declarations.Declares.TheVariants.{Variable, Parameter, BasedItem, Description}
 use Rattle.s38_odt.specs.First.{first_of}
-
--- an attribute out of its bounds, or a literal that it does not hold
-abbrev pub bad_attribute : ℕ
-bad_attribute = 0x2A02
-
--- a name that stands there already, a base that is no pointer, or a form that is not built
-abbrev pub bad_name : ℕ
-bad_name = 0x2A03
 
 -- ---- names
 
@@ -38,17 +30,10 @@ item_of rows word = if is_name word then place_in rows word else None
 
 -- ---- bases
 
-abbrev pub is_pointer : Attr → Bool
-is_pointer (Packed digits fraction) = false
-is_pointer (Zoned digits fraction) = false
-is_pointer (Binary size) = false
-is_pointer (Chars len) = false
-is_pointer Pointer = true
-
 -- a variable or a parameter that holds a pointer
 abbrev pub is_base : Form → Bool
-is_base (Local attr first) = is_pointer attr
-is_base (Parm k attr) = is_pointer attr
+is_base (Local attr first) = is_pointer_attr attr
+is_base (Parm k attr) = is_pointer_attr attr
 is_base (Based base offset attr) = false
 is_base (Handler code at) = false
 
@@ -76,35 +61,35 @@ abbrev pub is_bounded_line : Declares → Bool
 is_bounded_line declares = is_in_range declares && attribute_bounded declares
 
 abbrev pub variable_form : Attr → Option (List ℕ) → Result Form ℕ
-variable_form attr None = Err bad_attribute
+variable_form attr None = Err exceptions.declaration_invalid
 variable_form attr (Some first) = Ok (Local attr first)
 
 abbrev pub based_form : ℕ → Attr → Option ℕ → Result Form ℕ
-based_form offset attr None = Err bad_name
+based_form offset attr None = Err exceptions.name_invalid
 based_form offset attr (Some base) = Ok (Based base offset attr)
 
 -- what a bounded line makes of its name; parameters and descriptions of exceptions are not built
 unfoldable pub form_of : List Row → Option (List ℕ) → Declares → Result Form ℕ
 form_of rows literal (Variable attr) = variable_form attr (first_of attr literal)
-form_of rows literal (Parameter k attr) = Err bad_name
+form_of rows literal (Parameter k attr) = Err exceptions.name_invalid
 form_of rows literal (BasedItem base offset attr) = based_form offset attr (base_in rows base)
-form_of rows literal (Description code label) = Err bad_name
+form_of rows literal (Description code label) = Err exceptions.name_invalid
 
 abbrev pub checked_form : List Row → Option (List ℕ) → Declares → Result Form ℕ
-checked_form rows literal declares = if is_bounded_line declares then form_of rows literal declares else Err bad_attribute
+checked_form rows literal declares = if is_bounded_line declares then form_of rows literal declares else Err exceptions.declaration_invalid
 
 -- the row, if its name is new
 abbrev pub new_row : List Row → List ℕ → Result Form ℕ → Result Row ℕ
 new_row rows name (Err cause) = Err cause
-new_row rows name (Ok form) = if is_some (place_in rows name) then Err bad_name else Ok (record { name = name; form = form })
+new_row rows name (Ok form) = if is_some (place_in rows name) then Err exceptions.name_invalid else Ok (record { name = name; form = form })
 
-abbrev pub row_said : List Row → Option (List ℕ) → Option DeclarationLine → Result Row ℕ
-row_said rows literal None = Err bad_attribute
-row_said rows literal (Some line) = new_row rows line.name (checked_form rows literal line.declares)
+abbrev pub row_from : List Row → Option (List ℕ) → Option DeclarationLine → Result Row ℕ
+row_from rows literal None = Err exceptions.declaration_invalid
+row_from rows literal (Some line) = new_row rows line.name (checked_form rows literal line.declares)
 
 -- the row that a line makes behind these rows, or the cause for which it is refused
 unfoldable pub row_of : List Row → List ℕ → Result Row ℕ
-row_of rows line = row_said rows (initial_of line) (declaration_of line)
+row_of rows line = row_from rows (initial_of line) (declaration_of line)
 
 -- ---- all declarations
 

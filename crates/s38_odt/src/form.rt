@@ -5,17 +5,10 @@ ghost use Rattle.s38_odt.specs.Table.{attribute_bounded, checked_form, form_of, 
 
 use crate::first::first;
 use crate::places::{Declared, base, is_declared};
-use s38_base::NoMemory;
+use s38_base::{NoMemory, exceptions};
 use s38_code::{Form, Row};
 use s38_words::{Declares, declaration, initial, is_in_range};
 use std::alloc::Global;
-
-/// The cause of a refusal: an attribute out of its bounds, or a literal that it does not hold.
-pub const BAD_ATTRIBUTE: u16 = 0x2A02;
-
-/// The cause of a refusal: a name that stands there already, a base that is no pointer, or a form that is not
-/// built.
-pub const BAD_NAME: u16 = 0x2A03;
 
 fn attribute_bounded(declares: &Declares) -> bool
     ensures { result ≡ attribute_bounded declares.now }
@@ -50,7 +43,7 @@ fn form(
     match declares {
         Declares::Variable { attr } => match first(alloc, *attr, literal)? {
             Some(first) => Ok(Ok(Form::Local { attr: *attr, first })),
-            None => Ok(Err(BAD_ATTRIBUTE)),
+            None => Ok(Err(exceptions::DECLARATION_INVALID)),
         },
         Declares::BasedItem {
             base: name,
@@ -62,9 +55,9 @@ fn form(
                 offset: *offset as u32,
                 attr: *attr,
             })),
-            None => Ok(Err(BAD_NAME)),
+            None => Ok(Err(exceptions::NAME_INVALID)),
         },
-        _ => Ok(Err(BAD_NAME)),
+        _ => Ok(Err(exceptions::NAME_INVALID)),
     }
 }
 
@@ -80,7 +73,7 @@ fn checked_form(
     if is_bounded_line(declares) {
         form(alloc, declared, literal, declares)
     } else {
-        Ok(Err(BAD_ATTRIBUTE))
+        Ok(Err(exceptions::DECLARATION_INVALID))
     }
 }
 
@@ -91,16 +84,16 @@ pub fn row(alloc: Global, declared: &Declared, line: &[u8]) -> Result<Result<Row
     ensures row { IfOk result (λ answer. answer ≡ row_of declared.now.rows.items line.now) }
     ensures new { IfOk result (λ answer. IfOk answer (λ row. place_in declared.now.rows.items row.name ≡ None)) }
 {
-    let Some(said) = declaration(line) else {
-        return Ok(Err(BAD_ATTRIBUTE));
+    let Some(declared_line) = declaration(line) else {
+        return Ok(Err(exceptions::DECLARATION_INVALID));
     };
-    match checked_form(alloc, declared, initial(line), &said.declares)? {
+    match checked_form(alloc, declared, initial(line), &declared_line.declares)? {
         Err(cause) => Ok(Err(cause)),
-        Ok(form) => if is_declared(declared, &said.name) {
-            Ok(Err(BAD_NAME))
+        Ok(form) => if is_declared(declared, &declared_line.name) {
+            Ok(Err(exceptions::NAME_INVALID))
         } else {
             Ok(Ok(Row {
-                name: said.name,
+                name: declared_line.name,
                 form,
             }))
         },

@@ -1,12 +1,12 @@
 ghost use Rattle.std.specs.Prelude.{◌≡◌, ◌^◌, ◌-◌, ◌*◌, ◌≤◌, ◌<◌, min, IsTrue, IfOk, pos};
 ghost use Rattle.std.specs.Option.{option_map};
-ghost use Rattle.s38_base.specs.Scalar.{fits, is_numeric, with_minus};
+ghost use Rattle.s38_base.specs.Scalar.{fits, is_numeric};
 ghost use Rattle.s38_base.specs.declared.attr.Attr.{Attr};
 ghost use Rattle.s38_odt.specs.First.{fewer_digits, is_exact, magnitude_in, more_digits, number_held, units_held};
 
 use s38_base::{Attr, Bytes, NoMemory, Seq};
 use s38_decimal::write_scalar;
-use s38_words::Numeral;
+use s38_words::{Numeral, signed};
 use std::alloc::Global;
 
 /// The bytes of a number; None exactly where the attribute does not hold it.
@@ -52,18 +52,6 @@ fn magnitude_in(attr: Attr, literal: Numeral) -> u128
     let fewer = literal.fraction.saturating_sub(attr.fraction());
     let more = attr.fraction().saturating_sub(literal.fraction);
     (literal.units.unsigned_abs() / ten(fewer)).saturating_mul(ten(more))
-}
-
-/// A number and its sign.
-fn signed(minus: bool, number: u128) -> i128
-    requires { number < 2 ^ 127 }
-    ensures { result ≡ with_minus minus number }
-{
-    if minus {
-        -(number as i128)
-    } else {
-        number as i128
-    }
 }
 
 /// The bytes of a number literal; None exactly where the attribute does not hold it exactly.

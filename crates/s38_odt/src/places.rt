@@ -1,8 +1,8 @@
 ghost use Rattle.std.specs.Prelude.{◌≡◌, ◌<◌, ◌++◌, ◌∷◌, [], length, slice_get, is_some, None, OnOk};
 ghost use Rattle.s38_odt.specs.Places.{IsTied};
-ghost use Rattle.s38_odt.specs.Table.{base_in, is_base, is_base_row, is_pointer, item_of, place_in};
+ghost use Rattle.s38_odt.specs.Table.{base_in, is_base, is_base_row, item_of, place_in};
 
-use s38_base::{Attr, Name, NoMemory};
+use s38_base::{Name, NoMemory};
 use s38_code::{Form, Row};
 use std::collections::BTreeMap;
 
@@ -24,19 +24,13 @@ pub fn is_declared(declared: &Declared, name: &Name) -> bool
     declared.places.contains_key(name)
 }
 
-fn is_pointer(attr: Attr) -> bool
-    ensures { result ≡ is_pointer attr }
-{
-    matches!(attr, Attr::Pointer)
-}
-
 /// A variable or a parameter that holds a pointer.
 fn is_base(form: &Form) -> bool
     ensures { result ≡ is_base form.now }
 {
     match form {
-        Form::Local { attr, .. } => is_pointer(*attr),
-        Form::Parm { attr, .. } => is_pointer(*attr),
+        Form::Local { attr, .. } => attr.is_pointer(),
+        Form::Parm { attr, .. } => attr.is_pointer(),
         _ => false,
     }
 }

@@ -1,6 +1,6 @@
 //! How a failed rule is told.
 ghost use Rattle.std.specs.Prelude.{◌≡◌};
-ghost use Rattle.s38_base.specs.Signals.{fails, first};
+ghost use Rattle.s38_base.specs.Signals.{fails};
 
 use s38_base::Exception;
 
@@ -12,15 +12,5 @@ pub fn fails(test: bool, id: u16, operand: u8) -> Option<Exception>
         Some(Exception::plain(id, operand))
     } else {
         None
-    }
-}
-
-/// The first of two failures.
-pub fn first(earlier: Option<Exception>, later: Option<Exception>) -> Option<Exception>
-    ensures { result ≡ first earlier later }
-{
-    match earlier {
-        None => later,
-        Some(failure) => Some(failure),
     }
 }

@@ -25,7 +25,7 @@ pub use creation::{
     name_rule, pages_rule,
 };
 pub use destruction::{destruction_changes, destruction_needs};
-pub use failures::{fails, first};
+pub use failures::fails;
 pub use needs::{Needs, need, on_object};
 pub use numbers::{count_at, number_at};
 pub use operands::{

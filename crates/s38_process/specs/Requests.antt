@@ -2,7 +2,7 @@
 use Rattle.std.specs.Prelude.{ℕ, Bool, true, false, List, [], ◌∷◌, Option, Some, None, slice_get}
 use Rattle.s38_base.specs.declared.attr.Attr.{Attr}
 use Rattle.s38_base.specs.declared.attr.Attr.TheVariants as attrs
-use Rattle.s38_code.specs.Class.{classes}
+use Rattle.s38_code.specs.Operations.{classes}
 use Rattle.s38_code.specs.declared.class.Class.{Class}
 use Rattle.s38_code.specs.declared.class.Class.TheVariants.{NumberReceiver, BytesReceiver, PointerReceiver, CellsReceiver}
 use Rattle.s38_code.specs.declared.event.Request.{Request}

@@ -16,7 +16,7 @@ use Rattle.s38_code.specs.declared.operand.Operand.TheVariants.{InSpace}
 use Rattle.s38_code.specs.declared.program.Program.{Program}
 use Rattle.s38_code.specs.declared.reply.Reply.TheVariants.{MustWait}
 use Rattle.s38_code.specs.declared.reply.Val.{Val}
-use Rattle.s38_code.specs.Families.{family_of}
+use Rattle.s38_code.specs.Operations.{family_of}
 use Rattle.s38_code.specs.History.{IsAnswered, entry_after}
 use Rattle.s38_rules.specs.declared.process.ProcessEntry.{ProcessEntry}
 use Rattle.s38_rules.specs.declared.verdict.Verdict.{Verdict}

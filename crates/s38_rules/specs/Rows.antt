@@ -2,7 +2,7 @@
 use Rattle.s38_base.specs.declared.op.Op.{Op}
 use Rattle.s38_code.specs.declared.family.Family.{Family}
 use Rattle.s38_code.specs.declared.family.Family.TheVariants as families
-use Rattle.s38_code.specs.Families.{family_of}
+use Rattle.s38_code.specs.Operations.{family_of}
 use Rattle.s38_rules.specs.Computing.{computing}
 use Rattle.s38_rules.specs.Instruction.{Instruction, inert}
 use Rattle.s38_rules.specs.Programs.{programs_row}

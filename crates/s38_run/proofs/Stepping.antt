@@ -14,7 +14,7 @@ use Rattle.s38_rules.specs.Verdict.{awake_verdict, of_failure, refused_by, start
 use Rattle.s38_rules.specs.Effect.{effect_of, end_at, start_at}
 use Rattle.s38_rules.specs.Step.{Stepped, by_verdict, by_waiting, step}
 use Rattle.s38_process.specs.Process.{is_finish}
-use Rattle.s38_code.specs.Families.{family_of}
+use Rattle.s38_code.specs.Operations.{family_of}
 use Rattle.s38_rules.specs.Rows.{row}
 use Rattle.s38_rules.proofs.Laws.{act_keeps, keeps_row}
 use Rattle.s38_run.specs.Running.{HasEnded, OthersStay}

@@ -1,21 +1,21 @@
 -- A deck that is spelled is read.
-use Rattle.std.proofs.Common.{◌≡◌, ◌⊎◌, ℕ, ◌+◌, ◌<◌, ◌≤◌, min, true, false, not, ◌&&◌, ◌||◌, cond, ◌==◌, nat_lt, nat_le, List, [], ◌∷◌, ◌++◌, map, length, drop, Option, Some, None, Ok, sym, ap, subst, ◌∙◌, refl, arith, inl, inr}
-use Rattle.std.proofs.lemmas.Bool.{and_parts, or_cases, ne_eqb, eqb-true, lt-ltb, le-leb, ltb-true, not-true, not_from_false}
-use Rattle.std.proofs.lemmas.List.{append_assoc, append-nil, length-append, length_push}
+use Rattle.std.proofs.Common.{◌≡◌, ◌⊎◌, ℕ, ◌+◌, ◌<◌, ◌≤◌, min, true, false, not, ◌&&◌, ◌==◌, nat_lt, nat_le, List, [], ◌∷◌, ◌++◌, map, length, Option, Some, None, Ok, sym, ap, subst, ◌∙◌, refl, arith, inl, inr}
+use Rattle.std.proofs.lemmas.Bool.{and_parts, or_cases, ne_eqb, eqb-true, lt-ltb, ltb-true, not-true, not_from_false}
+use Rattle.std.proofs.lemmas.List.{append_assoc, append-nil, length_push}
 use Rattle.std.specs.List.{AllByRecursion, filter, list_all, flat_map, slice_split}
-use Rattle.s38_words.specs.Text.{before}
 use Rattle.s38_code.specs.declared.deck.Deck.{Deck}
 use Rattle.s38_code.specs.declared.deck.Job.{Job}
 use Rattle.s38_template.specs.declared.place.Place.TheVariants.{Between, Declaring, Acting, Begun, Staged}
 use Rattle.s38_template.specs.declared.said.Line.{Line}
 use Rattle.s38_template.specs.declared.said.Line.TheVariants.{Program, Declare, Label, Act, End, Stage, Job as JobLine}
-use Rattle.s38_template.specs.Grammar.{FitJobs, IsTemplate, SayEach, Says, Spells, acts, are_new, are_numbered, budget_part, declares, goes_on, has, is_action, is_declaration, is_job, is_kept, is_step, job_text, labels_in, labels_said, name_of, name_of_job, stage_lines, template_names}
-use Rattle.s38_template.specs.Lines.{end_line, is_own_name, job, label, line_of, program, program_word, stage_line}
+use Rattle.s38_template.specs.Grammar.{FitJobs, IsTemplate, SayEach, Says, Spells, acts, are_new, are_numbered, budget_part, declares, goes_on, has, is_action, is_declaration, is_job, is_step, job_text, labels_in, labels_said, name_of, name_of_job, stage_lines, template_names}
+use Rattle.s38_template.specs.Lines.{end_line, job, label, line_of, program, stage_line}
 use Rattle.s38_template.specs.Reading.{State, is_feed, job_of, may_end, may_stand, read_of, read_on, start, taken}
 use Rattle.s38_template.proofs.Ends.{Ends, Step, reads_on}
 use Rattle.s38_template.proofs.LineForms.{end_read, head_name, job_line_read, line_told, stage_read}
 use Rattle.s38_template.proofs.JobText.{job_read, said_of}
 use Rattle.s38_template.proofs.Texts.{free_from_plain, lines_split}
+use Rattle.s38_words.specs.Name.{is_declared_name}
 
 -- ---- jobs
 
@@ -44,9 +44,9 @@ said_line text j fits says =
 
 in_range : (j : Job) → is_job j ≡ true → (nat_le 1 j.budget && nat_le j.budget 10000000) ≡ true
 in_range j h =
-    let p = and_parts (is_own_name j.name) _ h in
+    let p = and_parts (is_declared_name j.name) _ h in
     let q = and_parts _ _ p.1 in
-    let r = and_parts (is_own_name j.template) _ q.1 in
+    let r = and_parts (is_declared_name j.template) _ q.1 in
     (and_parts _ (nat_le 1 j.budget && nat_le j.budget 10000000) r.1).1
 
 job_stands : (s : State) (j : Job) → (s.place ≡ Begun) ⊎ (s.place ≡ Staged) → may_stand s.place (job (said_of j)) ≡ true

@@ -1,17 +1,16 @@
 -- The deck that lines end in, where only lines that say something are looked at; and the reading of all lines.
-use Rattle.std.proofs.Common.{◌≡◌, ◌⊎◌, ℕ, ◌+◌, ◌<◌, ◌≤◌, Bool, true, false, cond, List, [], ◌∷◌, ◌++◌, length, nat_le, Option, Some, None, Result, Ok, Err, sym, ap, subst, ◌∙◌, refl, arith, inl, inr}
+use Rattle.std.proofs.Common.{◌≡◌, ◌⊎◌, ℕ, ◌+◌, ◌<◌, ◌≤◌, Bool, true, false, List, [], ◌∷◌, ◌++◌, length, Option, Some, None, Result, Ok, sym, ap, subst, ◌∙◌, refl, arith, inl, inr}
 use Rattle.std.proofs.lemmas.Bool.{cases_Bool, and_parts, and_from, leb-true, le-leb}
-use Rattle.std.proofs.lemmas.List.{append_assoc, length-append}
+use Rattle.std.proofs.lemmas.List.{length-append}
 use Rattle.std.proofs.lemmas.List.Splits.{length-slice_split}
 use Rattle.std.specs.List.{list_all, filter, flat_map, slice_split}
 use Rattle.s38_code.specs.declared.deck.Deck.{Deck}
 use Rattle.s38_template.specs.declared.fault.DeckFault.{DeckFault}
-use Rattle.s38_template.specs.declared.fault.DeckFault.TheVariants.{Bad}
 use Rattle.s38_template.specs.declared.said.Line.{Line}
 use Rattle.s38_template.specs.Cut.{cut}
 use Rattle.s38_template.specs.Grammar.{is_kept, is_plain, with_feed}
 use Rattle.s38_template.specs.Lines.{line_of}
-use Rattle.s38_template.specs.Reading.{Answers, State, after_line, bad_or, code_of, end_at, first_code, has_room, has_template, is_feed, is_in_range, is_new, is_small, may_end, may_stand, read_of, read_on, rest_at, said_code, start, taken, taken_if, tests}
+use Rattle.s38_template.specs.Reading.{Answers, State, after_line, bad_or, code_of, end_at, first_code, has_room, has_template, is_feed, is_in_range, is_new, is_small, may_end, may_stand, read_of, read_on, rest_at, said_code, start, taken, tests}
 use Rattle.s38_template.proofs.Texts.{split_at, split_none}
 
 -- a good line that says this

@@ -1,5 +1,5 @@
 -- The line of a job says what is read of it, and is read as the job that it says.
-use Rattle.std.proofs.Common.{◌≡◌, ◌⊎◌, ℕ, ◌<◌, ◌≤◌, Bool, true, not, ◌&&◌, cond, ◌==◌, nat_lt, nat_le, nat_eq, List, [], ◌∷◌, ◌++◌, length, drop, Option, Some, None, codes, sym, ap, subst, ◌∙◌, refl, arith, inl, inr}
+use Rattle.std.proofs.Common.{◌≡◌, ◌⊎◌, ℕ, ◌<◌, ◌≤◌, true, not, ◌&&◌, ◌==◌, nat_lt, nat_le, nat_eq, List, [], ◌∷◌, ◌++◌, length, drop, Option, Some, None, codes, sym, ap, subst, ◌∙◌, refl, arith, inl, inr}
 use Rattle.std.specs.Prelude.{decimal}
 use Rattle.std.proofs.lemmas.Bool.{cases_Bool, and_parts, and_from, or_cases, ne_eqb, eqb-true, leb-true, not_from_false}
 use Rattle.std.proofs.lemmas.Bool.Decides.{Decides-eqb}
@@ -12,17 +12,19 @@ use Rattle.s38_base.specs.NameText.{is_name, is_name_byte, are_name_bytes}
 use Rattle.s38_words.specs.DeclarationLine.{count_of}
 use Rattle.s38_code.specs.declared.deck.Job.{Job}
 use Rattle.s38_template.specs.declared.said.JobSaid.{JobSaid}
-use Rattle.s38_template.specs.Cut.{cut, after}
+use Rattle.s38_template.specs.Cut.{cut}
 use Rattle.s38_template.specs.Grammar.{Says, budget_part, contexts_part, is_budget, is_job, job_text, with_blank}
-use Rattle.s38_template.specs.Lines.{begins_with_letter, budget_from, budget_in, contexts_in, head_in, is_blank, is_own_name, job_in, job_word, name_in, names_in, own_name_in, run_from, run_in, terms_from, terms_in, worded}
+use Rattle.s38_template.specs.Lines.{budget_from, budget_in, contexts_in, head_in, is_blank, job_in, job_word, names_in, run_from, run_in, terms_from, terms_in, worded}
 use Rattle.s38_template.specs.Reading.{job_of}
 use Rattle.s38_template.proofs.Numbers.{count_said, count_read, free_decimal}
 use Rattle.s38_template.proofs.Options.{map_some, then_some, all_weaker}
 use Rattle.s38_template.proofs.Texts.{is_free, cut_at, cut_none, cut_joins, split_at, split_none}
+use Rattle.s38_words.specs.Text.{rest_after}
+use Rattle.s38_words.specs.Name.{begins_with_letter, declared_name, is_declared_name, object_name}
 
 -- ---- words
 
-pub after_joins : (word text rest : List ℕ) → after word text ≡ Some rest → text ≡ word ++ rest
+pub after_joins : (word text rest : List ℕ) → rest_after word text ≡ Some rest → text ≡ word ++ rest
 after_joins word text rest e =
     let h = cond_some (starts_with nat_eq text word) (drop (length word) text) rest e in
     (starts_is Decides-eqb text word (starts_with nat_eq text word) refl).0 h.0 ∙ ap (λ r. word ++ r) h.1
@@ -40,7 +42,7 @@ free_name name h =
     let q = and_parts (nat_le (length name) 30) (are_name_bytes name) p.1 in
     all_weaker is_name_byte (λ c. not (c == 32)) free_name_byte name q.1
 
-own_is_name : (name : List ℕ) → is_own_name name ≡ true → is_name name ≡ true
+own_is_name : (name : List ℕ) → is_declared_name name ≡ true → is_name name ≡ true
 own_is_name name h = (and_parts (begins_with_letter name) (is_name name) h).1
 
 -- ---- contexts
@@ -90,7 +92,7 @@ record AreContexts (text : List ℕ) (contexts : List (List ℕ)) : Type 0 where
 contexts_said : (text : List ℕ) (contexts : List (List ℕ)) → contexts_in text ≡ Some contexts → AreContexts text contexts
 unfolding contexts_in
 contexts_said text contexts e =
-    then_some names_in (after (codes "CONTEXTS ") text) contexts e (λ rest a en.
+    then_some names_in (rest_after (codes "CONTEXTS ") text) contexts e (λ rest a en.
     let g = cond_some (list_all is_name (slice_split is_blank rest)) (slice_split is_blank rest) contexts en in
     let R : List (List ℕ) → Type 0 = λ l. list_all is_name l ≡ true in
     record {
@@ -141,7 +143,7 @@ budget_said : (text : List ℕ) (budget : ℕ) (contexts : List (List ℕ)) → 
 unfolding budget_in
 budget_said text budget contexts e = budget_said_from text (cut 32 text) budget contexts refl e
 
-terms_said_from : (text : List ℕ) (o : Option (List ℕ)) (budget : ℕ) (contexts : List (List ℕ)) → after (codes "BUDGET ") text ≡ o → terms_from text o ≡ Some (budget, contexts) → AreTerms (32 ∷ text) budget contexts
+terms_said_from : (text : List ℕ) (o : Option (List ℕ)) (budget : ℕ) (contexts : List (List ℕ)) → rest_after (codes "BUDGET ") text ≡ o → terms_from text o ≡ Some (budget, contexts) → AreTerms (32 ∷ text) budget contexts
 terms_said_from text None budget contexts a e =
     map_some (λ (list : List (List ℕ)). (1000000, list)) (contexts_in text) (budget, contexts) e (λ list eq back.
     let P : ℕ × List (List ℕ) → Type 0 = λ t. AreTerms (32 ∷ text) t.0 t.1 in
@@ -154,30 +156,30 @@ terms_said_from text (Some rest) budget contexts a e =
 
 terms_said : (text : List ℕ) (budget : ℕ) (contexts : List (List ℕ)) → terms_in text ≡ Some (budget, contexts) → AreTerms (32 ∷ text) budget contexts
 unfolding terms_in
-terms_said text budget contexts e = terms_said_from text (after (codes "BUDGET ") text) budget contexts refl e
+terms_said text budget contexts e = terms_said_from text (rest_after (codes "BUDGET ") text) budget contexts refl e
 
 -- ---- the template, the budget and the contexts
 
 pub record IsRun (text : List ℕ) (run : List ℕ × ℕ × List (List ℕ)) : Type 0 where
   pub rest : List ℕ
   pub said : text ≡ run.0 ++ rest
-  pub own : is_own_name run.0 ≡ true
+  pub own : is_declared_name run.0 ≡ true
   pub terms : AreTerms rest run.1 run.2
 
 run_from_says : (text : List ℕ) (o : Option (List ℕ × List ℕ)) (run : List ℕ × ℕ × List (List ℕ)) → cut 32 text ≡ o → run_from text o ≡ Some run → IsRun text run
 run_from_says text None run c e =
-    map_some (λ (name : List ℕ). (name, 1000000, [])) (own_name_in text) run e (λ name eq back.
-    let h = cond_some (is_own_name text) text name eq in
+    map_some (λ (name : List ℕ). (name, 1000000, [])) (declared_name text) run e (λ name eq back.
+    let h = cond_some (is_declared_name text) text name eq in
     let P : List ℕ × ℕ × List (List ℕ) → Type 0 = IsRun text in
-    let Q : List ℕ → Type 0 = λ n. is_own_name n ≡ true in
+    let Q : List ℕ → Type 0 = λ n. is_declared_name n ≡ true in
     let terms : AreTerms [] 1000000 [] = record { part = []; is_part = λ _. record { is = inr (refl, refl) }; said = λ _. refl; names = refl } in
     let r : IsRun text (name, 1000000, []) = record { rest = []; said = h.1 ∙ sym (append-nil name); own = subst Q h.1 h.0; terms = terms } in
     subst P back r)
 run_from_says text (Some p) run c e =
-    then_some _ (own_name_in p.0) run e (λ name eq e1. then_some _ (terms_in p.1) run e1 (λ terms et back.
-    let h = cond_some (is_own_name p.0) p.0 name eq in
+    then_some _ (declared_name p.0) run e (λ name eq e1. then_some _ (terms_in p.1) run e1 (λ terms et back.
+    let h = cond_some (is_declared_name p.0) p.0 name eq in
     let P : List ℕ × ℕ × List (List ℕ) → Type 0 = IsRun text in
-    let Q : List ℕ → Type 0 = λ n. is_own_name n ≡ true in
+    let Q : List ℕ → Type 0 = λ n. is_declared_name n ≡ true in
     let r : IsRun text (name, terms.0, terms.1) = record {
       rest = 32 ∷ p.1;
       said = cut_joins 32 text p c ∙ ap (λ n. n ++ 32 ∷ p.1) h.1;
@@ -195,7 +197,7 @@ run_says text run e = run_from_says text (cut 32 text) run refl e
 worded_joins : (word text : List ℕ) (p : List ℕ × List ℕ) → worded word text ≡ Some p → text ≡ word ++ (p.0 ++ 32 ∷ p.1)
 unfolding worded
 worded_joins word text p e =
-    then_some (cut 32) (after word text) p e (λ behind a c. after_joins word text behind a ∙ ap (λ r. word ++ r) (cut_joins 32 behind p c))
+    then_some (cut 32) (rest_after word text) p e (λ behind a c. after_joins word text behind a ∙ ap (λ r. word ++ r) (cut_joins 32 behind p c))
 
 abbrev head_line : List ℕ × List ℕ × List ℕ → List ℕ
 head_line head = job_word ++ (head.0 ++ (codes " USER " ++ (head.1 ++ (codes " RUN " ++ head.2))))
@@ -203,7 +205,7 @@ head_line head = job_word ++ (head.0 ++ (codes " USER " ++ (head.1 ++ (codes " R
 head_says : (line : List ℕ) (head : List ℕ × List ℕ × List ℕ) → head_in line ≡ Some head → line ≡ head_line head
 unfolding head_in
 head_says line head e =
-    then_some _ (worded job_word line) head e (λ job j e1. then_some _ (worded (codes "USER ") job.1) head e1 (λ user u e2. then_some _ (after (codes "RUN ") user.1) head e2 (λ run r back.
+    then_some _ (worded job_word line) head e (λ job j e1. then_some _ (worded (codes "USER ") job.1) head e1 (λ user u e2. then_some _ (rest_after (codes "RUN ") user.1) head e2 (λ run r back.
     let P : List ℕ × List ℕ × List ℕ → Type 0 = λ h. line ≡ head_line h in
     subst P (same_Some _ head back) (
     worded_joins job_word line job j
@@ -230,13 +232,13 @@ part_says line part job e p = elim p.is [
 pub job_says : (stage : ℕ) (line : List ℕ) (said : JobSaid) → job_in line ≡ Some said → is_budget said.budget ≡ true → SaysJob stage line (job_of stage said)
 unfolding job_in
 job_says stage line said e b =
-    then_some _ (head_in line) said e (λ head h e1. then_some _ (own_name_in head.0) said e1 (λ name n e2. then_some _ (name_in head.1) said e2 (λ user u e3. then_some _ (run_in head.2) said e3 (λ run r back.
-    let hn = cond_some (is_own_name head.0) head.0 name n in
+    then_some _ (head_in line) said e (λ head h e1. then_some _ (declared_name head.0) said e1 (λ name n e2. then_some _ (object_name head.1) said e2 (λ user u e3. then_some _ (run_in head.2) said e3 (λ run r back.
+    let hn = cond_some (is_declared_name head.0) head.0 name n in
     let hu = cond_some (is_name head.1) head.1 user u in
     let hr = run_says head.2 run r in
     let made : JobSaid = record { name = name; user = user; template = run.0; budget = run.1; contexts = run.2 } in
     let same : made ≡ said = same_Some made said back in
-    let N : List ℕ → Type 0 = λ t. is_own_name t ≡ true in
+    let N : List ℕ → Type 0 = λ t. is_declared_name t ≡ true in
     let U : List ℕ → Type 0 = λ t. is_name t ≡ true in
     let B : JobSaid → Type 0 = λ s. is_budget s.budget ≡ true in
     let in_range : is_budget run.1 ≡ true = subst B (sym same) b in
@@ -257,11 +259,11 @@ job_says stage line said e b =
 abbrev pub said_of : Job → JobSaid
 said_of job = record { name = job.name; user = job.user; template = job.template; budget = job.budget; contexts = job.contexts }
 
-run_alone : (name : List ℕ) → is_own_name name ≡ true → run_in name ≡ Some (name, 1000000, [])
+run_alone : (name : List ℕ) → is_declared_name name ≡ true → run_in name ≡ Some (name, 1000000, [])
 unfolding run_in
 run_alone name n = rw (cut_none 32 name (free_name name (own_is_name name n))) (rw n refl)
 
-run_on : (name rest : List ℕ) (budget : ℕ) (contexts : List (List ℕ)) → is_own_name name ≡ true → terms_in rest ≡ Some (budget, contexts) → run_in (name ++ 32 ∷ rest) ≡ Some (name, budget, contexts)
+run_on : (name rest : List ℕ) (budget : ℕ) (contexts : List (List ℕ)) → is_declared_name name ≡ true → terms_in rest ≡ Some (budget, contexts) → run_in (name ++ 32 ∷ rest) ≡ Some (name, budget, contexts)
 unfolding run_in
 run_on name rest budget contexts n t = rw (cut_at 32 name rest (free_name name (own_is_name name n))) (rw n (rw t refl))
 
@@ -278,23 +280,23 @@ unfolding terms_in budget_in
 terms_all n first contexts some h names =
     rw (cut_at 32 (decimal n) (codes "CONTEXTS " ++ names_text (first ∷ contexts)) (free_decimal n h)) (rw (count_read n some h) (rw (contexts_read first contexts names) refl))
 
-run_default : (name : List ℕ) (contexts : List (List ℕ)) → is_own_name name ≡ true → list_all is_name contexts ≡ true → run_in (name ++ contexts_part contexts) ≡ Some (name, 1000000, contexts)
+run_default : (name : List ℕ) (contexts : List (List ℕ)) → is_declared_name name ≡ true → list_all is_name contexts ≡ true → run_in (name ++ contexts_part contexts) ≡ Some (name, 1000000, contexts)
 run_default name [] n h = ap run_in (append-nil name) ∙ run_alone name n
 run_default name (first ∷ contexts) n h = run_on name (codes "CONTEXTS " ++ names_text (first ∷ contexts)) 1000000 (first ∷ contexts) n (terms_default first contexts h)
 
-run_all : (name : List ℕ) (n : ℕ) (contexts : List (List ℕ)) → is_own_name name ≡ true → 0 < n → n ≤ 10000000 → list_all is_name contexts ≡ true → run_in (name ++ (budget_part n ++ contexts_part contexts)) ≡ Some (name, n, contexts)
+run_all : (name : List ℕ) (n : ℕ) (contexts : List (List ℕ)) → is_declared_name name ≡ true → 0 < n → n ≤ 10000000 → list_all is_name contexts ≡ true → run_in (name ++ (budget_part n ++ contexts_part contexts)) ≡ Some (name, n, contexts)
 run_all name n [] o some few h = ap (λ t. run_in (name ++ t)) (append-nil (budget_part n)) ∙ run_on name (codes "BUDGET " ++ decimal n) n [] o (terms_alone n some few)
 run_all name n (first ∷ contexts) o some few h = run_on name (codes "BUDGET " ++ (decimal n ++ contexts_part (first ∷ contexts))) n (first ∷ contexts) o (terms_all n first contexts some few h)
 
-job_read_from : (line rest : List ℕ) (job : Job) → line ≡ head_line (job.name, job.user, rest) → is_own_name job.name ≡ true → is_name job.user ≡ true → run_in rest ≡ Some (job.template, job.budget, job.contexts) → job_in line ≡ Some (said_of job)
+job_read_from : (line rest : List ℕ) (job : Job) → line ≡ head_line (job.name, job.user, rest) → is_declared_name job.name ≡ true → is_name job.user ≡ true → run_in rest ≡ Some (job.template, job.budget, job.contexts) → job_in line ≡ Some (said_of job)
 unfolding job_in
 job_read_from line rest job e n u r = rw e (rw (head_read job.name job.user rest (own_is_name job.name n) u) (rw n (rw u (rw r refl))))
 
 pub job_read : (line : List ℕ) (job : Job) → is_job job ≡ true → Says line job → job_in line ≡ Some (said_of job)
 job_read line job h says =
-    let p = and_parts (is_own_name job.name) _ h in
+    let p = and_parts (is_declared_name job.name) _ h in
     let q = and_parts (is_name job.user) _ p.1 in
-    let r = and_parts (is_own_name job.template) _ q.1 in
+    let r = and_parts (is_declared_name job.template) _ q.1 in
     let t = and_parts (list_all is_name job.contexts) (is_budget job.budget) r.1 in
     let m = and_parts (nat_le 1 job.budget) (nat_le job.budget 10000000) t.1 in
     elim says [

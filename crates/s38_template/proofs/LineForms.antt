@@ -1,25 +1,28 @@
 -- What a line with a form is made of.
-use Rattle.std.proofs.Common.{◌≡◌, ℕ, ◌+◌, Bool, true, false, not, cond, List, [], ◌∷◌, ◌++◌, length, drop, Option, Some, None, codes, sym, ap, subst, ◌∙◌, refl, inl, inr}
+use Rattle.std.proofs.Common.{◌≡◌, ℕ, Bool, true, List, ◌++◌, length, drop, Option, Some, None, codes, ap, subst, ◌∙◌, refl, inl, inr}
 use Rattle.std.proofs.lemmas.Bool.{cases_Bool}
 use Rattle.std.proofs.lemmas.Option.{same_Some, cond_some}
 use Rattle.std.proofs.lemmas.Slice.Eq.{bytes_eq-Decides}
 use Rattle.std.specs.Option.{option_map}
 use Rattle.s38_words.specs.DeclarationLine.{declaration_of}
-use Rattle.s38_words.specs.Text.{before, behind, is_word}
-use Rattle.s38_words.specs.declared.declarations.DeclarationLine.{DeclarationLine}
+use Rattle.s38_words.specs.Text.{before, behind, is_word, rest_after}
 use Rattle.s38_template.specs.declared.said.JobSaid.{JobSaid}
 use Rattle.s38_template.specs.declared.said.Line.{Line}
-use Rattle.s38_template.specs.declared.said.Line.TheVariants.{Program, Declare, Label, Act, End, Stage, Job}
-use Rattle.s38_template.specs.Cut.{after, cut}
-use Rattle.s38_template.specs.Grammar.{name_of}
-use Rattle.s38_template.specs.Lines.{are_marks, declare, end_line, head_of, head_said, is_instruction, is_own_name, job, job_in, job_word, label, label_of, line_of, own_name_in, program, program_word, rest_said, said_by, stage_line}
+use Rattle.s38_template.specs.declared.said.Line.TheVariants.{Program, Act, End, Stage, Job}
+use Rattle.s38_template.specs.Lines.{begun_by, declare, end_line, is_instruction, job, job_in, job_word, label, line_of, rest_said, said_by, stage_line}
 use Rattle.s38_template.proofs.JobText.{after_joins}
 use Rattle.s38_template.proofs.Options.{map_some, then_some}
 use Rattle.s38_template.proofs.Texts.{before_cut}
+use Rattle.s38_words.specs.ProgramLine.{adoption, head_behind, head_from, head_of, label_of, program_word}
+use Rattle.s38_words.specs.declared.program_lines.Head.{Head}
+use Rattle.s38_words.specs.Name.{declared_name, is_declared_name}
+
+abbrev pub named : Head → List ℕ
+named head = head.name
 
 -- what a line of each kind was read from
 abbrev pub IsSaid : List ℕ → Line → Type 0
-IsSaid text (Program name) = head_of text ≡ Some name
+IsSaid text (Program name) = option_map named (head_of text) ≡ Some name
 IsSaid text (Job said) = job_in text ≡ Some said
 IsSaid text End = text ≡ end_line
 IsSaid text Stage = text ≡ stage_line
@@ -47,7 +50,7 @@ unfolding said_by
 by_told word text line e =
     let P : Line → Type 0 = IsSaid text in
     elim (cases_Bool (is_word (codes "PROGRAM") word)) [
-      | inl y ↦ map_some program (head_of text) line (rw y at e) (λ name h back. subst P back h)
+      | inl y ↦ map_some begun_by (head_of text) line (rw y at e) (λ head h back. subst P back (ap (option_map named) h))
       | inr n ↦ elim (cases_Bool (is_word (codes "DCL") word)) [
         | inl y ↦ map_some declare (declaration_of text) line (rw n at (rw y at e)) (λ d h back. subst P back tt)
         | inr m ↦ elim (cases_Bool (is_word (codes "LABEL") word)) [
@@ -68,18 +71,20 @@ line_told text line e =
 
 -- ---- heads
 
-pub head_name : (text name : List ℕ) → head_of text ≡ Some name → (is_own_name name ≡ true) × (before 32 (drop (length program_word) text) ≡ name)
+head_from-name : (o : Option (List ℕ)) (marks : Option (Bool × Bool)) (head : Head) → head_from o marks ≡ Some head → o ≡ Some head.name
+head_from-name (Some name) (Some marks) head e = ap (option_map named) e
+head_from-name (Some name) None head e = absurd cc
+head_from-name None marks head e = absurd cc
+
+pub head_name : (text name : List ℕ) → option_map named (head_of text) ≡ Some name → (is_declared_name name ≡ true) × (before 32 (drop (length program_word) text) ≡ name)
 unfolding head_of
 head_name text name e =
-    then_some head_said (after program_word text) name e (λ rest a h.
+    map_some named (head_of text) name e (λ head h is.
+    then_some head_behind (rest_after program_word text) head h (λ rest a g.
     let joined : text ≡ program_word ++ rest = after_joins program_word text rest a in
-    elim (cases_Bool (are_marks (behind 32 rest))) [
-      | inl y ↦
-          let own = cond_some (is_own_name (before 32 rest)) (before 32 rest) name (rw y at h) in
-          let P : List ℕ → Type 0 = λ n. is_own_name n ≡ true in
-          (subst P own.1 own.0, ap (λ t. before 32 (drop (length program_word) t)) joined ∙ own.1)
-      | inr n ↦ absurd (let x = rw n at h in cc)
-    ])
+    let own = cond_some (is_declared_name (before 32 rest)) (before 32 rest) head.name (head_from-name (declared_name (before 32 rest)) (adoption (behind 32 rest)) head g) in
+    let P : List ℕ → Type 0 = λ n. (is_declared_name n ≡ true) × (before 32 (drop (length program_word) text) ≡ n) in
+    subst P (own.1 ∙ is) (own.0, ap (λ t. before 32 (drop (length program_word) t)) joined)))
 
 -- ---- lines that are read
 

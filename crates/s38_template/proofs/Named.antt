@@ -4,12 +4,12 @@ use Rattle.std.proofs.lemmas.Bool.{and_parts}
 use Rattle.s38_base.specs.NameText.{is_name}
 use Rattle.s38_template.specs.declared.said.Line.TheVariants.{Program}
 use Rattle.s38_template.specs.Grammar.{IsTemplate, name_of}
-use Rattle.s38_template.specs.Lines.{begins_with_letter, name_in}
 use Rattle.s38_template.proofs.LineForms.{head_name, line_told}
+use Rattle.s38_words.specs.Name.{begins_with_letter, object_name}
 
-pub template_named : (lines : List (List ℕ)) → IsTemplate lines → name_in (name_of lines) ≡ Some (name_of lines)
+pub template_named : (lines : List (List ℕ)) → IsTemplate lines → object_name (name_of lines) ≡ Some (name_of lines)
 template_named lines h =
     let told = head_name h.head h.name (line_told h.head (Program h.name) h.named) in
     let same : name_of lines ≡ h.name = ap name_of h.lines_are ∙ told.1 in
-    let read : name_in h.name ≡ Some h.name = ap (λ b. cond b (Some h.name) None) ((and_parts (begins_with_letter h.name) (is_name h.name) told.0).1) in
-    subst (λ (t : List ℕ). name_in t ≡ Some t) (sym same) read
+    let read : object_name h.name ≡ Some h.name = ap (λ b. cond b (Some h.name) None) ((and_parts (begins_with_letter h.name) (is_name h.name) told.0).1) in
+    subst (λ (t : List ℕ). object_name t ≡ Some t) (sym same) read

@@ -1,10 +1,9 @@
 -- A deck that is read is spelled.
-use Rattle.std.proofs.Common.{◌≡◌, ◌⊎◌, ℕ, ◌+◌, ◌<◌, ◌≤◌, min, Bool, true, false, not, ◌&&◌, ◌||◌, cond, ◌==◌, nat_lt, List, [], ◌∷◌, ◌++◌, map, length, drop, Option, Some, None, Ok, sym, ap, subst, ◌∙◌, refl, arith, inl, inr}
-use Rattle.std.proofs.lemmas.Bool.{and_parts, and_from, or_right, or_left, ne_eqb, eq-eqb, lt-ltb, ltb-true, not-true}
-use Rattle.std.proofs.lemmas.List.{append_assoc, append-nil, length-append, length_push}
+use Rattle.std.proofs.Common.{◌≡◌, ℕ, ◌+◌, ◌<◌, ◌≤◌, min, Bool, true, false, not, ◌&&◌, cond, ◌==◌, nat_lt, List, [], ◌∷◌, ◌++◌, map, length, Ok, sym, ap, subst, ◌∙◌, refl, arith}
+use Rattle.std.proofs.lemmas.Bool.{and_parts, and_from, or_right, or_left, ne_eqb, eq-eqb, lt-ltb, ltb-true}
+use Rattle.std.proofs.lemmas.List.{append_assoc, append-nil, length_push}
 use Rattle.std.proofs.lemmas.List.Splits.{join_with_byte-slice_split, length-slice_split}
 use Rattle.std.specs.List.{AllByRecursion, filter, flat_map, join_with_byte, list_all, slice_split}
-use Rattle.s38_words.specs.Text.{before}
 use Rattle.s38_code.specs.declared.deck.Deck.{Deck}
 use Rattle.s38_code.specs.declared.deck.Job.{Job}
 use Rattle.s38_template.specs.declared.place.Place.{Place}
@@ -12,8 +11,8 @@ use Rattle.s38_template.specs.declared.place.Place.TheVariants.{Between, Declari
 use Rattle.s38_template.specs.declared.said.JobSaid.{JobSaid}
 use Rattle.s38_template.specs.declared.said.Line.{Line}
 use Rattle.s38_template.specs.declared.said.Line.TheVariants.{Program, Declare, Label, Act, End, Stage, Job as JobLine}
-use Rattle.s38_template.specs.Grammar.{FitJobs, IsTemplate, SayEach, Says, Spells, acts, are_new, are_numbered, declares, goes_on, has, is_action, is_declaration, is_job, is_kept, is_plain, is_step, labels_in, labels_said, name_of, name_of_job, stage_lines, template_names, with_feed}
-use Rattle.s38_template.specs.Lines.{end_line, job, label, line_of, program, program_word, stage_line}
+use Rattle.s38_template.specs.Grammar.{FitJobs, IsTemplate, SayEach, Says, Spells, acts, are_new, are_numbered, declares, goes_on, has, is_action, is_declaration, is_job, is_kept, is_step, labels_in, labels_said, name_of, name_of_job, stage_lines, template_names, with_feed}
+use Rattle.s38_template.specs.Lines.{end_line, job, label, program, stage_line}
 use Rattle.s38_template.specs.Reading.{State, is_feed, job_of, may_end, may_stand, read_of, start, taken}
 use Rattle.s38_template.proofs.Ends.{Ends, Read, Step, reads}
 use Rattle.s38_template.proofs.JobText.{SaysJob, job_says}

@@ -14,9 +14,9 @@ use Rattle.s38_base.specs.NameText.{is_name}
 use Rattle.s38_code.specs.declared.deck.Deck.{Deck}
 use Rattle.s38_code.specs.declared.deck.Job.{Job}
 use Rattle.s38_template.specs.Grammar.{Spells, has, is_job, name_of, template_names}
-use Rattle.s38_template.specs.Lines.{begins_with_letter, is_own_name, name_in}
 use Rattle.s38_template.specs.Places.{HasTemplate, held, is_called, place_from, place_of, placed}
 use Rattle.s38_template.proofs.Options.{map_some}
+use Rattle.s38_words.specs.Name.{begins_with_letter, is_declared_name, object_name}
 
 -- ---- one name more in a map
 
@@ -59,12 +59,12 @@ placed_none : (o : Option ℕ) (at : ℕ) (text q : List ℕ) → is_name text �
 placed_none None at text q h = rw h refl
 placed_none (Some k) at text q h = refl
 
-pub placed_some_name : (o : Option ℕ) (at : ℕ) (text name q : List ℕ) → name_in text ≡ Some name → held o at name q ≡ placed o at text q
+pub placed_some_name : (o : Option ℕ) (at : ℕ) (text name q : List ℕ) → object_name text ≡ Some name → held o at name q ≡ placed o at text q
 placed_some_name o at text name q e =
     let h = cond_some (is_name text) text name e in
     ap (λ n. held o at n q) (sym h.1) ∙ placed_name o at text q h.0
 
-pub placed_no_name : (o : Option ℕ) (at : ℕ) (text q : List ℕ) → name_in text ≡ None → o ≡ placed o at text q
+pub placed_no_name : (o : Option ℕ) (at : ℕ) (text q : List ℕ) → object_name text ≡ None → o ≡ placed o at text q
 placed_no_name o at text q e =
     elim (cases_Bool (is_name text)) [
       | inl y ↦ absurd (let h = rw y at e in cc)
@@ -137,9 +137,9 @@ found_at deck job n h =
 
 job_template_name : (job : Job) → is_job job ≡ true → is_name job.template ≡ true
 job_template_name job h =
-    let p = and_parts (is_own_name job.name) _ h in
+    let p = and_parts (is_declared_name job.name) _ h in
     let q = and_parts (is_name job.user) _ p.1 in
-    (and_parts (begins_with_letter job.template) (is_name job.template) (and_parts (is_own_name job.template) _ q.1).0).1
+    (and_parts (begins_with_letter job.template) (is_name job.template) (and_parts (is_declared_name job.template) _ q.1).0).1
 
 pub job_has_template : (text : List ℕ) (deck : Deck) → Spells text deck → (k : ℕ) (job : Job) → slice_get deck.jobs k ≡ Some job → HasTemplate deck job
 job_has_template text deck s k job e =

@@ -3,7 +3,7 @@ use Rattle.std.proofs.Common.{◌≡◌, ℕ, ◌+◌, ◌<◌, suc, Bool, true,
 use Rattle.std.proofs.lemmas.Bool.{cases_Bool, cases_lt, eqb-true, eq-eqb, ne_eqb, lt-ltb, le-ltb, leb-true, and_parts, not-true, not_from_false}
 use Rattle.std.proofs.lemmas.List.{append_assoc, length-append}
 use Rattle.std.proofs.lemmas.Option.{same_Some}
-use Rattle.std.specs.List.{position_or_len, position, list_all, flat_map, slice_split, onto_first}
+use Rattle.std.specs.List.{position_or_len, position, list_all, flat_map, slice_split}
 use Rattle.std.specs.Option.{option_map, option_map_or}
 use Rattle.s38_words.specs.Text.{before, behind, place_of}
 use Rattle.s38_template.specs.Cut.{cut, onto_front}

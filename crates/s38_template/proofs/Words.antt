@@ -1,5 +1,5 @@
 -- Names that are parted by blanks, and words that pass a test.
-use Rattle.std.proofs.Common.{◌≡◌, ◌<◌, ℕ, length, Bool, true, false, cond, ◌==◌, List, [], ◌∷◌, ◌++◌, Option, Some, None, sym, ap, ◌∙◌, refl, inl, inr}
+use Rattle.std.proofs.Common.{◌≡◌, ◌<◌, ℕ, length, Bool, true, false, cond, List, [], ◌∷◌, ◌++◌, Option, Some, None, sym, ap, ◌∙◌, refl, inl, inr}
 use Rattle.std.proofs.lemmas.Bool.{cases_Bool}
 use Rattle.std.proofs.lemmas.List.{append_assoc}
 use Rattle.std.proofs.lemmas.Option.{same_Some}
@@ -11,8 +11,9 @@ use Rattle.std.specs.List.{AllWithin, HoldsAt, list_all, slice_split}
 use Rattle.std.specs.Option.{option_map}
 use Rattle.s38_base.specs.NameText.{is_name}
 use Rattle.s38_template.specs.Cut.{cut}
-use Rattle.s38_template.specs.Lines.{is_blank, names_in, name_in}
+use Rattle.s38_template.specs.Lines.{is_blank, names_in}
 use Rattle.s38_template.proofs.Texts.{split_at, split_none}
+use Rattle.s38_words.specs.Name.{object_name}
 
 -- what is read of names that are there already and of a text
 abbrev pub more_names : List (List ℕ) → Option (List (List ℕ)) → Option (List (List ℕ))
@@ -22,7 +23,7 @@ pub names_begin : (o : Option (List (List ℕ))) → more_names [] o ≡ o
 names_begin None = refl
 names_begin (Some names) = refl
 
-pub names_end : (names : List (List ℕ)) (text : List ℕ) → cut 32 text ≡ None → more_names names (names_in text) ≡ option_map (λ name. names ++ name ∷ []) (name_in text)
+pub names_end : (names : List (List ℕ)) (text : List ℕ) → cut 32 text ≡ None → more_names names (names_in text) ≡ option_map (λ name. names ++ name ∷ []) (object_name text)
 names_end names text e =
     rw (split_none 32 text e) (elim (cases_Bool (is_name text)) [ inl t ↦ rw t refl | inr f ↦ rw f refl ])
 
@@ -30,14 +31,14 @@ joined_names : (names more : List (List ℕ)) (name : List ℕ) (new : List (Lis
 joined_names names more name new false e = refl
 joined_names names more name new true e = ap (λ l. Some l) (sym (append_assoc names (name ∷ []) more) ∙ ap (λ l. l ++ more) e)
 
-pub names_turn : (names : List (List ℕ)) (text : List ℕ) (p : List ℕ × List ℕ) (new : List (List ℕ)) → cut 32 text ≡ Some p → option_map (λ name. names ++ name ∷ []) (name_in p.0) ≡ Some new → more_names names (names_in text) ≡ more_names new (names_in p.1)
+pub names_turn : (names : List (List ℕ)) (text : List ℕ) (p : List ℕ × List ℕ) (new : List (List ℕ)) → cut 32 text ≡ Some p → option_map (λ name. names ++ name ∷ []) (object_name p.0) ≡ Some new → more_names names (names_in text) ≡ more_names new (names_in p.1)
 names_turn names text p new e h =
     rw (split_at 32 text p e) (elim (cases_Bool (is_name p.0)) [
       | inl t ↦ rw t (joined_names names (slice_split is_blank p.1) p.0 new (list_all is_name (slice_split is_blank p.1)) (same_Some _ new (rw t at h)))
       | inr f ↦ absurd (let g = rw f at h in cc)
     ])
 
-pub names_fail : (names : List (List ℕ)) (text : List ℕ) (p : List ℕ × List ℕ) → cut 32 text ≡ Some p → option_map (λ name. names ++ name ∷ []) (name_in p.0) ≡ None → more_names names (names_in text) ≡ None
+pub names_fail : (names : List (List ℕ)) (text : List ℕ) (p : List ℕ × List ℕ) → cut 32 text ≡ Some p → option_map (λ name. names ++ name ∷ []) (object_name p.0) ≡ None → more_names names (names_in text) ≡ None
 names_fail names text p e h =
     rw (split_at 32 text p e) (elim (cases_Bool (is_name p.0)) [ inl t ↦ absurd (let g = rw t at h in cc) | inr f ↦ rw f refl ])
 

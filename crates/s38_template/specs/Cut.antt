@@ -1,6 +1,5 @@
 -- Parts of a text.
-use Rattle.std.specs.Prelude.{ℕ, List, [], ◌∷◌, length, drop, Option, Some, None, nat_eq, ◌==◌, if◌then◌else◌}
-use Rattle.std.specs.List.{starts_with}
+use Rattle.std.specs.Prelude.{ℕ, List, [], ◌∷◌, Option, Some, None, ◌==◌, if◌then◌else◌}
 use Rattle.std.specs.Option.{option_map}
 
 abbrev pub onto_front : ℕ → List ℕ × List ℕ → List ℕ × List ℕ
@@ -10,7 +9,3 @@ onto_front c parts = (c ∷ parts.0, parts.1)
 abbrev pub cut : ℕ → List ℕ → Option (List ℕ × List ℕ)
 cut separator [] = None
 cut separator (c ∷ cs) = if c == separator then Some ([], cs) else option_map (onto_front c) (cut separator cs)
-
--- what stands behind a word
-abbrev pub after : List ℕ → List ℕ → Option (List ℕ)
-after word text = if starts_with nat_eq text word then Some (drop (length word) text) else None

@@ -1,14 +1,16 @@
 -- The grammar of a deck: which text spells which deck.
-use Rattle.std.specs.Prelude.{◌≡◌, ◌⊎◌, ℕ, ◌+◌, ◌≤◌, Bool, true, false, not, ◌&&◌, ◌||◌, IsTrue, List, [], ◌∷◌, ◌++◌, map, length, drop, codes, decimal, nat_lt, nat_le, ◌==◌, Option, Some, None, if◌then◌else◌}
+use Rattle.std.specs.Prelude.{◌≡◌, ◌⊎◌, ℕ, ◌+◌, ◌≤◌, Bool, true, false, not, ◌&&◌, ◌||◌, IsTrue, List, [], ◌∷◌, ◌++◌, map, length, drop, codes, decimal, nat_lt, nat_le, ◌==◌, Option, Some, if◌then◌else◌}
 use Rattle.std.specs.List.{AllByRecursion, filter, flat_map, list_all, list_any}
 use Rattle.std.specs.Str.{bytes_eq}
 use Rattle.s38_base.specs.NameText.{is_name}
 use Rattle.s38_words.specs.Text.{before}
 use Rattle.s38_code.specs.declared.deck.Deck.{Deck}
 use Rattle.s38_code.specs.declared.deck.Job.{Job}
-use Rattle.s38_template.specs.Lines.{end_line, is_own_name, job_word, line_of, program_word, stage_line}
+use Rattle.s38_template.specs.Lines.{end_line, job_word, line_of, stage_line}
 use Rattle.s38_template.specs.declared.said.Line.{Line}
 use Rattle.s38_template.specs.declared.said.Line.TheVariants.{Program, Declare, Label, Act}
+use Rattle.s38_words.specs.Name.{is_declared_name}
+use Rattle.s38_words.specs.ProgramLine.{program_word}
 
 -- ---- lines
 
@@ -127,7 +129,7 @@ is_budget budget = nat_le 1 budget && nat_le budget 10000000
 
 -- its names are names, and its budget is one
 abbrev pub is_job : Job → Bool
-is_job job = is_own_name job.name && (is_name job.user && (is_own_name job.template && (list_all is_name job.contexts && is_budget job.budget)))
+is_job job = is_declared_name job.name && (is_name job.user && (is_declared_name job.template && (list_all is_name job.contexts && is_budget job.budget)))
 
 -- the lines of the jobs, STAGE before the first of each stage; the number of the stage before them is given
 abbrev pub stage_lines : ℕ → List (List ℕ) → List Job → List (List ℕ)

@@ -1,16 +1,16 @@
 -- What a line says.
-use Rattle.std.specs.Prelude.{ℕ, ◌+◌, Bool, true, false, ◌&&◌, ◌||◌, List, [], ◌∷◌, length, Option, Some, None, codes, nat_le, ◌==◌, if◌then◌else◌}
+use Rattle.std.specs.Prelude.{ℕ, Bool, true, false, ◌&&◌, List, [], Option, Some, None, codes, ◌==◌, if◌then◌else◌}
 use Rattle.std.specs.List.{list_all, slice_split}
 use Rattle.std.specs.Option.{option_and_then, option_map, option_map_or}
 use Rattle.s38_base.specs.NameText.{is_name}
-use Rattle.s38_base.specs.declared.op.Op.{Op}
 use Rattle.s38_words.specs.DeclarationLine.{count_of, declaration_of, is_in_range}
-use Rattle.s38_words.specs.Operation.{op_of}
-use Rattle.s38_code.specs.Tie.{may_round}
 use Rattle.s38_words.specs.Form.{has_form}
-use Rattle.s38_words.specs.Text.{before, behind, is_word}
+use Rattle.s38_words.specs.Name.{declared_name, object_name}
+use Rattle.s38_words.specs.ProgramLine.{ActLine, act_of, head_of, label_of, rounds_right}
+use Rattle.s38_words.specs.Text.{before, behind, is_word, rest_after}
 use Rattle.s38_words.specs.declared.declarations.DeclarationLine.{DeclarationLine}
-use Rattle.s38_template.specs.Cut.{after, cut}
+use Rattle.s38_words.specs.declared.program_lines.Head.{Head}
+use Rattle.s38_template.specs.Cut.{cut}
 use Rattle.s38_template.specs.declared.said.JobSaid.{JobSaid}
 use Rattle.s38_template.specs.declared.said.Line.{Line}
 use Rattle.s38_template.specs.declared.said.Line.TheVariants.{Program, Declare, Label, Act, End, Stage, Job}
@@ -18,45 +18,6 @@ use Rattle.s38_template.specs.declared.said.Line.TheVariants.{Program, Declare, 
 infixl 10 ◌>>=◌
 abbrev pub ◌>>=◌ : {A B : Type 0} → Option A → (A → Option B) → Option B
 o >>= f = option_and_then f o
-
--- ---- names
-
-abbrev pub begins_with_letter : List ℕ → Bool
-begins_with_letter [] = false
-begins_with_letter (c ∷ cs) = nat_le 65 c && nat_le c 90
-
--- what a template, a job or a label may be called
-abbrev pub is_own_name : List ℕ → Bool
-is_own_name text = begins_with_letter text && is_name text
-
-abbrev pub name_in : List ℕ → Option (List ℕ)
-name_in text = if is_name text then Some text else None
-
-abbrev pub own_name_in : List ℕ → Option (List ℕ)
-own_name_in text = if is_own_name text then Some text else None
-
--- ---- PROGRAM name [ADOPT] [PROPAGATE]
-
-abbrev pub program_word : List ℕ
-program_word = codes "PROGRAM "
-
--- what may stand behind the name
-abbrev pub are_marks : Option (List ℕ) → Bool
-are_marks None = true
-are_marks (Some marks) =
-    is_word (codes "ADOPT") marks || (is_word (codes "PROPAGATE") marks || is_word (codes "ADOPT PROPAGATE") marks)
-
-abbrev pub head_said : List ℕ → Option (List ℕ)
-head_said text = if are_marks (behind 32 text) then own_name_in (before 32 text) else None
-
--- the name of the template that a line begins
-unfoldable pub head_of : List ℕ → Option (List ℕ)
-head_of line = option_and_then head_said (after program_word line)
-
--- ---- LABEL name
-
-unfoldable pub label_of : List ℕ → Option (List ℕ)
-label_of line = option_and_then own_name_in (after (codes "LABEL ") line)
 
 -- ---- instructions
 
@@ -67,21 +28,16 @@ is_comma c = c == 44
 unfoldable pub are_operands : List ℕ → Bool
 are_operands text = list_all has_form (slice_split is_comma text)
 
--- (R), alone or with operands behind it
-abbrev pub are_rounded : List ℕ → Bool
-are_rounded text = is_word (codes "(R)") text || option_map_or are_operands (after (codes "(R) ") text) false
+-- the words behind a mnemonic, if there are any
+abbrev pub are_formed : Option (List ℕ) → Bool
+are_formed None = true
+are_formed (Some text) = are_operands text
 
--- what may stand behind a mnemonic and a blank
-abbrev pub may_follow : Op → Option (List ℕ) → Bool
-may_follow op None = true
-may_follow op (Some text) = are_operands text || (may_round op && are_rounded text)
-
-abbrev pub is_act : Option Op → Option (List ℕ) → Bool
-is_act None text = false
-is_act (Some op) text = may_follow op text
+abbrev pub is_act : ActLine → Bool
+is_act act = rounds_right act.round act.op && are_formed act.operands
 
 unfoldable pub is_instruction : List ℕ → Bool
-is_instruction line = is_act (op_of (before 32 line)) (behind 32 line)
+is_instruction line = option_map_or is_act (act_of line) false
 
 -- ---- JOB name USER name RUN name [BUDGET n] [CONTEXTS name name*]
 
@@ -97,7 +53,7 @@ names_in text = if list_all is_name (slice_split is_blank text) then Some (slice
 
 unfoldable pub contexts_in : List ℕ → Option (List (List ℕ))
 contexts_in text = do
-  names ← after (codes "CONTEXTS ") text
+  names ← rest_after (codes "CONTEXTS ") text
   names_in names
 
 -- a budget and contexts, by what a cut at the first blank gives
@@ -117,13 +73,13 @@ terms_from text None = option_map (λ contexts. (1000000, contexts)) (contexts_i
 terms_from text (Some rest) = budget_in rest
 
 unfoldable pub terms_in : List ℕ → Option (ℕ × List (List ℕ))
-terms_in text = terms_from text (after (codes "BUDGET ") text)
+terms_in text = terms_from text (rest_after (codes "BUDGET ") text)
 
 -- the template, the budget and the contexts
 abbrev pub run_from : List ℕ → Option (List ℕ × List ℕ) → Option (List ℕ × ℕ × List (List ℕ))
-run_from text None = option_map (λ name. (name, 1000000, [])) (own_name_in text)
+run_from text None = option_map (λ name. (name, 1000000, [])) (declared_name text)
 run_from text (Some parts) = do
-  name ← own_name_in parts.0
+  name ← declared_name parts.0
   terms ← terms_in parts.1
   Some (name, terms.0, terms.1)
 
@@ -133,7 +89,7 @@ run_in text = run_from text (cut 32 text)
 -- what stands behind a word and before a blank, and what stands behind the blank
 unfoldable pub worded : List ℕ → List ℕ → Option (List ℕ × List ℕ)
 worded word text = do
-  behind ← after word text
+  behind ← rest_after word text
   cut 32 behind
 
 -- the texts behind JOB and USER, and what stands behind RUN
@@ -141,14 +97,14 @@ unfoldable pub head_in : List ℕ → Option (List ℕ × List ℕ × List ℕ)
 head_in line = do
   job ← worded job_word line
   user ← worded (codes "USER ") job.1
-  run ← after (codes "RUN ") user.1
+  run ← rest_after (codes "RUN ") user.1
   Some (job.0, user.0, run)
 
 unfoldable pub job_in : List ℕ → Option JobSaid
 job_in line = do
   head ← head_in line
-  name ← own_name_in head.0
-  user ← name_in head.1
+  name ← declared_name head.0
+  user ← object_name head.1
   run ← run_in head.2
   Some (record { name = name; user = user; template = run.0; budget = run.1; contexts = run.2 })
 
@@ -162,6 +118,9 @@ stage_line = codes "STAGE"
 
 abbrev pub program : List ℕ → Line
 program name = Program name
+
+abbrev pub begun_by : Head → Line
+begun_by head = program head.name
 
 abbrev pub declare : DeclarationLine → Line
 declare declaration = Declare (is_in_range declaration.declares)
@@ -181,7 +140,7 @@ rest_said line =
 
 unfoldable pub said_by : List ℕ → List ℕ → Option Line
 said_by word line =
-    if is_word (codes "PROGRAM") word then option_map program (head_of line)
+    if is_word (codes "PROGRAM") word then option_map begun_by (head_of line)
     else (if is_word (codes "DCL") word then option_map declare (declaration_of line)
     else (if is_word (codes "LABEL") word then option_map label (label_of line)
     else rest_said line))

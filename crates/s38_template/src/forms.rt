@@ -1,62 +1,17 @@
 ghost use Rattle.std.specs.Prelude.{◌≡◌, IfOk};
 ghost use Rattle.std.specs.Option.{option_map};
 ghost use Rattle.s38_words.specs.DeclarationLine.{declaration_of};
-ghost use Rattle.s38_template.specs.Lines.{are_marks, are_operands, are_rounded, declare, end_line, head_of, head_said, is_act, is_instruction, label_of, line_of, may_follow, rest_said, said_by, stage_line};
+ghost use Rattle.s38_words.specs.Views.{act_in};
+ghost use Rattle.s38_template.specs.Lines.{are_formed, are_operands, declare, end_line, is_act, is_instruction, line_of, rest_said, said_by, stage_line};
 
-use crate::cut::after;
 use crate::job_line::job_in;
-use crate::names::own_name_in;
 use crate::said::Line;
-use s38_base::{Name, NoMemory, Op};
-use s38_code::may_round;
-use s38_words::{before, behind, declaration, has_form, is_in_range, is_word, operation};
+use s38_base::NoMemory;
+use s38_words::{
+    InstructionLine, before, declaration, has_form, instruction, is_in_range, is_word, label,
+    program_head, rounds_right,
+};
 use std::alloc::Global;
-
-/// Whether such marks may stand behind the name of a template.
-fn are_marks(text: Option<&[u8]>) -> bool
-    ensures { result ≡ are_marks (option_map (λ marks. marks.now) text.entry) }
-{
-    match text {
-        None => true,
-        Some(marks) => {
-            is_word(b"ADOPT", marks)
-                || is_word(b"PROPAGATE", marks)
-                || is_word(b"ADOPT PROPAGATE", marks)
-        }
-    }
-}
-
-fn head_said(text: &[u8]) -> Option<Name>
-    ensures { result ≡ head_said text.now }
-{
-    if are_marks(behind(b' ', text)) {
-        own_name_in(before(b' ', text))
-    } else {
-        None
-    }
-}
-
-/// The name of the template that a line begins.
-#[tactic(auto, unfolding(crate::specs::Lines::head_of))]
-fn head_of(line: &[u8]) -> Option<Name>
-    ensures { result ≡ head_of line.now }
-{
-    match after(line, b"PROGRAM ") {
-        Some(text) => head_said(text),
-        None => None,
-    }
-}
-
-/// The name of the label that a line says.
-#[tactic(auto, unfolding(crate::specs::Lines::label_of))]
-fn label_of(line: &[u8]) -> Option<Name>
-    ensures { result ≡ label_of line.now }
-{
-    match after(line, b"LABEL ") {
-        Some(text) => own_name_in(text),
-        None => None,
-    }
-}
 
 /// Whether a text is words of operands, parted by one comma.
 #[tactic(auto, unfolding(crate::specs::Lines::are_operands))]
@@ -66,26 +21,20 @@ fn are_operands(text: &[u8]) -> bool
     text.split(|byte| *byte == b',').all(|word| has_form(word))
 }
 
-/// Whether a text is the suffix of rounding, alone or with operands behind it.
-fn are_rounded(text: &[u8]) -> bool
-    ensures { result ≡ are_rounded text.now }
-{
-    if is_word(b"(R)", text) {
-        return true;
-    }
-    match after(text, b"(R) ") {
-        Some(operands) => are_operands(operands),
-        None => false,
-    }
-}
-
-fn may_follow(op: Op, text: Option<&[u8]>) -> bool
-    ensures { result ≡ may_follow op (option_map (λ operands. operands.now) text.entry) }
+fn are_formed(text: Option<&[u8]>) -> bool
+    ensures { result ≡ are_formed (option_map (λ operands. operands.now) text.entry) }
 {
     match text {
         None => true,
-        Some(operands) => are_operands(operands) || (may_round(op) && are_rounded(operands)),
+        Some(operands) => are_operands(operands),
     }
+}
+
+/// Whether `(R)` stands only where it may, and each word has the form of some operand.
+fn is_act(act: InstructionLine<'_>) -> bool
+    ensures { result ≡ is_act (act_in act.entry) }
+{
+    rounds_right(act.round, act.op) && are_formed(act.operands)
 }
 
 /// Whether a line has the form of an instruction: a mnemonic, and words of operands.
@@ -93,9 +42,9 @@ fn may_follow(op: Op, text: Option<&[u8]>) -> bool
 fn is_instruction(line: &[u8]) -> bool
     ensures { result ≡ is_instruction line.now }
 {
-    match operation(before(b' ', line)) {
+    match instruction(line) {
         None => false,
-        Some(op) => may_follow(op, behind(b' ', line)),
+        Some(act) => is_act(act),
     }
 }
 
@@ -125,13 +74,13 @@ fn said_by(word: &[u8], line: &[u8]) -> Option<Line>
     ensures { result ≡ said_by word.now line.now }
 {
     if is_word(b"PROGRAM", word) {
-        return Some(Line::Program(head_of(line)?));
+        return Some(Line::Program(program_head(line)?.name));
     }
     if is_word(b"DCL", word) {
         return declared(line);
     }
     if is_word(b"LABEL", word) {
-        return Some(Line::Label(label_of(line)?));
+        return Some(Line::Label(label(line)?));
     }
     rest_said(line)
 }

@@ -1,14 +1,14 @@
 ghost use Rattle.std.specs.Prelude.{◌≡◌, ◌++◌, ◌∷◌, [], codes, IfOk};
 ghost use Rattle.std.specs.Option.{option_map};
 ghost use Rattle.s38_words.specs.DeclarationLine.{count_of};
-ghost use Rattle.s38_template.specs.Lines.{budget_in, contexts_in, head_in, job_in, job_word, name_in, names_in, own_name_in, run_in, terms_in, worded};
+ghost use Rattle.s38_template.specs.Lines.{budget_in, contexts_in, head_in, job_in, job_word, names_in, run_in, terms_in, worded};
+ghost use Rattle.s38_words.specs.Name.{declared_name, object_name};
 
-use crate::cut::{after, cut};
-use crate::names::{name_in, own_name_in};
+use crate::cut::cut;
 use crate::said::JobSaid;
 use s38_base::{Name, NoMemory, Seq};
 use s38_code::Names;
-use s38_words::natural;
+use s38_words::{declared_name, natural, object_name, rest_after};
 use std::alloc::Global;
 
 /// How many instructions a job may do whose line does not say it.
@@ -26,7 +26,7 @@ fn count(text: &[u8]) -> Option<u64>
 fn worded<'a>(text: &'a [u8], word: &[u8]) -> Option<(&'a [u8], &'a [u8])>
     ensures { option_map (λ parts. (parts.0.now, parts.1.now)) result ≡ worded word.now text.now }
 {
-    match after(text, word) {
+    match rest_after(word, text) {
         Some(behind) => cut(behind, b' '),
         None => None,
     }
@@ -34,10 +34,10 @@ fn worded<'a>(text: &'a [u8], word: &[u8]) -> Option<(&'a [u8], &'a [u8])>
 
 /// These names and the one that a text is.
 fn with_name(names: Names, text: &[u8]) -> Result<Option<Names>, NoMemory>
-    ensures { IfOk result (λ more. more ≡ option_map (λ name. names ++ name ∷ []) (name_in text.now)) }
+    ensures { IfOk result (λ more. more ≡ option_map (λ name. names ++ name ∷ []) (object_name text.now)) }
 {
     let mut list = names;
-    match name_in(text) {
+    match object_name(text) {
         Some(name) => {
             list.push(name)?;
             Ok(Some(list))
@@ -67,7 +67,7 @@ fn names_in(alloc: Global, text: &[u8]) -> Result<Option<Names>, NoMemory>
 fn contexts_in(alloc: Global, text: &[u8]) -> Result<Option<Names>, NoMemory>
     ensures { IfOk result (λ names. names ≡ contexts_in text.now) }
 {
-    match after(text, b"CONTEXTS ") {
+    match rest_after(b"CONTEXTS ", text) {
         Some(names) => names_in(alloc, names),
         None => Ok(None),
     }
@@ -102,7 +102,7 @@ fn budget_in(alloc: Global, text: &[u8]) -> Result<Option<(u64, Names)>, NoMemor
 fn terms_in(alloc: Global, text: &[u8]) -> Result<Option<(u64, Names)>, NoMemory>
     ensures { IfOk result (λ terms. terms ≡ terms_in text.now) }
 {
-    match after(text, b"BUDGET ") {
+    match rest_after(b"BUDGET ", text) {
         Some(rest) => budget_in(alloc, rest),
         None => {
             let Some(contexts) = contexts_in(alloc, text)? else {
@@ -120,13 +120,13 @@ fn run_in(alloc: Global, text: &[u8]) -> Result<Option<(Name, u64, Names)>, NoMe
 {
     match cut(text, b' ') {
         None => {
-            let Some(name) = own_name_in(text) else {
+            let Some(name) = declared_name(text) else {
                 return Ok(None);
             };
             Ok(Some((name, BUDGET, Seq::new(alloc))))
         }
         Some((template, rest)) => {
-            let Some(name) = own_name_in(template) else {
+            let Some(name) = declared_name(template) else {
                 return Ok(None);
             };
             let Some((budget, contexts)) = terms_in(alloc, rest)? else {
@@ -144,7 +144,7 @@ fn head_in(line: &[u8]) -> Option<(&[u8], &[u8], &[u8])>
 {
     let (job, rest) = worded(line, b"JOB ")?;
     let (user, rest) = worded(rest, b"USER ")?;
-    let run = after(rest, b"RUN ")?;
+    let run = rest_after(b"RUN ", rest)?;
     Some((job, user, run))
 }
 
@@ -156,10 +156,10 @@ pub fn job_in(alloc: Global, line: &[u8]) -> Result<Option<JobSaid>, NoMemory>
     let Some((name, user, run)) = head_in(line) else {
         return Ok(None);
     };
-    let Some(name) = own_name_in(name) else {
+    let Some(name) = declared_name(name) else {
         return Ok(None);
     };
-    let Some(user) = name_in(user) else {
+    let Some(user) = object_name(user) else {
         return Ok(None);
     };
     let Some((template, budget, contexts)) = run_in(alloc, run)? else {

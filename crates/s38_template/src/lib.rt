@@ -7,7 +7,6 @@ mod fault;
 mod forms;
 mod job_line;
 mod line;
-mod names;
 mod place;
 mod places;
 mod print;

@@ -7,13 +7,13 @@ ghost use Rattle.s38_code.specs.declared.deck.Deck.{Deck};
 ghost use Rattle.s38_code.specs.declared.deck.Job.{Job};
 ghost use Rattle.s38_words.specs.Text.{before};
 ghost use Rattle.s38_template.specs.Grammar.{IsTemplate, Spells, name_of, template_names};
-ghost use Rattle.s38_template.specs.Lines.{name_in, program_word};
 ghost use Rattle.s38_template.specs.Places.{HasTemplate, held, place_of, placed};
+ghost use Rattle.s38_words.specs.Name.{object_name};
+ghost use Rattle.s38_words.specs.ProgramLine.{program_word};
 
-use crate::names::name_in;
 use s38_base::{Name, NoMemory};
 use s38_code::{Deck, Template};
-use s38_words::before;
+use s38_words::{before, object_name};
 use std::alloc::Global;
 use std::collections::BTreeMap;
 
@@ -22,7 +22,7 @@ const PROGRAM: &[u8] = b"PROGRAM ";
 
 /// The name in the head of a template; None where it has none.
 fn name_of(template: &Template) -> Option<Name>
-    ensures { result ≡ name_in (name_of template.now) }
+    ensures { result ≡ object_name (name_of template.now) }
 {
     match template.lines().first() {
         Some(head) => name_behind(head.as_slice()),
@@ -31,12 +31,12 @@ fn name_of(template: &Template) -> Option<Name>
 }
 
 fn name_behind(head: &[u8]) -> Option<Name>
-    ensures { result ≡ name_in (before 32 (drop (length program_word) head.now)) }
+    ensures { result ≡ object_name (before 32 (drop (length program_word) head.now)) }
 {
     if head.len() < PROGRAM.len() {
         return None;
     }
-    name_in(before(b' ', &head[PROGRAM.len()..]))
+    object_name(before(b' ', &head[PROGRAM.len()..]))
 }
 
 /// The name of a template, as it stands in its head.

@@ -1,3 +1,4 @@
 pub mod DigitLaws
+pub mod MnemonicLaws
 pub mod NumberLaws
 pub mod PartLaws

@@ -5,6 +5,7 @@
 --     DCL name EXCM code label
 use Rattle.std.specs.Prelude.{ℕ, ◌-◌, ◌^◌, Bool, true, false, ◌&&◌, ◌||◌, List, codes, nat_le, Option, Some, None, is_some, if◌then◌else◌}
 use Rattle.std.specs.Option.{option_map, option_map_or, option_and_then}
+use Rattle.s38_base.specs.Limits as limits
 use Rattle.s38_base.specs.declared.attr.Attr.{Attr}
 use Rattle.s38_words.specs.Attribute.{attr_of, field_of}
 use Rattle.s38_words.specs.Literal.{text_of}
@@ -88,15 +89,15 @@ abbrev pub declaration_from : Option (List ℕ) → Option Declares → Option D
 declaration_from (Some name) (Some declares) = Some (record { name = name; declares = declares })
 declaration_from _ _ = None
 
-abbrev pub declaration_said : List ℕ → Option DeclarationLine
-declaration_said text = declaration_from (declared_name (before 32 text)) (option_and_then declares_of (behind 32 text))
+abbrev pub declaration_behind : List ℕ → Option DeclarationLine
+declaration_behind text = declaration_from (declared_name (before 32 text)) (option_and_then declares_of (behind 32 text))
 
 abbrev pub behind_dcl : List ℕ → Option (List ℕ)
 behind_dcl line = rest_after (codes "DCL ") line
 
 -- what a line declares
 unfoldable pub declaration_of : List ℕ → Option DeclarationLine
-declaration_of line = option_and_then declaration_said (behind_dcl line)
+declaration_of line = option_and_then declaration_behind (behind_dcl line)
 
 -- the literal with which a variable's line lets it begin
 unfoldable pub initial_of : List ℕ → Option (List ℕ)
@@ -106,5 +107,5 @@ initial_of line = option_and_then behind_init (option_and_then (behind 32) (opti
 abbrev pub is_in_range : Declares → Bool
 is_in_range (Variable attr) = true
 is_in_range (Parameter k attr) = nat_le 1 k && nat_le k 16
-is_in_range (BasedItem base offset attr) = nat_le offset 16777216
+is_in_range (BasedItem base offset attr) = nat_le offset limits.furthest
 is_in_range (Description code label) = true

@@ -5,5 +5,7 @@ pub mod Literal
 pub mod Name
 pub mod Number
 pub mod Operation
+pub mod ProgramLine
 pub mod Row
 pub mod Text
+pub mod Views

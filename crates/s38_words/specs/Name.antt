@@ -1,5 +1,5 @@
 -- Names, identifications, and the numbers of exceptions.
-use Rattle.std.specs.Prelude.{ℕ, ◌+◌, ◌*◌, ◌&&◌, ◌==◌, List, length, slice_index, codes, Option, Some, None, if◌then◌else◌}
+use Rattle.std.specs.Prelude.{ℕ, ◌+◌, ◌*◌, Bool, false, ◌&&◌, ◌==◌, List, [], ◌∷◌, length, slice_index, codes, Option, Some, None, if◌then◌else◌}
 use Rattle.std.specs.Option.{option_and_then}
 use Rattle.s38_base.specs.NameText.{is_name}
 use Rattle.s38_base.specs.declared.id.Id.{Id}
@@ -11,9 +11,16 @@ use Rattle.s38_words.specs.Text.{is_word, before, behind, is_letter, are_hex_dig
 abbrev pub object_name : List ℕ → Option (List ℕ)
 object_name text = if is_name text then Some text else None
 
--- the name of a template, a job, a declaration or a label: it begins with a letter
+abbrev pub begins_with_letter : List ℕ → Bool
+begins_with_letter [] = false
+begins_with_letter (c ∷ cs) = is_letter c
+
+-- the name of a template, a job, a declaration or a label begins with a letter
+abbrev pub is_declared_name : List ℕ → Bool
+is_declared_name text = begins_with_letter text && is_name text
+
 abbrev pub declared_name : List ℕ → Option (List ℕ)
-declared_name text = if is_letter (slice_index text 0) then object_name text else None
+declared_name text = if is_declared_name text then Some text else None
 
 unfoldable pub kind_of : List ℕ → Option Kind
 kind_of word =

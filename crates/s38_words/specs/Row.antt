@@ -2,6 +2,9 @@
 -- specials are their bits.
 use Rattle.std.specs.Prelude.{ℕ, bit_or, ◌==◌, List, [], ◌∷◌, codes, Option, Some, None, if◌then◌else◌}
 use Rattle.std.specs.Option.{option_map, option_and_then}
+use Rattle.s38_base.specs.Relations.{relation_word}
+use Rattle.s38_base.specs.RightNames as rights
+use Rattle.s38_base.specs.declared.words.Relation.TheVariants.{Eq, Ne, Lo, Hi, Nl, Nh, Any, First, Last}
 use Rattle.s38_words.specs.Text.{is_word, before, behind}
 use Rattle.s38_words.specs.declared.row_words.StarWord.{StarWord}
 use Rattle.s38_words.specs.declared.row_words.StarWord.TheVariants.{NoObject, MachineContext, ContextList, Public}
@@ -11,13 +14,13 @@ use Rattle.s38_words.specs.declared.row_words.StarWord.TheVariants.{NoObject, Ma
 -- the right of each bit
 abbrev pub right_name : ℕ → List ℕ
 right_name bit =
-    if bit == 128 then codes "OBJCTL"
-    else (if bit == 64 then codes "OBJMGT"
-    else (if bit == 32 then codes "AUTPTR"
-    else (if bit == 16 then codes "SPACE"
-    else (if bit == 8 then codes "RETRIEVE"
-    else (if bit == 4 then codes "INSERT"
-    else (if bit == 2 then codes "DELETE"
+    if bit == rights.objctl then codes "OBJCTL"
+    else (if bit == rights.objmgt then codes "OBJMGT"
+    else (if bit == rights.autptr then codes "AUTPTR"
+    else (if bit == rights.space then codes "SPACE"
+    else (if bit == rights.retrieve then codes "RETRIEVE"
+    else (if bit == rights.insert then codes "INSERT"
+    else (if bit == rights.delete then codes "DELETE"
     else codes "UPDATE"))))))
 
 -- the bits that a text names, where the first of them stands first and the rest behind a +
@@ -34,23 +37,24 @@ rights_from (bit ∷ bits) text =
     else rights_from bits text
 
 abbrev pub right_bits : List ℕ
-right_bits = 128 ∷ 64 ∷ 32 ∷ 16 ∷ 8 ∷ 4 ∷ 2 ∷ 1 ∷ []
+right_bits =
+    rights.objctl ∷ rights.objmgt ∷ rights.autptr ∷ rights.space ∷ rights.retrieve ∷ rights.insert ∷ rights.delete ∷ rights.update ∷ []
 
 -- all eight are written as ALL alone
 abbrev pub not_all : ℕ → Option ℕ
-not_all bits = if bits == 255 then None else Some bits
+not_all bits = if bits == rights.all_rights then None else Some bits
 
 unfoldable pub rights_of : List ℕ → Option ℕ
 rights_of word =
-    if is_word (codes "NONE") word then Some 0
-    else (if is_word (codes "ALL") word then Some 255
+    if is_word (codes "NONE") word then Some rights.no_rights
+    else (if is_word (codes "ALL") word then Some rights.all_rights
     else option_and_then not_all (rights_from right_bits word))
 
 abbrev pub specials_of : List ℕ → Option ℕ
 specials_of word =
-    if is_word (codes "NONE") word then Some 0
-    else (if is_word (codes "ALLOBJ") word then Some 128
-    else (if is_word (codes "PROFILE") word then Some 64
+    if is_word (codes "NONE") word then Some rights.no_rights
+    else (if is_word (codes "ALLOBJ") word then Some rights.allobj
+    else (if is_word (codes "PROFILE") word then Some rights.profile
     else (if is_word (codes "ALLOBJ+PROFILE") word then Some 192 else None)))
 
 -- ---- single words
@@ -69,15 +73,15 @@ wait_of word =
 
 unfoldable pub relation_of : List ℕ → Option ℕ
 relation_of word =
-    if is_word (codes "EQ") word then Some 0
-    else (if is_word (codes "NE") word then Some 1
-    else (if is_word (codes "LO") word then Some 2
-    else (if is_word (codes "HI") word then Some 3
-    else (if is_word (codes "NL") word then Some 4
-    else (if is_word (codes "NH") word then Some 5
-    else (if is_word (codes "ANY") word then Some 6
-    else (if is_word (codes "FIRST") word then Some 7
-    else (if is_word (codes "LAST") word then Some 8 else None))))))))
+    if is_word (codes "EQ") word then Some (relation_word Eq)
+    else (if is_word (codes "NE") word then Some (relation_word Ne)
+    else (if is_word (codes "LO") word then Some (relation_word Lo)
+    else (if is_word (codes "HI") word then Some (relation_word Hi)
+    else (if is_word (codes "NL") word then Some (relation_word Nl)
+    else (if is_word (codes "NH") word then Some (relation_word Nh)
+    else (if is_word (codes "ANY") word then Some (relation_word Any)
+    else (if is_word (codes "FIRST") word then Some (relation_word First)
+    else (if is_word (codes "LAST") word then Some (relation_word Last) else None))))))))
 
 abbrev pub order_of : List ℕ → Option ℕ
 order_of word =

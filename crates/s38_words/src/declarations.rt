@@ -1,6 +1,6 @@
-ghost use Rattle.std.specs.Prelude.{◌≡◌};
+ghost use Rattle.std.specs.Prelude.{◌≡◌, is_some};
 ghost use Rattle.std.specs.Option.{option_map};
-ghost use Rattle.s38_words.specs.DeclarationLine.{based_of, behind_dcl, behind_init, count_of, declaration_of, declaration_said, declares_of, description_of, initial_of, is_in_range, is_initial, is_literal, parameter_of, taken_of, variable_of};
+ghost use Rattle.s38_words.specs.DeclarationLine.{based_of, behind_dcl, behind_init, count_of, declaration_of, declaration_behind, declares_of, description_of, initial_of, is_in_range, is_initial, is_literal, parameter_of, taken_of, variable_of};
 
 use crate::attribute_words::attribute;
 use crate::literals::is_text;
@@ -122,8 +122,8 @@ fn what_is_declared(text: &[u8]) -> Option<Declares>
     variable(text)
 }
 
-fn declaration_said(text: &[u8]) -> Option<DeclarationLine>
-    ensures { result ≡ declaration_said text.now }
+fn declaration_behind(text: &[u8]) -> Option<DeclarationLine>
+    ensures { result ≡ declaration_behind text.now }
 {
     let name = declared_name(before(b' ', text))?;
     let declares = what_is_declared(behind(b' ', text)?)?;
@@ -136,6 +136,13 @@ fn behind_dcl(line: &[u8]) -> Option<&[u8]>
     rest_after(b"DCL ", line)
 }
 
+/// Whether a line begins as a declaration.
+pub fn is_declaration(line: &[u8]) -> bool
+    ensures { result ≡ is_some (behind_dcl line.now) }
+{
+    behind_dcl(line).is_some()
+}
+
 /// What a line declares; None exactly where it has no form of a declaration. Bounds of attributes and ranges
 /// of numbers are further questions.
 #[tactic(auto, unfolding(crate::specs::DeclarationLine::declaration_of))]
@@ -143,7 +150,7 @@ pub fn declaration(line: &[u8]) -> Option<DeclarationLine>
     ensures { result ≡ declaration_of line.now }
 {
     match behind_dcl(line) {
-        Some(text) => declaration_said(text),
+        Some(text) => declaration_behind(text),
         None => None,
     }
 }

@@ -1,5 +1,5 @@
-//! The words of a deck: what a text spells at an operand's place and in a declaration. Each parse is total,
-//! and answers None exactly where the text spells nothing of its kind.
+//! The words of a deck: what a text spells at an operand's place, and what a line of a template says. Each
+//! parse is total, and answers None exactly where the text spells nothing of its kind.
 #![tactic(auto)]
 
 mod attribute_words;
@@ -9,24 +9,26 @@ mod literals;
 mod names;
 mod numbers;
 mod operations;
+mod program_lines;
 mod right_words;
 mod row_words;
 mod texts;
 
 pub use attribute_words::{attribute, attributes};
-pub use declarations::{DeclarationLine, Declares, declaration, initial, is_in_range};
+pub use declarations::{
+    DeclarationLine, Declares, declaration, initial, is_declaration, is_in_range,
+};
 pub use forms::has_form;
 pub use literals::{is_text, number_literal, text_literal, text_value};
 pub use names::{declared_name, exception_code, identification, object_name};
-pub use numbers::{Numeral, natural, number, whole};
+pub use numbers::{Numeral, natural, number, signed, whole};
 pub use operations::{operation, operations_are_read};
+pub use program_lines::{Head, InstructionLine, instruction, label, program_head, rounds_right};
 pub use right_words::rights;
 pub use row_words::{
     StarWord, lock_state, order, pointer_kind, relation, seek, specials, star, switch, wait,
 };
-pub use texts::{before, behind, is_word, rest_after};
+pub use texts::{before, behind, is_word, place_of, rest_after};
 
-#[cfg(test)]
-mod table_tests;
 #[cfg(test)]
 mod tests;

@@ -1,6 +1,5 @@
-ghost use Rattle.std.specs.Prelude.{◌≡◌, slice_index};
-ghost use Rattle.s38_words.specs.Name.{code_of, declared_name, id_of, kind_of, object_name, subtype_of};
-ghost use Rattle.s38_words.specs.Text.{is_letter};
+ghost use Rattle.std.specs.Prelude.{◌≡◌};
+ghost use Rattle.s38_words.specs.Name.{begins_with_letter, code_of, declared_name, id_of, kind_of, object_name, subtype_of};
 
 use crate::texts::{are_hex_digits, before, behind, hex_byte, is_letter, is_word};
 use s38_base::{Id, Kind, Name};
@@ -13,7 +12,7 @@ pub fn object_name(text: &[u8]) -> Option<Name>
 }
 
 fn begins_with_letter(text: &[u8]) -> bool
-    ensures { result ≡ is_letter (slice_index text.now 0) }
+    ensures { result ≡ begins_with_letter text.now }
 {
     match text {
         [first, ..] => is_letter(*first),

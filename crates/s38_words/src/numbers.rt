@@ -81,7 +81,7 @@ fn without_minus(text: &[u8]) -> &[u8]
 }
 
 /// A number and its sign.
-fn signed(minus: bool, number: u128) -> i128
+pub fn signed(minus: bool, number: u128) -> i128
     requires { number < 2 ^ 127 }
     ensures { result ≡ with_minus minus number }
 {

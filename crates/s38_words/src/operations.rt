@@ -1,126 +1,125 @@
 ghost use Rattle.std.specs.Prelude.{◌≡◌, Some};
-ghost use Rattle.s38_code.specs.Mnemonic.{mnemonic};
-ghost use Rattle.s38_words.specs.Operation.{first_op, op_of, operations};
+ghost use Rattle.s38_code.specs.Operations.{mnemonic};
+ghost use Rattle.s38_words.specs.Operation.{op_of, operations, to_word};
 
-use crate::texts::is_word;
 use s38_base::Op;
 use s38_code::mnemonic;
+use std::cmp::Ordering;
 
-/// All operations.
+/// All operations, in the order of their mnemonics.
 #[tactic(auto, unfolding(crate::specs::Operation::operations))]
 fn operations() -> &'static [Op]
     ensures { result.now ≡ operations }
 {
     &[
         Op::Addn,
-        Op::Subn,
-        Op::Mult,
-        Op::Div,
-        Op::Rem,
-        Op::Neg,
-        Op::Cpynv,
-        Op::Scale,
-        Op::Cmpnvb,
-        Op::Cpybla,
-        Op::Cpybra,
-        Op::Cpyblap,
-        Op::Cat,
-        Op::Xlate,
-        Op::Cvthc,
-        Op::Cvtch,
+        Op::Addspp,
         Op::And,
-        Op::Or,
-        Op::Xor,
-        Op::Not,
-        Op::Cmpblab,
         Op::B,
         Op::Calli,
-        Op::Rtx,
-        Op::Sigexcp,
-        Op::Retexcpd,
-        Op::Modexcpd,
+        Op::Callx,
+        Op::Cat,
+        Op::Cmpblab,
+        Op::Cmpnvb,
         Op::Cmpptrt,
-        Op::Addspp,
-        Op::Subspp,
-        Op::Rslvsp,
-        Op::Setsppfp,
-        Op::Setspfp,
-        Op::Setdp,
+        Op::Commit,
+        Op::Cpybla,
+        Op::Cpyblap,
+        Op::Cpybra,
         Op::Cpybwp,
+        Op::Cpynv,
+        Op::Crtcb,
+        Op::Crtcr,
         Op::Crtctx,
-        Op::Modadr,
-        Op::Rename,
-        Op::Matctx,
+        Op::Crtds,
+        Op::Crtinx,
+        Op::Crtjp,
+        Op::Crtjs,
+        Op::Crtpg,
+        Op::Crtq,
+        Op::Crts,
         Op::Crtup,
-        Op::Modup,
+        Op::Cvtch,
+        Op::Cvthc,
+        Op::Decommit,
+        Op::Deldsen,
+        Op::Deq,
+        Op::Descb,
+        Op::Descr,
+        Op::Desctx,
+        Op::Desds,
+        Op::Desinx,
+        Op::Desjp,
+        Op::Desjs,
+        Op::Despg,
+        Op::Desq,
+        Op::Dess,
+        Op::Desup,
+        Op::Div,
+        Op::Enq,
+        Op::Ensobj,
+        Op::Fndinxen,
         Op::Grant,
-        Op::Retract,
-        Op::Xfro,
-        Op::Testau,
+        Op::Insdsen,
+        Op::Insinxen,
+        Op::Jrnlobj,
+        Op::Lock,
         Op::Matau,
         Op::Matauobj,
-        Op::Crtpg,
-        Op::Callx,
-        Op::Xctl,
-        Op::Lock,
-        Op::Unlock,
-        Op::Xfrlock,
+        Op::Matctx,
         Op::Matobjlk,
-        Op::Crts,
+        Op::Modadr,
+        Op::Modexcpd,
         Op::Mods,
-        Op::Crtq,
-        Op::Enq,
-        Op::Deq,
-        Op::Crtinx,
-        Op::Insinxen,
-        Op::Fndinxen,
-        Op::Rmvinxen,
-        Op::Crtds,
-        Op::Crtcr,
-        Op::Setcr,
-        Op::Insdsen,
+        Op::Modup,
+        Op::Mult,
+        Op::Neg,
+        Op::Not,
+        Op::Or,
+        Op::Rem,
+        Op::Rename,
         Op::Retdsen,
-        Op::Updsen,
-        Op::Deldsen,
-        Op::Crtjs,
-        Op::Crtjp,
-        Op::Jrnlobj,
+        Op::Retexcpd,
         Op::Retjent,
-        Op::Crtcb,
-        Op::Commit,
-        Op::Decommit,
-        Op::Ensobj,
-        Op::Desctx,
-        Op::Desup,
-        Op::Despg,
-        Op::Dess,
-        Op::Desq,
-        Op::Desinx,
-        Op::Desds,
-        Op::Descr,
-        Op::Desjs,
-        Op::Desjp,
-        Op::Descb,
+        Op::Retract,
+        Op::Rmvinxen,
+        Op::Rslvsp,
+        Op::Rtx,
+        Op::Scale,
+        Op::Setcr,
+        Op::Setdp,
+        Op::Setspfp,
+        Op::Setsppfp,
+        Op::Sigexcp,
+        Op::Subn,
+        Op::Subspp,
+        Op::Testau,
+        Op::Unlock,
+        Op::Updsen,
+        Op::Xctl,
+        Op::Xfrlock,
+        Op::Xfro,
+        Op::Xlate,
+        Op::Xor,
     ]
 }
 
-/// The first of these operations that a word is the mnemonic of.
-fn first_op(ops: &[Op], word: &[u8]) -> Option<Op>
-    ensures { result ≡ first_op ops.now word.now }
+/// How a mnemonic stands to a word.
+fn to_word(word: &[u8], op: Op) -> Ordering
+    ensures { result ≡ to_word word.now op }
 {
-    for op in ops {
-        if is_word(mnemonic(*op), word) {
-            return Some(*op);
-        }
-    }
-    None
+    mnemonic(op).cmp(word)
 }
 
 /// The operation that a word is the mnemonic of.
 pub fn operation(word: &[u8]) -> Option<Op>
     ensures { result ≡ op_of word.now }
 {
-    first_op(operations(), word)
+    let ops = operations();
+    match ops.binary_search_by(|op| to_word(word, *op)) {
+        Ok(at) => Some(ops[at]),
+        Err(_) => None,
+    }
 }
 
 /// Each operation's mnemonic is read as that operation.

@@ -1,262 +1,78 @@
-//! Words that are read and words that are refused.
+//! Words that are read and words that are refused, as decks write them.
 
 use crate::{
-    attribute, attributes, declaration, exception_code, has_form, identification, is_in_range,
-    lock_state, natural, number, number_literal, operation, relation, rights, specials, text_value,
-    wait, whole,
+    attribute, attributes, declaration, has_form, identification, instruction, is_in_range, number,
+    number_literal, program_head, text_literal, text_value,
 };
-use s38_base::{Attr, Kind, Op};
-use s38_code::Arg;
+use s38_base::{Attr, Kind};
+use s38_code::{Arg, mnemonic};
+use std::alloc::Global;
 use std::test::Fail;
 
-#[test]
-fn whole_numbers_are_read(rt: HostRuntime) {
-    let cases: [(&[u8], Option<u64>, Option<i128>); 9] = [
-        (b"0", Some(0), Some(0)),
-        (b"7", Some(7), Some(7)),
-        (b"-31", None, Some(-31)),
-        (b"007", None, None),
-        (b"", None, None),
-        (b"-", None, None),
-        (b"1A", None, None),
-        (
-            b"1111111111111111111111111111111",
-            Some(u64::MAX),
-            Some(1_111_111_111_111_111_111_111_111_111_111),
-        ),
-        (b"11111111111111111111111111111111", Some(u64::MAX), None),
-    ];
-    for (text, count, signed) in cases {
-        assert_eq!(rt; natural(text), count, "{text:?}");
-        assert_eq!(rt; whole(text), signed, "{text:?}");
-    }
-}
+/// Words of operands.
+const FORMS: [&str; 16] = [
+    "Q",
+    "LSRD",
+    "-5.0",
+    "007",
+    "'A B'",
+    "X''",
+    "QUEUE/00/1",
+    "RETRIEVE+UPDATE",
+    "ALLOBJ+PROFILE",
+    "PKD:99:0",
+    "PTR+CHAR:3",
+    "2A04",
+    "*NONE",
+    "*MACHINE",
+    "*LIST",
+    "*PUBLIC",
+];
 
-#[test]
-fn numbers_are_read(rt: HostRuntime) {
-    let cases: [(&[u8], Option<(i128, u8, u8)>); 10] = [
-        (b"5", Some((5, 1, 0))),
-        (b"007", Some((7, 3, 0))),
-        (b"-5.50", Some((-550, 3, 2))),
-        (b"0.1", Some((1, 2, 1))),
-        (b"-0", Some((0, 1, 0))),
-        (b"5.", None),
-        (b".5", None),
-        (b"1.2.3", None),
-        (b"--1", None),
-        (b"1111111111111111.1111111111111111", None),
-    ];
-    for (text, expected) in cases {
-        let found = number(text).map(|n| (n.units, n.digits, n.fraction));
-        assert_eq!(rt; found, expected, "{text:?}");
-    }
-}
-
-/// Whether an operand is a literal of these bytes.
-fn is_literal_of(arg: &Option<Arg>, expected: &[u8]) -> bool {
-    match arg {
-        Some(Arg::Literal { bytes, .. }) => bytes.as_slice() == expected,
-        _ => false,
-    }
-}
-
-#[test]
-fn a_number_is_packed(rt: HostRuntime) -> Result<(), Fail> {
-    let cases: [(&[u8], &[u8]); 5] = [
-        (b"7", &[0x7F]),
-        (b"-7", &[0x7D]),
-        (b"-0", &[0x0F]),
-        (b"12", &[0x01, 0x2F]),
-        (b"-123.45", &[0x12, 0x34, 0x5D]),
-    ];
-    for (text, expected) in cases {
-        let found = number_literal(rt.alloc(), text)?;
-        assert!(rt; is_literal_of(&found, expected), "{text:?}");
-    }
-    Ok(())
-}
-
-#[test]
-fn texts_are_read(rt: HostRuntime) -> Result<(), Fail> {
-    let cases: [(&[u8], Option<&[u8]>); 9] = [
-        (b"'AIJRSZ'", Some(&[0xC1, 0xC9, 0xD1, 0xD9, 0xE2, 0xE9])),
-        (b"'0 9'", Some(&[0xF0, 0x40, 0xF9])),
-        (b"''", Some(&[])),
-        (b"X''", Some(&[])),
-        (b"X'00FF9A'", Some(&[0x00, 0xFF, 0x9A])),
-        (b"X'0'", None),
-        (b"X'0a'", None),
-        (b"'a'", None),
-        (b"'", None),
-    ];
-    for (text, expected) in cases {
-        match (text_value(rt.alloc(), text)?, expected) {
-            (Some(found), Some(bytes)) => assert_eq!(rt; found.as_slice(), bytes, "{text:?}"),
-            (None, None) => {}
-            _ => assert!(rt; false, "{text:?}"),
-        }
-    }
-    Ok(())
-}
-
-#[test]
-fn identifications_are_read(rt: HostRuntime) -> Result<(), Fail> {
-    let kinds: [(&[u8], Kind); 11] = [
-        (b"CONTEXT/00/A", Kind::Context),
-        (b"PROGRAM/00/A", Kind::Program),
-        (b"PROFILE/00/A", Kind::Profile),
-        (b"SPACE/00/A", Kind::Space),
-        (b"QUEUE/00/A", Kind::Queue),
-        (b"INDEX/00/A", Kind::Index),
-        (b"DATASPACE/00/A", Kind::DataSpace),
-        (b"CURSOR/00/A", Kind::Cursor),
-        (b"JPORT/00/A", Kind::Port),
-        (b"JSPACE/00/A", Kind::Journal),
-        (b"CBLOCK/00/A", Kind::Block),
-    ];
-    for (text, kind) in kinds {
-        assert_eq!(rt; identification(text).map(|id| id.kind), Some(kind));
-    }
-    let id = identification(b"SPACE/F0/9Z").ok_or("none")?;
-    assert_eq!(rt; id.sub, 0xF0);
-    assert_eq!(rt; id.name.as_bytes(), b"9Z".as_slice());
-    for text in [
-        "SPACE/0/A",
-        "SPACE/0a/A",
-        "SPACE/00/",
-        "SPACE/00",
-        "BOX/00/A",
-    ] {
-        assert!(rt; identification(text.as_bytes()).is_none(), "{text}");
-    }
-    assert_eq!(rt; exception_code(b"2A04"), Some(0x2A04));
-    assert_eq!(rt; exception_code(b"2a04"), None);
-    assert_eq!(rt; exception_code(b"02A04"), None);
-    Ok(())
-}
-
-#[test]
-fn words_of_rows_are_numbered(rt: HostRuntime) {
-    let cases: [(&[u8], Option<u8>); 9] = [
-        (b"NONE", Some(0)),
-        (b"ALL", Some(0xFF)),
-        (b"OBJCTL", Some(0x80)),
-        (b"RETRIEVE+UPDATE", Some(0x09)),
-        (
-            b"OBJCTL+OBJMGT+AUTPTR+SPACE+RETRIEVE+INSERT+DELETE",
-            Some(0xFE),
-        ),
-        (
-            b"OBJCTL+OBJMGT+AUTPTR+SPACE+RETRIEVE+INSERT+DELETE+UPDATE",
-            None,
-        ),
-        (b"UPDATE+RETRIEVE", None),
-        (b"UPDATE+UPDATE", None),
-        (b"UPDATE+", None),
-    ];
-    for (text, bits) in cases {
-        assert_eq!(rt; rights(text), bits, "{text:?}");
-    }
-    assert_eq!(rt; specials(b"ALLOBJ+PROFILE"), Some(0xC0));
-    assert_eq!(rt; specials(b"PROFILE+ALLOBJ"), None);
-    assert_eq!(rt; lock_state(b"LENR"), Some(4));
-    assert_eq!(rt; relation(b"LAST"), Some(8));
-    assert_eq!(rt; wait(b"WAIT"), Some(1));
-    assert_eq!(rt; operation(b"DESCB"), Some(Op::Descb));
-    assert_eq!(rt; operation(b"DESC"), None);
-}
-
-#[test]
-fn attributes_are_read(rt: HostRuntime) -> Result<(), Fail> {
-    let cases: [(&[u8], Option<Attr>); 12] = [
-        (b"PTR", Some(Attr::Pointer)),
-        (b"CHAR:4096", Some(Attr::Chars { len: 4096 })),
-        (b"CHAR:70000", Some(Attr::Chars { len: u16::MAX })),
-        (
-            b"PKD:9:2",
-            Some(Attr::Packed {
-                digits: 9,
-                fraction: 2,
-            }),
-        ),
-        (
-            b"ZND:300:0",
-            Some(Attr::Zoned {
-                digits: 255,
-                fraction: 0,
-            }),
-        ),
-        (b"BIN:4", Some(Attr::Binary { size: 4 })),
-        (b"BIN:3", None),
-        (b"CHAR:01", None),
-        (b"CHAR:", None),
-        (b"PKD:9", None),
-        (b"PKD:9:2:1", None),
-        (b"PKD", None),
-    ];
-    for (text, expected) in cases {
-        assert_eq!(rt; attribute(text), expected, "{text:?}");
-    }
-    match attributes(rt.alloc(), b"PKD:9:0+CHAR:3")? {
-        Some(list) => assert_eq!(rt;
-            list.as_slice(),
-            [
-                Attr::Packed {
-                    digits: 9,
-                    fraction: 0
-                },
-                Attr::Chars { len: 3 }
-            ]
-            .as_slice()
-        ),
-        None => assert!(rt; false),
-    }
-    assert!(rt; attributes(rt.alloc(), b"PTR+")?.is_none());
-    Ok(())
-}
+/// Words that no operand has.
+const NO_FORMS: [&str; 15] = [
+    "",
+    "1Q",
+    "q",
+    "*ALL",
+    "5.",
+    "11111111111111111111111111111111",
+    "'a'",
+    "X'0'",
+    "QUEUE/00",
+    "BOX/00/Q",
+    "UPDATE+RETRIEVE",
+    "PKD:09:0",
+    "BIN:8",
+    "PTR+",
+    " Q",
+];
 
 #[test]
 fn an_operand_has_a_form(rt: HostRuntime) {
-    for text in [
-        "Q",
-        "LSRD",
-        "-5.0",
-        "007",
-        "'A B'",
-        "X''",
-        "QUEUE/00/1",
-        "RETRIEVE+UPDATE",
-        "ALLOBJ+PROFILE",
-        "PKD:99:0",
-        "PTR+CHAR:3",
-        "2A04",
-        "*NONE",
-        "*MACHINE",
-        "*LIST",
-        "*PUBLIC",
-    ] {
+    for text in FORMS {
         assert!(rt; has_form(text.as_bytes()), "{text}");
     }
-    for text in [
-        "",
-        "1Q",
-        "q",
-        "*ALL",
-        "5.",
-        "11111111111111111111111111111111",
-        "'a'",
-        "X'0'",
-        "QUEUE/00",
-        "BOX/00/Q",
-        "UPDATE+RETRIEVE",
-        "PKD:09:0",
-        "BIN:8",
-        "PTR+",
-        " Q",
-    ] {
+    for text in NO_FORMS {
         assert!(rt; !has_form(text.as_bytes()), "{text}");
     }
 }
+
+/// Lines of declarations, and whether their numbers are in their ranges.
+const DECLARATIONS: [(&str, Option<bool>); 12] = [
+    ("DCL A CHAR:3 INIT 'A B'", Some(true)),
+    ("DCL A CHAR:3 INIT -1.5", Some(true)),
+    ("DCL A PARM 16 PTR", Some(true)),
+    ("DCL A PARM 17 PTR", Some(false)),
+    ("DCL A BASED P 16777216 BIN:2", Some(true)),
+    ("DCL A BASED P 16777217 BIN:2", Some(false)),
+    ("DCL A EXCM * L", Some(true)),
+    ("DCL A EXCM 2A04 L", Some(true)),
+    ("DCL A", None),
+    ("DCL A CHAR:3 INIT A", None),
+    ("DCL A PARM 01 PTR", None),
+    ("DCL A EXCM 2A4 L", None),
+];
 
 /// Whether the numbers of a declaration are in their ranges; None where the text is no declaration.
 fn range_of(text: &str) -> Option<bool> {
@@ -268,40 +84,98 @@ fn range_of(text: &str) -> Option<bool> {
 
 #[test]
 fn lines_of_declarations_are_read(rt: HostRuntime) {
-    let taken: [(&str, bool); 12] = [
-        ("DCL A PKD:9:2", true),
-        ("DCL A CHAR:0", true),
-        ("DCL A CHAR:3 INIT 'A B'", true),
-        ("DCL A CHAR:3 INIT -1.5", true),
-        ("DCL A PARM 1 PTR", true),
-        ("DCL A PARM 16 PTR", true),
-        ("DCL A PARM 0 PTR", false),
-        ("DCL A PARM 17 PTR", false),
-        ("DCL A BASED P 16777216 BIN:2", true),
-        ("DCL A BASED P 16777217 BIN:2", false),
-        ("DCL A EXCM * L", true),
-        ("DCL A EXCM 2A04 L", true),
-    ];
-    for (text, in_range) in taken {
-        assert_eq!(rt; range_of(text), Some(in_range), "{text}");
+    for (text, expected) in DECLARATIONS {
+        assert_eq!(rt; range_of(text), expected, "{text}");
     }
-    for text in [
-        "DCL A",
-        "DCL  A PTR",
-        "DCL 1A PTR",
-        "DCL A PTR ",
-        "DCL A CHAR:3 INIT",
-        "DCL A CHAR:3 INIT A",
-        "DCL A CHAR:3  INIT 5",
-        "DCL A PARM 01 PTR",
-        "DCL A PARM 1",
-        "DCL A BASED 1 0 PTR",
-        "DCL A BASED P PTR",
-        "DCL A EXCM 2A4 L",
-        "DCL A EXCM * 1L",
-        "dcl A PTR",
-        "",
-    ] {
-        assert!(rt; range_of(text).is_none(), "{text}");
+}
+
+/// Lines of instructions: whether `(R)` stands there, and the words of operands.
+const INSTRUCTIONS: [(&str, Option<(bool, Option<&str>)>); 6] = [
+    ("RTX", Some((false, None))),
+    ("ADDN A,B,'C D'", Some((false, Some("A,B,'C D'")))),
+    ("DIV (R) A,B,C", Some((true, Some("A,B,C")))),
+    ("DIV (R)", Some((true, None))),
+    ("DIV (R)A", Some((false, Some("(R)A")))),
+    ("DESC P", None),
+];
+
+#[test]
+fn lines_of_instructions_are_read(rt: HostRuntime) {
+    for (text, expected) in INSTRUCTIONS {
+        match (instruction(text.as_bytes()), expected) {
+            (Some(line), Some((round, operands))) => {
+                assert!(rt; text.as_bytes().starts_with(mnemonic(line.op)), "{text}");
+                assert_eq!(rt; line.round, round, "{text}");
+                assert_eq!(rt; line.operands, operands.map(str::as_bytes), "{text}");
+            }
+            (None, None) => {}
+            _ => assert!(rt; false, "{text}"),
+        }
     }
+    assert!(rt; program_head(b"PROGRAM P ADOPT PROPAGATE").is_some());
+    assert!(rt; program_head(b"PROGRAM P PROPAGATE ADOPT").is_none());
+}
+
+/// Numbers, and the bytes that hold them packed.
+const PACKED: [(&[u8], &[u8]); 4] = [
+    (b"7", &[0x7F]),
+    (b"-0", &[0x0F]),
+    (b"12", &[0x01, 0x2F]),
+    (b"-123.45", &[0x12, 0x34, 0x5D]),
+];
+
+/// Texts, and their bytes in EBCDIC.
+const TEXTS: [(&[u8], &[u8]); 4] = [
+    (b"'AIJRSZ'", &[0xC1, 0xC9, 0xD1, 0xD9, 0xE2, 0xE9]),
+    (b"'0 9'", &[0xF0, 0x40, 0xF9]),
+    (b"''", &[]),
+    (b"X'00FF9A'", &[0x00, 0xFF, 0x9A]),
+];
+
+/// Whether an operand is a literal of these bytes.
+fn is_literal_of(arg: &Option<Arg>, expected: &[u8]) -> bool {
+    match arg {
+        Some(Arg::Literal { bytes, .. }) => bytes.as_slice() == expected,
+        _ => false,
+    }
+}
+
+fn is_text_of(alloc: Global, text: &[u8], expected: &[u8]) -> Result<bool, Fail> {
+    let held = match text_value(alloc, text)? {
+        Some(bytes) => bytes.as_slice() == expected,
+        None => false,
+    };
+    Ok(held && is_literal_of(&text_literal(alloc, text)?, expected))
+}
+
+#[test]
+fn literals_have_their_bytes(rt: HostRuntime) -> Result<(), Fail> {
+    for (text, expected) in PACKED {
+        let found = number_literal(rt.alloc(), text)?;
+        assert!(rt; is_literal_of(&found, expected), "{text:?}");
+    }
+    for (text, expected) in TEXTS {
+        assert!(rt; is_text_of(rt.alloc(), text, expected)?, "{text:?}");
+    }
+    assert_eq!(rt;
+        number(b"-5.50").map(|n| (n.units, n.digits, n.fraction)),
+        Some((-550, 3, 2))
+    );
+    Ok(())
+}
+
+#[test]
+fn attributes_and_identifications_are_read(rt: HostRuntime) -> Result<(), Fail> {
+    assert_eq!(rt;
+        attribute(b"CHAR:70000"),
+        Some(Attr::Chars { len: u16::MAX })
+    );
+    assert_eq!(rt;
+        identification(b"JSPACE/F0/9Z").map(|id| (id.kind, id.sub)),
+        Some((Kind::Journal, 0xF0))
+    );
+    let list = attributes(rt.alloc(), b"BIN:4+CHAR:3")?.ok_or("none")?;
+    let expected = [Attr::Binary { size: 4 }, Attr::Chars { len: 3 }];
+    assert_eq!(rt; list.as_slice(), expected.as_slice());
+    Ok(())
 }

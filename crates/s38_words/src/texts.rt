@@ -10,7 +10,7 @@ pub fn is_word(word: &[u8], text: &[u8]) -> bool
 }
 
 /// Where the first such byte stands; None where there is none.
-fn place_of(byte: u8, text: &[u8]) -> Option<usize>
+pub fn place_of(byte: u8, text: &[u8]) -> Option<usize>
     ensures place { result ≡ place_of byte text.now }
     ensures bound { IfSome result (λ at. at < length text.now) }
 {

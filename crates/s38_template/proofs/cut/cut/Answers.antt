@@ -8,9 +8,9 @@ pub returns-in-Some : goal.returns-in-Some
 returns-in-Some c =
     let text = c.args.text.now in
     let at = c.in-Some.at in
-    rw (take_rest text (at + 1)) (ap (option_map (around text)) (sym c.in-Some.is ∙ c.position.ensures) ∙ sym (cut_position c.args.separator text))
+    rw (take_rest text (at + 1)) (ap (option_map (around text)) (sym c.in-Some.is ∙ c.place_of.ensures.place) ∙ sym (cut_position c.args.separator text))
 
 pub returns-in-None : goal.returns-in-None
 returns-in-None c =
     let text = c.args.text.now in
-    ap (option_map (around text)) (sym c.in-None.is ∙ c.position.ensures) ∙ sym (cut_position c.args.separator text)
+    ap (option_map (around text)) (sym c.in-None.is ∙ c.place_of.ensures.place) ∙ sym (cut_position c.args.separator text)

@@ -1,4 +1,4 @@
-use Rattle.std.proofs.Common.{◌≡◌, sym, ap, ◌∙◌, IfOk, Ok, Err, Result, List, ℕ, Option}
+use Rattle.std.proofs.Common.{◌≡◌, sym, ◌∙◌, IfOk, Ok, Err, Result, List, ℕ, Option}
 use Rattle.s38_base.specs.declared.fault.NoMemory.{NoMemory}
 use Rattle.s38_template.proofs.Texts.{rest_falls}
 use Rattle.s38_template.proofs.Words.{names_turn, names_fail, names_end}

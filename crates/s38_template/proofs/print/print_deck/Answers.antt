@@ -1,4 +1,4 @@
-use Rattle.std.proofs.Common.{◌≡◌, ◌++◌, ap, ◌∙◌, map}
+use Rattle.std.proofs.Common.{◌++◌, ap, ◌∙◌, map}
 use Rattle.std.specs.List.{flat_map}
 use Rattle.s38_template.specs.Grammar.{stage_lines}
 use Rattle.s38_template.specs.Printing.{job_line, printed_jobs, printed_lines}

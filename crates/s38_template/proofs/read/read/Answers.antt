@@ -1,10 +1,7 @@
-use Rattle.std.proofs.Common.{◌≡◌, ◌+◌, ◌<◌, sym, ap, ◌∙◌, refl, arith, length, List, ℕ, Result, Option, Some, None}
+use Rattle.std.proofs.Common.{◌≡◌, ◌+◌, sym, ap, ◌∙◌, arith, length}
 use Rattle.std.proofs.lemmas.Bool.{leb-true}
 use Rattle.std.specs.List.{slice_split}
-use Rattle.s38_code.specs.declared.deck.Deck.{Deck}
-use Rattle.s38_template.specs.declared.fault.DeckFault.{DeckFault}
-use Rattle.s38_template.specs.Cut.{cut}
-use Rattle.s38_template.specs.Reading.{Answers, State, after_line, bad_or, code_of, is_feed, read_of, read_on, rest_at, start}
+use Rattle.s38_template.specs.Reading.{after_line, bad_or, is_feed, read_of, read_on, rest_at}
 use Rattle.s38_template.specs.Views.{state_of}
 use Rattle.s38_template.proofs.Ends.{loop_first, loop_last, loop_more, loop_rest, turned}
 use Rattle.s38_template.proofs.Texts.{rest_falls}

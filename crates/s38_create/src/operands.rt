@@ -1,0 +1,51 @@
+ghost use Rattle.std.specs.Prelude.{◌≡◌, [], IfOk};
+ghost use Rattle.std.specs.Option.{option_map};
+ghost use Rattle.s38_create.specs.Labels.{HasLabels};
+ghost use Rattle.s38_create.specs.Parsed.{is_argument, parsed_from};
+
+use crate::by_class::parsed_operand;
+use crate::parsed::ParsedOperand;
+use crate::scope::Scope;
+use s38_base::NoMemory;
+use s38_code::Class;
+use s38_words::{before, behind};
+use std::alloc::Global;
+
+pub fn is_argument(class: Class) -> bool
+    ensures { result ≡ is_argument class }
+{
+    matches!(class, Class::Argument)
+}
+
+/// What the words of a text say, parted by commas, one for each class; arguments at the end may be left out.
+/// None where a word says nothing at its place, or their number is another.
+pub fn parsed_operands(
+    alloc: Global,
+    scope: &Scope,
+    classes: &[Class],
+    text: Option<&[u8]>,
+) -> Result<Option<Vec<ParsedOperand>>, NoMemory>
+    requires { HasLabels scope.now.code.now scope.now.labels }
+    ensures { IfOk result (λ parsed. option_map (λ v. v.items) parsed ≡ parsed_from scope.now.table scope.now.code.now [] classes.now (option_map (λ t. t.now) text.entry)) }
+{
+    let mut parsed = Vec::new(alloc);
+    let mut rest = text;
+    for class in classes {
+        let Some(text) = rest else {
+            return if is_argument(*class) {
+                Ok(Some(parsed))
+            } else {
+                Ok(None)
+            };
+        };
+        let Some(operand) = parsed_operand(alloc, scope, *class, before(b',', text))? else {
+            return Ok(None);
+        };
+        parsed.push(operand)?;
+        rest = behind(b',', text);
+    }
+    if rest.is_some() {
+        return Ok(None);
+    }
+    Ok(Some(parsed))
+}
