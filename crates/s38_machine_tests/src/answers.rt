@@ -91,7 +91,7 @@ const CASES: [(u32, Asked, Outcome); 19] = [
     (2, End, Done),
 ];
 
-fn outcome(reply: &Reply) -> Outcome {
+fn outcome_of(reply: &Reply) -> Outcome {
     match reply {
         Reply::Done(_) => Done,
         Reply::Signal(_) => Signal,
@@ -107,7 +107,7 @@ fn answer(alloc: Global, machine: &mut Machine, process: u32, asked: Asked) -> R
     ensures origin { machine.new.origin ≡ machine.old.origin }
 {
     let reply = Stepper::step(machine, process, &event(alloc, asked)?)?;
-    Ok(outcome(&reply))
+    Ok(outcome_of(&reply))
 }
 
 /// How many of the cases are answered so, up to the first that is not.
