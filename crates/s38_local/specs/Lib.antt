@@ -1,3 +1,4 @@
+pub mod Kinds
 pub mod Local
 pub mod Overlap
 pub mod Received

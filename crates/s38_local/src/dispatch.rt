@@ -1,7 +1,8 @@
-ghost use Rattle.std.specs.Prelude.{◌≡◌, IfOk, IsTrue, OnErr, OnOk, Some};
+ghost use Rattle.std.specs.Prelude.{◌≡◌, IfOk, IsTrue, OnErr, OnOk};
 ghost use Rattle.s38_base.specs.Scalar.{fits};
-ghost use Rattle.s38_compute.specs.Computed.{as_branch, as_bytes, as_number, as_pointer, bytes_given, computes_number, is_branch, number_given, pointer_given, test_given};
-ghost use Rattle.s38_local.specs.Local.{label_at, of_variables, operand, received, run};
+ghost use Rattle.s38_compute.specs.Computed.{computes_number, is_branch, number_given, pointer_given};
+ghost use Rattle.s38_local.specs.Kinds.{branch_run, bytes_run, number_run, pointer_run};
+ghost use Rattle.s38_local.specs.Local.{label_at, of_variables, operand, run};
 ghost use Rattle.s38_local.specs.Variables.{attr_of};
 
 use crate::local_end::LocalEnd;
@@ -24,12 +25,12 @@ fn number_read(rows: &[Row], values: &[Val], instruction: &Instruction) -> Resul
     number_given(&sources, instruction.op, instruction.round)
 }
 
-/// A number of numbers.
+/// A computation that gives a number.
 #[tactic(auto, using(crate::proofs::ReceivedLaws::received_number))]
 fn number(rows: &[Row], values: &mut [Val], instruction: &Instruction) -> LocalEnd
     requires { IsTrue (computes_number instruction.now.op) }
-    ensures end { result ≡ (received values.old instruction.now (Some (as_number (attr_of rows.now (operand instruction.now.args 1)) (number_given instruction.now.op instruction.now.round (of_variables rows.now values.old instruction.now.args))))).end }
-    ensures values { values.new ≡ (received values.old instruction.now (Some (as_number (attr_of rows.now (operand instruction.now.args 1)) (number_given instruction.now.op instruction.now.round (of_variables rows.now values.old instruction.now.args))))).values }
+    ensures end { result ≡ (number_run rows.now values.old instruction.now).end }
+    ensures values { values.new ≡ (number_run rows.now values.old instruction.now).values }
 {
     let given = number_read(rows, values, instruction);
     let to = operand(instruction.args.as_slice(), 1);
@@ -45,8 +46,8 @@ fn branch(
     instruction: &Instruction,
 ) -> Result<LocalEnd, NoMemory>
     requires { IsTrue (is_branch instruction.now.op) }
-    ensures end { IfOk result (λ end. end ≡ (received values.now instruction.now (Some (as_branch (test_given instruction.now.op (of_variables rows.now values.now instruction.now.args))))).end) }
-    ensures values { values.now ≡ (received values.now instruction.now (Some (as_branch (test_given instruction.now.op (of_variables rows.now values.now instruction.now.args))))).values }
+    ensures end { IfOk result (λ end. end ≡ (branch_run rows.now values.now instruction.now).end) }
+    ensures values { values.now ≡ (branch_run rows.now values.now instruction.now).values }
 {
     let args = instruction.args.as_slice();
     let sources = Variables { rows, values, args };
@@ -63,7 +64,7 @@ fn label_at(op: Op) -> usize
     }
 }
 
-/// Bytes of bytes.
+/// A string computation, which looks at no declaration.
 #[tactic(auto, using(crate::proofs::ReceivedLaws::received_bytes), unfolding(s38_compute::specs::Computed::bytes_given))]
 fn string(
     alloc: Global,
@@ -71,8 +72,8 @@ fn string(
     values: &mut [Val],
     instruction: &Instruction,
 ) -> Result<LocalEnd, NoMemory>
-    ensures end { IfOk result (λ end. end ≡ (received values.old instruction.now (Some (as_bytes (bytes_given instruction.now.op (of_variables rows.now values.old instruction.now.args))))).end) }
-    ensures values { OnOk result (values.new ≡ (received values.old instruction.now (Some (as_bytes (bytes_given instruction.now.op (of_variables rows.now values.old instruction.now.args))))).values) }
+    ensures end { IfOk result (λ end. end ≡ (bytes_run rows.now values.old instruction.now).end) }
+    ensures values { OnOk result (values.new ≡ (bytes_run rows.now values.old instruction.now).values) }
     ensures err { OnErr result (values.new ≡ values.old) }
 {
     let _ = rows;
@@ -93,8 +94,8 @@ fn pointer_read(
 /// A space pointer that is moved.
 #[tactic(auto, using(crate::proofs::ReceivedLaws::received_pointer))]
 fn pointer(rows: &[Row], values: &mut [Val], instruction: &Instruction) -> LocalEnd
-    ensures end { result ≡ (received values.old instruction.now (Some (as_pointer (pointer_given instruction.now.op (of_variables rows.now values.old instruction.now.args))))).end }
-    ensures values { values.new ≡ (received values.old instruction.now (Some (as_pointer (pointer_given instruction.now.op (of_variables rows.now values.old instruction.now.args))))).values }
+    ensures end { result ≡ (pointer_run rows.now values.old instruction.now).end }
+    ensures values { values.new ≡ (pointer_run rows.now values.old instruction.now).values }
 {
     let given = pointer_read(rows, values, instruction);
     receive_pointer(values, operand(instruction.args.as_slice(), 1), given)

@@ -22,3 +22,6 @@ fn sends<T: Send + Sync>() {}
 pub fn all_may_be_sent() {
     sends::<LocalEnd>();
 }
+
+#[cfg(test)]
+mod tests;

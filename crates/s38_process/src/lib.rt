@@ -23,3 +23,6 @@ pub fn all_may_be_sent() {
     sends::<Process>();
     sends::<Status>();
 }
+
+#[cfg(test)]
+mod tests;

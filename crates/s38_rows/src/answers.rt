@@ -26,7 +26,7 @@ fn joined(alloc: Global, pieces: &[&str]) -> Result<Vec<u8>, NoMemory> {
 }
 
 /// What the words and a deck come to, where the listed takes and puts fail.
-pub fn answer(
+pub fn answer_of(
     alloc: Global,
     words: &[&str],
     deck: &[&str],
@@ -60,7 +60,7 @@ pub fn answers(
     text: &[&str],
     status: u8,
 ) -> Result<bool, NoMemory> {
-    let answer = answer(alloc, words, deck, &[], &[], text)?;
+    let answer = answer_of(alloc, words, deck, &[], &[], text)?;
     Ok(answer.status == status && answer.same_text && answer.same_disk)
 }
 

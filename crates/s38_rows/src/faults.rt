@@ -1,6 +1,6 @@
 //! What is answered where a take of the source or the put of the text fails.
 
-use crate::answers::{Answer, answer};
+use crate::answers::{Answer, answer_of};
 use crate::commands::{TWO_JOBS, TWO_LOGS};
 use std::test::Fail;
 
@@ -19,7 +19,7 @@ const FAULTS: [(&[&str], &str, &[u32], &[u32], &str, u8, usize); 8] = [
 #[test]
 fn each_take_and_put_may_fail(rt: HostRuntime) -> Result<(), Fail> {
     for (words, deck, takes, puts, text, status, entries) in FAULTS {
-        let answer = answer(rt.alloc(), words, &[deck], takes, puts, &[text])?;
+        let answer = answer_of(rt.alloc(), words, &[deck], takes, puts, &[text])?;
         assert_eq!(rt;
             answer,
             Answer {

@@ -15,7 +15,8 @@ use Rattle.s38_code.specs.declared.reply.Reply.{Reply}
 use Rattle.s38_code.specs.declared.reply.Reply.TheVariants.{Done, Signal, MustWait}
 use Rattle.s38_process.specs.declared.status.Status.{Status}
 use Rattle.s38_process.specs.declared.status.Status.TheVariants.{Fresh, Running, Ending, Ended}
-use Rattle.s38_process.specs.Process.{ProcessState, RanFrom, absorbed, acts, after_act, after_asked, after_end, after_event, after_start, asks, local_by, begun_by, behind, code_in, ends_by_finish, event_of, is_finish, is_return, request_of, returns, rows_in, settled}
+use Rattle.s38_process.specs.Requests.{request_of}
+use Rattle.s38_process.specs.Process.{ProcessState, RanFrom, absorbed, acts, after_act, after_asked, after_end, after_event, after_start, asks, local_by, begun_by, behind, code_in, ends_by_finish, event_of, is_finish, is_return, returns, rows_in, settled}
 use Rattle.s38_process.proofs.Alone.{IsLater, Moves, settled_later, settled_still}
 use Rattle.s38_run.specs.Running.{left, left_by}
 

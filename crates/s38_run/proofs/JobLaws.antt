@@ -217,7 +217,7 @@ between_falls n one budget m m' at e ran lt r =
 
 -- ---- the beginning and the end
 
-fresh_open : (jobs : List Job) (k : ℕ) (x : ProcessEntry) → slice_get (opening.standings jobs) k ≡ Some x → x.ended ≡ false
+fresh_open : (jobs : List Job) (k : ℕ) (x : ProcessEntry) → slice_get (opening.process_entries jobs) k ≡ Some x → x.ended ≡ false
 fresh_open [] k x h = cc
 fresh_open (job ∷ jobs) zero x h = ap (λ (y : ProcessEntry). y.ended) (sym (some_same _ _ _ refl h))
 fresh_open (job ∷ jobs) (suc k) x h = fresh_open jobs k x h

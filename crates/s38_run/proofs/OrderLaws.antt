@@ -1,5 +1,5 @@
 -- A process that has gone first goes first until it ends: nothing that the order looks at changes before.
-use Rattle.std.proofs.Common.{◌≡◌, ◌≢◌, ℕ, zero, suc, ◌-◌, ◌<◌, ◌==◌, Bool, true, false, not, ◌&&◌, ◌||◌, List, [], ◌∷◌, ◌++◌, map, refl, sym, ◌∙◌, ap, subst}
+use Rattle.std.proofs.Common.{◌≡◌, ℕ, zero, suc, ◌-◌, ◌==◌, Bool, false, not, ◌&&◌, ◌||◌, List, [], ◌∷◌, ◌++◌, map, refl, sym, ◌∙◌, ap, subst}
 use Rattle.std.specs.Prelude.{Option, Some, None, nat_lt, slice_get, slice_set}
 use Rattle.std.specs.Option.{option_map}
 use Rattle.std.specs.List.{list_any}
@@ -55,8 +55,8 @@ same_ready s t p same waiting =
 -- so who goes first goes on going first
 pub same_first : (s t : State) (p : ℕ) → outline t.processes ≡ outline s.processes → t.waiting ≡ s.waiting → IsFirstReady s p → IsFirstReady t p
 same_first s t p same waiting first = record {
-  ready = same_ready s t p same waiting ∙ first.ready;
-  first = λ q some low. same_ready s t q same waiting ∙ first.first q some low;
+  is_ready = same_ready s t p same waiting ∙ first.is_ready;
+  others = λ q some low. same_ready s t q same waiting ∙ first.others q some low;
 }
 
 -- ---- a start

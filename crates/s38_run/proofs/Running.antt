@@ -6,7 +6,6 @@ use Rattle.std.proofs.lemmas.Bool.Decides.{nat_tests}
 use Rattle.std.specs.Prelude.{Some}
 use Rattle.s38_code.specs.declared.entry.Entry.{Entry}
 use Rattle.s38_code.specs.declared.event.Event.{Event}
-use Rattle.s38_code.specs.declared.event.Event.TheVariants.{Start}
 use Rattle.s38_code.specs.History.{entries_of, entry_after, is_of}
 use Rattle.s38_rules.specs.declared.process.ProcessEntry.{ProcessEntry}
 use Rattle.s38_process.specs.declared.status.Status.TheVariants.{Fresh, Ended}
@@ -62,10 +61,10 @@ may_within m n sound may = omega (arith, sound.kept, may.first, may.last)
 -- who goes first goes on going first, but behind its end
 first_on : (n : ℕ) (m : Run) (d : ProcessState) (e : Event) → m.state.waiting ≡ [] → IsFirstReady m.state n → event_of d ≡ Some e → GoesTo m.state n e (step m.state n e)
     → (absorbed d (step m.state n e).reply).status ≢ Ended → IsFirstReady (step m.state n e).state n
-first_on n m d e awake first asks to open = by_finish (is_finish e) refl
+first_on n m d e awake first asks to going = by_finish (is_finish e) refl
   where
     by_finish : (b : Bool) → is_finish e ≡ b → IsFirstReady (step m.state n e).state n
-    by_finish true f = absurd (open (finish_ends d e (step m.state n e).reply asks to.answered f))
+    by_finish true f = absurd (going (finish_ends d e (step m.state n e).reply asks to.answered f))
     by_finish false f = same_first m.state (step m.state n e).state n (to.same f) (to.awake ∙ sym awake) first
 
 -- a process that has run, and one step more
@@ -75,7 +74,7 @@ unfolding after
 ran_on_more n m0 d0 m d e may within ran asks =
     let reply = (step m.state n e).reply in
     let first = ran.turn (asks_open d e asks) in
-    let to = goes m.state n e ran.awake (λ h. first.ready) in
+    let to = goes m.state n e ran.awake (λ h. first.is_ready) in
     let entry : Entry = entry_after m.history n e (step m.state n e).reply in
     let more = history_more m n e to.entered in
     record {
@@ -89,7 +88,7 @@ ran_on_more n m0 d0 m d e may within ran asks =
       asked = ran_more d0 ran.own entry ran.asked (ap event_of ran.stands ∙ asks);
       stands = behind_more d0 ran.own entry ∙ ap (λ x. absorbed x (step m.state n e).reply) ran.stands;
       order = subst (λ es. InOrder m.origin es) (sym more) (order_more m.origin [] m.history m.state entry ran.sound.legal ran.order first);
-      turn = λ open. first_on n m d e ran.awake first asks to open;
+      turn = λ going. first_on n m d e ran.awake first asks to going;
       ended = λ h. (to.ended (ends_asking d e (step m.state n e).reply asks h) within, ends_more ran.own entry ∙ ends_asking d e (step m.state n e).reply asks h);
     }
 
@@ -126,7 +125,7 @@ turned_on n m0 d0 m d m' d' first ran turn =
 -- and brings the process nearer to its end
 pub turned_falls : (n : ℕ) (m0 : Run) (d0 : ProcessState) (m : Run) (d : ProcessState) (m' : Run) (d' : ProcessState) → RanOn n m0 d0 m d → Turned n m d m' d' → left d' < left d
 turned_falls n m0 d0 m d m' d' ran turn =
-    let to = goes m.state n turn.event ran.awake (λ h. (ran.turn (asks_open d turn.event turn.asks)).ready) in
+    let to = goes m.state n turn.event ran.awake (λ h. (ran.turn (asks_open d turn.event turn.asks)).is_ready) in
     subst (λ (y : ProcessState). left y < left d) (sym turn.process) (falls d turn.event (step m.state n turn.event).reply turn.asks to.answered)
 
 rested_on : (n : ℕ) (m0 : Run) (d0 : ProcessState) (m : Run) (d : ProcessState) (m' : Run) (d' : ProcessState) → RanOn n m0 d0 m d → Rested m d m' d' → RanOn n m0 d0 m' d'

@@ -5,8 +5,8 @@ use Rattle.s38_rules.specs.State.{State, ready}
 use Rattle.s38_rules.specs.Step.{step}
 
 pub record IsFirstReady (s : State) (process : ℕ) : Type 0 where
-  pub ready : ready s process ≡ true
-  pub first : (q : ℕ) → 0 < q → q < process → ready s q ≡ false
+  pub is_ready : ready s process ≡ true
+  pub others : (q : ℕ) → 0 < q → q < process → ready s q ≡ false
 
 -- from s, each entry is made by the process that goes first
 abbrev pub InOrder : State → List Entry → Type 0

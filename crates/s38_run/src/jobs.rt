@@ -8,7 +8,7 @@ ghost use Rattle.s38_run.specs.Whole.{AllRan};
 
 use crate::one::run_process;
 use s38_base::{NoMemory, TryClone};
-use s38_code::{Job, CreateResult};
+use s38_code::{CreateResult, Job};
 use s38_machine::Machine;
 use s38_process::Process;
 use std::alloc::Global;

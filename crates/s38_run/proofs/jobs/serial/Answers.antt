@@ -13,13 +13,13 @@ pub loop-at-smaller : goal.loop-at-smaller
 loop-at-smaller c =
     let count = places c.args.machine.state.templates c.args.made.now c.args.jobs.now c.loop-at.machine c.loop-at.invariant in
     between_falls (c.in-Some.at + 1) c.index-made-at.result c.index-jobs-at.result.budget c.loop-at.machine c.run_job.new.machine c.in-Some.at refl
-    c.in-Ok.ensures (omega (arith, c.in-Some.ensures.0, count)) c.in-Some.ensures.1
+    c.in-Ok.ensures (omega (arith, c.in-Some.ensures.0, count)) c.in-Some.ensures.1.0
 
 pub loop-at-preserved : goal.loop-at-preserved
 loop-at-preserved c =
     let count = places c.args.machine.state.templates c.args.made.now c.args.jobs.now c.loop-at.machine c.loop-at.invariant in
     between_more c.args.machine.state.templates c.args.made.now c.args.jobs.now c.loop-at.machine c.run_job.new.machine c.in-Some.at c.index-jobs-at.result c.index-made-at.result
-    c.loop-at.invariant c.in-Ok.ensures (omega (arith, c.in-Some.ensures.0, count)) c.in-Some.ensures.1
+    c.loop-at.invariant c.in-Ok.ensures (omega (arith, c.in-Some.ensures.0, count)) c.in-Some.ensures.1.0
     (slice_get_read c.args.jobs.now (length c.args.jobs.now) c.in-Some.at c.index-jobs-at.result refl (omega (arith, c.in-Some.ensures.0)) c.index-jobs-at.is)
     (slice_get_read c.args.made.now (length c.args.made.now) c.in-Some.at c.index-made-at.result refl (omega (arith, c.in-Some.ensures.0)) c.index-made-at.is)
 
