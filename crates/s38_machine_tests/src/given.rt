@@ -1,0 +1,123 @@
+//! Jobs, a template and events, as a table gives them.
+
+use s38_base::{Attr, Id, Kind, Name, ObjNum, Op, Pointer, Rights, Seq};
+use s38_code::{
+    Checked, CheckedTemplate, Code, CreateResult, EndCause, Event, Job, Operand, Program, Request,
+    Template,
+};
+use std::alloc::Global;
+use std::test::Fail;
+
+/// What a process asks.
+#[derive(Clone, Copy)]
+pub enum Asked {
+    Start,
+    Do(Op, &'static [Given]),
+    End,
+}
+
+/// An operand; what has a name is called N.
+#[derive(Clone, Copy)]
+pub enum Given {
+    Into(Attr),
+    /// A cell of the object of number 6, so many bytes behind its first.
+    Cell(u32),
+    Object(u64),
+    Value(Attr, &'static [u8]),
+    Word(u32),
+    Named(Kind),
+    Template,
+    List,
+    Nothing,
+}
+
+fn name() -> Result<Name, Fail> {
+    Ok(Name::parse(b"N")?)
+}
+
+fn operand(alloc: Global, given: Given) -> Result<Operand, Fail> {
+    Ok(match given {
+        Given::Into(attr) => Operand::Receiver { attr },
+        Given::Cell(offset) => Operand::InSpace {
+            base: Some(Pointer::Space {
+                object: ObjNum(6),
+                offset: 0,
+            }),
+            offset,
+            attr: Attr::Pointer,
+        },
+        Given::Object(number) => Operand::Ptr(Some(Pointer::System {
+            object: ObjNum(number),
+            rights: Rights(0),
+        })),
+        Given::Value(attr, bytes) => Operand::Value {
+            attr,
+            bytes: Seq::from_slice(alloc, bytes)?,
+        },
+        Given::Word(word) => Operand::Word(word),
+        Given::Named(kind) => Operand::Ident(Id {
+            kind,
+            sub: 0,
+            name: name()?,
+        }),
+        Given::Template => Operand::Text(name()?),
+        Given::List => Operand::ContextList,
+        Given::Nothing => Operand::Nothing,
+    })
+}
+
+/// The event of what a process asks.
+pub fn event(alloc: Global, asked: Asked) -> Result<Event, Fail> {
+    let (op, given) = match asked {
+        Asked::Start => return Ok(Event::Start),
+        Asked::Do(op, given) => (op, given),
+        Asked::End => {
+            let cause = EndCause::Return;
+            return Ok(Event::Finish { cause });
+        }
+    };
+    let mut operands = Seq::new(alloc);
+    for one in given {
+        operands.push(operand(alloc, *one)?)?;
+    }
+    let round = false;
+    let request = Request {
+        op,
+        round,
+        operands,
+    };
+    Ok(Event::Act { depth: 1, request })
+}
+
+/// A template that makes a program without an instruction.
+pub fn templates(alloc: Global) -> Result<Checked, Fail> {
+    let program = Program {
+        template: Template::new(alloc, Seq::new(alloc))?,
+        rows: Seq::new(alloc),
+        code: Seq::new(alloc),
+        adopts: false,
+        propagates: false,
+    };
+    let mut templates = Seq::new(alloc);
+    templates.push(CheckedTemplate {
+        name: name()?,
+        made: CreateResult::Created(Code::new(alloc, program)?),
+    })?;
+    Ok(templates)
+}
+
+/// A job for each user, by the stage of each.
+pub fn jobs(alloc: Global, users: &[(&[u8], u16)]) -> Result<Vec<Job>, Fail> {
+    let mut jobs = Vec::new(alloc);
+    for (user, stage) in users {
+        jobs.push(Job {
+            name: name()?,
+            user: Name::parse(*user)?,
+            template: name()?,
+            budget: 100,
+            contexts: Seq::from_slice(alloc, &[Name::parse(b"QGPL")?])?,
+            stage: *stage,
+        })?;
+    }
+    Ok(jobs)
+}
