@@ -251,18 +251,22 @@ const CAUSES: &[EndCause] = &[
     },
 ];
 
-/// Entries with each kind of value.
-fn add_values(alloc: Global, history: &mut Vec<Entry>) -> Result<(), NoMemory> {
+/// Entries with each kind of pointer.
+fn add_pointers(alloc: Global, history: &mut Vec<Entry>) -> Result<(), NoMemory> {
     for pointer in POINTERS {
         history.push(with_value(alloc, Op::Cpybwp, Val::Ptr(*pointer))?)?;
     }
+    Ok(())
+}
+
+/// Entries with values of other kinds.
+fn add_values(alloc: Global, history: &mut Vec<Entry>) -> Result<(), NoMemory> {
     for taken in [true, false] {
         history.push(with_value(alloc, Op::Cmpptrt, Val::Branch(taken))?)?;
     }
-    for bytes in [b"\xC1\xC2\x0F".as_slice(), b"".as_slice()] {
-        let bytes = Seq::from_slice(alloc, bytes)?;
-        history.push(with_value(alloc, Op::Deq, Val::Bytes(bytes))?)?;
-    }
+    let bytes = Seq::from_slice(alloc, b"\xC1\xC2\x0F")?;
+    history.push(with_value(alloc, Op::Deq, Val::Bytes(bytes))?)?;
+    history.push(with_value(alloc, Op::Deq, Val::Bytes(Seq::new(alloc)))?)?;
     history.push(with_value(alloc, Op::Callx, Val::Code(program(alloc)?))?)?;
     Ok(())
 }
@@ -281,6 +285,7 @@ fn entries(alloc: Global) -> Result<Vec<Entry>, NoMemory> {
     let mut history = Vec::new(alloc);
     history.push(entry(2, act(alloc, Op::Lock), Reply::MustWait))?;
     history.push(entry(1, Event::Start, Reply::Done(Seq::new(alloc))))?;
+    add_pointers(alloc, &mut history)?;
     add_values(alloc, &mut history)?;
     history.push(entry(3, act(alloc, Op::Enq), Reply::MustWait))?;
     add_ends(alloc, &mut history)?;

@@ -15,7 +15,7 @@ pub const TWO_LOGS: &str =
 9 FINISH UNHANDLED 0A01;DONE 9;";
 
 /// Decks that are run.
-pub static RUN: Table = Table {
+pub const RUN: Table = Table {
     calls: SERIAL,
     deck: ("", ""),
     text: ("", ""),
@@ -24,7 +24,7 @@ pub static RUN: Table = Table {
 };
 
 /// Decks that are checked.
-pub static CHECKED: Table = Table {
+pub const CHECKED: Table = Table {
     calls: CHECK,
     deck: ("", ""),
     text: ("", ""),
@@ -41,7 +41,7 @@ pub static CHECKED: Table = Table {
 };
 
 /// Words that are no command.
-pub static BAD_WORDS: Table = Table {
+pub const BAD_WORDS: Table = Table {
     calls: &[
         &[],
         &["serial", "serial"],
@@ -60,7 +60,7 @@ pub static BAD_WORDS: Table = Table {
 };
 
 /// A text that is no deck, and its first bad line with the code.
-pub static BAD_DECKS: Table = Table {
+pub const BAD_DECKS: Table = Table {
     calls: &[&["serial"], &["check"]],
     deck: ("", ""),
     text: ("BAD DECK ", ";"),

@@ -3,7 +3,7 @@
 use crate::tables::{SERIAL, Table};
 
 /// The declarations and instructions of a program, and the log behind its start.
-pub static COMPUTED: Table = Table {
+pub const COMPUTED: Table = Table {
     calls: SERIAL,
     deck: (
         "PROGRAM P;",
