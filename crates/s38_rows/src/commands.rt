@@ -15,7 +15,7 @@ pub const TWO_LOGS: &str =
 9 FINISH UNHANDLED 0A01;DONE 9;";
 
 /// Decks that are run.
-pub const RUN: Table = Table {
+pub static RUN: Table = Table {
     calls: SERIAL,
     deck: ("", ""),
     text: ("", ""),
@@ -24,7 +24,7 @@ pub const RUN: Table = Table {
 };
 
 /// Decks that are checked.
-pub const CHECKED: Table = Table {
+pub static CHECKED: Table = Table {
     calls: CHECK,
     deck: ("", ""),
     text: ("", ""),
@@ -41,7 +41,7 @@ pub const CHECKED: Table = Table {
 };
 
 /// Words that are no command.
-pub const BAD_WORDS: Table = Table {
+pub static BAD_WORDS: Table = Table {
     calls: &[
         &[],
         &["serial", "serial"],
@@ -60,7 +60,7 @@ pub const BAD_WORDS: Table = Table {
 };
 
 /// A text that is no deck, and its first bad line with the code.
-pub const BAD_DECKS: Table = Table {
+pub static BAD_DECKS: Table = Table {
     calls: &[&["serial"], &["check"]],
     deck: ("", ""),
     text: ("BAD DECK ", ";"),

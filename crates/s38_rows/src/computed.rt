@@ -3,7 +3,7 @@
 use crate::tables::{SERIAL, Table};
 
 /// The declarations and instructions of a program, and the log behind its start.
-pub const COMPUTED: Table = Table {
+pub static COMPUTED: Table = Table {
     calls: SERIAL,
     deck: (
         "PROGRAM P;",

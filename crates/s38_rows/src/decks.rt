@@ -3,7 +3,7 @@
 use crate::tables::{SERIAL, Table};
 
 /// A deck, and the text that is written of its run.
-pub const DECKS: Table = Table {
+pub static DECKS: Table = Table {
     calls: SERIAL,
     deck: ("", ""),
     text: ("", ""),

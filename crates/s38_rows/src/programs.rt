@@ -7,7 +7,7 @@ const BEFORE: &str = "PROGRAM PUT ADOPT PROPAGATE;DCL Q PTR;ENQ Q,*NONE,'A';RTX;
 LABEL SOMEWHERE;B SOMEWHERE;B NOWHERE;END;PROGRAM MAIN;DCL P PTR;DCL C PTR;";
 
 /// The instructions, and the log behind the start.
-pub const PROGRAMS: Table = Table {
+pub static PROGRAMS: Table = Table {
     calls: SERIAL,
     deck: (
         BEFORE,

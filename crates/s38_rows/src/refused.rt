@@ -29,7 +29,7 @@ const REFUSED: &[(&str, &str)] = &[
 ];
 
 /// The job of a refused template ends with the cause.
-pub const JOBS: Table = Table {
+pub static JOBS: Table = Table {
     calls: SERIAL,
     deck: (BEFORE, BEHIND),
     text: (
@@ -41,7 +41,7 @@ pub const JOBS: Table = Table {
 };
 
 /// `check` tells the cause.
-pub const CHECKS: Table = Table {
+pub static CHECKS: Table = Table {
     calls: CHECK,
     deck: (BEFORE, BEHIND),
     text: ("GOOD OK;P ", ";DONE 2;"),

@@ -11,7 +11,7 @@ DCL T BASED A 0 PTR;DCL C PTR;DCL Q PTR;CRTS S,*NONE,SPACE/00/STORE,NONE,32;SETS
 SETDP D,A,CHAR:4;";
 
 /// An instruction, its entry, and how its job ends.
-pub const RULES: Table = Table {
+pub static RULES: Table = Table {
     calls: SERIAL,
     deck: (BEFORE, ";END;STAGE;JOB A USER QSECOFR RUN P CONTEXTS QGPL;"),
     text: (

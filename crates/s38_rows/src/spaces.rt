@@ -3,7 +3,7 @@
 use crate::tables::{SERIAL, Table};
 
 /// The declarations and instructions of a program, and the log behind its start.
-pub const SPACES: Table = Table {
+pub static SPACES: Table = Table {
     calls: SERIAL,
     deck: (
         "PROGRAM P;",
@@ -90,7 +90,7 @@ CRTQ Q,C,QUEUE/00/MINE,NONE,FIFO,0,8;",
 };
 
 /// Programs of a user without special rights, and the log behind their start.
-pub const LIMITS: Table = Table {
+pub static LIMITS: Table = Table {
     calls: SERIAL,
     deck: (
         "PROGRAM P;",
