@@ -1,7 +1,6 @@
 //! A user makes as many queues as its pages allow.
 
 use crate::answers::answers;
-use std::fmt::Write;
 use std::test::Fail;
 
 #[test]
@@ -12,7 +11,8 @@ fn a_user_makes_as_many_queues_as_its_pages_allow(rt: HostRuntime) -> Result<(),
     for k in 0..101u32 {
         code.push_str("CRTQ Q,*NONE,QUEUE/00/Q,NONE,FIFO,0,8;")?;
         if k < 100 {
-            write!(entries, "{} CRTQ OK S{}/00;", k + 2, k + 6)?;
+            let entry = format!(in alloc; "{} CRTQ OK S{}/00;", k + 2, k + 6)?;
+            entries.push_str(entry.as_str())?;
         }
     }
     let deck = [
