@@ -103,7 +103,7 @@ fn other_bytes_have_no_value(rt: HostRuntime) {
 }
 
 /// An instruction, two numbers in thousandths, whether it rounds, and its result in hundredths.
-const RESULTS: [(Op, i128, i128, bool, Result<i128, DecimalFault>); 13] = [
+const RESULTS: &[(Op, i128, i128, bool, Result<i128, DecimalFault>)] = &[
     (Op::Addn, 123450, -1005, false, Ok(12244)),
     (Op::Subn, 123450, -1005, false, Ok(12445)),
     (Op::Subn, 123450, -1005, true, Ok(12446)),
@@ -130,11 +130,13 @@ fn results_are_as_worked(rt: HostRuntime) {
     for (op, a, b, round, want) in RESULTS {
         let to = Target {
             attr: packed(7, 2),
-            round,
+            round: *round,
         };
-        let (a, b) = (number(packed(9, 3), a), number(zoned(9, 3), b));
-        let result = a.and_then(|a| b.and_then(|b| computed(op, a, b, to)));
-        assert_eq!(rt; result, Some(want));
+        let result = match (number(packed(9, 3), *a), number(zoned(9, 3), *b)) {
+            (Some(a), Some(b)) => computed(*op, a, b, to),
+            _ => None,
+        };
+        assert!(rt; result == Some(*want));
     }
 }
 
@@ -148,7 +150,10 @@ fn any_two_numbers_have_an_order(rt: HostRuntime) {
         (packed(31, 31), -1, packed(31, 0), 0, Ordering::Less),
     ];
     for (attr, units, other, others, want) in cases {
-        let order = number(attr, units).and_then(|a| number(other, others).map(|b| compare(a, b)));
-        assert_eq!(rt; order, Some(want));
+        let order = match (number(attr, units), number(other, others)) {
+            (Some(a), Some(b)) => Some(compare(a, b)),
+            _ => None,
+        };
+        assert!(rt; order == Some(want));
     }
 }

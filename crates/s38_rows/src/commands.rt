@@ -1,7 +1,6 @@
 //! What each command answers to good and bad words and decks.
 
-use crate::answers::answers;
-use std::test::Fail;
+use crate::tables::{CHECK, SERIAL, Table};
 
 /// Two users put a message into the locked queue; the second has no right to.
 pub const TWO_JOBS: &str =
@@ -15,66 +14,66 @@ pub const TWO_LOGS: &str =
 5 FINISH RETURN;JOB 2 B USER QUSER;6 START OK;7 RSLVSP OK S5/00;8 ENQ 0A01 1 INSERT
 9 FINISH UNHANDLED 0A01;DONE 9;";
 
-/// The words, a deck, the text that is written, and the status.
-const ANSWERS: [(&[&str], &str, &str, u8); 15] = [
-    (&["serial"], TWO_JOBS, TWO_LOGS, 0),
-    (&["serial"], "", "DONE 0;", 0),
-    (&[], TWO_JOBS, "BAD WORDS;", 1),
-    (&["serial", "serial"], TWO_JOBS, "BAD WORDS;", 1),
-    (&["check", "check"], TWO_JOBS, "BAD WORDS;", 1),
-    (&["serial", "check"], TWO_JOBS, "BAD WORDS;", 1),
-    (&["Check"], TWO_JOBS, "BAD WORDS;", 1),
-    (&["run"], TWO_JOBS, "BAD WORDS;", 1),
-    (&["Serial"], TWO_JOBS, "BAD WORDS;", 1),
-    (&["--help"], TWO_JOBS, "BAD WORDS;", 1),
-    (&[""], TWO_JOBS, "BAD WORDS;", 1),
-    (&["check"], TWO_JOBS, "P OK;DONE 1;", 0),
-    (&["check"], "", "DONE 0;", 0),
-    (
-        &["check"],
-        "PROGRAM P;RTX;RTX;B NOWHERE;END;",
-        "P 2A08 3;DONE 1;",
-        0,
-    ),
-    (
-        &["check"],
-        "PROGRAM Q9 ADOPT;RTX;END;*;PROGRAM A;DCL Q CHAR:0;END;",
-        "Q9 OK;A 2A02 1;DONE 2;",
-        0,
-    ),
-];
+/// Decks that are run.
+pub static RUN: Table = Table {
+    calls: SERIAL,
+    deck: ("", ""),
+    text: ("", ""),
+    status: 0,
+    rows: &[(TWO_JOBS, TWO_LOGS), ("", "DONE 0;")],
+};
+
+/// Decks that are checked.
+pub static CHECKED: Table = Table {
+    calls: CHECK,
+    deck: ("", ""),
+    text: ("", ""),
+    status: 0,
+    rows: &[
+        (TWO_JOBS, "P OK;DONE 1;"),
+        ("", "DONE 0;"),
+        ("PROGRAM P;RTX;RTX;B NOWHERE;END;", "P 2A08 3;DONE 1;"),
+        (
+            "PROGRAM Q9 ADOPT;RTX;END;*;PROGRAM A;DCL Q CHAR:0;END;",
+            "Q9 OK;A 2A02 1;DONE 2;",
+        ),
+    ],
+};
+
+/// Words that are no command.
+pub static BAD_WORDS: Table = Table {
+    calls: &[
+        &[],
+        &["serial", "serial"],
+        &["check", "check"],
+        &["serial", "check"],
+        &["Check"],
+        &["run"],
+        &["Serial"],
+        &["--help"],
+        &[""],
+    ],
+    deck: ("", ""),
+    text: ("", ""),
+    status: 1,
+    rows: &[(TWO_JOBS, "BAD WORDS;")],
+};
 
 /// A text that is no deck, and its first bad line with the code.
-const BAD_DECKS: [(&str, &str); 9] = [
-    ("STAGE;", "2 5"),
-    ("PROGRAM P;", "2 5"),
-    ("PROGRAM P;END", "2 1"),
-    ("program P;END;", "1 2"),
-    ("PROGRAM P;END;*;;PROGRAM P;END;", "5 3"),
-    ("PROGRAM P;DCL Q PARM 17 PTR;END;", "2 4"),
-    ("PROGRAM P;RTX;FOO;END;", "3 2"),
-    ("PROGRAM P;RTX;END;STAGE;JOB A USER B RUN Q;", "5 8"),
-    ("PROGRAM P;RTX;END;JOB A USER B RUN P;", "4 2"),
-];
-
-#[test]
-fn words_and_decks_have_their_answers(rt: HostRuntime) -> Result<(), Fail> {
-    for (words, deck, text, status) in ANSWERS {
-        assert!(rt;
-            answers(rt.alloc(), words, &[deck], &[text], status)?,
-            "{text}"
-        );
-    }
-    Ok(())
-}
-
-#[test]
-fn bad_decks_are_refused(rt: HostRuntime) -> Result<(), Fail> {
-    for (deck, place) in BAD_DECKS {
-        for word in ["serial", "check"] {
-            let text = ["BAD DECK ", place, ";"];
-            assert!(rt; answers(rt.alloc(), &[word], &[deck], &text, 2)?, "{place}");
-        }
-    }
-    Ok(())
-}
+pub static BAD_DECKS: Table = Table {
+    calls: &[&["serial"], &["check"]],
+    deck: ("", ""),
+    text: ("BAD DECK ", ";"),
+    status: 2,
+    rows: &[
+        ("STAGE;", "2 5"),
+        ("PROGRAM P;", "2 5"),
+        ("PROGRAM P;END", "2 1"),
+        ("program P;END;", "1 2"),
+        ("PROGRAM P;END;*;;PROGRAM P;END;", "5 3"),
+        ("PROGRAM P;DCL Q PARM 17 PTR;END;", "2 4"),
+        ("PROGRAM P;RTX;FOO;END;", "3 2"),
+        ("PROGRAM P;RTX;END;STAGE;JOB A USER B RUN Q;", "5 8"),
+        ("PROGRAM P;RTX;END;JOB A USER B RUN P;", "4 2"),
+    ],
+};

@@ -21,3 +21,5 @@ mod refused;
 mod rules;
 #[cfg(test)]
 mod spaces;
+#[cfg(test)]
+mod tables;

@@ -1,7 +1,6 @@
 //! Templates that creation refuses: their job ends with the cause, and `check` tells it.
 
-use crate::answers::answers;
-use std::test::Fail;
+use crate::tables::{CHECK, SERIAL, Table};
 
 /// A deck up to the lines of its second template.
 const BEFORE: &str =
@@ -11,7 +10,7 @@ const BEFORE: &str =
 const BEHIND: &str = "END;STAGE;JOB A USER QSECOFR RUN P;JOB B USER QSECOFR RUN GOOD;";
 
 /// The lines of a template, and its cause.
-const REFUSED: [(&str, &str); 12] = [
+const REFUSED: &[(&str, &str)] = &[
     ("RTX;RTX;B NOWHERE;", "2A08 3"),
     (
         "DCL A PKD:20:0;DCL B PKD:19:0;DCL C PKD:31:0;MULT C,A,B;",
@@ -29,26 +28,23 @@ const REFUSED: [(&str, &str); 12] = [
     ("RTX;ENQ Q,*NONE,'A';", "2A07 2"),
 ];
 
-/// A command, and what it writes before and behind the cause.
-const COMMANDS: [(&str, &str, &str); 2] = [
-    (
-        "serial",
+/// The job of a refused template ends with the cause.
+pub static JOBS: Table = Table {
+    calls: SERIAL,
+    deck: (BEFORE, BEHIND),
+    text: (
         "JOB 1 A USER QSECOFR;1 START OK;2 FINISH CREATE ",
         ";JOB 2 B USER QSECOFR;3 START OK;4 FINISH RETURN;DONE 4;",
     ),
-    ("check", "GOOD OK;P ", ";DONE 2;"),
-];
+    status: 0,
+    rows: REFUSED,
+};
 
-#[test]
-fn a_refused_template_ends_its_job_and_is_told_by_check(rt: HostRuntime) -> Result<(), Fail> {
-    for (code, cause) in REFUSED {
-        for (word, before, behind) in COMMANDS {
-            let deck = [BEFORE, code, BEHIND];
-            assert!(rt;
-                answers(rt.alloc(), &[word], &deck, &[before, cause, behind], 0)?,
-                "{code}"
-            );
-        }
-    }
-    Ok(())
-}
+/// `check` tells the cause.
+pub static CHECKS: Table = Table {
+    calls: CHECK,
+    deck: (BEFORE, BEHIND),
+    text: ("GOOD OK;P ", ";DONE 2;"),
+    status: 0,
+    rows: REFUSED,
+};

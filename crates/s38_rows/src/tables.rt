@@ -1,0 +1,59 @@
+//! Every row of the tables is answered as it says.
+
+use crate::answers::answers;
+use crate::commands::{BAD_DECKS, BAD_WORDS, CHECKED, RUN};
+use crate::computed::COMPUTED;
+use crate::decks::DECKS;
+use crate::programs::PROGRAMS;
+use crate::refused::{CHECKS, JOBS};
+use crate::rules::RULES;
+use crate::spaces::{LIMITS, SPACES};
+use s38_base::NoMemory;
+use std::alloc::Global;
+use std::test::Fail;
+
+/// Rows that are tried under each of some words, between what their decks and their texts have in common.
+pub struct Table {
+    pub calls: &'static [&'static [&'static str]],
+    pub deck: (&'static str, &'static str),
+    pub text: (&'static str, &'static str),
+    pub status: u8,
+    /// What each row has of the deck, and of the text that is written of it.
+    pub rows: &'static [(&'static str, &'static str)],
+}
+
+/// The word that runs a deck.
+pub const SERIAL: &[&[&str]] = &[&["serial"]];
+
+/// The word that checks a deck.
+pub const CHECK: &[&[&str]] = &[&["check"]];
+
+/// The deck's part of the first row that is answered otherwise under some words, if there is one.
+fn wrong_row(
+    alloc: Global,
+    table: &Table,
+    words: &[&str],
+) -> Result<Option<&'static str>, NoMemory> {
+    for (code, log) in table.rows {
+        let deck = [table.deck.0, code, table.deck.1];
+        let text = [table.text.0, log, table.text.1];
+        if !answers(alloc, words, &deck, &text, table.status)? {
+            return Ok(Some(code));
+        }
+    }
+    Ok(None)
+}
+
+#[test]
+fn every_row_is_answered(rt: HostRuntime) -> Result<(), Fail> {
+    let tables = [
+        &RUN, &CHECKED, &BAD_WORDS, &BAD_DECKS, &DECKS, &SPACES, &LIMITS, &COMPUTED, &PROGRAMS,
+        &JOBS, &CHECKS, &RULES,
+    ];
+    for table in tables {
+        for words in table.calls {
+            assert_eq!(rt; wrong_row(rt.alloc(), table, words)?, None);
+        }
+    }
+    Ok(())
+}
