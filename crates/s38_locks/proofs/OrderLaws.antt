@@ -1,18 +1,18 @@
 -- The locks of one object stay in their order, and no two of different processes become incompatible.
-use Rattle.std.proofs.Common.{◌≡◌, ℕ, ◌+◌, ◌≤◌, Bool, true, false, cond, not, List, [], ◌∷◌, ◌++◌, length, take, drop, suc, refl, sym, ◌∙◌, ap, subst, arith}
+use Rattle.std.proofs.Common.{◌≡◌, ℕ, ◌+◌, ◌≤◌, Bool, true, false, cond, not, List, [], ◌∷◌, ◌++◌, length, suc, refl, sym, ◌∙◌, ap, arith}
 use Rattle.std.proofs.lemmas.Bool.Decides.{nat_tests}
 use Rattle.std.proofs.lemmas.List.Folds.{find-append}
 use Rattle.std.proofs.lemmas.List.Sums.{prefix_len-le-length}
 use Rattle.std.proofs.lemmas.Option.{cond_some}
-use Rattle.std.specs.Prelude.{◌&&◌, ◌==◌, nat_lt, Option, Some, None, OnOk, OnErr, filter, find, insert, position, remove}
-use Rattle.std.specs.List.{AllByRecursion, position_or_len, prefix_len}
-use Rattle.std.specs.Option.{option_or, unwrap_or}
+use Rattle.std.specs.Prelude.{◌==◌, nat_lt, Option, Some, None, OnOk, OnErr, filter, find, insert, position, remove}
+use Rattle.std.specs.List.{AllByRecursion, position_or_len}
+use Rattle.std.specs.Option.{unwrap_or}
 use Rattle.std.specs.declared.result.Result.{Result}
 use Rattle.std.specs.declared.result.Result.TheVariants.{Ok, Err}
 use Rattle.s38_base.specs.declared.words.LockState.{LockState}
 use Rattle.s38_base.specs.declared.words.LockState.TheVariants.{Lsrd, Lsro, Lsup, Lear, Lenr}
 use Rattle.s38_locks.specs.States.{are_compatible}
-use Rattle.s38_locks.specs.Locks.{GoesBefore, IsOrderly, Lock, comes_later, hinders, hindrance, is_same, place, with_lock, without_lock, without_process}
+use Rattle.s38_locks.specs.Locks.{GoesBefore, IsOrderly, Lock, comes_later, hinders, hindrance, is_same, place, with_lock, without_lock}
 use Rattle.s38_locks.specs.Refusals.{in_the_way, transfer_refusal}
 
 -- ---- places

@@ -1,5 +1,5 @@
 -- Why a request for a lock is refused.
-use Rattle.std.specs.Prelude.{ℕ, Bool, nat_le, Option, Some, None, List, length, if◌then◌else◌}
+use Rattle.std.specs.Prelude.{ℕ, nat_le, Option, Some, None, List, length, if◌then◌else◌}
 use Rattle.s38_base.specs.Limits as limits
 use Rattle.s38_base.specs.declared.words.LockState.{LockState}
 use Rattle.s38_locks.specs.Locks.{Lock, hindrance, is_held, without_lock}

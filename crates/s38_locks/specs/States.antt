@@ -1,7 +1,7 @@
 -- The five lock states: their order, which go together, and what each blocks.
 use Rattle.std.specs.Prelude.{ℕ, Bool, true, false}
 use Rattle.s38_base.specs.declared.words.Category.{Category}
-use Rattle.s38_base.specs.declared.words.Category.TheVariants.{Read, Change, Control}
+use Rattle.s38_base.specs.declared.words.Category.TheVariants.{Change, Control}
 use Rattle.s38_base.specs.declared.words.LockState.{LockState}
 use Rattle.s38_base.specs.declared.words.LockState.TheVariants.{Lsrd, Lsro, Lsup, Lear, Lenr}
 

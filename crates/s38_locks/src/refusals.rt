@@ -42,12 +42,7 @@ fn hindrance_beside(locks: &[Lock], at: usize, process: u32, state: LockState) -
 }
 
 /// Why a process can't hand a lock on to another.
-pub fn transfer_refusal(
-    locks: &[Lock],
-    from: u32,
-    to: u32,
-    state: LockState,
-) -> Option<LockFault>
+pub fn transfer_refusal(locks: &[Lock], from: u32, to: u32, state: LockState) -> Option<LockFault>
     ensures { result ≡ transfer_refusal from to state locks.now }
 {
     let Some(at) = place_of(locks, (from, state)) else {

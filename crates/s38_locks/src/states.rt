@@ -35,9 +35,7 @@ pub fn blocks(state: LockState, category: Category) -> bool
 {
     match category {
         Category::Read => matches!(state, LockState::Lenr),
-        Category::Change => {
-            matches!(state, LockState::Lsro | LockState::Lear | LockState::Lenr)
-        }
+        Category::Change => { matches!(state, LockState::Lsro | LockState::Lear | LockState::Lenr) }
         Category::Control => true,
     }
 }

@@ -67,7 +67,12 @@ impl LockTable {
     }
 
     /// Whether a process holds such a lock: what `unlock` answers.
-    pub fn can_unlock(&self, object: ObjNum, process: u32, state: LockState) -> Result<(), LockFault>
+    pub fn can_unlock(
+        &self,
+        object: ObjNum,
+        process: u32,
+        state: LockState,
+    ) -> Result<(), LockFault>
         ensures ok { OnOk result (unlock_refusal process state (locks_of self.now object.0) ≡ None) }
         ensures fault { IfErr result (λ fault. unlock_refusal process state (locks_of self.now object.0) ≡ Some fault) }
     {
@@ -78,7 +83,12 @@ impl LockTable {
     }
 
     /// Takes one lock from a process, without memory; an error leaves the table as it was.
-    pub fn unlock(&mut self, object: ObjNum, process: u32, state: LockState) -> Result<(), LockFault>
+    pub fn unlock(
+        &mut self,
+        object: ObjNum,
+        process: u32,
+        state: LockState,
+    ) -> Result<(), LockFault>
         ensures held { OnOk result (unlock_refusal process state (locks_of self.old object.0) ≡ None) }
         ensures ok { OnOk result (self.new ≡ with_locks self.old object.0 (without_lock (process, state) (locks_of self.old object.0))) }
         ensures fault { IfErr result (λ fault. unlock_refusal process state (locks_of self.old object.0) ≡ Some fault) }

@@ -1,4 +1,4 @@
-use Rattle.std.proofs.Common.{◌≡◌, ◌∙◌, List, None, Some, add-one, arith, length-drop, ap, drop, suc, sym, take}
+use Rattle.std.proofs.Common.{◌∙◌, List, add-one, arith, length-drop, ap, drop, suc, sym, take}
 use Rattle.std.proofs.lemmas.List.{take_all}
 use Rattle.std.specs.Prelude.{find}
 use Rattle.std.specs.Option.{option_copied}
