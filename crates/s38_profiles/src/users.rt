@@ -1,0 +1,55 @@
+ghost use Rattle.std.specs.Prelude.{◌≡◌, None, IsSome, OnOk, OnErr};
+ghost use Rattle.s38_profiles.specs.Users.{charge_in, user_at, with_charge, with_user};
+
+use crate::profile::Profile;
+use s38_base::{NoMemory, Special};
+use std::collections::BTreeMap;
+
+/// What is kept of a user.
+pub fn user_at(users: &BTreeMap<u64, Profile>, user: u64) -> Option<Profile>
+    ensures { result ≡ user_at users.now.entries user }
+{
+    users.get(&user).copied()
+}
+
+/// The pages that a user pays for.
+pub fn charge_in(profile: Option<Profile>) -> u64
+    ensures { result ≡ charge_in profile }
+{
+    match profile {
+        Some(profile) => profile.charge,
+        None => 0,
+    }
+}
+
+/// Adds a user, or sets the specials and the limit of one that is there.
+pub fn enter(
+    users: &mut BTreeMap<u64, Profile>,
+    user: u64,
+    special: Special,
+    limit: u32,
+) -> Result<(), NoMemory>
+    ensures ok { OnOk result (users.new.entries ≡ with_user users.old.entries user special limit) }
+    ensures added { OnErr result (user_at users.old.entries user ≡ None) }
+    ensures err { OnErr result (users.new.entries ≡ users.old.entries) }
+{
+    let charge = charge_in(user_at(users, user));
+    let profile = Profile {
+        special,
+        limit,
+        charge,
+    };
+    match users.insert(user, profile) {
+        Ok(_) => Ok(()),
+        Err(_) => Err(NoMemory),
+    }
+}
+
+/// Sets the charge of a user that is there.
+pub fn set_charge(users: &mut BTreeMap<u64, Profile>, user: u64, pages: u64)
+    ensures { users.new.entries ≡ with_charge users.old.entries user pages }
+{
+    if let Some(profile) = users.get_mut(&user) {
+        profile.charge = pages;
+    }
+}
