@@ -1,10 +1,10 @@
 -- The locks of one object stay in their order, and no two of different processes become incompatible.
-use Rattle.std.proofs.Common.{◌≡◌, ℕ, ◌+◌, ◌≤◌, Bool, true, false, cond, not, List, [], ◌∷◌, ◌++◌, length, suc, refl, sym, ◌∙◌, ap, arith}
+use Rattle.std.proofs.Common.{◌≡◌, ℕ, ◌+◌, ◌≤◌, Bool, true, false, cond, not, List, [], ◌∷◌, ◌++◌, length, suc, refl, sym, ◌∙◌, ap, arith, subst}
 use Rattle.std.proofs.lemmas.Bool.Decides.{nat_tests}
 use Rattle.std.proofs.lemmas.List.Folds.{find-append}
 use Rattle.std.proofs.lemmas.List.Sums.{prefix_len-le-length}
 use Rattle.std.proofs.lemmas.Option.{cond_some}
-use Rattle.std.specs.Prelude.{◌==◌, nat_lt, Option, Some, None, OnOk, OnErr, filter, find, insert, position, remove}
+use Rattle.std.specs.Prelude.{◌==◌, nat_lt, Option, Some, None, IfSome, OnOk, OnErr, filter, find, insert, position, remove}
 use Rattle.std.specs.List.{AllByRecursion, position_or_len}
 use Rattle.std.specs.Option.{unwrap_or}
 use Rattle.std.specs.declared.result.Result.{Result}
@@ -12,7 +12,7 @@ use Rattle.std.specs.declared.result.Result.TheVariants.{Ok, Err}
 use Rattle.s38_base.specs.declared.words.LockState.{LockState}
 use Rattle.s38_base.specs.declared.words.LockState.TheVariants.{Lsrd, Lsro, Lsup, Lear, Lenr}
 use Rattle.s38_locks.specs.States.{are_compatible}
-use Rattle.s38_locks.specs.Locks.{GoesBefore, IsOrderly, Lock, comes_later, hinders, hindrance, is_same, place, with_lock, without_lock}
+use Rattle.s38_locks.specs.Locks.{GoesBefore, IsLeast, IsOrderly, Lock, comes_later, hinders, hindrance, is_same, place, with_lock, without_lock}
 use Rattle.s38_locks.specs.Refusals.{in_the_way, transfer_refusal}
 
 -- ---- places
@@ -171,3 +171,29 @@ orderly_filtered p (x ∷ xs) h =
 pub orderly_added : {A E : Type 0} (r : Result A E) (l : Lock) (xs ys : List Lock) → OnOk r (ys ≡ with_lock l xs) → OnErr r (ys ≡ xs) → hindrance l.0 l.1 xs ≡ None → IsOrderly xs → IsOrderly ys
 orderly_added (Ok a) l xs ys ok err none h = rw ok (orderly_with l xs none h)
 orderly_added (Err e) l xs ys ok err none h = rw err h
+
+-- ---- the first lock that is found is the least
+
+none_before : (p : Lock → Bool) (l : Lock) (xs : List Lock) → AllByRecursion (GoesBefore l) xs → AllByRecursion (λ x. p x ≡ true → place l ≤ place x) xs
+none_before p l [] h = tt
+none_before p l (x ∷ xs) h = (λ e. h.0.ordered, none_before p l xs h.1)
+
+found_least : (p : Lock → Bool) (xs : List Lock) (l : Lock) → IsOrderly xs → find p xs ≡ Some l → AllByRecursion (λ x. p x ≡ true → place l ≤ place x) xs
+found_least p [] l h e = tt
+found_least p (x ∷ xs) l h e =
+    let rest = found_least p xs l h.1 in
+    elim (p x) as (λ b. p x ≡ b → cond b (Some x) (find p xs) ≡ Some l → AllByRecursion (λ y. p y ≡ true → place l ≤ place y) (x ∷ xs)) [
+      | true ↦ λ is q.
+          let same : x ≡ l = cc in
+          subst (λ (m : Lock). AllByRecursion (λ y. p y ≡ true → place m ≤ place y) (x ∷ xs)) same (λ e. omega arith, none_before p x xs h.0)
+      | false ↦ λ is q. (λ t. absurd (cc), rest q)
+    ] refl e
+
+pub least_found : (p : Lock → Bool) (xs : List Lock) (l : Lock) → IsOrderly xs → find p xs ≡ Some l → IsLeast p l xs
+least_found p xs l h e = record { least = found_least p xs l h e }
+
+pub least_if : (p : Lock → Bool) (xs : List Lock) → IsOrderly xs → IfSome (find p xs) (λ l. IsLeast p l xs)
+least_if p xs h = elim (find p xs) as (λ r. find p xs ≡ r → IfSome r (λ l. IsLeast p l xs)) [
+  | None ↦ λ e. tt
+  | Some l ↦ λ e. least_found p xs l h e
+] refl

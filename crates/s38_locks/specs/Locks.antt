@@ -24,9 +24,13 @@ hinders process state lock = not (lock.0 == process) && not (are_compatible lock
 abbrev pub hindrance : ℕ → LockState → List Lock → Option Lock
 hindrance process state locks = find (hinders process state) locks
 
+-- whether a lock of another process blocks such a use
+abbrev pub is_blocker : ℕ → Category → Lock → Bool
+is_blocker process category lock = not (lock.0 == process) && blocks lock.1 category
+
 -- the least lock of another process that blocks such a use
 abbrev pub blocker : ℕ → Category → List Lock → Option Lock
-blocker process category locks = find (λ lock. not (lock.0 == process) && blocks lock.1 category) locks
+blocker process category locks = find (is_blocker process category) locks
 
 abbrev pub is_held : Lock → List Lock → Bool
 is_held lock locks = is_some (position (is_same lock) locks)
@@ -62,3 +66,7 @@ pub record GoesBefore (lock other : Lock) : Type 0 where
 abbrev pub IsOrderly : List Lock → Type 0
 IsOrderly [] = Unit {0}
 IsOrderly (lock ∷ locks) = AllByRecursion (GoesBefore lock) locks × IsOrderly locks
+
+-- no lock that passes the test comes before this one
+pub record IsLeast (test : Lock → Bool) (lock : Lock) (locks : List Lock) : Type 0 where
+  pub least : AllByRecursion (λ other. test other ≡ true → place lock ≤ place other) locks

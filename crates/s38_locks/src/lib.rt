@@ -10,7 +10,6 @@ mod states;
 mod table;
 
 pub use fault::LockFault;
-pub use states::{are_compatible, blocks};
 pub use table::LockTable;
 
 /// What is sent between threads.

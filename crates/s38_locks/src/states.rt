@@ -4,7 +4,7 @@ ghost use Rattle.s38_locks.specs.States.{are_compatible, blocks, rank};
 use s38_base::{Category, LockState};
 
 /// The place of a state in the order of states, from 0 on.
-pub(crate) fn rank(state: LockState) -> u8
+pub fn rank(state: LockState) -> u8
     ensures { result ≡ rank state }
 {
     match state {

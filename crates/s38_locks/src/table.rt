@@ -1,6 +1,6 @@
-ghost use Rattle.std.specs.Prelude.{◌≡◌, [], None, Some, IfErr, IfOk, OnOk, OnErr};
+ghost use Rattle.std.specs.Prelude.{◌≡◌, [], None, Some, IfErr, IfOk, IfSome, OnOk, OnErr};
 ghost use Rattle.std.specs.Option.{unwrap_or};
-ghost use Rattle.s38_locks.specs.Locks.{IsOrderly, blocker, with_lock, without_lock};
+ghost use Rattle.s38_locks.specs.Locks.{IsLeast, IsOrderly, blocker, hinders, hindrance, is_blocker, with_lock, without_lock};
 ghost use Rattle.s38_locks.specs.Refusals.{lock_refusal, transfer_refusal, unlock_refusal};
 ghost use Rattle.s38_locks.specs.Table.{locks_of, released, with_locks};
 
@@ -44,8 +44,10 @@ impl LockTable {
     pub fn can_lock(&self, object: ObjNum, process: u32, state: LockState) -> Result<(), LockFault>
         ensures ok { OnOk result (lock_refusal process state (locks_of self.now object.0) ≡ None) }
         ensures fault { IfErr result (λ fault. lock_refusal process state (locks_of self.now object.0) ≡ Some fault) }
+        ensures least { IfSome (hindrance process state (locks_of self.now object.0)) (λ lock. IsLeast (hinders process state) lock (locks_of self.now object.0)) }
     {
-        match refusals::lock_refusal(map::locks_of(&self.objects, object.0), process, state) {
+        let locks = map::locks_of(&self.objects, object.0);
+        match refusals::lock_refusal(locks, process, state) {
             Some(fault) => Err(fault),
             None => Ok(()),
         }
@@ -149,9 +151,11 @@ impl LockTable {
         process: u32,
         category: Category,
     ) -> Option<(u32, LockState)>
-        ensures { result ≡ blocker process category (locks_of self.now object.0) }
+        ensures lock { result ≡ blocker process category (locks_of self.now object.0) }
+        ensures least { IfSome result (λ lock. IsLeast (is_blocker process category) lock (locks_of self.now object.0)) }
     {
-        blocker(map::locks_of(&self.objects, object.0), process, category).copied()
+        let locks = map::locks_of(&self.objects, object.0);
+        blocker(locks, process, category).copied()
     }
 
     /// Who holds which locks of an object, in order of process and state, each as often as it is held.

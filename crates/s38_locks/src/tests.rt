@@ -44,9 +44,7 @@ fn holders_stand_in_order_each_as_often_as_it_is_held(rt: HostRuntime) -> Result
         table.lock(ObjNum(4), process, state)?;
     }
     let holders = table.holders(ObjNum(4))?;
-    assert_eq!(rt;
-        holders.as_slice(),
-        [(1, Lsrd), (1, Lsrd), (2, Lsrd), (2, Lsup)]
-    );
+    let wanted = [(1, Lsrd), (1, Lsrd), (2, Lsrd), (2, Lsup)];
+    assert_eq!(rt; holders.as_slice(), wanted.as_slice());
     Ok(())
 }
