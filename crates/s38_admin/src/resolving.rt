@@ -25,28 +25,35 @@ fn is_context_in(object_used: Option<&Object>) -> bool
     }
 }
 
-fn may_search(objects: &Objects, users: &[UserNum], context: ObjNum) -> bool
-    ensures { result ≡ may_search objects.now (map (λ u. u.0) users.now) context.0 }
+fn may_search(world: &World<Objects>, process: u32, users: &[UserNum], context: ObjNum) -> bool
+    ensures { result ≡ may_search world.now process (map (λ u. u.0) users.now) context.0 }
 {
-    is_context_in(objects.get(context))
+    let _ = process;
+    is_context_in(world.objects.get(context))
         && has_rights(
             Rights::RETRIEVE,
-            available(objects, users, context, Rights(0)),
+            available(&world.objects, users, context, Rights(0)),
         )
 }
 
 #[tactic(auto, unfolding(s38_rules::specs::Resolving::search_in))]
-fn search_in(objects: &Objects, users: &[UserNum], contexts: &[ObjNum], id: &Id) -> Option<Located>
-    ensures { result ≡ search_in objects.now (map (λ u. u.0) users.now) contexts.now id.now }
+fn search_in(
+    world: &World<Objects>,
+    process: u32,
+    users: &[UserNum],
+    contexts: &[ObjNum],
+    id: &Id,
+) -> Option<Located>
+    ensures { result ≡ search_in world.now process (map (λ u. u.0) users.now) contexts.now id.now }
 {
     match contexts {
         [] => None,
         [context, more @ ..] => {
-            if !may_search(objects, users, *context) {
-                return search_in(objects, users, more, id);
+            if !may_search(world, process, users, *context) {
+                return search_in(world, process, users, more, id);
             }
-            match objects.find_object(*context, id) {
-                None => search_in(objects, users, more, id),
+            match world.objects.find_object(*context, id) {
+                None => search_in(world, process, users, more, id),
                 Some(object_found) => Some(Located {
                     context: *context,
                     object: object_found.number,
@@ -96,7 +103,13 @@ fn resolved_by(
         Some(id) => {
             if is_list(operands, 2) {
                 let users = world.acting(process, depth);
-                search_in(objects, users.as_slice(), world.contexts_of(process), id)
+                search_in(
+                    world,
+                    process,
+                    users.as_slice(),
+                    world.contexts_of(process),
+                    id,
+                )
             } else {
                 let context = context_at(objects, operands);
                 located(context, objects.find_object(context, id))

@@ -41,20 +41,21 @@ is_context_in None = false
 is_context_in (Some o) = same_kind (kind_of o.body) kinds.Context
 
 -- the context is there and the acting users may read it
-abbrev pub may_search : Held → List ℕ → ℕ → Bool
-may_search h users context = is_context_in (object h context) && has_rights rights.retrieve (available h users context rights.no_rights)
+abbrev pub may_search : State → ℕ → List ℕ → ℕ → Bool
+may_search s p users context =
+    is_context_in (object s.held context) && has_rights rights.retrieve (available s.held users context rights.no_rights)
 
 abbrev pub first_place : ObjNum → Option Object → Option Located → Option Located
 first_place context None later = later
 first_place context (Some o) later = Some (record { context = context; object = o.number })
 
--- the first context of the list that may be read and has the identification; the others are passed over
-unfoldable pub search_in : Held → List ℕ → List ObjNum → Id → Option Located
-search_in h users [] id = None
-search_in h users (context ∷ contexts) id =
-    if may_search h users context.0
-    then first_place context (found h context.0 id) (search_in h users contexts id)
-    else search_in h users contexts id
+-- the first context of the list that the process may read and that has the identification; the others are passed over
+unfoldable pub search_in : State → ℕ → List ℕ → List ObjNum → Id → Option Located
+search_in s p users [] id = None
+search_in s p users (context ∷ contexts) id =
+    if may_search s p users context.0
+    then first_place context (found s.held context.0 id) (search_in s p users contexts id)
+    else search_in s p users contexts id
 
 -- ---- what an identification stands for
 
@@ -65,7 +66,7 @@ context_at h ops = if is_machine ops 2 then machine_context else target h ops 2
 abbrev pub resolved_by : State → ℕ → ℕ → List Operand → Option Id → Option Located
 resolved_by s p d ops None = None
 resolved_by s p d ops (Some id) =
-    if is_list ops 2 then search_in s.held (acting s p d) (contexts_of s p) id
+    if is_list ops 2 then search_in s p (acting s p d) (contexts_of s p) id
     else first_place (record { 0 = context_at s.held ops }) (found s.held (context_at s.held ops) id) None
 
 -- the object that operands 2 and 3 of RSLVSP stand for
