@@ -1,5 +1,5 @@
 -- The users that are there, in rising order of number, each with its specials, limit and charge.
-use Rattle.std.specs.Prelude.{ℕ, Option, Some, None, List}
+use Rattle.std.specs.Prelude.{◌≡◌, ℕ, ◌==◌, Option, Some, None, List, if◌then◌else◌}
 use Rattle.std.specs.Map.{lookup, remove_entry, set_value}
 use Rattle.std.specs.Ordering.{nat_cmp}
 use Rattle.std.specs.BTreeMap.{insert_entry, is_at}
@@ -25,18 +25,25 @@ abbrev pub special_in : Option Profile → Special
 special_in (Some profile) = profile.special
 special_in None = record { 0 = 0 }
 
--- the users with these specials and this limit of one; a new one pays for nothing
+-- what is kept of a user that is given specials and a limit; a new one pays for nothing
+abbrev pub entered : Special → ℕ → Option Profile → Profile
+entered special limit before = record { special = special; limit = limit; charge = charge_in before }
+
+-- the users with these specials and this limit of one
 abbrev pub with_user : Users → ℕ → Special → ℕ → Users
-with_user users user special limit =
-    insert_entry nat_cmp users user (record { special = special; limit = limit; charge = charge_in (user_at users user) })
+with_user users user special limit = insert_entry nat_cmp users user (entered special limit (user_at users user))
+
+-- what is kept of a user that pays for as many pages
+abbrev pub charged : ℕ → Option Profile → Profile
+charged pages before = record { special = special_in before; limit = limit_in before; charge = pages }
 
 -- the users with another charge of one that is there
-abbrev pub charged_with : Users → ℕ → ℕ → Option Profile → Users
-charged_with users user pages (Some profile) = set_value (is_at (nat_cmp user)) users (record profile { charge = pages })
-charged_with users user pages None = users
-
 abbrev pub with_charge : Users → ℕ → ℕ → Users
-with_charge users user pages = charged_with users user pages (user_at users user)
+with_charge users user pages = set_value (is_at (nat_cmp user)) users (charged pages (user_at users user))
 
 abbrev pub without_user : Users → ℕ → Users
 without_user users user = remove_entry (is_at (nat_cmp user)) users
+
+-- a user has this profile afterwards, or none, and no other user changes
+abbrev pub SetsUser : Users → ℕ → Option Profile → Users → Type 0
+SetsUser users user profile after = (other : ℕ) → user_at after other ≡ (if user == other then profile else user_at users other)

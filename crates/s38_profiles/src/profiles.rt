@@ -1,6 +1,6 @@
-ghost use Rattle.std.specs.Prelude.{◌≡◌, ◌≢◌, [], None, IsSome, OnOk, OnErr};
-ghost use Rattle.s38_profiles.specs.Rows.{row_at, row_key, with_row};
-ghost use Rattle.s38_profiles.specs.Users.{charge_in, limit_in, special_in, user_at, with_charge, with_user, without_user};
+ghost use Rattle.std.specs.Prelude.{◌≡◌, ◌≢◌, [], None, Some, IsSome, OnOk, OnErr};
+ghost use Rattle.s38_profiles.specs.Rows.{SetsRow, row_at, row_key, row_with, with_row};
+ghost use Rattle.s38_profiles.specs.Users.{SetsUser, charge_in, charged, entered, limit_in, special_in, user_at, with_charge, with_user, without_user};
 ghost use Rattle.s38_profiles.specs.ProfileMaps.{row_of};
 
 use crate::profile::{Profile, RowKey};
@@ -88,6 +88,7 @@ impl Profiles {
     /// only where a row is added, and nothing changed then.
     pub fn set_row(&mut self, user: UserNum, object: ObjNum, rights: Rights) -> Result<(), NoMemory>
         ensures ok { OnOk result (self.new ≡ record self.old { rows = with_row self.old.rows (row_key user.0 object.0) rights }) }
+        ensures others { OnOk result (SetsRow self.old.rows (row_key user.0 object.0) (row_with rights) self.new.rows) }
         ensures added { OnErr result ((row_at self.old.rows (row_key user.0 object.0) ≡ None) × (rights.0 ≢ 0)) }
         ensures err { OnErr result (self.new ≡ self.old) }
     {
@@ -102,6 +103,7 @@ impl Profiles {
     /// refused only where a user is added, and nothing changed then.
     pub fn enter(&mut self, user: UserNum, special: Special, limit: u32) -> Result<(), NoMemory>
         ensures ok { OnOk result (self.new ≡ record self.old { users = with_user self.old.users user.0 special limit }) }
+        ensures others { OnOk result (SetsUser self.old.users user.0 (Some (entered special limit (user_at self.old.users user.0))) self.new.users) }
         ensures added { OnErr result (user_at self.old.users user.0 ≡ None) }
         ensures err { OnErr result (self.new ≡ self.old) }
     {
@@ -111,7 +113,8 @@ impl Profiles {
     /// Sets how many pages a user pays for.
     pub fn set_charge(&mut self, user: UserNum, pages: u64)
         requires { IsSome (user_at self.old.users user.0) }
-        ensures { self.new ≡ record self.old { users = with_charge self.old.users user.0 pages } }
+        ensures charge { self.new ≡ record self.old { users = with_charge self.old.users user.0 pages } }
+        ensures others { SetsUser self.old.users user.0 (Some (charged pages (user_at self.old.users user.0))) self.new.users }
     {
         users::set_charge(&mut self.users, user.0, pages);
     }
@@ -119,8 +122,9 @@ impl Profiles {
     /// Takes a user out. Its rows stay, and count no more.
     pub fn leave(&mut self, user: UserNum)
         requires { IsSome (user_at self.old.users user.0) }
-        ensures { self.new ≡ record self.old { users = without_user self.old.users user.0 } }
+        ensures rest { self.new ≡ record self.old { users = without_user self.old.users user.0 } }
+        ensures others { SetsUser self.old.users user.0 None self.new.users }
     {
-        self.users.remove(&user.0);
+        users::leave(&mut self.users, user.0);
     }
 }

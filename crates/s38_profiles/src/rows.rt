@@ -1,5 +1,5 @@
 ghost use Rattle.std.specs.Prelude.{◌≡◌, ◌≢◌, None, OnOk, OnErr};
-ghost use Rattle.s38_profiles.specs.Rows.{row_at, with_row};
+ghost use Rattle.s38_profiles.specs.Rows.{SetsRow, row_at, row_with, with_row};
 
 use crate::profile::RowKey;
 use s38_base::{NoMemory, Rights};
@@ -15,6 +15,7 @@ pub fn row_at(rows: &BTreeMap<RowKey, Rights>, key: RowKey) -> Option<Rights>
 /// Sets the row at a key, or takes it out where no right is left.
 pub fn set(rows: &mut BTreeMap<RowKey, Rights>, key: RowKey, rights: Rights) -> Result<(), NoMemory>
     ensures ok { OnOk result (rows.new.entries ≡ with_row rows.old.entries key rights) }
+    ensures others { OnOk result (SetsRow rows.old.entries key (row_with rights) rows.new.entries) }
     ensures added { OnErr result ((row_at rows.old.entries key ≡ None) × (rights.0 ≢ 0)) }
     ensures err { OnErr result (rows.new.entries ≡ rows.old.entries) }
 {

@@ -1,5 +1,5 @@
-ghost use Rattle.std.specs.Prelude.{◌≡◌, None, IsSome, OnOk, OnErr};
-ghost use Rattle.s38_profiles.specs.Users.{charge_in, user_at, with_charge, with_user};
+ghost use Rattle.std.specs.Prelude.{◌≡◌, None, Some, IsSome, OnOk, OnErr};
+ghost use Rattle.s38_profiles.specs.Users.{SetsUser, charge_in, charged, entered, user_at, with_charge, with_user, without_user};
 
 use crate::profile::Profile;
 use s38_base::{NoMemory, Special};
@@ -30,6 +30,7 @@ pub fn enter(
     limit: u32,
 ) -> Result<(), NoMemory>
     ensures ok { OnOk result (users.new.entries ≡ with_user users.old.entries user special limit) }
+    ensures others { OnOk result (SetsUser users.old.entries user (Some (entered special limit (user_at users.old.entries user))) users.new.entries) }
     ensures added { OnErr result (user_at users.old.entries user ≡ None) }
     ensures err { OnErr result (users.new.entries ≡ users.old.entries) }
 {
@@ -47,9 +48,19 @@ pub fn enter(
 
 /// Sets the charge of a user that is there.
 pub fn set_charge(users: &mut BTreeMap<u64, Profile>, user: u64, pages: u64)
-    ensures { users.new.entries ≡ with_charge users.old.entries user pages }
+    requires { IsSome (user_at users.old.entries user) }
+    ensures charge { users.new.entries ≡ with_charge users.old.entries user pages }
+    ensures others { SetsUser users.old.entries user (Some (charged pages (user_at users.old.entries user))) users.new.entries }
 {
     if let Some(profile) = users.get_mut(&user) {
         profile.charge = pages;
     }
+}
+
+/// Takes a user out.
+pub fn leave(users: &mut BTreeMap<u64, Profile>, user: u64)
+    ensures rest { users.new.entries ≡ without_user users.old.entries user }
+    ensures others { SetsUser users.old.entries user None users.new.entries }
+{
+    users.remove(&user);
 }
