@@ -1,0 +1,4 @@
+pub mod States
+pub mod Locks
+pub mod Refusals
+pub mod Table

@@ -1,0 +1,20 @@
+//! What authority and page limits rest on: the private rows of users, and each user's specials, limit and charge.
+#![tactic(auto)]
+
+mod profile;
+mod profiles;
+mod rows;
+mod users;
+
+pub use profiles::Profiles;
+
+/// What is sent between threads.
+fn sends<T: Send + Sync>() {}
+
+/// Each value of this crate may be sent and shared.
+pub fn all_may_be_sent() {
+    sends::<Profiles>();
+}
+
+#[cfg(test)]
+mod tests;
