@@ -46,6 +46,3 @@ pub fn all_may_be_sent() {
     sends::<NoMemory>();
     sends::<Failed>();
 }
-
-#[cfg(test)]
-mod tests;

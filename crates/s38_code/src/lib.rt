@@ -45,6 +45,3 @@ pub fn all_may_be_sent() {
     sends::<CheckedTemplate>();
     sends::<StepFault>();
 }
-
-#[cfg(test)]
-mod tests;

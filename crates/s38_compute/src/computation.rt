@@ -13,8 +13,8 @@ use s38_base::{Attr, Bytes, Exception, NoMemory, Op, Pointer};
 use s38_code::Val;
 use std::alloc::Global;
 
-/// A number of two numbers, or of one.
-fn computes_number(op: Op) -> bool
+/// Whether an instruction computes a number, of two numbers or of one.
+pub fn computes_number(op: Op) -> bool
     ensures { result ≡ computes_number op }
 {
     matches!(
@@ -23,7 +23,8 @@ fn computes_number(op: Op) -> bool
     )
 }
 
-fn computes_string(op: Op) -> bool
+/// Whether an instruction computes a string.
+pub fn computes_string(op: Op) -> bool
     ensures { result ≡ computes_string op }
 {
     matches!(
@@ -60,24 +61,16 @@ pub fn is_computation(op: Op) -> bool
 pub fn failure<S: Sources>(sources: &S, op: Op, round: bool) -> Option<Exception>
     ensures { result ≡ failure_in (computed op round (S.readings sources.now)) }
 {
-    match op {
-        Op::Addn | Op::Subn | Op::Mult | Op::Div | Op::Rem | Op::Neg | Op::Cpynv | Op::Scale => {
-            number_given(sources, op, round).err()
-        }
-        Op::Cmpnvb | Op::Cmpblab | Op::Cmpptrt => test_failure(sources, op),
-        Op::Addspp | Op::Subspp => pointer_given(sources, op).err(),
-        Op::Cpybla
-        | Op::Cpybra
-        | Op::Cpyblap
-        | Op::Cat
-        | Op::Xlate
-        | Op::Cvthc
-        | Op::Cvtch
-        | Op::And
-        | Op::Or
-        | Op::Xor
-        | Op::Not => bytes_failure(sources, op),
-        _ => None,
+    if computes_number(op) {
+        number_given(sources, op, round).err()
+    } else if is_branch(op) {
+        test_failure(sources, op)
+    } else if computes_string(op) {
+        bytes_failure(sources, op)
+    } else if moves_pointer(op) {
+        pointer_given(sources, op).err()
+    } else {
+        None
     }
 }
 
@@ -136,26 +129,16 @@ pub fn compute<S: Sources>(
     ensures exact { IfOk result (λ made. made ≡ computed op round (S.readings sources.now)) }
     ensures held { IfOk result (λ made. IsTrue (is_held_in made)) }
 {
-    match op {
-        Op::Addn | Op::Subn | Op::Mult | Op::Div | Op::Rem | Op::Neg | Op::Cpynv | Op::Scale => {
-            Ok(Some(number(sources, op, round)))
-        }
-        Op::Cmpnvb | Op::Cmpblab | Op::Cmpptrt => {
-            Ok(Some(as_branch(test_given(alloc, sources, op)?)))
-        }
-        Op::Cpybla
-        | Op::Cpybra
-        | Op::Cpyblap
-        | Op::Cat
-        | Op::Xlate
-        | Op::Cvthc
-        | Op::Cvtch
-        | Op::And
-        | Op::Or
-        | Op::Xor
-        | Op::Not => Ok(Some(as_bytes(bytes_given(alloc, sources, op)?))),
-        Op::Addspp | Op::Subspp => Ok(Some(as_pointer(pointer_given(sources, op)))),
-        _ => Ok(None),
+    if computes_number(op) {
+        Ok(Some(number(sources, op, round)))
+    } else if is_branch(op) {
+        Ok(Some(as_branch(test_given(alloc, sources, op)?)))
+    } else if computes_string(op) {
+        Ok(Some(as_bytes(bytes_given(alloc, sources, op)?)))
+    } else if moves_pointer(op) {
+        Ok(Some(as_pointer(pointer_given(sources, op))))
+    } else {
+        Ok(None)
     }
 }
 

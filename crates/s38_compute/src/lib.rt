@@ -13,7 +13,7 @@ mod sources;
 mod strings;
 
 pub use comparisons::{is_branch, test_given};
-pub use computation::{compute, failure, is_computation, value};
+pub use computation::{compute, computes_number, computes_string, failure, is_computation, value};
 pub use copies::{copies_left, copies_right, shift_of};
 pub use given::Given;
 pub use numbers::number_given;

@@ -21,6 +21,3 @@ mod suits;
 
 pub use check::checked;
 pub use creation::{create, refusals_have_a_place};
-
-#[cfg(test)]
-mod tests;

@@ -6,12 +6,18 @@ mod adapters;
 #[cfg(test)]
 mod decimals;
 #[cfg(test)]
+mod locks;
+#[cfg(test)]
 mod logs;
 #[cfg(test)]
 mod messages;
+#[cfg(test)]
+mod profiles;
 #[cfg(test)]
 mod sources;
 #[cfg(test)]
 mod storage;
 #[cfg(test)]
 mod texts;
+#[cfg(test)]
+mod values;

@@ -12,7 +12,9 @@ use crate::receivers::{branch_end, jump_to, receive_number, receive_pointer};
 use crate::variables::Variables;
 use s38_base::{Exception, NoMemory, Op, Pointer};
 use s38_code::{Instruction, Row, Val};
-use s38_compute::{number_given, pointer_given, test_given};
+use s38_compute::{
+    computes_number, computes_string, is_branch, number_given, pointer_given, test_given,
+};
 use std::alloc::Global;
 
 fn number_read(rows: &[Row], values: &[Val], instruction: &Instruction) -> Result<i128, Exception>
@@ -114,25 +116,20 @@ pub fn run_local(
     ensures values { OnOk result (values.new ≡ (run rows.now values.old instruction.now).values) }
     ensures err { OnErr result (values.new ≡ values.old) }
 {
-    match instruction.op {
-        Op::Addn | Op::Subn | Op::Mult | Op::Div | Op::Rem | Op::Neg | Op::Cpynv | Op::Scale => {
-            Ok(number(rows, values, instruction))
-        }
-        Op::Cmpnvb | Op::Cmpblab | Op::Cmpptrt => branch(alloc, rows, values, instruction),
-        Op::Cpybla
-        | Op::Cpybra
-        | Op::Cpyblap
-        | Op::Cat
-        | Op::Xlate
-        | Op::Cvthc
-        | Op::Cvtch
-        | Op::And
-        | Op::Or
-        | Op::Xor
-        | Op::Not => string(alloc, rows, values, instruction),
-        Op::Addspp | Op::Subspp => Ok(pointer(rows, values, instruction)),
-        Op::B => Ok(jump_to(operand(instruction.args.as_slice(), 1))),
-        Op::Rtx => Ok(LocalEnd::Return),
-        _ => Ok(LocalEnd::Next),
+    let op = instruction.op;
+    if computes_number(op) {
+        return Ok(number(rows, values, instruction));
     }
+    if is_branch(op) {
+        return branch(alloc, rows, values, instruction);
+    }
+    if computes_string(op) {
+        return string(alloc, rows, values, instruction);
+    }
+    Ok(match op {
+        Op::Addspp | Op::Subspp => pointer(rows, values, instruction),
+        Op::B => jump_to(operand(instruction.args.as_slice(), 1)),
+        Op::Rtx => LocalEnd::Return,
+        _ => LocalEnd::Next,
+    })
 }

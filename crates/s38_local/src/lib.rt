@@ -22,6 +22,3 @@ fn sends<T: Send + Sync>() {}
 pub fn all_may_be_sent() {
     sends::<LocalEnd>();
 }
-
-#[cfg(test)]
-mod tests;

@@ -20,6 +20,3 @@ pub fn all_may_be_sent() {
     sends::<LockTable>();
     sends::<LockFault>();
 }
-
-#[cfg(test)]
-mod tests;

@@ -9,8 +9,6 @@ mod names;
 mod numbered;
 mod objects;
 mod table;
-#[cfg(test)]
-mod tests;
 
 pub use objects::Objects;
 pub use table::kind_of;

@@ -17,6 +17,3 @@ fn sends<T: Send + Sync>() {}
 pub fn all_may_be_sent() {
     sends::<Odt>();
 }
-
-#[cfg(test)]
-mod tests;

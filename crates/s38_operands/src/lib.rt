@@ -13,8 +13,6 @@ mod operands;
 mod queues;
 mod reads;
 mod storage;
-#[cfg(test)]
-mod tests;
 mod values;
 
 pub use computing::{

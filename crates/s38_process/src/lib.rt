@@ -23,6 +23,3 @@ pub fn all_may_be_sent() {
     sends::<Process>();
     sends::<Status>();
 }
-
-#[cfg(test)]
-mod tests;

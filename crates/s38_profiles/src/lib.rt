@@ -15,6 +15,3 @@ fn sends<T: Send + Sync>() {}
 pub fn all_may_be_sent() {
     sends::<Profiles>();
 }
-
-#[cfg(test)]
-mod tests;

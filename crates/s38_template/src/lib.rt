@@ -15,8 +15,6 @@ mod reader;
 mod said;
 mod seen;
 mod step;
-#[cfg(test)]
-mod tests;
 
 pub use fault::DeckFault;
 pub use places::{each_job_has_its_template, template_name, template_places};

@@ -29,6 +29,3 @@ pub use row_words::{
     StarWord, lock_state, order, pointer_kind, relation, seek, specials, star, switch, wait,
 };
 pub use texts::{before, behind, is_word, place_of, rest_after};
-
-#[cfg(test)]
-mod tests;

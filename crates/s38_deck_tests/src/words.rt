@@ -1,16 +1,16 @@
 //! Words that are read and words that are refused, as decks write them.
 
-use crate::{
+use s38_base::{Attr, Kind};
+use s38_code::{Arg, mnemonic};
+use s38_words::{
     attribute, attributes, declaration, has_form, identification, instruction, is_in_range, number,
     number_literal, program_head, text_literal, text_value,
 };
-use s38_base::{Attr, Kind};
-use s38_code::{Arg, mnemonic};
 use std::alloc::Global;
 use std::test::Fail;
 
 /// Words of operands.
-const FORMS: [&str; 16] = [
+const FORMS: &[&str] = &[
     "Q",
     "LSRD",
     "-5.0",
@@ -30,7 +30,7 @@ const FORMS: [&str; 16] = [
 ];
 
 /// Words that no operand has.
-const NO_FORMS: [&str; 15] = [
+const NO_FORMS: &[&str] = &[
     "",
     "1Q",
     "q",
@@ -59,7 +59,7 @@ fn an_operand_has_a_form(rt: HostRuntime) {
 }
 
 /// Lines of declarations, and whether their numbers are in their ranges.
-const DECLARATIONS: [(&str, Option<bool>); 12] = [
+const DECLARATIONS: &[(&str, Option<bool>)] = &[
     ("DCL A CHAR:3 INIT 'A B'", Some(true)),
     ("DCL A CHAR:3 INIT -1.5", Some(true)),
     ("DCL A PARM 16 PTR", Some(true)),
@@ -85,12 +85,12 @@ fn range_of(text: &str) -> Option<bool> {
 #[test]
 fn lines_of_declarations_are_read(rt: HostRuntime) {
     for (text, expected) in DECLARATIONS {
-        assert_eq!(rt; range_of(text), expected, "{text}");
+        assert_eq!(rt; range_of(text), *expected, "{text}");
     }
 }
 
 /// Lines of instructions: whether `(R)` stands there, and the words of operands.
-const INSTRUCTIONS: [(&str, Option<(bool, Option<&str>)>); 6] = [
+const INSTRUCTIONS: &[(&str, Option<(bool, Option<&str>)>)] = &[
     ("RTX", Some((false, None))),
     ("ADDN A,B,'C D'", Some((false, Some("A,B,'C D'")))),
     ("DIV (R) A,B,C", Some((true, Some("A,B,C")))),
@@ -102,7 +102,7 @@ const INSTRUCTIONS: [(&str, Option<(bool, Option<&str>)>); 6] = [
 #[test]
 fn lines_of_instructions_are_read(rt: HostRuntime) {
     for (text, expected) in INSTRUCTIONS {
-        match (instruction(text.as_bytes()), expected) {
+        match (instruction(text.as_bytes()), *expected) {
             (Some(line), Some((round, operands))) => {
                 assert!(rt; text.as_bytes().starts_with(mnemonic(line.op)), "{text}");
                 assert_eq!(rt; line.round, round, "{text}");
@@ -117,7 +117,7 @@ fn lines_of_instructions_are_read(rt: HostRuntime) {
 }
 
 /// Numbers, and the bytes that hold them packed.
-const PACKED: [(&[u8], &[u8]); 4] = [
+const PACKED: &[(&[u8], &[u8])] = &[
     (b"7", &[0x7F]),
     (b"-0", &[0x0F]),
     (b"12", &[0x01, 0x2F]),
@@ -125,7 +125,7 @@ const PACKED: [(&[u8], &[u8]); 4] = [
 ];
 
 /// Texts, and their bytes in EBCDIC.
-const TEXTS: [(&[u8], &[u8]); 4] = [
+const TEXTS: &[(&[u8], &[u8])] = &[
     (b"'AIJRSZ'", &[0xC1, 0xC9, 0xD1, 0xD9, 0xE2, 0xE9]),
     (b"'0 9'", &[0xF0, 0x40, 0xF9]),
     (b"''", &[]),

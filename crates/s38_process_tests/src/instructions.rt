@@ -1,10 +1,7 @@
 //! Local instructions by a table: the item and the operands, how they end, and what the item holds behind them.
-use super::*;
-use crate::operands::value_bytes;
-use crate::variables::Variables;
 use s38_base::{Attr, Exception, Name, NoMemory, Op, Seq};
 use s38_code::{Arg, Form, Instruction, Row, Val};
-use s38_compute::value;
+use s38_local::{LocalEnd, run_local};
 use std::alloc::Global;
 use std::test::Fail;
 
@@ -56,7 +53,7 @@ const SIZE: End = End::Signal(0x0C0A, 1);
 
 const CONVERSION: End = End::Signal(0x0C01, 2);
 
-const CASES: [Case; 12] = [
+const CASES: &[Case] = &[
     (Op::Div, b"\0\x0F", &[OWN, DEBT, TWO], NEXT, b"\0\x4D"),
     (Op::Rem, b"\0\x0F", &[OWN, DEBT, TWO], NEXT, b"\0\x1D"),
     (Op::Addn, b"\x99\x9F", &[OWN, OWN, TWO], SIZE, b"\x99\x9F"),
@@ -122,6 +119,13 @@ fn args_of(alloc: Global, words: &[Word]) -> Result<Seq<Arg>, NoMemory> {
     Ok(args)
 }
 
+fn is_bytes(value: Option<&Val>, want: &[u8]) -> bool {
+    match value {
+        Some(Val::Bytes(bytes)) => bytes.as_slice() == want,
+        _ => false,
+    }
+}
+
 #[test]
 fn instructions_end_and_leave(rt: HostRuntime) -> Result<(), Fail> {
     let alloc = rt.alloc();
@@ -138,23 +142,13 @@ fn instructions_end_and_leave(rt: HostRuntime) -> Result<(), Fail> {
     for (op, first, words, end, left) in CASES {
         let mut values = vec![in alloc; Val::Bytes(Seq::from_slice(alloc, first)?)]?;
         let instruction = Instruction {
-            op,
+            op: *op,
             round: true,
             args: args_of(alloc, words)?,
         };
-        let sources = Variables {
-            rows: rows.as_slice(),
-            values: values.as_slice(),
-            args: instruction.args.as_slice(),
-        };
-        let value = value(alloc, &sources, op, true)?;
-        let ended = run_local(alloc, &instruction, rows.as_slice(), values.as_mut_slice())?;
-        assert_eq!(rt; ended, end_of(end), "{op:?}");
-        assert_eq!(rt; value_bytes(values.as_slice().first()), left, "{op:?}");
-        assert!(rt;
-            !matches!(end, End::Next) || value_bytes(value.as_ref()) == left,
-            "{op:?}"
-        );
+        let ended = run_local(alloc, &instruction, rows.as_slice(), &mut values)?;
+        assert_eq!(rt; ended, end_of(*end), "{op:?}");
+        assert!(rt; is_bytes(values.first(), left), "{op:?}");
     }
     Ok(())
 }

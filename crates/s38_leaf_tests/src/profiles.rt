@@ -1,7 +1,7 @@
 //! The calls that can want memory, with ample memory.
 
-use crate::Profiles;
 use s38_base::{ObjNum, Rights, Special, UserNum};
+use s38_profiles::Profiles;
 use std::test::Fail;
 
 #[test]

@@ -1,8 +1,8 @@
 //! Declarations that are refused, and the bytes with which variables begin.
 
-use crate::{Odt, definition_table, rows};
 use s38_base::{Bytes, NoMemory, Seq};
 use s38_code::{CreateFault, Form};
+use s38_odt::{Odt, definition_table, rows};
 use std::alloc::Global;
 use std::test::Fail;
 
@@ -27,7 +27,7 @@ fn table_of(alloc: Global, text: &str) -> Result<Odt, CreateFault> {
 }
 
 /// Texts that are refused: the cause, and the number of the declaration.
-const REFUSED: [(&str, u16, u32); 10] = [
+const REFUSED: &[(&str, u16, u32)] = &[
     ("DCL A CHAR:0", 0x2A02, 1),
     ("DCL A ZND:3:4", 0x2A02, 1),
     ("DCL A PKD:3:1 INIT 1.25", 0x2A02, 1),
@@ -45,14 +45,18 @@ fn the_first_bad_declaration_is_told(rt: HostRuntime) {
     for (text, id, number) in REFUSED {
         let refused = match table_of(rt.alloc(), text) {
             Ok(_) => false,
-            Err(fault) => fault == CreateFault::Bad { id, number },
+            Err(fault) => fault
+                == CreateFault::Bad {
+                    id: *id,
+                    number: *number,
+                },
         };
         assert!(rt; refused, "{text}");
     }
 }
 
 /// Variables, and the bytes with which they begin.
-const BEGUN: [(&str, &[u8]); 8] = [
+const BEGUN: &[(&str, &[u8])] = &[
     ("DCL A PKD:4:2", &[0x00, 0x00, 0x0F]),
     ("DCL A CHAR:3", &[0x40, 0x40, 0x40]),
     ("DCL A PTR", &[]),
@@ -72,7 +76,7 @@ fn a_variable_begins_with_its_bytes(rt: HostRuntime) -> Result<(), Fail> {
         assert_eq!(rt; lines.len(), 1);
         match rows(rt.alloc(), lines.as_slice())?.as_slice() {
             [row] => assert!(rt;
-                matches!(&row.form, Form::Local { first, .. } if first.as_slice() == bytes),
+                matches!(&row.form, Form::Local { first, .. } if first.as_slice() == *bytes),
                 "{text}"
             ),
             _ => assert!(rt; false, "{text}"),

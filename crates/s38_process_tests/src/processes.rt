@@ -1,9 +1,9 @@
 //! Processes of programs that are made by hand, and of a template that was refused: what they ask, reply by reply.
-use super::*;
 use s38_base::{Attr, Exception, Name, ObjNum, Op, Pointer, Rights, Seq};
 use s38_code::{
     Arg, Code, CreateResult, Form, Instruction, Job, Program, Reply, Row, Template, Val,
 };
+use s38_process::Process;
 use std::alloc::Global;
 use std::test::Fail;
 

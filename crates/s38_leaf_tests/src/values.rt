@@ -1,6 +1,8 @@
 //! What is read and refused as a name or a number, lists that grow and are made again, and the texts of errors.
 
-use crate::{BadName, Failed, Name, NoMemory, Seq, TryClone, read_u32_at, read_u64_at, try_clones};
+use s38_base::{
+    BadName, Failed, Name, NoMemory, Seq, TryClone, read_u32_at, read_u64_at, try_clones,
+};
 use std::test::Fail;
 
 #[test]

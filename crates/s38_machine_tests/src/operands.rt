@@ -1,13 +1,13 @@
 //! Calls that can want memory, with ample memory: a space is made, and read at operands.
 
-use crate::{
-    bytes_at, computing_gives, creation_changes, creation_fails, fitted, in_context, piece_at,
-    source_cells,
-};
 use s38_base::{Attr, Id, Kind, Name, ObjNum, Op, Pointer, Rights, Seq, Special};
 use s38_code::{Operand, Request, Val};
 use s38_memory::Tagged;
 use s38_objects::Objects;
+use s38_operands::{
+    bytes_at, computing_gives, creation_changes, creation_fails, fitted, in_context, piece_at,
+    source_cells,
+};
 use s38_rules::{Body, Object};
 use std::alloc::Global;
 use std::test::Fail;

@@ -1,8 +1,8 @@
 //! Templates that are refused, each with its first bad place and the cause, and what good ones make.
 
-use crate::{checked, create};
 use s38_base::{NoMemory, Seq};
 use s38_code::{Arg, CreateFault, CreateResult, Program, Template};
+use s38_create::{checked, create};
 use std::alloc::Global;
 use std::test::Fail;
 
@@ -102,7 +102,7 @@ fn the_first_cause_is_answered(rt: HostRuntime) -> Result<(), Fail> {
 }
 
 /// Templates, and what is answered to each.
-const TEMPLATES: [(&str, &str); 10] = [
+const TEMPLATES: &[(&str, &str)] = &[
     (
         "PROGRAM P\nDCL Q PTR\nRTX\nLABEL L\nB L\nLABEL M\nB NOWHERE\nFOO\nEND",
         "2A08 3",
@@ -125,7 +125,7 @@ const TEMPLATES: [(&str, &str); 10] = [
 fn the_first_bad_place_is_answered(rt: HostRuntime) -> Result<(), Fail> {
     for (text, wanted) in TEMPLATES {
         let answer = answer(rt.alloc(), text)?;
-        assert_eq!(rt; answer.as_str(), wanted, "at {text}");
+        assert_eq!(rt; answer.as_str(), *wanted, "at {text}");
     }
     Ok(())
 }
@@ -136,7 +136,7 @@ fn last_operand(program: &Program, at: usize) -> Option<&Arg> {
 }
 
 /// Instructions between a label M and a label L, and the last operand of each.
-const OPERANDS: [(&str, &str); 8] = [
+const OPERANDS: &[(&str, &str)] = &[
     (
         "ADDN N,N,-1.5",
         "Literal { attr: Packed { digits: 2, fraction: 1 }, bytes: Seq { items: [1, 93] } }",
@@ -165,7 +165,7 @@ fn operands_are_what_the_words_say(rt: HostRuntime) -> Result<(), Fail> {
         let program = create(rt.alloc(), &template(rt.alloc(), text.as_str())?)?;
         let operand = last_operand(&program, 0).ok_or("no operand")?;
         let told = format!(in rt.alloc(); "{operand:?}")?;
-        assert_eq!(rt; told.as_str(), wanted, "at {line}");
+        assert_eq!(rt; told.as_str(), *wanted, "at {line}");
         assert!(rt; program.adopts() && !program.propagates());
     }
     Ok(())

@@ -1,8 +1,8 @@
 //! Calls that can want memory, with ample memory: objects are added, resized and listed.
 
-use crate::Objects;
 use s38_base::{Id, Kind, Name, ObjNum, Rights, Seq};
 use s38_memory::Tagged;
+use s38_objects::Objects;
 use s38_queues::{Order, Queue};
 use s38_rules::{Body, Object};
 use std::alloc::Global;

@@ -1,14 +1,14 @@
 //! The pairs of lock states as a table, and the calls that can want memory, with ample memory.
 
-use crate::{LockFault, LockTable};
 use s38_base::LockState::{Lear, Lenr, Lsrd, Lsro, Lsup};
 use s38_base::{LockState, ObjNum};
+use s38_locks::{LockFault, LockTable};
 use std::test::Fail;
 
-const STATES: [LockState; 5] = [Lsrd, Lsro, Lsup, Lear, Lenr];
+const STATES: &[LockState] = &[Lsrd, Lsro, Lsup, Lear, Lenr];
 
 /// Which states another process is granted beside each state, in the same order.
-const GRANTED: [[bool; 5]; 5] = [
+const GRANTED: &[[bool; 5]] = &[
     [true, true, true, true, false],
     [true, true, false, false, false],
     [true, false, true, false, false],

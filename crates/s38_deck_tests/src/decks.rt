@@ -1,10 +1,7 @@
 //! Texts that spell decks, texts with a bad line, and the texts of decks that are printed.
 
-use crate::fault::DeckFault;
-use crate::places::template_places;
-use crate::print::{print_deck, print_template};
-use crate::read::read_deck;
 use s38_base::Name;
+use s38_template::{DeckFault, print_deck, print_template, read_deck, template_places};
 use std::alloc::{AllocError, Global};
 use std::test::Fail;
 
@@ -18,7 +15,7 @@ fn fault(alloc: Global, text: &[u8]) -> Option<(u32, u8)> {
 }
 
 /// Texts, each with its first bad line and that line's code.
-const TEXTS: [(&str, Option<(u32, u8)>); 19] = [
+const TEXTS: &[(&str, Option<(u32, u8)>)] = &[
     ("", None),
     ("\n* any text\n", None),
     (
@@ -49,7 +46,7 @@ const TEXTS: [(&str, Option<(u32, u8)>); 19] = [
 #[test]
 fn the_first_bad_line_is_told(rt: HostRuntime) {
     for (text, want) in TEXTS {
-        assert_eq!(rt; fault(rt.alloc(), text.as_bytes()), want, "{text}");
+        assert_eq!(rt; fault(rt.alloc(), text.as_bytes()), *want, "{text}");
     }
 }
 
@@ -123,7 +120,7 @@ fn repeated(
 }
 
 /// What stands before lines that are repeated, how many, and the first bad line with its code.
-const REPEATED: [(&str, &str, u32, Option<(u32, u8)>); 8] = [
+const REPEATED: &[(&str, &str, u32, Option<(u32, u8)>)] = &[
     ("", "*", 255, None),
     ("", "*", 256, Some((1, 1))),
     ("", "*\n", 2_097_151, None),
@@ -139,8 +136,8 @@ fn limits_are_kept(rt: HostRuntime) -> Result<(), Fail> {
     let alloc = rt.alloc();
     for (head, line, count, want) in REPEATED {
         let tail: &[u8] = if head.is_empty() { b"\n\n" } else { b"END\n" };
-        let text = repeated(alloc, head.as_bytes(), line.as_bytes(), count, tail)?;
-        assert_eq!(rt; fault(alloc, text.as_slice()), want, "{line} {count}");
+        let text = repeated(alloc, head.as_bytes(), line.as_bytes(), *count, tail)?;
+        assert_eq!(rt; fault(alloc, text.as_slice()), *want, "{line} {count}");
     }
     Ok(())
 }

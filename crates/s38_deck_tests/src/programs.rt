@@ -1,9 +1,9 @@
 //! A program that is shared, a second one of each value, and the texts of the faults.
 
-use crate::{
+use s38_base::{Attr, AttrList, Op, Seq, TryClone};
+use s38_code::{
     Code, CreateFault, EndCause, Event, Operand, Program, Reply, Request, StepFault, Template, Val,
 };
-use s38_base::{Attr, AttrList, Op, Seq, TryClone};
 use std::alloc::Global;
 use std::test::Fail;
 
