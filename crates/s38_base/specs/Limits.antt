@@ -41,6 +41,10 @@ longest_message = 4096
 abbrev pub most_rows : ℕ
 most_rows = 4096
 
+-- how many internal calls an invocation may have come to
+abbrev pub most_calls : ℕ
+most_calls = 64
+
 -- an exception names operands up to this one
 abbrev pub last_operand : ℕ
 last_operand = 255

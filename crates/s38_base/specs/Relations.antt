@@ -1,5 +1,5 @@
 -- The words of relations are numbered in their order.
-use Rattle.std.specs.Prelude.{ℕ, ◌==◌, Bool, true, false, Option, Some, None, if◌then◌else◌}
+use Rattle.std.specs.Prelude.{ℕ, ◌==◌, Bool, true, false, not, Option, Some, None, if◌then◌else◌}
 use Rattle.std.specs.declared.cmp.Ordering.{Ordering}
 use Rattle.std.specs.declared.cmp.Ordering.TheVariants.{Less, Equal, Greater}
 use Rattle.s38_base.specs.declared.words.Relation.{Relation}
@@ -22,26 +22,26 @@ relation_of word =
     (if word == 3 then Some Hi else (if word == 4 then Some Nl else (if word == 5 then Some Nh else
     (if word == 6 then Some Any else (if word == 7 then Some First else (if word == 8 then Some Last else None))))))))
 
+abbrev pub is_less : Ordering → Bool
+is_less Less = true
+is_less _ = false
+
+abbrev pub is_equal : Ordering → Bool
+is_equal Equal = true
+is_equal _ = false
+
+abbrev pub is_greater : Ordering → Bool
+is_greater Greater = true
+is_greater _ = false
+
 -- whether a relation holds of what stands in this order to the other side; the last three hold always
 abbrev pub holds : Relation → Ordering → Bool
-holds Eq Less = false
-holds Eq Equal = true
-holds Eq Greater = false
-holds Ne Less = true
-holds Ne Equal = false
-holds Ne Greater = true
-holds Lo Less = true
-holds Lo Equal = false
-holds Lo Greater = false
-holds Hi Less = false
-holds Hi Equal = false
-holds Hi Greater = true
-holds Nl Less = false
-holds Nl Equal = true
-holds Nl Greater = true
-holds Nh Less = true
-holds Nh Equal = true
-holds Nh Greater = false
+holds Eq order = is_equal order
+holds Ne order = not (is_equal order)
+holds Lo order = is_less order
+holds Hi order = is_greater order
+holds Nl order = not (is_less order)
+holds Nh order = not (is_greater order)
 holds Any order = true
 holds First order = true
 holds Last order = true

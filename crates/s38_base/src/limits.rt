@@ -19,5 +19,7 @@ pub const CELL_BYTES: u32 = 16;
 pub const PAGE_BYTES: u32 = 512;
 /// The longest message of a queue, in bytes.
 pub const LONGEST_MESSAGE: u16 = 4096;
+/// How many internal calls an invocation may have come to.
+pub const MOST_CALLS: usize = 64;
 /// How many private rows, and how many locks, an object may have.
 pub const MOST_ROWS: usize = 4096;

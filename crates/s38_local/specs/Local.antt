@@ -1,11 +1,13 @@
 -- A local instruction: its operands are items of the invocation and literals, and it changes the invocation's
--- variables alone. Sources are read before a receiver is written, and a signal leaves all variables as they are.
-use Rattle.std.specs.Prelude.{ℕ, ◌-◌, ◌&&◌, ◌||◌, Bool, true, false, not, ℤ, pos, List, length, Option, Some, None, Result, Ok, Err, slice_get}
+-- variables and where it stands alone. Sources are read before a receiver is written, and a signal leaves all
+-- variables as they are.
+use Rattle.std.specs.Prelude.{ℕ, ◌-◌, ◌&&◌, ◌||◌, Bool, true, false, not, ℤ, pos, List, length, Option, Some, None, Result, Ok, Err, slice_get, if◌then◌else◌}
 use Rattle.std.specs.List.{list_any}
 use Rattle.s38_base.specs.declared.exception.Exception.{Exception}
 use Rattle.s38_base.specs.declared.op.Op.{Op}
-use Rattle.s38_base.specs.declared.op.Op.TheVariants.{B, Rtx, Cmpptrt}
+use Rattle.s38_base.specs.declared.op.Op.TheVariants.{B, Calli, Cmpptrt, Modexcpd, Retexcpd, Rtx, Sigexcp}
 use Rattle.s38_base.specs.Scalar.{value_of}
+use Rattle.s38_base.specs.Signals.{plain}
 use Rattle.s38_code.specs.declared.program.Arg.{Arg}
 use Rattle.s38_code.specs.declared.program.Arg.TheVariants as args
 use Rattle.s38_code.specs.declared.program.Instruction.{Instruction}
@@ -16,6 +18,8 @@ use Rattle.s38_compute.specs.declared.given.Given.{Given}
 use Rattle.s38_compute.specs.declared.given.Given.TheVariants as givens
 use Rattle.s38_compute.specs.Computed.{computed, is_computation}
 use Rattle.s38_compute.specs.Readings.{Readings}
+use Rattle.s38_local.specs.declared.frame.Frame.{Frame}
+use Rattle.s38_local.specs.Frames.{Went, called, code_bytes, exception_code, moves, returned, stays, switched}
 use Rattle.s38_local.specs.declared.local_end.LocalEnd.TheVariants as ends
 use Rattle.s38_local.specs.Received.{Ran, bytes_put, goes_on, jump_to, jumps, number_put, signals}
 use Rattle.s38_local.specs.Variables.{attr_of, bytes_of, form_in, held_by, is_based, pointer_of, put_in}
@@ -53,6 +57,16 @@ of_variables rows values given = record {
 
 -- ---- what an instruction does
 
+-- it goes on elsewhere, or looks at the descriptions of exceptions
+abbrev pub is_control : Op → Bool
+is_control B = true
+is_control Calli = true
+is_control Rtx = true
+is_control Sigexcp = true
+is_control Retexcpd = true
+is_control Modexcpd = true
+is_control _ = false
+
 -- the operand at which a comparison has its label
 abbrev pub label_at : Op → ℕ
 label_at Cmpptrt = 3
@@ -68,26 +82,30 @@ received values i (Some (Ok (givens.Pointer p))) = goes_on (put_in values (opera
 received values i (Some (Ok (givens.Branch taken))) =
     record { end = jumps taken (operand i.args (label_at i.op)); values = values }
 
-abbrev pub run_by : List Row → List Val → Instruction → Op → Ran
-run_by rows values i B = record { end = jump_to (operand i.args 1); values = values }
-run_by rows values i Rtx = record { end = ends.Return; values = values }
-run_by rows values i op = received values i (computed op i.round (of_variables rows values i.args))
+-- an instruction that only goes on elsewhere, or looks at the descriptions of exceptions
+abbrev pub controlled : Frame → List Val → Instruction → Op → Went
+controlled frame values i B = stays frame (record { end = jump_to (operand i.args 1); values = values })
+controlled frame values i Calli = moves values (called frame (operand i.args 1))
+controlled frame values i Rtx = moves values (returned frame)
+controlled frame values i Sigexcp = stays frame (signals values (plain (exception_code (word_of (operand i.args 1))) 0))
+controlled frame values i Retexcpd = stays frame (goes_on (bytes_put values (operand i.args 1) (code_bytes frame.latest)))
+controlled frame values i Modexcpd =
+    record { end = ends.Next; frame = switched frame (operand i.args 1) (word_of (operand i.args 2)); values = values }
+controlled frame values i op = stays frame (goes_on values)
 
--- what an instruction does to an invocation; one that is not local does nothing
-unfoldable pub run : List Row → List Val → Instruction → Ran
-run rows values i = run_by rows values i i.op
+abbrev pub computed_run : List Row → List Val → Instruction → Ran
+computed_run rows values i = received values i (computed i.op i.round (of_variables rows values i.args))
+
+-- what an instruction does to an invocation; one that is not local does nothing, and the end of the code is a return
+unfoldable pub run : List Row → Frame → List Val → Option Instruction → Went
+run rows frame values None = moves values (returned frame)
+run rows frame values (Some i) =
+    if is_control i.op then controlled frame values i i.op else stays frame (computed_run rows values i)
 
 -- ---- which instructions are local
 
--- it goes on elsewhere
-abbrev pub is_transfer : Op → Bool
-is_transfer B = true
-is_transfer Rtx = true
-is_transfer _ = false
-
--- a computation, a branch, or a return
 unfoldable pub is_local_op : Op → Bool
-is_local_op op = is_computation op || is_transfer op
+is_local_op op = is_computation op || is_control op
 
 -- an item that lies in a space
 abbrev pub lies_in_space : List Row → Arg → Bool

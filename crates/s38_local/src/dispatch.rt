@@ -1,12 +1,14 @@
-ghost use Rattle.std.specs.Prelude.{◌≡◌, IfOk, IsTrue, OnErr, OnOk};
+ghost use Rattle.std.specs.Prelude.{◌≡◌, ◌<◌, ◌+◌, ◌^◌, IfOk, IsTrue, OnErr, OnOk, Some};
 ghost use Rattle.s38_base.specs.Scalar.{fits};
 ghost use Rattle.s38_compute.specs.Computed.{computes_number, is_branch, number_given, pointer_given};
 ghost use Rattle.s38_local.specs.Kinds.{branch_run, bytes_run, number_run, pointer_run};
-ghost use Rattle.s38_local.specs.Local.{label_at, of_variables, operand, run};
+ghost use Rattle.s38_local.specs.Local.{computed_run, controlled, label_at, of_variables, operand, run};
 ghost use Rattle.s38_local.specs.Variables.{attr_of};
 
+use crate::control::{call, is_control, return_from, signal, switch, tell_latest};
+use crate::frame::Frame;
 use crate::local_end::LocalEnd;
-use crate::operands::{attr_of, operand};
+use crate::operands::{attr_of, operand, word_of};
 use crate::overlap::string_run;
 use crate::receivers::{branch_end, jump_to, receive_number, receive_pointer};
 use crate::variables::Variables;
@@ -103,17 +105,48 @@ fn pointer(rows: &[Row], values: &mut [Val], instruction: &Instruction) -> Local
     receive_pointer(values, operand(instruction.args.as_slice(), 1), given)
 }
 
-/// Does a local instruction: reads its sources, then writes its receiver. A signal leaves all variables as they
-/// were, and so does an error. Memory is taken only where the receiver of a string is a source too.
-#[tactic(auto, unfolding(crate::specs::Local::run, s38_compute::specs::Computed::computed))]
-pub fn run_local(
+/// Goes on elsewhere, or looks at the descriptions of exceptions.
+fn control(
+    alloc: Global,
+    instruction: &Instruction,
+    frame: &mut Frame,
+    values: &mut [Val],
+) -> Result<LocalEnd, NoMemory>
+    requires { frame.old.at + 1 < 2 ^ 64 }
+    ensures end { IfOk result (λ end. end ≡ (controlled frame.old values.old instruction.now instruction.now.op).end) }
+    ensures frame { OnOk result (frame.new ≡ (controlled frame.old values.old instruction.now instruction.now.op).frame) }
+    ensures values { OnOk result (values.new ≡ (controlled frame.old values.old instruction.now instruction.now.op).values) }
+    ensures err { OnErr result ((frame.new ≡ frame.old) × (values.new ≡ values.old)) }
+{
+    let args = instruction.args.as_slice();
+    let first = operand(args, 1);
+    match instruction.op {
+        Op::B => Ok(jump_to(first)),
+        Op::Calli => call(frame, first),
+        Op::Rtx => Ok(return_from(frame)),
+        Op::Sigexcp => Ok(LocalEnd::Signal(signal(word_of(first)))),
+        Op::Retexcpd => match tell_latest(alloc, frame, values, first) {
+            Ok(()) => Ok(LocalEnd::Next),
+            Err(fault) => Err(fault),
+        },
+        Op::Modexcpd => {
+            switch(alloc, frame, first, word_of(operand(args, 2)));
+            Ok(LocalEnd::Next)
+        }
+        _ => Ok(LocalEnd::Next),
+    }
+}
+
+/// Computes among the variables.
+#[tactic(auto, unfolding(s38_compute::specs::Computed::computed))]
+fn computation(
     alloc: Global,
     instruction: &Instruction,
     rows: &[Row],
     values: &mut [Val],
 ) -> Result<LocalEnd, NoMemory>
-    ensures end { IfOk result (λ end. end ≡ (run rows.now values.old instruction.now).end) }
-    ensures values { OnOk result (values.new ≡ (run rows.now values.old instruction.now).values) }
+    ensures end { IfOk result (λ end. end ≡ (computed_run rows.now values.old instruction.now).end) }
+    ensures values { OnOk result (values.new ≡ (computed_run rows.now values.old instruction.now).values) }
     ensures err { OnErr result (values.new ≡ values.old) }
 {
     let op = instruction.op;
@@ -128,8 +161,30 @@ pub fn run_local(
     }
     Ok(match op {
         Op::Addspp | Op::Subspp => pointer(rows, values, instruction),
-        Op::B => jump_to(operand(instruction.args.as_slice(), 1)),
-        Op::Rtx => LocalEnd::Return,
         _ => LocalEnd::Next,
     })
+}
+
+/// Does a local instruction: reads its sources, then writes its receiver. A signal leaves all variables as they
+/// were, and so does an error. Memory is taken only where the receiver of a string is a source too, by an internal
+/// call, and for the code of an exception.
+#[tactic(auto, unfolding(crate::specs::Local::run))]
+pub fn run_local(
+    alloc: Global,
+    instruction: &Instruction,
+    rows: &[Row],
+    frame: &mut Frame,
+    values: &mut [Val],
+) -> Result<LocalEnd, NoMemory>
+    requires { frame.old.at + 1 < 2 ^ 64 }
+    ensures end { IfOk result (λ end. end ≡ (run rows.now frame.old values.old (Some instruction.now)).end) }
+    ensures frame { OnOk result (frame.new ≡ (run rows.now frame.old values.old (Some instruction.now)).frame) }
+    ensures values { OnOk result (values.new ≡ (run rows.now frame.old values.old (Some instruction.now)).values) }
+    ensures err { OnErr result ((frame.new ≡ frame.old) × (values.new ≡ values.old)) }
+{
+    if is_control(instruction.op) {
+        control(alloc, instruction, frame, values)
+    } else {
+        computation(alloc, instruction, rows, values)
+    }
 }

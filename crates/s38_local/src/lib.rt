@@ -2,7 +2,9 @@
 //! read or changed.
 #![tactic(auto)]
 
+mod control;
 mod dispatch;
+mod frame;
 mod local_end;
 mod locality;
 mod operands;
@@ -11,7 +13,9 @@ mod receivers;
 mod variables;
 mod written;
 
+pub use control::return_from;
 pub use dispatch::run_local;
+pub use frame::Frame;
 pub use local_end::LocalEnd;
 pub use locality::is_local;
 
@@ -20,5 +24,6 @@ fn sends<T: Send + Sync>() {}
 
 /// Each value of this crate may be sent and shared.
 pub fn all_may_be_sent() {
+    sends::<Frame>();
     sends::<LocalEnd>();
 }

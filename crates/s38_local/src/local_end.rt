@@ -6,7 +6,7 @@ pub enum LocalEnd {
     /// The next instruction follows.
     Next,
     /// The instruction at this place follows, from 0 on.
-    Jump { at: u32 },
+    Jump { at: usize },
     /// The invocation ends.
     Return,
     /// It was refused, and changed no variable.

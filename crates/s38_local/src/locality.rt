@@ -1,26 +1,20 @@
 ghost use Rattle.std.specs.Prelude.{◌≡◌};
 ghost use Rattle.std.specs.List.{list_any};
 ghost use Rattle.std.specs.Option.{option_copied};
-ghost use Rattle.s38_local.specs.Local.{is_local, is_local_op, is_transfer, lies_in_space};
+ghost use Rattle.s38_local.specs.Local.{is_local, is_local_op, lies_in_space};
 ghost use Rattle.s38_local.specs.Variables.{form_in, is_based};
 
+use crate::control::is_control;
 use s38_base::Op;
 use s38_code::{Arg, Form, Instruction, Row};
 use s38_compute::is_computation;
 
-/// It goes on elsewhere.
-fn is_transfer(op: Op) -> bool
-    ensures { result ≡ is_transfer op }
-{
-    matches!(op, Op::B | Op::Rtx)
-}
-
-/// A computation, a branch, or a return.
+/// A computation, or what goes on elsewhere or looks at the descriptions of exceptions.
 #[tactic(auto, unfolding(crate::specs::Local::is_local_op))]
 fn is_local_op(op: Op) -> bool
     ensures { result ≡ is_local_op op }
 {
-    is_computation(op) || is_transfer(op)
+    is_computation(op) || is_control(op)
 }
 
 fn form_in(row: Option<&Row>) -> Option<&Form>
@@ -53,8 +47,7 @@ fn any_in_space(rows: &[Row], args: &[Arg]) -> bool
     args.iter().any(|arg| lies_in_space(rows, arg))
 }
 
-/// Whether an instruction is done by the process itself: it computes, branches or returns, and no operand lies in
-/// a space.
+/// Whether an instruction is done by the process itself: it is of a local operation, and no operand lies in a space.
 #[tactic(auto, unfolding(crate::specs::Local::is_local))]
 pub fn is_local(rows: &[Row], instruction: &Instruction) -> bool
     ensures { result ≡ is_local rows.now instruction.now }

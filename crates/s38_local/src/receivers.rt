@@ -110,7 +110,7 @@ pub fn jump_to(label: Option<&Arg>) -> LocalEnd
     ensures { result ≡ jump_to (option_copied label.entry) }
 {
     match label {
-        Some(Arg::Jump(at)) => LocalEnd::Jump { at: *at },
+        Some(Arg::Jump(at)) => LocalEnd::Jump { at: *at as usize },
         _ => LocalEnd::Next,
     }
 }

@@ -6,16 +6,16 @@ use Rattle.s38_code.specs.declared.event.EndCause.{EndCause}
 use Rattle.s38_code.specs.declared.event.Event.{Event}
 use Rattle.s38_code.specs.declared.event.Event.TheVariants.{Start, Act, Finish}
 use Rattle.s38_code.specs.declared.made.CreateResult.{CreateResult}
-use Rattle.s38_code.specs.declared.program.Instruction.{Instruction}
 use Rattle.s38_code.specs.declared.reply.Reply.{Reply}
 use Rattle.s38_code.specs.declared.reply.Reply.TheVariants.{MustWait}
-use Rattle.s38_code.specs.declared.reply.Val.{Val}
 use Rattle.s38_local.specs.declared.local_end.LocalEnd.{LocalEnd}
 use Rattle.s38_local.specs.declared.local_end.LocalEnd.TheVariants.{Next, Jump, Return, Signal}
 use Rattle.s38_process.specs.declared.status.Status.{Status}
 use Rattle.s38_process.specs.declared.status.Status.TheVariants.{Fresh, Running, Ending, Ended}
+use Rattle.s38_local.specs.Frames.{Went}
 use Rattle.s38_local.specs.Local.{run}
-use Rattle.s38_process.specs.Process.{ProcessState, absorbed, after_asked, after_local, code_in, event_of, fresh, local_by, local_in, local_next, rows_in, settled, local_step, stepped, local_steps}
+use Rattle.s38_process.specs.Exceptions.{label_for}
+use Rattle.s38_process.specs.Process.{ProcessState, absorbed, after_asked, after_local, after_signal_by, alone, alone_by, alone_there, code_in, event_of, fresh, rows_in, settled, local_step, local_steps}
 
 -- it stays where it stands, or is running and comes to its end
 abbrev pub Moves : Status → Status → Type 0
@@ -37,19 +37,19 @@ pub record IsNext (d e : ProcessState) : Type 0 where
   pub room : d.done < d.budget
   pub status : Moves d.status e.status
 
--- ---- when an instruction is local
+-- ---- when a process goes on alone
 
-acts_room : (b : Bool) (d : ProcessState) (o : Option Instruction) (i : Instruction) → nat_le d.budget d.done ≡ b → cond b None o ≡ Some i → d.done < d.budget
-acts_room true d o i test h = cc
-acts_room false d o i test h = grind (arith, nat_tests)
+room_by : (b c : Bool) (d : ProcessState) → nat_le d.budget d.done ≡ b → cond b false c ≡ true → d.done < d.budget
+room_by true c d test h = cc
+room_by false c d test h = grind (arith, nat_tests)
 
-alone_running : (d : ProcessState) (s : Status) (i : Instruction) → local_by d s ≡ Some i → (s ≡ Running) × (d.done < d.budget)
-alone_running d Fresh i h = cc
-alone_running d Running i h = (refl, acts_room (nat_le d.budget d.done) d (local_in (rows_in d.made) (slice_get (code_in d.made) d.at)) i refl h)
-alone_running d (Ending c) i h = cc
-alone_running d Ended i h = cc
+alone_running : (d : ProcessState) (s : Status) → alone_by d s ≡ true → (s ≡ Running) × (d.done < d.budget)
+alone_running d Fresh h = cc
+alone_running d Running h = (refl, room_by (nat_le d.budget d.done) (alone_there (rows_in d.made) d.frame (slice_get (code_in d.made) d.frame.at)) d refl h)
+alone_running d (Ending c) h = cc
+alone_running d Ended h = cc
 
-spent_by : (d : ProcessState) (s : Status) → d.budget ≤ d.done → local_by d s ≡ None
+spent_by : (d : ProcessState) (s : Status) → d.budget ≤ d.done → alone_by d s ≡ false
 spent_by d Fresh spent = refl
 spent_by d Running spent = let test : nat_le d.budget d.done ≡ true = grind (arith, nat_tests) in rw test refl
 spent_by d (Ending c) spent = refl
@@ -57,33 +57,39 @@ spent_by d Ended spent = refl
 
 -- ---- one step
 
-after_is_next : (d : ProcessState) (values : List Val) (e : LocalEnd) → d.status ≡ Running → d.done < d.budget → IsNext d (after_local d values e)
-after_is_next d values Next running room = record { made = refl; budget = refl; done = refl; room = room; status = inl refl }
-after_is_next d values (Jump at) running room = record { made = refl; budget = refl; done = refl; room = room; status = inl refl }
-after_is_next d values Return running room = record { made = refl; budget = refl; done = refl; room = room; status = inl refl }
-after_is_next d values (Signal x) running room = record { made = refl; budget = refl; done = refl; room = room; status = inr (running, (_, refl)) }
+signal_is_next : (d e : ProcessState) (code : ℕ) (o : Option ℕ) → e.made ≡ d.made → e.budget ≡ d.budget → e.done ≡ d.done → e.status ≡ d.status → d.status ≡ Running → d.done < d.budget → IsNext d (after_signal_by e code o)
+signal_is_next d e code None made budget done status running room = record { made = made; budget = budget; done = ap (λ n. n + 1) done; room = room; status = inr (running, (_, refl)) }
+signal_is_next d e code (Some at) made budget done status running room = record { made = made; budget = budget; done = ap (λ n. n + 1) done; room = room; status = inl status }
+
+after_is_next : (d : ProcessState) (went : Went) (e : LocalEnd) → d.status ≡ Running → d.done < d.budget → IsNext d (after_local d went e)
+after_is_next d went Next running room = record { made = refl; budget = refl; done = refl; room = room; status = inl refl }
+after_is_next d went (Jump at) running room = record { made = refl; budget = refl; done = refl; room = room; status = inl refl }
+after_is_next d went Return running room = record { made = refl; budget = refl; done = refl; room = room; status = inl refl }
+after_is_next d went (Signal x) running room =
+    let e = record d { values = went.values; frame = went.frame } in
+    signal_is_next d e x.id (label_for (rows_in e.made) e.frame.on x.id) refl refl refl refl running room
 
 -- a local instruction counts
-pub step_next : (d : ProcessState) (i : Instruction) → local_next d ≡ Some i → IsNext d (local_step d)
+pub step_next : (d : ProcessState) → alone d ≡ true → IsNext d (local_step d)
 unfolding local_step
-step_next d i h =
-    let at = alone_running d d.status i h in
-    let ran = run (rows_in d.made) d.values i in
-    rw h (after_is_next d ran.values ran.end at.0 at.1)
+step_next d h =
+    let at = alone_running d d.status h in
+    let went = run (rows_in d.made) d.frame d.values (slice_get (code_in d.made) d.frame.at) in
+    rw h (after_is_next d went went.end at.0 at.1)
 
 -- without one the process stays
-pub step_still : (d : ProcessState) → local_next d ≡ None → local_step d ≡ d
+pub step_still : (d : ProcessState) → alone d ≡ false → local_step d ≡ d
 unfolding local_step
-step_still d h = ap (stepped d) h
+step_still d h = rw h refl
 
 -- ---- many steps
 
-pub steps_still : (n : ℕ) (d : ProcessState) → local_next d ≡ None → local_steps n d ≡ d
+pub steps_still : (n : ℕ) (d : ProcessState) → alone d ≡ false → local_steps n d ≡ d
 unfolding local_steps
 steps_still zero d h = refl
 steps_still (suc n) d h = ap (local_steps n) (step_still d h) ∙ steps_still n d h
 
-pub settled_still : (d : ProcessState) → local_next d ≡ None → settled d ≡ d
+pub settled_still : (d : ProcessState) → alone d ≡ false → settled d ≡ d
 unfolding settled
 settled_still d h = steps_still (d.budget - d.done) d h
 
@@ -94,30 +100,30 @@ steps_more : (k : ℕ) (d : ProcessState) → local_steps (suc k) d ≡ local_st
 unfolding local_steps
 steps_more k d = refl
 
-settled_by : (o : Option Instruction) (d : ProcessState) → local_next d ≡ o → settled (local_step d) ≡ settled d
+settled_by : (b : Bool) (d : ProcessState) → alone d ≡ b → settled (local_step d) ≡ settled d
 unfolding settled
-settled_by None d h = ap settled (step_still d h)
-settled_by (Some i) d h =
-    let next = step_next d i h in
+settled_by false d h = ap settled (step_still d h)
+settled_by true d h =
+    let next = step_next d h in
     let left : d.budget - d.done ≡ suc ((local_step d).budget - (local_step d).done) = omega (arith, next.budget, next.done, next.room) in
     sym (ap (λ k. local_steps k d) left ∙ steps_more ((local_step d).budget - (local_step d).done) d)
 
 -- a step leads to the same rest
 pub settled_step : (d : ProcessState) → settled (local_step d) ≡ settled d
-settled_step d = settled_by (local_next d) d refl
+settled_step d = settled_by (alone d) d refl
 
-rests_by : (n : ℕ) (d : ProcessState) (o : Option Instruction) → local_next d ≡ o → d.budget - d.done ≤ n → local_next (local_steps n d) ≡ None
+rests_by : (n : ℕ) (d : ProcessState) (b : Bool) → alone d ≡ b → d.budget - d.done ≤ n → alone (local_steps n d) ≡ false
 unfolding local_steps
-rests_by zero d o h enough = spent_by d d.status (omega arith)
-rests_by (suc n) d None h enough = ap local_next (steps_still (suc n) d h) ∙ h
-rests_by (suc n) d (Some i) h enough =
-    let next = step_next d i h in
-    rests_by n (local_step d) (local_next (local_step d)) refl (omega (arith, next.budget, next.done))
+rests_by zero d b h enough = spent_by d d.status (omega arith)
+rests_by (suc n) d false h enough = ap alone (steps_still (suc n) d h) ∙ h
+rests_by (suc n) d true h enough =
+    let next = step_next d h in
+    rests_by n (local_step d) (alone (local_step d)) refl (omega (arith, next.budget, next.done))
 
 -- a settled process has no local instruction before it
-pub settled_rests : (d : ProcessState) → local_next (settled d) ≡ None
+pub settled_rests : (d : ProcessState) → alone (settled d) ≡ false
 unfolding settled
-settled_rests d = rests_by (d.budget - d.done) d (local_next d) refl (omega arith)
+settled_rests d = rests_by (d.budget - d.done) d (alone d) refl (omega arith)
 
 pub settled_again : (d : ProcessState) → settled (settled d) ≡ settled d
 settled_again d = settled_still (settled d) (settled_rests d)
@@ -171,13 +177,13 @@ later_on d e f a b = record {
   status = moves_on d.status e.status f.status a.status b.status;
 }
 
-steps_later : (n : ℕ) (d : ProcessState) (o : Option Instruction) → local_next d ≡ o → IsLater d (local_steps n d)
+steps_later : (n : ℕ) (d : ProcessState) (b : Bool) → alone d ≡ b → IsLater d (local_steps n d)
 unfolding local_steps
-steps_later zero d o h = later_same d
-steps_later (suc n) d None h = rw (steps_still (suc n) d h) (later_same d)
-steps_later (suc n) d (Some i) h = later_on d (local_step d) (local_steps n (local_step d)) (step_next d i h) (steps_later n (local_step d) (local_next (local_step d)) refl)
+steps_later zero d b h = later_same d
+steps_later (suc n) d false h = rw (steps_still (suc n) d h) (later_same d)
+steps_later (suc n) d true h = later_on d (local_step d) (local_steps n (local_step d)) (step_next d h) (steps_later n (local_step d) (alone (local_step d)) refl)
 
 -- local instructions change neither program nor budget, and count
 pub settled_later : (d : ProcessState) → IsLater d (settled d)
 unfolding settled
-settled_later d = steps_later (d.budget - d.done) d (local_next d) refl
+settled_later d = steps_later (d.budget - d.done) d (alone d) refl

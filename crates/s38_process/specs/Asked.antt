@@ -16,4 +16,4 @@ is_acting_at (Some i) = not (is_return i.op)
 
 -- a running process asks for an instruction, and not for its end
 abbrev pub is_acting : ProcessState → Bool
-is_acting d = if nat_le d.budget d.done then false else is_acting_at (slice_get (code_in d.made) d.at)
+is_acting d = if nat_le d.budget d.done then false else is_acting_at (slice_get (code_in d.made) d.frame.at)

@@ -1,4 +1,5 @@
 pub mod Asked
+pub mod Exceptions
 pub mod Process
 pub mod Progress
 pub mod Replies

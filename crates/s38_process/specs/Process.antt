@@ -1,6 +1,6 @@
--- A process: its program, the values of its variables, and where it stands. It asks one event after another, and
+-- A process: its program, the values of its variables, and where its invocation stands. It asks one event after another, and
 -- goes on by the replies, each time up to its next shared instruction.
-use Rattle.std.specs.Prelude.{◌≡◌, ℕ, zero, suc, ◌+◌, ◌-◌, Bool, true, false, not, ◌&&◌, List, [], ◌∷◌, map, Option, Some, None, unwrap_or, slice_get, nat_le, if◌then◌else◌}
+use Rattle.std.specs.Prelude.{◌≡◌, ℕ, zero, suc, ◌+◌, ◌-◌, Bool, true, false, not, ◌&&◌, List, [], ◌∷◌, map, Option, Some, None, unwrap_or, length, replicate, slice_get, nat_le, if◌then◌else◌}
 use Rattle.s38_base.specs.declared.attr.Attr.{Attr}
 use Rattle.s38_base.specs.declared.attr.Attr.TheVariants as attrs
 use Rattle.s38_base.specs.declared.op.Op.{Op}
@@ -23,8 +23,10 @@ use Rattle.s38_code.specs.declared.reply.Val.{Val}
 use Rattle.s38_code.specs.declared.reply.Val.TheVariants as vals
 use Rattle.s38_local.specs.declared.local_end.LocalEnd.{LocalEnd}
 use Rattle.s38_local.specs.declared.local_end.LocalEnd.TheVariants as ends
+use Rattle.s38_local.specs.declared.frame.Frame.{Frame}
+use Rattle.s38_local.specs.Frames.{Went}
 use Rattle.s38_local.specs.Local.{is_local, run}
-use Rattle.s38_local.specs.Received.{Ran}
+use Rattle.s38_process.specs.Exceptions.{label_for, taken}
 use Rattle.s38_process.specs.declared.status.Status.{Status}
 use Rattle.s38_process.specs.declared.status.Status.TheVariants.{Fresh, Running, Ending, Ended}
 use Rattle.s38_process.specs.Replies.{is_taken, label_in, received}
@@ -35,8 +37,8 @@ pub record ProcessState : Type 0 where
   pub made : CreateResult
   -- the value of each declared variable
   pub values : List Val
-  -- the place of the next instruction
-  pub at : ℕ
+  -- where its invocation stands
+  pub frame : Frame
   -- how many instructions were done
   pub done : ℕ
   pub budget : ℕ
@@ -68,6 +70,10 @@ first_value (forms.Handler code at) = vals.Ptr None
 abbrev pub first_values : List Row → List Val
 first_values rows = map (λ row. first_value row.form) rows
 
+-- an invocation begins with its first instruction, and each description is on
+abbrev pub first_frame : List Row → Frame
+first_frame rows = record { at = 0; on = replicate (length rows) true; returns = []; latest = 0 }
+
 -- ---- what it asks
 
 abbrev pub is_return : Op → Bool
@@ -84,7 +90,7 @@ acts d None = returns d
 acts d (Some i) = if is_return i.op then returns d else Act 1 (request_of (rows_in d.made) d.values i)
 
 abbrev pub runs : ProcessState → Event
-runs d = if nat_le d.budget d.done then Finish causes.Budget else acts d (slice_get (code_in d.made) d.at)
+runs d = if nat_le d.budget d.done then Finish causes.Budget else acts d (slice_get (code_in d.made) d.frame.at)
 
 abbrev pub asks : ProcessState → Status → Option Event
 asks d Fresh = Some Start
@@ -103,38 +109,64 @@ unhandled_by budget done id = if nat_le budget (done + 1) then causes.Budget els
 abbrev pub unhandled : ProcessState → ℕ → EndCause
 unhandled d id = unhandled_by d.budget d.done id
 
+-- an exception is taken by a description of the invocation, or ends the process; the instruction counts
+abbrev pub after_signal_by : ProcessState → ℕ → Option ℕ → ProcessState
+after_signal_by d code None = record d { done = d.done + 1; status = Ending (unhandled d code) }
+after_signal_by d code (Some at) = record d { frame = taken d.frame code at; done = d.done + 1 }
+
+abbrev pub after_signal : ProcessState → ℕ → ProcessState
+after_signal d code = after_signal_by d code (label_for (rows_in d.made) d.frame.on code)
+
 -- ---- its local run, up to the next shared instruction
 
--- an instruction that is local; a return is none, since it is an end
-abbrev pub local_in : List Row → Option Instruction → Option Instruction
-local_in rows None = None
-local_in rows (Some i) = if is_local rows i && not (is_return i.op) then Some i else None
+-- a return, and so the end of the code
+abbrev pub returns_there : Option Instruction → Bool
+returns_there None = true
+returns_there (Some i) = is_return i.op
 
-abbrev pub local_by : ProcessState → Status → Option Instruction
-local_by d Running = if nat_le d.budget d.done then None else local_in (rows_in d.made) (slice_get (code_in d.made) d.at)
-local_by d _ = None
+abbrev pub is_outside : List ℕ → Bool
+is_outside [] = true
+is_outside (at ∷ more) = false
 
--- the next instruction of a running process that has budget left, where the instruction is local
-abbrev pub local_next : ProcessState → Option Instruction
-local_next d = local_by d d.status
+-- a return outside of internal calls ends the invocation, and is no local instruction
+abbrev pub ends_there : Frame → Option Instruction → Bool
+ends_there frame i = returns_there i && is_outside frame.returns
 
--- a local instruction counts, also where it is signalled
-abbrev pub after_local : ProcessState → List Val → LocalEnd → ProcessState
-after_local d values ends.Next = record d { values = values; at = d.at + 1; done = d.done + 1 }
-after_local d values (ends.Jump at) = record d { values = values; at = at; done = d.done + 1 }
-after_local d values ends.Return = record d { values = values; at = d.at + 1; done = d.done + 1 }
-after_local d values (ends.Signal x) = record d { values = values; done = d.done + 1; status = Ending (unhandled d x.id) }
+abbrev pub is_local_there : List Row → Option Instruction → Bool
+is_local_there rows None = true
+is_local_there rows (Some i) = is_local rows i
 
-abbrev pub after_run : ProcessState → Ran → ProcessState
-after_run d ran = after_local d ran.values ran.end
+abbrev pub alone_there : List Row → Frame → Option Instruction → Bool
+alone_there rows frame i = is_local_there rows i && not (ends_there frame i)
 
-abbrev pub stepped : ProcessState → Option Instruction → ProcessState
-stepped d None = d
-stepped d (Some i) = after_run d (run (rows_in d.made) d.values i)
+abbrev pub alone_by : ProcessState → Status → Bool
+alone_by d Running =
+    if nat_le d.budget d.done then false else alone_there (rows_in d.made) d.frame (slice_get (code_in d.made) d.frame.at)
+alone_by d Fresh = false
+alone_by d (Ending cause) = false
+alone_by d Ended = false
 
--- behind its next instruction, where that is local
+-- whether a running process has budget left, and does its next instruction by itself
+abbrev pub alone : ProcessState → Bool
+alone d = alone_by d d.status
+
+abbrev pub goes_to : ProcessState → Went → ℕ → ProcessState
+goes_to d went at = record d { values = went.values; frame = record went.frame { at = at }; done = d.done + 1 }
+
+-- a local instruction counts, also where it is signalled; a return that ends the invocation is none
+abbrev pub after_local : ProcessState → Went → LocalEnd → ProcessState
+after_local d went ends.Next = goes_to d went (d.frame.at + 1)
+after_local d went (ends.Jump at) = goes_to d went at
+after_local d went ends.Return = goes_to d went d.frame.at
+after_local d went (ends.Signal x) = after_signal (record d { values = went.values; frame = went.frame }) x.id
+
+abbrev pub after_run : ProcessState → Went → ProcessState
+after_run d went = after_local d went went.end
+
+-- behind its next instruction, where it does that by itself
 unfoldable pub local_step : ProcessState → ProcessState
-local_step d = stepped d (local_next d)
+local_step d =
+    if alone d then after_run d (run (rows_in d.made) d.frame d.values (slice_get (code_in d.made) d.frame.at)) else d
 
 -- behind so many local instructions, or before the first one that is none
 unfoldable pub local_steps : ℕ → ProcessState → ProcessState
@@ -158,9 +190,9 @@ next_instruction (Some i) vs at = if is_taken vs then unwrap_or (label_in i.args
 
 abbrev pub after_act : ProcessState → Reply → ProcessState
 after_act d (replies.Done vs) =
-    let i = slice_get (code_in d.made) d.at in
-    record d { values = received_by (rows_in d.made) i vs d.values; at = next_instruction i vs d.at; done = d.done + 1 }
-after_act d (replies.Signal x) = record d { done = d.done + 1; status = Ending (unhandled d x.id) }
+    let i = slice_get (code_in d.made) d.frame.at in
+    record d { values = received_by (rows_in d.made) i vs d.values; frame = record d.frame { at = next_instruction i vs d.frame.at }; done = d.done + 1 }
+after_act d (replies.Signal x) = after_signal d x.id
 after_act d replies.MustWait = d
 
 abbrev pub after_end : ProcessState → Reply → ProcessState
@@ -193,7 +225,8 @@ absorbed d reply = settled (after_asked d (event_of d) reply)
 
 -- a process that has not started; it is settled
 abbrev pub fresh : CreateResult → ℕ → ProcessState
-fresh made budget = record { made = made; values = first_values (rows_in made); at = 0; done = 0; budget = budget; status = Fresh }
+fresh made budget =
+    record { made = made; values = first_values (rows_in made); frame = first_frame (rows_in made); done = 0; budget = budget; status = Fresh }
 
 -- ---- runs
 

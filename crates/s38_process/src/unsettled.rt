@@ -2,17 +2,19 @@ ghost use Rattle.std.specs.Prelude.{◌≡◌, ◌<◌, ◌+◌, IfOk, OnOk, OnE
 ghost use Rattle.std.specs.Option.{option_copied};
 ghost use Rattle.s38_process.specs.Asked.{asked, is_acting};
 ghost use Rattle.s38_process.specs.declared.status.Status.{Status};
-ghost use Rattle.s38_process.specs.Process.{acts, after_act, after_asked, after_end, after_event, after_start, code_in, event_of, fresh, next_instruction, received_by, returns, rows_in, runs, settled, unhandled};
+ghost use Rattle.s38_process.specs.Process.{acts, after_act, after_asked, after_signal, after_end, after_event, after_start, code_in, event_of, fresh, next_instruction, received_by, returns, rows_in, runs, settled};
 
-use crate::local_run::{is_return, run_locally, unhandled};
+use crate::exceptions::take_signal;
+use crate::local_run::{is_return, run_locally};
 use crate::made::{begun_by, code_of, rows_of};
 use crate::next::Next;
 use crate::progress::Progress;
 use crate::request::request_of;
 use crate::status::Status;
-use crate::variables::{first_values, next_instruction, receive};
+use crate::variables::{first_frame, first_values, next_instruction, receive};
 use s38_base::{NoMemory, try_clones};
 use s38_code::{CreateResult, EndCause, Event, Instruction, Job, Reply, Val, classes};
+use s38_local::Frame;
 use std::alloc::Global;
 use std::marker::Model;
 
@@ -22,6 +24,7 @@ pub struct Unsettled {
     alloc: Global,
     made: CreateResult,
     values: Vec<Val>,
+    frame: Frame,
     budget: u32,
     progress: Progress,
 }
@@ -33,7 +36,7 @@ impl Model for Unsettled {
 
     ghost Value = { ProcessState };
 
-    ghost view = { λ p. process_state p.made p.budget p.values.items p.progress };
+    ghost view = { λ p. process_state p.made p.budget p.values.items p.frame p.progress };
 
     ghost invariant = { λ p. p.progress.done ≤ p.budget };
 }
@@ -44,13 +47,14 @@ impl Unsettled {
         ensures { IfOk result (λ process. process ≡ fresh made job.now.budget) }
     {
         let values = first_values(alloc, rows_of(&made))?;
+        let frame = first_frame(alloc, rows_of(&made))?;
         Ok(Unsettled {
             alloc,
             made,
             values,
+            frame,
             budget: job.budget,
             progress: Progress {
-                at: 0,
                 done: 0,
                 status: Status::Fresh,
             },
@@ -67,15 +71,16 @@ impl Unsettled {
             &self.made,
             self.budget,
             self.values.as_mut_slice(),
+            &mut self.frame,
             &mut self.progress,
         )
     }
 
     /// The instruction that comes next.
     fn instruction(&self) -> Option<&Instruction>
-        ensures { option_copied result ≡ slice_get (code_in self.now.made) self.now.at }
+        ensures { option_copied result ≡ slice_get (code_in self.now.made) self.now.frame.at }
     {
-        code_of(&self.made).get(self.progress.at)
+        code_of(&self.made).get(self.frame.at)
     }
 
     fn returns(&self) -> Event
@@ -166,11 +171,11 @@ impl Unsettled {
 
     fn take_values(&mut self, given: Vec<Val>)
         requires room { self.old.done < self.old.budget }
-        requires within { self.old.at < length (code_in self.old.made) }
-        ensures { self.new ≡ (let i = slice_get (code_in self.old.made) self.old.at in record self.old { values = received_by (rows_in self.old.made) i given.items self.old.values; at = next_instruction i given.items self.old.at; done = self.old.done + 1 }) }
+        requires within { self.old.frame.at < length (code_in self.old.made) }
+        ensures { self.new ≡ (let i = slice_get (code_in self.old.made) self.old.frame.at in record self.old { values = received_by (rows_in self.old.made) i given.items self.old.values; frame = record self.old.frame { at = next_instruction i given.items self.old.frame.at }; done = self.old.done + 1 }) }
     {
-        let instruction = &code_of(&self.made)[self.progress.at];
-        let next = next_instruction(instruction, given.as_slice(), self.progress.at);
+        let instruction = &code_of(&self.made)[self.frame.at];
+        let next = next_instruction(instruction, given.as_slice(), self.frame.at);
         receive(
             instruction.op,
             &mut self.values,
@@ -179,22 +184,27 @@ impl Unsettled {
             instruction.args.as_slice(),
             given,
         );
-        self.progress.at = next;
+        self.frame.at = next;
         self.progress.done += 1;
     }
 
     fn take_signal(&mut self, id: u16)
         requires { self.old.done < self.old.budget }
-        ensures { self.new ≡ record self.old { done = self.old.done + 1; status = Status.Ending (unhandled self.old id) } }
+        ensures { self.new ≡ after_signal self.old id }
     {
-        let cause = unhandled(self.progress.done, self.budget, id);
-        self.progress.done += 1;
-        self.progress.status = Status::Ending(cause);
+        take_signal(
+            self.alloc,
+            &self.made,
+            self.budget,
+            &mut self.frame,
+            &mut self.progress,
+            id,
+        );
     }
 
     fn go_on_from_act(&mut self, reply: &Reply) -> Result<(), NoMemory>
         requires room { self.old.done < self.old.budget }
-        requires within { self.old.at < length (code_in self.old.made) }
+        requires within { self.old.frame.at < length (code_in self.old.made) }
         ensures ok { OnOk result (self.new ≡ after_act self.old reply.now) }
         ensures err { OnErr result (self.new ≡ self.old) }
     {

@@ -2,14 +2,15 @@ ghost use Rattle.std.specs.Prelude.{◌≡◌, ◌<◌, ◌+◌, ◌^◌, ◌||�
 ghost use Rattle.std.specs.Option.{option_copied};
 ghost use Rattle.s38_code.specs.declared.class.Class.{Class};
 ghost use Rattle.s38_compute.specs.Computed.{copies_left, copies_right};
-ghost use Rattle.s38_process.specs.Process.{first_by, first_value, first_values, next_instruction};
+ghost use Rattle.s38_process.specs.Process.{first_by, first_frame, first_value, first_values, next_instruction};
 ghost use Rattle.s38_process.specs.Replies.{is_taken, label_in, label_of, merged, merged_bytes, put, received, takes_value};
 ghost use Rattle.s38_process.specs.Requests.{is_receiver};
 ghost use Rattle.s38_local.specs.Variables.{form_in, is_based, value_bytes, value_pointer};
 
-use s38_base::{Attr, Bytes, NoMemory, Op, Pointer, Seq, TryClone};
+use s38_base::{Attr, Bytes, NoMemory, Op, Pile, Pointer, Seq, TryClone};
 use s38_code::{Arg, Class, Form, Instruction, Row, Val};
 use s38_compute::{copies_left, copies_right};
+use s38_local::Frame;
 use s38_strings::{copy_left, copy_right};
 use std::alloc::Global;
 use std::mem;
@@ -54,6 +55,18 @@ pub fn first_values(alloc: Global, rows: &[Row]) -> Result<Vec<Val>, NoMemory>
         values.push(value)?;
     }
     Ok(values)
+}
+
+/// An invocation begins with its first instruction, and each description of exceptions is on.
+pub fn first_frame(alloc: Global, rows: &[Row]) -> Result<Frame, NoMemory>
+    ensures { IfOk result (λ frame. frame ≡ first_frame rows.now) }
+{
+    Ok(Frame {
+        at: 0,
+        on: Seq::from_vec(vec![in alloc; true; rows.len()]?),
+        returns: Pile::new(alloc),
+        latest: 0,
+    })
 }
 
 /// The bytes of a variable.
