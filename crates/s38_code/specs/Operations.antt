@@ -6,7 +6,9 @@ use Rattle.s38_base.specs.declared.id.Kind.TheVariants as kinds
 use Rattle.s38_base.specs.declared.op.Op.{Op}
 use Rattle.s38_base.specs.declared.op.Op.TheVariants.{Addn, Subn, Mult, Div, Rem, Neg, Cpynv, Scale, Cmpnvb, Cpybla, Cpybra, Cpyblap, Cat, Xlate, Cvthc, Cvtch, And, Or, Xor, Not, Cmpblab, B, Calli, Rtx, Sigexcp, Retexcpd, Modexcpd, Cmpptrt, Addspp, Subspp, Rslvsp, Setsppfp, Setspfp, Setdp, Cpybwp, Crtctx, Modadr, Rename, Matctx, Crtup, Modup, Grant, Retract, Xfro, Testau, Matau, Matauobj, Crtpg, Callx, Xctl, Lock, Unlock, Xfrlock, Matobjlk, Crts, Mods, Crtq, Enq, Deq, Crtinx, Insinxen, Fndinxen, Rmvinxen, Crtds, Crtcr, Setcr, Insdsen, Retdsen, Updsen, Deldsen, Crtjs, Crtjp, Jrnlobj, Retjent, Crtcb, Commit, Decommit, Ensobj, Desctx, Desup, Despg, Dess, Desq, Desinx, Desds, Descr, Desjs, Desjp, Descb}
 use Rattle.s38_code.specs.declared.class.Class.{Class}
-use Rattle.s38_code.specs.declared.class.Class.TheVariants.{NumberSource, NumberReceiver, BytesSource, BytesOrNone, BytesReceiver, PointerSource, PointerReceiver, CellsSource, CellsReceiver, Context, ContextOrList, PointerOrNone, UserOrPublic, Identification, RightsWord, SpecialsWord, LockStateWord, WaitWord, RelationWord, ComparisonWord, OrderWord, SeekWord, PointerKindWord, SwitchWord, Label, WholeLiteral, PowerLiteral, AttributeWord, AttributesWord, ExceptionCode, Handler, TemplateName, JobName, Argument}
+use Rattle.s38_code.specs.declared.class.Class.TheVariants.{NumberSource, NumberReceiver, BytesSource, BytesOrNone, BytesReceiver, PointerSource, PointerReceiver, CellsSource, CellsReceiver, Context, ContextOrList, PointerOrNone, UserOrPublic, Handler, Argument, Constant, Keyword}
+use Rattle.s38_code.specs.declared.class.Constant.TheVariants.{Identification, Label, Whole, Power, Attribute, Attributes, ExceptionCode, TemplateName, JobName}
+use Rattle.s38_code.specs.declared.class.Keyword.TheVariants.{Rights, Specials, LockState, Wait, Relation, Comparison, Order, Seek, PointerKind, Switch}
 use Rattle.s38_code.specs.declared.family.Family.{Family}
 use Rattle.s38_code.specs.declared.family.Family.TheVariants.{Computing, Branching, Resolving, Contexts, Profiles, Grants, Programs, Locks, Spaces, Queues, Indexes, DataSpaces, Journals}
 use Rattle.s38_code.specs.declared.rule.OperandRule.{OperandRule}
@@ -109,7 +111,7 @@ mnemonic Descb = codes "DESCB"
 
 -- a pointer to the new object, its context, its identification and its public rights begin most rows that create
 abbrev pub creating : List Class → List Class
-creating more = PointerReceiver ∷ PointerOrNone ∷ Identification ∷ RightsWord ∷ more
+creating more = PointerReceiver ∷ PointerOrNone ∷ Constant Identification ∷ Keyword Rights ∷ more
 
 -- sixteen arguments at most
 abbrev pub arguments : List Class
@@ -125,8 +127,8 @@ classes Div = NumberReceiver ∷ NumberSource ∷ NumberSource ∷ []
 classes Rem = NumberReceiver ∷ NumberSource ∷ NumberSource ∷ []
 classes Neg = NumberReceiver ∷ NumberSource ∷ []
 classes Cpynv = NumberReceiver ∷ NumberSource ∷ []
-classes Scale = NumberReceiver ∷ NumberSource ∷ PowerLiteral ∷ []
-classes Cmpnvb = NumberSource ∷ NumberSource ∷ ComparisonWord ∷ Label ∷ []
+classes Scale = NumberReceiver ∷ NumberSource ∷ Constant Power ∷ []
+classes Cmpnvb = NumberSource ∷ NumberSource ∷ Keyword Comparison ∷ Constant Label ∷ []
 classes Cpybla = BytesReceiver ∷ BytesSource ∷ []
 classes Cpybra = BytesReceiver ∷ BytesSource ∷ []
 classes Cpyblap = BytesReceiver ∷ BytesSource ∷ BytesSource ∷ []
@@ -138,52 +140,52 @@ classes And = BytesReceiver ∷ BytesSource ∷ BytesSource ∷ []
 classes Or = BytesReceiver ∷ BytesSource ∷ BytesSource ∷ []
 classes Xor = BytesReceiver ∷ BytesSource ∷ BytesSource ∷ []
 classes Not = BytesReceiver ∷ BytesSource ∷ []
-classes Cmpblab = BytesSource ∷ BytesSource ∷ ComparisonWord ∷ Label ∷ []
-classes B = Label ∷ []
-classes Calli = Label ∷ []
+classes Cmpblab = BytesSource ∷ BytesSource ∷ Keyword Comparison ∷ Constant Label ∷ []
+classes B = Constant Label ∷ []
+classes Calli = Constant Label ∷ []
 classes Rtx = []
-classes Sigexcp = ExceptionCode ∷ []
+classes Sigexcp = Constant ExceptionCode ∷ []
 classes Retexcpd = BytesReceiver ∷ []
-classes Modexcpd = Handler ∷ SwitchWord ∷ []
-classes Cmpptrt = PointerSource ∷ PointerKindWord ∷ Label ∷ []
+classes Modexcpd = Handler ∷ Keyword Switch ∷ []
+classes Cmpptrt = PointerSource ∷ Keyword PointerKind ∷ Constant Label ∷ []
 classes Addspp = PointerReceiver ∷ PointerSource ∷ NumberSource ∷ []
 classes Subspp = PointerReceiver ∷ PointerSource ∷ NumberSource ∷ []
-classes Rslvsp = PointerReceiver ∷ ContextOrList ∷ Identification ∷ RightsWord ∷ []
+classes Rslvsp = PointerReceiver ∷ ContextOrList ∷ Constant Identification ∷ Keyword Rights ∷ []
 classes Setsppfp = PointerReceiver ∷ PointerSource ∷ []
 classes Setspfp = PointerReceiver ∷ PointerSource ∷ []
-classes Setdp = PointerReceiver ∷ PointerSource ∷ AttributeWord ∷ []
+classes Setdp = PointerReceiver ∷ PointerSource ∷ Constant Attribute ∷ []
 classes Cpybwp = CellsReceiver ∷ CellsSource ∷ []
-classes Crtctx = PointerReceiver ∷ Identification ∷ RightsWord ∷ []
+classes Crtctx = PointerReceiver ∷ Constant Identification ∷ Keyword Rights ∷ []
 classes Modadr = PointerSource ∷ PointerOrNone ∷ []
-classes Rename = PointerSource ∷ Identification ∷ []
+classes Rename = PointerSource ∷ Constant Identification ∷ []
 classes Matctx = BytesReceiver ∷ Context ∷ []
-classes Crtup = PointerReceiver ∷ Identification ∷ SpecialsWord ∷ WholeLiteral ∷ []
-classes Modup = PointerSource ∷ SpecialsWord ∷ WholeLiteral ∷ []
-classes Grant = PointerSource ∷ UserOrPublic ∷ RightsWord ∷ []
-classes Retract = PointerSource ∷ UserOrPublic ∷ RightsWord ∷ []
+classes Crtup = PointerReceiver ∷ Constant Identification ∷ Keyword Specials ∷ Constant Whole ∷ []
+classes Modup = PointerSource ∷ Keyword Specials ∷ Constant Whole ∷ []
+classes Grant = PointerSource ∷ UserOrPublic ∷ Keyword Rights ∷ []
+classes Retract = PointerSource ∷ UserOrPublic ∷ Keyword Rights ∷ []
 classes Xfro = PointerSource ∷ PointerSource ∷ []
-classes Testau = NumberReceiver ∷ PointerSource ∷ RightsWord ∷ []
+classes Testau = NumberReceiver ∷ PointerSource ∷ Keyword Rights ∷ []
 classes Matau = BytesReceiver ∷ PointerSource ∷ UserOrPublic ∷ []
 classes Matauobj = BytesReceiver ∷ PointerSource ∷ []
-classes Crtpg = creating (TemplateName ∷ [])
+classes Crtpg = creating (Constant TemplateName ∷ [])
 classes Callx = PointerSource ∷ arguments
 classes Xctl = PointerSource ∷ arguments
-classes Lock = PointerSource ∷ LockStateWord ∷ WaitWord ∷ []
-classes Unlock = PointerSource ∷ LockStateWord ∷ []
-classes Xfrlock = PointerSource ∷ LockStateWord ∷ JobName ∷ []
+classes Lock = PointerSource ∷ Keyword LockState ∷ Keyword Wait ∷ []
+classes Unlock = PointerSource ∷ Keyword LockState ∷ []
+classes Xfrlock = PointerSource ∷ Keyword LockState ∷ Constant JobName ∷ []
 classes Matobjlk = BytesReceiver ∷ PointerSource ∷ []
 classes Crts = creating (NumberSource ∷ [])
 classes Mods = PointerSource ∷ NumberSource ∷ []
-classes Crtq = creating (OrderWord ∷ WholeLiteral ∷ WholeLiteral ∷ [])
+classes Crtq = creating (Keyword Order ∷ Constant Whole ∷ Constant Whole ∷ [])
 classes Enq = PointerSource ∷ BytesOrNone ∷ BytesSource ∷ []
-classes Deq = BytesReceiver ∷ PointerSource ∷ RelationWord ∷ BytesOrNone ∷ WaitWord ∷ []
-classes Crtinx = creating (WholeLiteral ∷ [])
+classes Deq = BytesReceiver ∷ PointerSource ∷ Keyword Relation ∷ BytesOrNone ∷ Keyword Wait ∷ []
+classes Crtinx = creating (Constant Whole ∷ [])
 classes Insinxen = PointerSource ∷ BytesSource ∷ []
-classes Fndinxen = BytesReceiver ∷ PointerSource ∷ RelationWord ∷ BytesSource ∷ []
+classes Fndinxen = BytesReceiver ∷ PointerSource ∷ Keyword Relation ∷ BytesSource ∷ []
 classes Rmvinxen = PointerSource ∷ BytesSource ∷ []
-classes Crtds = creating (AttributesWord ∷ [])
+classes Crtds = creating (Constant Attributes ∷ [])
 classes Crtcr = creating (PointerSource ∷ PointerOrNone ∷ [])
-classes Setcr = PointerSource ∷ SeekWord ∷ NumberSource ∷ []
+classes Setcr = PointerSource ∷ Keyword Seek ∷ NumberSource ∷ []
 classes Insdsen = PointerSource ∷ BytesSource ∷ []
 classes Retdsen = BytesReceiver ∷ PointerSource ∷ []
 classes Updsen = PointerSource ∷ BytesSource ∷ []

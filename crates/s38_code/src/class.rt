@@ -27,39 +27,53 @@ pub enum Class {
     PointerOrNone,
     /// A pointer to a profile, or `*PUBLIC`.
     UserOrPublic,
-    /// `KIND/ss/NAME`
-    Identification,
-    RightsWord,
-    SpecialsWord,
-    LockStateWord,
-    /// WAIT or NOWAIT
-    WaitWord,
-    /// One of all nine relations.
-    RelationWord,
-    /// A relation of two values: EQ, NE, LO, HI, NL or NH.
-    ComparisonWord,
-    /// FIFO, LIFO or KEYED
-    OrderWord,
-    /// FIRST, LAST, NEXT, PREV or AT
-    SeekWord,
-    /// SYS, SPC, DTA or NONE
-    PointerKindWord,
-    /// ON or OFF
-    SwitchWord,
-    Label,
-    /// A whole number without a sign.
-    WholeLiteral,
-    /// The power of ten by which a number is scaled, which may have a sign.
-    PowerLiteral,
-    AttributeWord,
-    /// Attributes joined by `+`.
-    AttributesWord,
-    /// Four hexadecimal digits.
-    ExceptionCode,
     /// A declared description of exceptions.
     Handler,
-    TemplateName,
-    JobName,
     /// An item that is passed on. Arguments stand at the end of a row, and may be fewer than it has.
     Argument,
+    /// What is written out in the program.
+    Constant(Constant),
+    /// A word of a fixed list.
+    Keyword(Keyword),
+}
+
+/// What may be written out at an operand's place.
+#[derive(Clone, Copy, PartialEq, Eq, Debug)]
+pub enum Constant {
+    /// `KIND/ss/NAME`
+    Identification,
+    Label,
+    /// A whole number without a sign.
+    Whole,
+    /// The power of ten by which a number is scaled, which may have a sign.
+    Power,
+    Attribute,
+    /// Attributes joined by `+`.
+    Attributes,
+    /// Four hexadecimal digits.
+    ExceptionCode,
+    TemplateName,
+    JobName,
+}
+
+/// The list of which a word at an operand's place is one, or several joined.
+#[derive(Clone, Copy, PartialEq, Eq, Debug)]
+pub enum Keyword {
+    Rights,
+    Specials,
+    LockState,
+    /// WAIT or NOWAIT
+    Wait,
+    /// One of all nine relations.
+    Relation,
+    /// A relation of two values: EQ, NE, LO, HI, NL or NH.
+    Comparison,
+    /// FIFO, LIFO or KEYED
+    Order,
+    /// FIRST, LAST, NEXT, PREV or AT
+    Seek,
+    /// SYS, SPC, DTA or NONE
+    PointerKind,
+    /// ON or OFF
+    Switch,
 }

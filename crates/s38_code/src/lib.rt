@@ -16,7 +16,7 @@ mod reply;
 mod rule;
 mod step;
 
-pub use class::Class;
+pub use class::{Class, Constant, Keyword};
 pub use code::Code;
 pub use deck::{Deck, Job, Jobs, Names, Template, Templates};
 pub use entry::Entry;

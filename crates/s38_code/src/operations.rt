@@ -4,6 +4,13 @@ ghost use Rattle.std.specs.Prelude.{◌≡◌};
 ghost use Rattle.s38_code.specs.Operations.{classes, family_of, is_built, made_kind, may_round, mnemonic, operand_rule};
 
 use crate::class::Class;
+use crate::class::Constant::{
+    Attribute, Attributes, ExceptionCode, Identification, JobName, Label, Power, TemplateName,
+    Whole,
+};
+use crate::class::Keyword::{
+    Comparison, LockState, Order, PointerKind, Relation, Rights, Seek, Specials, Switch, Wait,
+};
 use crate::family::Family;
 use crate::rule::OperandRule;
 use s38_base::{Kind, Op};
@@ -121,13 +128,13 @@ pub fn classes(op: Op) -> &'static [Class]
         Op::Scale => &[
             Class::NumberReceiver,
             Class::NumberSource,
-            Class::PowerLiteral,
+            Class::Constant(Power),
         ],
         Op::Cmpnvb => &[
             Class::NumberSource,
             Class::NumberSource,
-            Class::ComparisonWord,
-            Class::Label,
+            Class::Keyword(Comparison),
+            Class::Constant(Label),
         ],
         Op::Cpybla | Op::Cpybra | Op::Cvthc | Op::Cvtch | Op::Not => {
             &[Class::BytesReceiver, Class::BytesSource]
@@ -146,15 +153,19 @@ pub fn classes(op: Op) -> &'static [Class]
         Op::Cmpblab => &[
             Class::BytesSource,
             Class::BytesSource,
-            Class::ComparisonWord,
-            Class::Label,
+            Class::Keyword(Comparison),
+            Class::Constant(Label),
         ],
-        Op::B | Op::Calli => &[Class::Label],
+        Op::B | Op::Calli => &[Class::Constant(Label)],
         Op::Rtx => &[],
-        Op::Sigexcp => &[Class::ExceptionCode],
+        Op::Sigexcp => &[Class::Constant(ExceptionCode)],
         Op::Retexcpd => &[Class::BytesReceiver],
-        Op::Modexcpd => &[Class::Handler, Class::SwitchWord],
-        Op::Cmpptrt => &[Class::PointerSource, Class::PointerKindWord, Class::Label],
+        Op::Modexcpd => &[Class::Handler, Class::Keyword(Switch)],
+        Op::Cmpptrt => &[
+            Class::PointerSource,
+            Class::Keyword(PointerKind),
+            Class::Constant(Label),
+        ],
         Op::Addspp | Op::Subspp => &[
             Class::PointerReceiver,
             Class::PointerSource,
@@ -163,41 +174,45 @@ pub fn classes(op: Op) -> &'static [Class]
         Op::Rslvsp => &[
             Class::PointerReceiver,
             Class::ContextOrList,
-            Class::Identification,
-            Class::RightsWord,
+            Class::Constant(Identification),
+            Class::Keyword(Rights),
         ],
         Op::Setsppfp | Op::Setspfp => &[Class::PointerReceiver, Class::PointerSource],
         Op::Setdp => &[
             Class::PointerReceiver,
             Class::PointerSource,
-            Class::AttributeWord,
+            Class::Constant(Attribute),
         ],
         Op::Cpybwp => &[Class::CellsReceiver, Class::CellsSource],
         Op::Crtctx => &[
             Class::PointerReceiver,
-            Class::Identification,
-            Class::RightsWord,
+            Class::Constant(Identification),
+            Class::Keyword(Rights),
         ],
         Op::Modadr => &[Class::PointerSource, Class::PointerOrNone],
-        Op::Rename => &[Class::PointerSource, Class::Identification],
+        Op::Rename => &[Class::PointerSource, Class::Constant(Identification)],
         Op::Matctx => &[Class::BytesReceiver, Class::Context],
         Op::Crtup => &[
             Class::PointerReceiver,
-            Class::Identification,
-            Class::SpecialsWord,
-            Class::WholeLiteral,
+            Class::Constant(Identification),
+            Class::Keyword(Specials),
+            Class::Constant(Whole),
         ],
         Op::Modup => &[
             Class::PointerSource,
-            Class::SpecialsWord,
-            Class::WholeLiteral,
+            Class::Keyword(Specials),
+            Class::Constant(Whole),
         ],
-        Op::Grant | Op::Retract => &[Class::PointerSource, Class::UserOrPublic, Class::RightsWord],
+        Op::Grant | Op::Retract => &[
+            Class::PointerSource,
+            Class::UserOrPublic,
+            Class::Keyword(Rights),
+        ],
         Op::Xfro | Op::Jrnlobj => &[Class::PointerSource, Class::PointerSource],
         Op::Testau => &[
             Class::NumberReceiver,
             Class::PointerSource,
-            Class::RightsWord,
+            Class::Keyword(Rights),
         ],
         Op::Matau => &[
             Class::BytesReceiver,
@@ -210,9 +225,9 @@ pub fn classes(op: Op) -> &'static [Class]
         Op::Crtpg => &[
             Class::PointerReceiver,
             Class::PointerOrNone,
-            Class::Identification,
-            Class::RightsWord,
-            Class::TemplateName,
+            Class::Constant(Identification),
+            Class::Keyword(Rights),
+            Class::Constant(TemplateName),
         ],
         Op::Callx | Op::Xctl => &[
             Class::PointerSource,
@@ -233,40 +248,48 @@ pub fn classes(op: Op) -> &'static [Class]
             Class::Argument,
             Class::Argument,
         ],
-        Op::Lock => &[Class::PointerSource, Class::LockStateWord, Class::WaitWord],
-        Op::Unlock => &[Class::PointerSource, Class::LockStateWord],
-        Op::Xfrlock => &[Class::PointerSource, Class::LockStateWord, Class::JobName],
+        Op::Lock => &[
+            Class::PointerSource,
+            Class::Keyword(LockState),
+            Class::Keyword(Wait),
+        ],
+        Op::Unlock => &[Class::PointerSource, Class::Keyword(LockState)],
+        Op::Xfrlock => &[
+            Class::PointerSource,
+            Class::Keyword(LockState),
+            Class::Constant(JobName),
+        ],
         Op::Crts => &[
             Class::PointerReceiver,
             Class::PointerOrNone,
-            Class::Identification,
-            Class::RightsWord,
+            Class::Constant(Identification),
+            Class::Keyword(Rights),
             Class::NumberSource,
         ],
         Op::Mods => &[Class::PointerSource, Class::NumberSource],
         Op::Crtq => &[
             Class::PointerReceiver,
             Class::PointerOrNone,
-            Class::Identification,
-            Class::RightsWord,
-            Class::OrderWord,
-            Class::WholeLiteral,
-            Class::WholeLiteral,
+            Class::Constant(Identification),
+            Class::Keyword(Rights),
+            Class::Keyword(Order),
+            Class::Constant(Whole),
+            Class::Constant(Whole),
         ],
         Op::Enq => &[Class::PointerSource, Class::BytesOrNone, Class::BytesSource],
         Op::Deq => &[
             Class::BytesReceiver,
             Class::PointerSource,
-            Class::RelationWord,
+            Class::Keyword(Relation),
             Class::BytesOrNone,
-            Class::WaitWord,
+            Class::Keyword(Wait),
         ],
         Op::Crtinx => &[
             Class::PointerReceiver,
             Class::PointerOrNone,
-            Class::Identification,
-            Class::RightsWord,
-            Class::WholeLiteral,
+            Class::Constant(Identification),
+            Class::Keyword(Rights),
+            Class::Constant(Whole),
         ],
         Op::Insinxen | Op::Rmvinxen | Op::Insdsen | Op::Updsen => {
             &[Class::PointerSource, Class::BytesSource]
@@ -274,36 +297,40 @@ pub fn classes(op: Op) -> &'static [Class]
         Op::Fndinxen => &[
             Class::BytesReceiver,
             Class::PointerSource,
-            Class::RelationWord,
+            Class::Keyword(Relation),
             Class::BytesSource,
         ],
         Op::Crtds => &[
             Class::PointerReceiver,
             Class::PointerOrNone,
-            Class::Identification,
-            Class::RightsWord,
-            Class::AttributesWord,
+            Class::Constant(Identification),
+            Class::Keyword(Rights),
+            Class::Constant(Attributes),
         ],
         Op::Crtcr => &[
             Class::PointerReceiver,
             Class::PointerOrNone,
-            Class::Identification,
-            Class::RightsWord,
+            Class::Constant(Identification),
+            Class::Keyword(Rights),
             Class::PointerSource,
             Class::PointerOrNone,
         ],
-        Op::Setcr => &[Class::PointerSource, Class::SeekWord, Class::NumberSource],
+        Op::Setcr => &[
+            Class::PointerSource,
+            Class::Keyword(Seek),
+            Class::NumberSource,
+        ],
         Op::Crtjs => &[
             Class::PointerReceiver,
             Class::PointerOrNone,
-            Class::Identification,
-            Class::RightsWord,
+            Class::Constant(Identification),
+            Class::Keyword(Rights),
         ],
         Op::Crtjp | Op::Crtcb => &[
             Class::PointerReceiver,
             Class::PointerOrNone,
-            Class::Identification,
-            Class::RightsWord,
+            Class::Constant(Identification),
+            Class::Keyword(Rights),
             Class::PointerSource,
         ],
         Op::Retjent => &[

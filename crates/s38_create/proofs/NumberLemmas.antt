@@ -8,7 +8,9 @@ use Rattle.s38_base.specs.declared.op.Op.{Op}
 use Rattle.s38_base.specs.declared.op.Op.TheVariants.{Addn, Subn, Mult, Div, Rem, Neg, Cpynv, Scale, Cmpnvb}
 use Rattle.s38_code.specs.Operations.{classes}
 use Rattle.s38_code.specs.declared.class.Class.{Class}
-use Rattle.s38_code.specs.declared.class.Class.TheVariants.{NumberSource, NumberReceiver, ComparisonWord, Label, PowerLiteral}
+use Rattle.s38_code.specs.declared.class.Class.TheVariants.{NumberSource, NumberReceiver, Constant, Keyword}
+use Rattle.s38_code.specs.declared.class.Constant.TheVariants.{Label, Power}
+use Rattle.s38_code.specs.declared.class.Keyword.TheVariants.{Comparison}
 use Rattle.s38_code.specs.declared.program.Arg.{Arg}
 use Rattle.s38_code.specs.declared.program.Arg.TheVariants.{Item}
 use Rattle.s38_code.specs.declared.program.Row.{Row}
@@ -77,8 +79,8 @@ first-numbers rows Div args computes h = received-numbers rows (NumberSource ∷
 first-numbers rows Rem args computes h = received-numbers rows (NumberSource ∷ []) args (fits-all_suit rows Rem args h)
 first-numbers rows Neg args computes h = received-numbers rows [] args (fits-all_suit rows Neg args h)
 first-numbers rows Cpynv args computes h = received-numbers rows [] args (fits-all_suit rows Cpynv args h)
-first-numbers rows Scale args computes h = received-numbers rows (PowerLiteral ∷ []) args (fits-all_suit rows Scale args h)
-first-numbers rows Cmpnvb args computes h = compared-numbers rows (ComparisonWord ∷ Label ∷ []) args (fits-all_suit rows Cmpnvb args h)
+first-numbers rows Scale args computes h = received-numbers rows (Constant Power ∷ []) args (fits-all_suit rows Scale args h)
+first-numbers rows Cmpnvb args computes h = compared-numbers rows (Keyword Comparison ∷ Constant Label ∷ []) args (fits-all_suit rows Cmpnvb args h)
 first-numbers rows op args computes h = absurd (let e : false ≡ true = computes in cc)
 
 -- so is the third where the instruction has two sources beside its receiver

@@ -10,7 +10,11 @@ use Rattle.s38_base.specs.declared.attr.Attr.TheVariants.{Chars}
 use Rattle.s38_words.specs.Literal.{number_literal, packed_number, text_from, text_literal, text_of}
 use Rattle.s38_words.specs.Number.{number_of}
 use Rattle.s38_code.specs.declared.class.Class.{Class}
-use Rattle.s38_code.specs.declared.class.Class.TheVariants.{NumberSource, NumberReceiver, BytesSource, BytesOrNone, BytesReceiver, PointerSource, PointerReceiver, CellsSource, CellsReceiver, Context, ContextOrList, PointerOrNone, UserOrPublic, Identification, RightsWord, SpecialsWord, LockStateWord, WaitWord, RelationWord, ComparisonWord, OrderWord, SeekWord, PointerKindWord, SwitchWord, Label, WholeLiteral, PowerLiteral, AttributeWord, AttributesWord, ExceptionCode, Handler, TemplateName, JobName, Argument}
+use Rattle.s38_code.specs.declared.class.Class.TheVariants.{NumberSource, NumberReceiver, BytesSource, BytesOrNone, BytesReceiver, PointerSource, PointerReceiver, CellsSource, CellsReceiver, Context, ContextOrList, PointerOrNone, UserOrPublic, Handler, Argument, Constant, Keyword}
+use Rattle.s38_code.specs.declared.class.Constant.{Constant as ConstantClass}
+use Rattle.s38_code.specs.declared.class.Constant.TheVariants as constants
+use Rattle.s38_code.specs.declared.class.Keyword.{Keyword as KeywordClass}
+use Rattle.s38_code.specs.declared.class.Keyword.TheVariants as keywords
 use Rattle.s38_code.specs.declared.program.Arg.{Arg}
 use Rattle.s38_code.specs.declared.program.Arg.TheVariants as args
 use Rattle.s38_code.specs.declared.program.Row.{Row}
@@ -24,7 +28,7 @@ use Rattle.s38_odt.specs.Table.{place_in}
 use Rattle.s38_create.proofs.LabelLemmas.{label_in-bound}
 use Rattle.s38_create.proofs.Parts.{if-some, and_then-some, map-some, or-some}
 use Rattle.s38_create.specs.Names.{instruction_count, label_in}
-use Rattle.s38_create.specs.Parsed.{arg_of, parsed_bytes, given, is_argument, parsed_item, parsed_label, parsed_number, power_of, parsed_operand, parsed_from, size_arg, parsed_star, parsed_word}
+use Rattle.s38_create.specs.Parsed.{arg_of, parsed_bytes, parsed_constant, given, is_argument, parsed_item, parsed_keyword, parsed_label, parsed_number, power_of, parsed_operand, parsed_from, size_arg, parsed_star, parsed_word}
 use Rattle.s38_create.specs.WellFormed.{is_filled, lands_in}
 use Rattle.s38_create.specs.declared.parsed.ParsedOperand.{ParsedOperand}
 use Rattle.s38_create.specs.declared.parsed.ParsedOperand.TheVariants as parsed_as
@@ -114,6 +118,31 @@ star-or-good count rows star arg word good =
 
 -- ---- by class
 
+constant-good : (code : List (List ℕ)) (constant : ConstantClass) (word : List ℕ) → Good (instruction_count code) (parsed_constant code constant word)
+unfolding parsed_constant
+constant-good code constants.Identification word = map-good (instruction_count code) (λ id. parsed_as.Given (args.Ident id)) (id_of word) (λ id _. record { filled = refl; lands = refl })
+constant-good code constants.Label word = label-good code word
+constant-good code constants.Whole word = map-good (instruction_count code) (λ n. parsed_as.Given (size_arg n)) (natural_of word) (λ n _. record { filled = refl; lands = refl })
+constant-good code constants.Power word = map-good (instruction_count code) (λ z. parsed_as.Given (args.Whole (power_of z))) (whole_of word) (λ z _. record { filled = refl; lands = refl })
+constant-good code constants.Attribute word = map-good (instruction_count code) (λ attr. parsed_as.Given (args.Attrs (attr ∷ []))) (attr_of word) (λ attr _. record { filled = refl; lands = refl })
+constant-good code constants.Attributes word = map-good (instruction_count code) (λ attrs. parsed_as.Given (args.Attrs attrs)) (attrs_of word) (λ attrs _. record { filled = refl; lands = refl })
+constant-good code constants.ExceptionCode word = word-good (instruction_count code) (code_of word)
+constant-good code constants.TemplateName word = map-good (instruction_count code) (λ name. parsed_as.Given (args.Text name)) (declared_name word) (λ name _. record { filled = refl; lands = refl })
+constant-good code constants.JobName word = map-good (instruction_count code) (λ name. parsed_as.Given (args.Text name)) (declared_name word) (λ name _. record { filled = refl; lands = refl })
+
+keyword-good : (count : ℕ) (keyword : KeywordClass) (word : List ℕ) → Good count (parsed_keyword keyword word)
+unfolding parsed_keyword
+keyword-good count keywords.Rights word = word-good count (rights_of word)
+keyword-good count keywords.Specials word = word-good count (specials_of word)
+keyword-good count keywords.LockState word = word-good count (lock_state_of word)
+keyword-good count keywords.Wait word = word-good count (wait_of word)
+keyword-good count keywords.Relation word = word-good count (relation_of word)
+keyword-good count keywords.Comparison word = word-good count (relation_of word)
+keyword-good count keywords.Order word = word-good count (order_of word)
+keyword-good count keywords.Seek word = word-good count (seek_of word)
+keyword-good count keywords.PointerKind word = word-good count (pointer_kind_of word)
+keyword-good count keywords.Switch word = word-good count (switch_of word)
+
 pub parsed_operand-good : (rows : List Row) (code : List (List ℕ)) (class : Class) (word : List ℕ) → Good (instruction_count code) (parsed_operand rows code class word)
 unfolding parsed_operand
 parsed_operand-good rows code NumberSource word = number-good (instruction_count code) rows word
@@ -134,27 +163,10 @@ parsed_operand-good rows code ContextOrList word =
     (star-or-good (instruction_count code) rows (codes "*MACHINE") args.MachineContext word (record { filled = refl; lands = refl }))
 parsed_operand-good rows code PointerOrNone word = star-or-good (instruction_count code) rows (codes "*NONE") args.Nothing word (record { filled = refl; lands = refl })
 parsed_operand-good rows code UserOrPublic word = star-or-good (instruction_count code) rows (codes "*PUBLIC") args.Nothing word (record { filled = refl; lands = refl })
-parsed_operand-good rows code Identification word = map-good (instruction_count code) (λ id. parsed_as.Given (args.Ident id)) (id_of word) (λ id _. record { filled = refl; lands = refl })
-parsed_operand-good rows code RightsWord word = word-good (instruction_count code) (rights_of word)
-parsed_operand-good rows code SpecialsWord word = word-good (instruction_count code) (specials_of word)
-parsed_operand-good rows code LockStateWord word = word-good (instruction_count code) (lock_state_of word)
-parsed_operand-good rows code WaitWord word = word-good (instruction_count code) (wait_of word)
-parsed_operand-good rows code RelationWord word = word-good (instruction_count code) (relation_of word)
-parsed_operand-good rows code ComparisonWord word = word-good (instruction_count code) (relation_of word)
-parsed_operand-good rows code OrderWord word = word-good (instruction_count code) (order_of word)
-parsed_operand-good rows code SeekWord word = word-good (instruction_count code) (seek_of word)
-parsed_operand-good rows code PointerKindWord word = word-good (instruction_count code) (pointer_kind_of word)
-parsed_operand-good rows code SwitchWord word = word-good (instruction_count code) (switch_of word)
-parsed_operand-good rows code Label word = label-good code word
-parsed_operand-good rows code WholeLiteral word = map-good (instruction_count code) (λ n. parsed_as.Given (size_arg n)) (natural_of word) (λ n _. record { filled = refl; lands = refl })
-parsed_operand-good rows code PowerLiteral word = map-good (instruction_count code) (λ z. parsed_as.Given (args.Whole (power_of z))) (whole_of word) (λ z _. record { filled = refl; lands = refl })
-parsed_operand-good rows code AttributeWord word = map-good (instruction_count code) (λ attr. parsed_as.Given (args.Attrs (attr ∷ []))) (attr_of word) (λ attr _. record { filled = refl; lands = refl })
-parsed_operand-good rows code AttributesWord word = map-good (instruction_count code) (λ attrs. parsed_as.Given (args.Attrs attrs)) (attrs_of word) (λ attrs _. record { filled = refl; lands = refl })
-parsed_operand-good rows code ExceptionCode word = word-good (instruction_count code) (code_of word)
 parsed_operand-good rows code Handler word = item-good (instruction_count code) rows word
-parsed_operand-good rows code TemplateName word = map-good (instruction_count code) (λ name. parsed_as.Given (args.Text name)) (declared_name word) (λ name _. record { filled = refl; lands = refl })
-parsed_operand-good rows code JobName word = map-good (instruction_count code) (λ name. parsed_as.Given (args.Text name)) (declared_name word) (λ name _. record { filled = refl; lands = refl })
 parsed_operand-good rows code Argument word = item-good (instruction_count code) rows word
+parsed_operand-good rows code (Constant constant) word = constant-good code constant word
+parsed_operand-good rows code (Keyword keyword) word = keyword-good (instruction_count code) keyword word
 
 -- ---- by row
 

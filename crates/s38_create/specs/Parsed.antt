@@ -8,7 +8,11 @@ use Rattle.s38_words.specs.Number.{natural_of, whole_of}
 use Rattle.s38_words.specs.Row.{lock_state_of, order_of, pointer_kind_of, relation_of, rights_of, seek_of, specials_of, switch_of, wait_of}
 use Rattle.s38_words.specs.Text.{is_word, before, behind}
 use Rattle.s38_code.specs.declared.class.Class.{Class}
-use Rattle.s38_code.specs.declared.class.Class.TheVariants.{NumberSource, NumberReceiver, BytesSource, BytesOrNone, BytesReceiver, PointerSource, PointerReceiver, CellsSource, CellsReceiver, Context, ContextOrList, PointerOrNone, UserOrPublic, Identification, RightsWord, SpecialsWord, LockStateWord, WaitWord, RelationWord, ComparisonWord, OrderWord, SeekWord, PointerKindWord, SwitchWord, Label, WholeLiteral, PowerLiteral, AttributeWord, AttributesWord, ExceptionCode, Handler, TemplateName, JobName, Argument}
+use Rattle.s38_code.specs.declared.class.Class.TheVariants.{NumberSource, NumberReceiver, BytesSource, BytesOrNone, BytesReceiver, PointerSource, PointerReceiver, CellsSource, CellsReceiver, Context, ContextOrList, PointerOrNone, UserOrPublic, Handler, Argument, Constant, Keyword}
+use Rattle.s38_code.specs.declared.class.Constant.{Constant as ConstantClass}
+use Rattle.s38_code.specs.declared.class.Constant.TheVariants as constants
+use Rattle.s38_code.specs.declared.class.Keyword.{Keyword as KeywordClass}
+use Rattle.s38_code.specs.declared.class.Keyword.TheVariants as keywords
 use Rattle.s38_code.specs.declared.program.Arg.{Arg}
 use Rattle.s38_code.specs.declared.program.Arg.TheVariants as args
 use Rattle.s38_code.specs.declared.program.Row.{Row}
@@ -72,6 +76,31 @@ parsed_attributes word = option_map (λ attrs. parsed_as.Given (args.Attrs attrs
 
 -- ---- by class
 
+-- what is written out in the program
+unfoldable pub parsed_constant : List (List ℕ) → ConstantClass → List ℕ → Option ParsedOperand
+parsed_constant code constants.Identification word = parsed_id word
+parsed_constant code constants.Label word = parsed_label code word
+parsed_constant code constants.Whole word = parsed_size word
+parsed_constant code constants.Power word = parsed_power word
+parsed_constant code constants.Attribute word = parsed_attribute word
+parsed_constant code constants.Attributes word = parsed_attributes word
+parsed_constant code constants.ExceptionCode word = parsed_word (code_of word)
+parsed_constant code constants.TemplateName word = parsed_name word
+parsed_constant code constants.JobName word = parsed_name word
+
+-- a word of a fixed list
+unfoldable pub parsed_keyword : KeywordClass → List ℕ → Option ParsedOperand
+parsed_keyword keywords.Rights word = parsed_word (rights_of word)
+parsed_keyword keywords.Specials word = parsed_word (specials_of word)
+parsed_keyword keywords.LockState word = parsed_word (lock_state_of word)
+parsed_keyword keywords.Wait word = parsed_word (wait_of word)
+parsed_keyword keywords.Relation word = parsed_word (relation_of word)
+parsed_keyword keywords.Comparison word = parsed_word (relation_of word)
+parsed_keyword keywords.Order word = parsed_word (order_of word)
+parsed_keyword keywords.Seek word = parsed_word (seek_of word)
+parsed_keyword keywords.PointerKind word = parsed_word (pointer_kind_of word)
+parsed_keyword keywords.Switch word = parsed_word (switch_of word)
+
 unfoldable pub parsed_operand : List Row → List (List ℕ) → Class → List ℕ → Option ParsedOperand
 parsed_operand rows code NumberSource word = parsed_number rows word
 parsed_operand rows code NumberReceiver word = parsed_item rows word
@@ -88,27 +117,10 @@ parsed_operand rows code ContextOrList word =
     (option_or (parsed_star (codes "*MACHINE") args.MachineContext word) (parsed_item rows word))
 parsed_operand rows code PointerOrNone word = option_or (parsed_star (codes "*NONE") args.Nothing word) (parsed_item rows word)
 parsed_operand rows code UserOrPublic word = option_or (parsed_star (codes "*PUBLIC") args.Nothing word) (parsed_item rows word)
-parsed_operand rows code Identification word = parsed_id word
-parsed_operand rows code RightsWord word = parsed_word (rights_of word)
-parsed_operand rows code SpecialsWord word = parsed_word (specials_of word)
-parsed_operand rows code LockStateWord word = parsed_word (lock_state_of word)
-parsed_operand rows code WaitWord word = parsed_word (wait_of word)
-parsed_operand rows code RelationWord word = parsed_word (relation_of word)
-parsed_operand rows code ComparisonWord word = parsed_word (relation_of word)
-parsed_operand rows code OrderWord word = parsed_word (order_of word)
-parsed_operand rows code SeekWord word = parsed_word (seek_of word)
-parsed_operand rows code PointerKindWord word = parsed_word (pointer_kind_of word)
-parsed_operand rows code SwitchWord word = parsed_word (switch_of word)
-parsed_operand rows code Label word = parsed_label code word
-parsed_operand rows code WholeLiteral word = parsed_size word
-parsed_operand rows code PowerLiteral word = parsed_power word
-parsed_operand rows code AttributeWord word = parsed_attribute word
-parsed_operand rows code AttributesWord word = parsed_attributes word
-parsed_operand rows code ExceptionCode word = parsed_word (code_of word)
 parsed_operand rows code Handler word = parsed_item rows word
-parsed_operand rows code TemplateName word = parsed_name word
-parsed_operand rows code JobName word = parsed_name word
 parsed_operand rows code Argument word = parsed_item rows word
+parsed_operand rows code (Constant constant) word = parsed_constant code constant word
+parsed_operand rows code (Keyword keyword) word = parsed_keyword keyword word
 
 -- ---- by row
 

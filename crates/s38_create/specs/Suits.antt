@@ -6,7 +6,11 @@ use Rattle.s38_base.specs.Scalar.{is_bounded, is_numeric, is_pointer_attr, lengt
 use Rattle.s38_base.specs.declared.attr.Attr.{Attr}
 use Rattle.s38_base.specs.declared.attr.Attr.TheVariants.{Packed, Zoned, Binary, Chars, Pointer}
 use Rattle.s38_code.specs.declared.class.Class.{Class}
-use Rattle.s38_code.specs.declared.class.Class.TheVariants.{NumberSource, NumberReceiver, BytesSource, BytesOrNone, BytesReceiver, PointerSource, PointerReceiver, CellsSource, CellsReceiver, Context, ContextOrList, PointerOrNone, UserOrPublic, Identification, RightsWord, SpecialsWord, LockStateWord, WaitWord, RelationWord, ComparisonWord, OrderWord, SeekWord, PointerKindWord, SwitchWord, Label, WholeLiteral, PowerLiteral, AttributeWord, AttributesWord, ExceptionCode, Handler, TemplateName, JobName, Argument}
+use Rattle.s38_code.specs.declared.class.Class.TheVariants.{NumberSource, NumberReceiver, BytesSource, BytesOrNone, BytesReceiver, PointerSource, PointerReceiver, CellsSource, CellsReceiver, Context, ContextOrList, PointerOrNone, UserOrPublic, Handler, Argument, Constant, Keyword}
+use Rattle.s38_code.specs.declared.class.Constant.{Constant as ConstantClass}
+use Rattle.s38_code.specs.declared.class.Constant.TheVariants as constants
+use Rattle.s38_code.specs.declared.class.Keyword.{Keyword as KeywordClass}
+use Rattle.s38_code.specs.declared.class.Keyword.TheVariants as keywords
 use Rattle.s38_code.specs.declared.program.Arg.{Arg}
 use Rattle.s38_code.specs.declared.program.Arg.TheVariants as args
 use Rattle.s38_code.specs.declared.program.Form.{Form}
@@ -166,6 +170,23 @@ attrs_suit suits _ = false
 
 -- ---- by class
 
+-- what is written out in the program
+unfoldable pub constant_suits : ConstantClass → Arg → Bool
+constant_suits constants.Identification arg = is_id arg
+constant_suits constants.Label arg = is_jump arg
+constant_suits constants.Whole arg = is_size arg
+constant_suits constants.Power arg = is_power arg
+constant_suits constants.Attribute arg = attrs_suit is_one_scalar arg
+constant_suits constants.Attributes arg = attrs_suit are_fields arg
+constant_suits constants.ExceptionCode arg = is_word arg
+constant_suits constants.TemplateName arg = is_name arg
+constant_suits constants.JobName arg = is_name arg
+
+-- a word of a fixed list, and of the relations the first six where two values are compared
+unfoldable pub keyword_suits : KeywordClass → Arg → Bool
+keyword_suits keywords.Comparison arg = is_word_to 5 arg
+keyword_suits _ arg = is_word arg
+
 unfoldable pub suits : List Row → Class → Arg → Bool
 suits rows NumberSource arg = is_number (operand_attr rows arg)
 suits rows NumberReceiver arg = is_number (item_attr rows arg)
@@ -180,27 +201,10 @@ suits rows Context arg = is_machine arg || is_pointer (item_attr rows arg)
 suits rows ContextOrList arg = is_list arg || (is_machine arg || is_pointer (item_attr rows arg))
 suits rows PointerOrNone arg = is_nothing arg || is_pointer (item_attr rows arg)
 suits rows UserOrPublic arg = is_nothing arg || is_pointer (item_attr rows arg)
-suits rows Identification arg = is_id arg
-suits rows RightsWord arg = is_word arg
-suits rows SpecialsWord arg = is_word arg
-suits rows LockStateWord arg = is_word arg
-suits rows WaitWord arg = is_word arg
-suits rows RelationWord arg = is_word arg
-suits rows ComparisonWord arg = is_word_to 5 arg
-suits rows OrderWord arg = is_word arg
-suits rows SeekWord arg = is_word arg
-suits rows PointerKindWord arg = is_word arg
-suits rows SwitchWord arg = is_word arg
-suits rows Label arg = is_jump arg
-suits rows WholeLiteral arg = is_size arg
-suits rows PowerLiteral arg = is_power arg
-suits rows AttributeWord arg = attrs_suit is_one_scalar arg
-suits rows AttributesWord arg = attrs_suit are_fields arg
-suits rows ExceptionCode arg = is_word arg
 suits rows Handler arg = item_suits is_handler rows arg
-suits rows TemplateName arg = is_name arg
-suits rows JobName arg = is_name arg
 suits rows Argument arg = item_suits can_be_passed rows arg
+suits rows (Constant constant) arg = constant_suits constant arg
+suits rows (Keyword keyword) arg = keyword_suits keyword arg
 
 -- an operand for each class, each in its place; arguments at the end may be left out
 abbrev pub all_suit : List Row → List Class → List Arg → Bool

@@ -2,7 +2,7 @@ ghost use Rattle.std.specs.Prelude.{◌≡◌, IfOk, codes};
 ghost use Rattle.std.specs.Option.{option_or};
 ghost use Rattle.s38_code.specs.declared.program.Arg.TheVariants as args;
 ghost use Rattle.s38_create.specs.Labels.{HasLabels};
-ghost use Rattle.s38_create.specs.Parsed.{parsed_bytes, parsed_item, parsed_operand, parsed_star};
+ghost use Rattle.s38_create.specs.Parsed.{parsed_bytes, parsed_constant, parsed_item, parsed_keyword, parsed_operand, parsed_star};
 
 use crate::forms::{
     parsed_attribute, parsed_attributes, parsed_byte, parsed_bytes, parsed_code, parsed_id,
@@ -12,7 +12,7 @@ use crate::forms::{
 use crate::parsed::ParsedOperand;
 use crate::scope::Scope;
 use s38_base::NoMemory;
-use s38_code::{Arg, Class};
+use s38_code::{Arg, Class, Constant, Keyword};
 use s38_words::{lock_state, order, pointer_kind, relation, rights, seek, specials, switch, wait};
 use std::alloc::Global;
 
@@ -48,6 +48,47 @@ fn context_or_list(scope: &Scope, word: &[u8]) -> Option<ParsedOperand>
     }
 }
 
+/// What a word says that is written out in the program; None where it says nothing there.
+#[tactic(auto, unfolding(crate::specs::Parsed::parsed_constant))]
+fn parsed_constant(
+    alloc: Global,
+    scope: &Scope,
+    constant: Constant,
+    word: &[u8],
+) -> Result<Option<ParsedOperand>, NoMemory>
+    requires { HasLabels scope.now.code.now scope.now.labels }
+    ensures { IfOk result (λ operand. operand ≡ parsed_constant scope.now.code.now constant word.now) }
+{
+    match constant {
+        Constant::Identification => Ok(parsed_id(word)),
+        Constant::Label => Ok(parsed_label(scope, word)),
+        Constant::Whole => Ok(parsed_size(word)),
+        Constant::Power => Ok(parsed_power(word)),
+        Constant::Attribute => parsed_attribute(alloc, word),
+        Constant::Attributes => parsed_attributes(alloc, word),
+        Constant::ExceptionCode => Ok(parsed_code(word)),
+        Constant::TemplateName | Constant::JobName => Ok(parsed_name(word)),
+    }
+}
+
+/// What a word of a fixed list says; None where it is not on the list.
+#[tactic(auto, unfolding(crate::specs::Parsed::parsed_keyword))]
+fn parsed_keyword(keyword: Keyword, word: &[u8]) -> Option<ParsedOperand>
+    ensures { result ≡ parsed_keyword keyword word.now }
+{
+    match keyword {
+        Keyword::Rights => parsed_byte(rights(word)),
+        Keyword::Specials => parsed_byte(specials(word)),
+        Keyword::LockState => parsed_word(lock_state(word)),
+        Keyword::Wait => parsed_word(wait(word)),
+        Keyword::Relation | Keyword::Comparison => parsed_word(relation(word)),
+        Keyword::Order => parsed_word(order(word)),
+        Keyword::Seek => parsed_word(seek(word)),
+        Keyword::PointerKind => parsed_word(pointer_kind(word)),
+        Keyword::Switch => parsed_word(switch(word)),
+    }
+}
+
 /// What a word says at a place of a class; None where it says nothing there.
 #[tactic(auto, unfolding(crate::specs::Parsed::parsed_operand))]
 pub fn parsed_operand(
@@ -63,8 +104,6 @@ pub fn parsed_operand(
         Class::NumberSource => parsed_number(alloc, scope, word),
         Class::BytesSource => parsed_bytes(alloc, scope, word),
         Class::BytesOrNone => bytes_or_none(alloc, scope, word),
-        Class::AttributeWord => parsed_attribute(alloc, word),
-        Class::AttributesWord => parsed_attributes(alloc, word),
         Class::NumberReceiver
         | Class::BytesReceiver
         | Class::PointerSource
@@ -77,20 +116,7 @@ pub fn parsed_operand(
         Class::ContextOrList => Ok(context_or_list(scope, word)),
         Class::PointerOrNone => Ok(star_or_item(scope, b"*NONE", Arg::Nothing, word)),
         Class::UserOrPublic => Ok(star_or_item(scope, b"*PUBLIC", Arg::Nothing, word)),
-        Class::Label => Ok(parsed_label(scope, word)),
-        Class::Identification => Ok(parsed_id(word)),
-        Class::WholeLiteral => Ok(parsed_size(word)),
-        Class::PowerLiteral => Ok(parsed_power(word)),
-        Class::ExceptionCode => Ok(parsed_code(word)),
-        Class::TemplateName | Class::JobName => Ok(parsed_name(word)),
-        Class::RightsWord => Ok(parsed_byte(rights(word))),
-        Class::SpecialsWord => Ok(parsed_byte(specials(word))),
-        Class::LockStateWord => Ok(parsed_word(lock_state(word))),
-        Class::WaitWord => Ok(parsed_word(wait(word))),
-        Class::RelationWord | Class::ComparisonWord => Ok(parsed_word(relation(word))),
-        Class::OrderWord => Ok(parsed_word(order(word))),
-        Class::SeekWord => Ok(parsed_word(seek(word))),
-        Class::PointerKindWord => Ok(parsed_word(pointer_kind(word))),
-        Class::SwitchWord => Ok(parsed_word(switch(word))),
+        Class::Constant(constant) => parsed_constant(alloc, scope, constant, word),
+        Class::Keyword(keyword) => Ok(parsed_keyword(keyword, word)),
     }
 }

@@ -1,5 +1,5 @@
 ghost use Rattle.std.specs.Prelude.{◌≡◌};
-ghost use Rattle.s38_create.specs.Suits.{all_suit, suits};
+ghost use Rattle.s38_create.specs.Suits.{all_suit, constant_suits, keyword_suits, suits};
 
 use crate::attributes::{are_bytes, is_number, is_pointer, item_attr, operand_attr};
 use crate::items::{item_can_be_passed, item_has_cells, item_is_handler};
@@ -8,10 +8,38 @@ use crate::shapes::{
     is_attribute, is_fields, is_id, is_jump, is_list, is_machine, is_name, is_nothing, is_power,
     is_size, is_word, is_word_to,
 };
-use s38_code::{Arg, Class, Row};
+use s38_code::{Arg, Class, Constant, Keyword, Row};
 
 /// The number of the last relation of two values.
 const LAST_COMPARISON: u32 = 5;
+
+/// Whether an operand suits a place where this is written out in the program.
+#[tactic(auto, unfolding(crate::specs::Suits::constant_suits))]
+fn suits_constant(constant: Constant, arg: &Arg) -> bool
+    ensures { result ≡ constant_suits constant arg.now }
+{
+    match constant {
+        Constant::Identification => is_id(arg),
+        Constant::Label => is_jump(arg),
+        Constant::Whole => is_size(arg),
+        Constant::Power => is_power(arg),
+        Constant::Attribute => is_attribute(arg),
+        Constant::Attributes => is_fields(arg),
+        Constant::ExceptionCode => is_word(arg),
+        Constant::TemplateName | Constant::JobName => is_name(arg),
+    }
+}
+
+/// Whether an operand suits a place of a word of this list.
+#[tactic(auto, unfolding(crate::specs::Suits::keyword_suits))]
+fn suits_keyword(keyword: Keyword, arg: &Arg) -> bool
+    ensures { result ≡ keyword_suits keyword arg.now }
+{
+    match keyword {
+        Keyword::Comparison => is_word_to(LAST_COMPARISON, arg),
+        _ => is_word(arg),
+    }
+}
 
 /// Whether an operand suits a place of a class, by the declared attributes.
 #[tactic(auto, unfolding(crate::specs::Suits::suits))]
@@ -33,26 +61,10 @@ fn suits(rows: &[Row], class: Class, arg: &Arg) -> bool
         Class::PointerOrNone | Class::UserOrPublic => {
             is_nothing(arg) || is_pointer(item_attr(rows, arg))
         }
-        Class::Identification => is_id(arg),
-        Class::RightsWord
-        | Class::SpecialsWord
-        | Class::LockStateWord
-        | Class::WaitWord
-        | Class::RelationWord
-        | Class::OrderWord
-        | Class::SeekWord
-        | Class::PointerKindWord
-        | Class::SwitchWord
-        | Class::ExceptionCode => is_word(arg),
-        Class::ComparisonWord => is_word_to(LAST_COMPARISON, arg),
-        Class::Label => is_jump(arg),
-        Class::WholeLiteral => is_size(arg),
-        Class::PowerLiteral => is_power(arg),
-        Class::AttributeWord => is_attribute(arg),
-        Class::AttributesWord => is_fields(arg),
         Class::Handler => item_is_handler(rows, arg),
-        Class::TemplateName | Class::JobName => is_name(arg),
         Class::Argument => item_can_be_passed(rows, arg),
+        Class::Constant(constant) => suits_constant(constant, arg),
+        Class::Keyword(keyword) => suits_keyword(keyword, arg),
     }
 }
 
