@@ -15,8 +15,9 @@ use Rattle.s38_code.specs.declared.reply.Reply.{Reply}
 use Rattle.s38_code.specs.declared.reply.Reply.TheVariants.{Done, Signal, MustWait}
 use Rattle.s38_process.specs.declared.status.Status.{Status}
 use Rattle.s38_process.specs.declared.status.Status.TheVariants.{Fresh, Running, Ending, Ended}
+use Rattle.s38_process.specs.Exceptions.{label_for}
 use Rattle.s38_process.specs.Requests.{request_of}
-use Rattle.s38_process.specs.Process.{ProcessState, RanFrom, absorbed, acts, after_act, after_asked, after_end, after_event, after_start, asks, local_by, begun_by, behind, code_in, ends_by_finish, event_of, is_finish, is_return, returns, rows_in, settled}
+use Rattle.s38_process.specs.Process.{ProcessState, RanFrom, absorbed, acts, after_act, after_asked, after_end, after_event, after_start, after_signal_by, alone_by, asks, begun_by, behind, code_in, ends_by_finish, event_of, is_finish, is_return, returns, rows_in, settled}
 use Rattle.s38_process.proofs.Alone.{IsLater, Moves, settled_later, settled_still}
 use Rattle.s38_run.specs.Running.{left, left_by}
 
@@ -46,7 +47,7 @@ of_next : (d : ProcessState) (i : Option Instruction) (e : Event) → d.status �
 of_next d None e running room h = inr (inl (rw (left_running d running) (omega arith), (_, sym h)))
 of_next d (Some i) e running room h = of_act d (is_return i.op) i e running room h
 
-of_runs : (d : ProcessState) (b : Bool) (e : Event) → nat_le d.budget d.done ≡ b → d.status ≡ Running → cond b (Finish causes.Budget) (acts d (slice_get (code_in d.made) d.at)) ≡ e → Asks d e
+of_runs : (d : ProcessState) (b : Bool) (e : Event) → nat_le d.budget d.done ≡ b → d.status ≡ Running → cond b (Finish causes.Budget) (acts d (slice_get (code_in d.made) d.frame.at)) ≡ e → Asks d e
 of_runs d true e test running h = inr (inl (rw (left_running d running) (omega arith), (causes.Budget, sym h)))
 of_runs d false e test running h = of_next d _ e running (grind (arith, nat_tests)) h
 
@@ -79,9 +80,13 @@ end_falls d (Done vs) w h = h
 end_falls d (Signal x) w h = h
 end_falls d MustWait w h = absurd (w refl)
 
+signal_falls : (d : ProcessState) (code : ℕ) (o : Option ℕ) → d.status ≡ Running → d.done < d.budget → left (after_signal_by d code o) < left d
+signal_falls d code None running room = rw (left_running d running) (omega arith)
+signal_falls d code (Some at) running room = rw running (omega arith)
+
 act_falls : (d : ProcessState) (r : Reply) → r ≢ MustWait → d.status ≡ Running → d.done < d.budget → left (after_act d r) < left d
 act_falls d (Done vs) w running room = rw running (omega arith)
-act_falls d (Signal x) w running room = rw (left_running d running) (omega arith)
+act_falls d (Signal x) w running room = signal_falls d x.id (label_for (rows_in d.made) d.frame.on x.id) running room
 act_falls d MustWait w running room = absurd (w refl)
 
 -- also where its template was refused
@@ -159,9 +164,13 @@ end_leaves d (Done vs) w = λ h. cc
 end_leaves d (Signal x) w = λ h. cc
 end_leaves d MustWait w = absurd (w refl)
 
+signal_leaves : (d : ProcessState) (code : ℕ) (o : Option ℕ) → d.status ≡ Running → (after_signal_by d code o).status ≢ Fresh
+signal_leaves d code None running = λ h. cc
+signal_leaves d code (Some at) running = λ h. cc
+
 act_leaves : (d : ProcessState) (r : Reply) → r ≢ MustWait → d.status ≡ Running → (after_act d r).status ≢ Fresh
 act_leaves d (Done vs) w running = λ h. cc
-act_leaves d (Signal x) w running = λ h. cc
+act_leaves d (Signal x) w running = signal_leaves d x.id (label_for (rows_in d.made) d.frame.on x.id) running
 act_leaves d MustWait w running = absurd (w refl)
 
 leaves_by : (d : ProcessState) (e : Event) (r : Reply) → r ≢ MustWait → Asks d e → (after_event d e r).status ≢ Fresh
@@ -186,9 +195,13 @@ start_goes d (Done vs) is = begun_goes d.made
 start_goes d (Signal x) is = λ h. cc
 start_goes d MustWait is = λ h. cc
 
+signal_goes : (d : ProcessState) (code : ℕ) (o : Option ℕ) → d.status ≡ Running → (after_signal_by d code o).status ≢ Ended
+signal_goes d code None running = λ h. cc
+signal_goes d code (Some at) running = λ h. cc
+
 act_goes : (d : ProcessState) (r : Reply) → d.status ≡ Running → (after_act d r).status ≢ Ended
 act_goes d (Done vs) is = λ h. cc
-act_goes d (Signal x) is = λ h. cc
+act_goes d (Signal x) is = signal_goes d x.id (label_for (rows_in d.made) d.frame.on x.id) is
 act_goes d MustWait is = λ h. cc
 
 ended_by : (d : ProcessState) (e : Event) (r : Reply) → Asks d e → (after_event d e r).status ≡ Ended → is_finish e ≡ true
@@ -210,7 +223,7 @@ end_is d (Signal x) w = refl
 end_is d MustWait w = absurd (w refl)
 
 ended_stays : (d : ProcessState) → d.status ≡ Ended → (settled d).status ≡ Ended
-ended_stays d h = ap (λ (x : ProcessState). x.status) (settled_still d (ap (local_by d) h)) ∙ h
+ended_stays d h = ap (λ (x : ProcessState). x.status) (settled_still d (ap (alone_by d) h)) ∙ h
 
 finish_by : (d : ProcessState) (e : Event) (r : Reply) → r ≢ MustWait → is_finish e ≡ true → (after_event d e r).status ≡ Ended
 finish_by d Start r w f = cc
