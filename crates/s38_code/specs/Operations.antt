@@ -354,10 +354,6 @@ family_of Descb = Journals
 
 -- these are not built yet
 unfoldable pub is_built : Op → Bool
-is_built Calli = false
-is_built Sigexcp = false
-is_built Retexcpd = false
-is_built Modexcpd = false
 is_built Crtctx = false
 is_built Modadr = false
 is_built Rename = false

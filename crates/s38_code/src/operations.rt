@@ -479,10 +479,6 @@ pub fn is_built(op: Op) -> bool
     ensures { result ≡ is_built op }
 {
     match op {
-        Op::Calli => false,
-        Op::Sigexcp => false,
-        Op::Retexcpd => false,
-        Op::Modexcpd => false,
         Op::Crtctx => false,
         Op::Modadr => false,
         Op::Rename => false,

@@ -12,11 +12,11 @@ use Rattle.s38_code.specs.declared.program.CreateFault.{CreateFault}
 use Rattle.s38_code.specs.declared.program.CreateFault.TheVariants.{Bad}
 use Rattle.s38_code.specs.declared.program.Instruction.{Instruction}
 use Rattle.s38_code.specs.declared.program.Row.{Row}
-use Rattle.s38_create.proofs.LabelLemmas.{instruction_count-label, instruction_count-more}
+use Rattle.s38_odt.proofs.LabelLemmas.{instruction_count-label, instruction_count-more}
 use Rattle.s38_create.proofs.Parts.{and-both, if-some, no-cause}
 use Rattle.s38_create.proofs.ParsedLemmas.{parsed_operand-good, parsed_from-all}
 use Rattle.s38_create.specs.Instruction.{are_words_built, by_act, by_parsed, cause_of, checked, code_from, instruction_from, instruction_of, is_taken, parsed_of, result_and_then, unless}
-use Rattle.s38_create.specs.Names.{instruction_count, is_label}
+use Rattle.s38_odt.specs.Labels.{instruction_count, is_label}
 use Rattle.s38_create.specs.Parsed.{arg_of, is_declared, is_placed, parsed_from}
 use Rattle.s38_create.specs.Suits.{all_suit}
 use Rattle.s38_create.specs.OperandRules.{digits_needed, fits, is_of_kind, keeps_rule}
@@ -133,10 +133,11 @@ code_from-fits rows code made (line ∷ lines) out fit h =
 
 -- a program of such declarations and of this code is well formed
 pub program-well_formed : (template : List (List ℕ)) (head : Head) (rows : List Row) (code : List (List ℕ)) (made : List Instruction) →
-    length rows ≤ 1024 → AreFormed rows → instruction_count code ≤ 16384 → code_from rows code [] code ≡ Ok made →
+    length rows ≤ 1024 → AreFormed (instruction_count code) rows → instruction_count code ≤ 16384 → code_from rows code [] code ≡ Ok made →
     WellFormed (program template head rows made)
 program-well_formed template head rows code made few formed small h =
     let fit = code_from-fits rows code [] code made (All-nil (InstructionFits rows (instruction_count code))) h in
     let long : length made ≡ instruction_count code = fit.1 ∙ omega arith in
     let P : ℕ → Type 0 = λ n. All (InstructionFits rows n) made in
-    record { few_rows = few; formed = formed; few_instructions = omega arith; fits = subst P (sym long) fit.0 }
+    let Q : ℕ → Type 0 = λ n. AreFormed n rows in
+    record { few_rows = few; formed = subst Q (sym long) formed; few_instructions = omega arith; fits = subst P (sym long) fit.0 }

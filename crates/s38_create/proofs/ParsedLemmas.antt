@@ -25,9 +25,9 @@ use Rattle.s38_words.specs.Row.{lock_state_of, order_of, pointer_kind_of, relati
 use Rattle.s38_words.specs.Text.{before, behind, is_word}
 use Rattle.std.specs.Prelude.{codes}
 use Rattle.s38_odt.specs.Table.{place_in}
-use Rattle.s38_create.proofs.LabelLemmas.{label_in-bound}
+use Rattle.s38_odt.proofs.LabelLemmas.{label_in-bound}
 use Rattle.s38_create.proofs.Parts.{if-some, and_then-some, map-some, or-some}
-use Rattle.s38_create.specs.Names.{instruction_count, label_in}
+use Rattle.s38_odt.specs.Labels.{instruction_count, label_in}
 use Rattle.s38_create.specs.Parsed.{arg_of, parsed_bytes, parsed_constant, given, is_argument, parsed_item, parsed_keyword, parsed_label, parsed_number, power_of, parsed_operand, parsed_from, size_arg, parsed_star, parsed_word}
 use Rattle.s38_create.specs.WellFormed.{is_filled, lands_in}
 use Rattle.s38_create.specs.declared.parsed.ParsedOperand.{ParsedOperand}

@@ -10,7 +10,7 @@ use Rattle.s38_code.specs.declared.program.Program.{Program}
 use Rattle.s38_code.specs.declared.program.Row.{Row}
 use Rattle.s38_create.specs.Created.{code, created, created_by, created_inner, declarations, inner, is_ended, is_small, line_at, program, with_rows}
 use Rattle.s38_create.specs.Instruction.{by_act, by_parsed, code_from, instruction_from, instruction_of, parsed_of, result_and_then, unless}
-use Rattle.s38_create.specs.Names.{is_label}
+use Rattle.s38_odt.specs.Labels.{is_label}
 use Rattle.s38_words.specs.declared.program_lines.Head.{Head}
 use Rattle.s38_create.specs.declared.parsed.ParsedOperand.{ParsedOperand}
 use Rattle.s38_odt.specs.Table.{and_then, more_rows, row_of, rows_from, rows_of}
@@ -36,15 +36,15 @@ more_rows-decided : (rows : List Row) (r : Result Row ℕ) → Decided (more_row
 more_rows-decided rows (Err cause) h = bad-decided {A = List Row} cause (length rows + 1) h
 more_rows-decided rows (Ok row) h = ok-decided (rows ++ row ∷ []) h
 
-rows_from-decided : (rows : List Row) (lines : List (List ℕ)) → Decided (rows_from rows lines)
-rows_from-decided rows [] h = ok-decided rows h
-rows_from-decided rows (line ∷ lines) h =
-    and_then-decided (more_rows rows (row_of rows line)) (λ more. rows_from more lines)
-    (more_rows-decided rows (row_of rows line)) (λ more. rows_from-decided more lines) h
+rows_from-decided : (code : List (List ℕ)) (rows : List Row) (lines : List (List ℕ)) → Decided (rows_from code rows lines)
+rows_from-decided code rows [] h = ok-decided rows h
+rows_from-decided code rows (line ∷ lines) h =
+    and_then-decided (more_rows rows (row_of code rows line)) (λ more. rows_from code more lines)
+    (more_rows-decided rows (row_of code rows line)) (λ more. rows_from-decided code more lines) h
 
-rows_of-decided : (lines : List (List ℕ)) → Decided (rows_of lines)
+rows_of-decided : (code lines : List (List ℕ)) → Decided (rows_of code lines)
 unfolding rows_of
-rows_of-decided lines = rows_from-decided [] lines
+rows_of-decided code lines = rows_from-decided code [] lines
 
 -- ---- instructions
 
@@ -91,8 +91,8 @@ with_rows-decided lines head code rows =
 
 created_inner-decided : (lines : List (List ℕ)) (head : Head) (body : List (List ℕ)) → Decided (created_inner lines head body)
 created_inner-decided lines head body =
-    if-decided (is_small body) (result_and_then (with_rows lines head (code body)) (rows_of (declarations body))) (Err (Bad exceptions.operands_invalid 0))
-    (result_and_then-decided (with_rows lines head (code body)) (rows_of (declarations body)) (with_rows-decided lines head (code body)) (rows_of-decided (declarations body)))
+    if-decided (is_small body) (result_and_then (with_rows lines head (code body)) (rows_of (code body) (declarations body))) (Err (Bad exceptions.operands_invalid 0))
+    (result_and_then-decided (with_rows lines head (code body)) (rows_of (code body) (declarations body)) (with_rows-decided lines head (code body)) (rows_of-decided (code body) (declarations body)))
     (bad-decided {A = Program} exceptions.operands_invalid 0)
 
 created_by-decided : (lines : List (List ℕ)) (o : Option Head) → Decided (created_by lines o)

@@ -12,7 +12,7 @@ use Rattle.s38_code.specs.declared.program.Instruction.{Instruction}
 use Rattle.s38_code.specs.declared.program.Program.{Program}
 use Rattle.s38_code.specs.declared.program.Row.{Row}
 use Rattle.s38_create.specs.Instruction.{code_from, result_and_then}
-use Rattle.s38_create.specs.Names.{instruction_count}
+use Rattle.s38_odt.specs.Labels.{instruction_count}
 use Rattle.s38_odt.specs.Table.{rows_of}
 
 -- ---- lines
@@ -59,10 +59,10 @@ with_code lines head rows instructions = result_and_then (λ code. Ok (program l
 abbrev pub with_rows : List (List ℕ) → Head → List (List ℕ) → List Row → Result Program CreateFault
 with_rows lines head code rows = with_code lines head rows (code_from rows code [] code)
 
--- the declarations come before the code
+-- the declarations come before the code, and see its labels
 abbrev pub created_inner : List (List ℕ) → Head → List (List ℕ) → Result Program CreateFault
 created_inner lines head body =
-    if is_small body then result_and_then (with_rows lines head (code body)) (rows_of (declarations body)) else no_template
+    if is_small body then result_and_then (with_rows lines head (code body)) (rows_of (code body) (declarations body)) else no_template
 
 abbrev pub created_by : List (List ℕ) → Option Head → Result Program CreateFault
 created_by lines None = no_template

@@ -8,7 +8,7 @@ use Rattle.s38_code.specs.declared.program.CreateFault.{CreateFault}
 use Rattle.s38_code.specs.declared.program.CreateFault.TheVariants.{Bad}
 use Rattle.s38_code.specs.declared.program.Instruction.{Instruction}
 use Rattle.s38_code.specs.declared.program.Row.{Row}
-use Rattle.s38_create.specs.Names.{is_label}
+use Rattle.s38_odt.specs.Labels.{is_label}
 use Rattle.s38_create.specs.Parsed.{arg_of, is_declared, is_placed, parsed_from}
 use Rattle.s38_create.specs.Suits.{is_natural_to}
 use Rattle.s38_create.specs.OperandRules.{digits_needed, fits, nothing_at, whole_at, word_at}

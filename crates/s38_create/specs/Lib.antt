@@ -1,8 +1,6 @@
 pub mod Checked
 pub mod Created
 pub mod Instruction
-pub mod Labels
-pub mod Names
 pub mod OperandRules
 pub mod Parsed
 pub mod Suits

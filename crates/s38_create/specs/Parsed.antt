@@ -16,7 +16,7 @@ use Rattle.s38_code.specs.declared.class.Keyword.TheVariants as keywords
 use Rattle.s38_code.specs.declared.program.Arg.{Arg}
 use Rattle.s38_code.specs.declared.program.Arg.TheVariants as args
 use Rattle.s38_code.specs.declared.program.Row.{Row}
-use Rattle.s38_create.specs.Names.{label_in}
+use Rattle.s38_odt.specs.Labels.{label_in}
 use Rattle.s38_odt.specs.Table.{place_in}
 use Rattle.s38_create.specs.declared.parsed.ParsedOperand.{ParsedOperand}
 use Rattle.s38_create.specs.declared.parsed.ParsedOperand.TheVariants as parsed_as

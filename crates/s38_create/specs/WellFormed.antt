@@ -39,6 +39,6 @@ pub record InstructionFits (rows : List Row) (count : ℕ) (instruction : Instru
 
 pub record WellFormed (program : Program) : Type 0 where
   pub few_rows : length program.rows ≤ 1024
-  pub formed : AreFormed program.rows
+  pub formed : AreFormed (length program.code) program.rows
   pub few_instructions : length program.code ≤ 16384
   pub fits : All (InstructionFits program.rows (length program.code)) program.code

@@ -1,7 +1,6 @@
 ghost use Rattle.std.specs.Prelude.{◌≡◌, IfOk, codes};
 ghost use Rattle.std.specs.Option.{option_or};
 ghost use Rattle.s38_code.specs.declared.program.Arg.TheVariants as args;
-ghost use Rattle.s38_create.specs.Labels.{HasLabels};
 ghost use Rattle.s38_create.specs.Parsed.{parsed_bytes, parsed_constant, parsed_item, parsed_keyword, parsed_operand, parsed_star};
 
 use crate::forms::{
@@ -56,8 +55,7 @@ fn parsed_constant(
     constant: Constant,
     word: &[u8],
 ) -> Result<Option<ParsedOperand>, NoMemory>
-    requires { HasLabels scope.now.code.now scope.now.labels }
-    ensures { IfOk result (λ operand. operand ≡ parsed_constant scope.now.code.now constant word.now) }
+    ensures { IfOk result (λ operand. operand ≡ parsed_constant scope.now.code constant word.now) }
 {
     match constant {
         Constant::Identification => Ok(parsed_id(word)),
@@ -97,8 +95,7 @@ pub fn parsed_operand(
     class: Class,
     word: &[u8],
 ) -> Result<Option<ParsedOperand>, NoMemory>
-    requires { HasLabels scope.now.code.now scope.now.labels }
-    ensures { IfOk result (λ operand. operand ≡ parsed_operand scope.now.table scope.now.code.now class word.now) }
+    ensures { IfOk result (λ operand. operand ≡ parsed_operand scope.now.table scope.now.code class word.now) }
 {
     match class {
         Class::NumberSource => parsed_number(alloc, scope, word),

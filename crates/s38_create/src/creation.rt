@@ -1,16 +1,15 @@
 ghost use Rattle.std.specs.Prelude.{◌≡◌, ◌⊎◌, ◌≤◌, length, Ok, Err, IfOk, IfErr};
 ghost use Rattle.s38_create.specs.Created.{created, created_by, created_inner, is_small, with_rows};
-ghost use Rattle.s38_create.specs.Names.{instruction_count};
 ghost use Rattle.s38_create.specs.WellFormed.{WellFormed};
 ghost use Rattle.s38_odt.specs.Formed.{AreFormed};
+ghost use Rattle.s38_odt.specs.Labels.{instruction_count};
 
-use crate::frame::{declaration_count, instruction_count, is_ended};
+use crate::frame::{declaration_count, is_ended};
 use crate::instruction::instructions;
-use crate::labels::labels_of;
 use crate::scope::Scope;
 use s38_base::{Bytes, TryClone, exceptions};
 use s38_code::{CreateFault, Program, Template};
-use s38_odt::{Odt, definition_table};
+use s38_odt::{CodeLines, definition_table, instruction_count};
 use s38_words::{Head, program_head};
 use std::alloc::Global;
 
@@ -31,22 +30,15 @@ fn with_rows(
     alloc: Global,
     template: &Template,
     head: Head,
-    code: &[Bytes],
-    table: Odt,
+    scope: Scope<'_>,
 ) -> Result<Program, CreateFault>
-    requires rows { length table ≤ 1024 }
-    requires formed { AreFormed table }
-    requires code { instruction_count code.now ≤ 16384 }
+    requires rows { length scope.table ≤ 1024 }
+    requires formed { AreFormed (instruction_count scope.code) scope.table }
+    requires code { instruction_count scope.code ≤ 16384 }
     ensures formed { IfOk result (λ program. WellFormed program) }
-    ensures created { IfOk result (λ program. with_rows template.now head code.now table ≡ Ok program) }
-    ensures bad { IfErr result (λ fault. (fault ≡ CreateFault.NoMemory) ⊎ (with_rows template.now head code.now table ≡ Err fault)) }
+    ensures created { IfOk result (λ program. with_rows template.now head scope.entry.code scope.entry.table ≡ Ok program) }
+    ensures bad { IfErr result (λ fault. (fault ≡ CreateFault.NoMemory) ⊎ (with_rows template.now head scope.entry.code scope.entry.table ≡ Err fault)) }
 {
-    let labels = labels_of(alloc, code)?;
-    let scope = Scope {
-        table,
-        code,
-        labels,
-    };
     let code = instructions(alloc, &scope)?;
     let template = template.try_clone(alloc)?;
     Ok(Program {
@@ -81,8 +73,9 @@ fn created_inner(
         return Err(NO_TEMPLATE);
     }
     let count = declaration_count(body);
-    let table = definition_table(alloc, &body[..count])?;
-    with_rows(alloc, template, head, &body[count..], table)
+    let code = CodeLines::new(alloc, &body[count..])?;
+    let table = definition_table(alloc, &code, &body[..count])?;
+    with_rows(alloc, template, head, Scope { table, code })
 }
 
 fn created_by(

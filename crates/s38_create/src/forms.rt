@@ -1,10 +1,9 @@
 ghost use Rattle.std.specs.Prelude.{◌≡◌, unsigned_abs, nat_le, pos, if◌then◌else◌, IfOk};
 ghost use Rattle.s38_words.specs.Name.{code_of};
-ghost use Rattle.s38_create.specs.Labels.{HasLabels};
 ghost use Rattle.s38_create.specs.Parsed.{parsed_attribute, parsed_attributes, parsed_bytes, given, parsed_id, parsed_item, parsed_label, parsed_name, parsed_number, power_of, parsed_power, parsed_size, parsed_star, parsed_word};
 
 use crate::parsed::ParsedOperand;
-use crate::scope::{Scope, place};
+use crate::scope::Scope;
 use s38_base::{NoMemory, Seq};
 use s38_code::Arg;
 use s38_words::{
@@ -26,11 +25,10 @@ pub fn parsed_item(scope: &Scope, word: &[u8]) -> Option<ParsedOperand>
 }
 
 pub fn parsed_label(scope: &Scope, word: &[u8]) -> Option<ParsedOperand>
-    requires { HasLabels scope.now.code.now scope.now.labels }
-    ensures { result ≡ parsed_label scope.now.code.now word.now }
+    ensures { result ≡ parsed_label scope.now.code word.now }
 {
     match declared_name(word) {
-        Some(name) => Some(ParsedOperand::Label(place(scope, &name))),
+        Some(name) => Some(ParsedOperand::Label(scope.code.place(&name))),
         None => None,
     }
 }

@@ -1,8 +1,6 @@
 ghost use Rattle.std.specs.Prelude.{◌≡◌, ◌≤◌, length};
 ghost use Rattle.s38_create.specs.Created.{declaration_count, is_declaration, is_ended};
-ghost use Rattle.s38_create.specs.Names.{instruction_count};
 
-use crate::labels::is_label;
 use s38_base::Bytes;
 use s38_words::{is_declaration, is_word};
 
@@ -23,14 +21,5 @@ pub fn declaration_count(body: &[Bytes]) -> usize
 {
     body.iter()
         .take_while(|line| is_declaration(line.as_slice()))
-        .count()
-}
-
-/// How many of the lines are no labels.
-pub fn instruction_count(code: &[Bytes]) -> usize
-    ensures { result ≡ instruction_count code.now }
-{
-    code.iter()
-        .filter(|line| !is_label(line.as_slice()))
         .count()
 }

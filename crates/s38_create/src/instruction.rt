@@ -3,17 +3,16 @@ ghost use Rattle.std.specs.List.{list_all};
 ghost use Rattle.std.specs.Option.{option_map};
 ghost use Rattle.s38_create.specs.Instruction.{checked, code_from, instruction_of, is_taken, parsed_of};
 ghost use Rattle.s38_words.specs.Views.{act_in};
-ghost use Rattle.s38_create.specs.Names.{instruction_count};
-ghost use Rattle.s38_create.specs.Labels.{HasLabels};
+ghost use Rattle.s38_odt.specs.Labels.{instruction_count};
 ghost use Rattle.s38_create.specs.Parsed.{arg_of, is_declared, is_placed};
 
 use crate::causes::cause;
-use crate::labels::is_label;
 use crate::operands::parsed_operands;
 use crate::parsed::{ParsedOperand, arg_of, is_declared, is_placed};
 use crate::scope::Scope;
 use s38_base::{NoMemory, Op, Seq, exceptions};
 use s38_code::{Arg, CreateFault, Instruction, Instructions, classes, is_built};
+use s38_odt::is_label;
 use s38_words::{InstructionLine, instruction, rounds_right};
 use std::alloc::Global;
 
@@ -30,8 +29,7 @@ fn parsed_of(
     scope: &Scope,
     act: InstructionLine<'_>,
 ) -> Result<Option<Vec<ParsedOperand>>, NoMemory>
-    requires { HasLabels scope.now.code.now scope.now.labels }
-    ensures { IfOk result (λ parsed. option_map (λ v. v.items) parsed ≡ parsed_of scope.now.table scope.now.code.now (act_in act.entry)) }
+    ensures { IfOk result (λ parsed. option_map (λ v. v.items) parsed ≡ parsed_of scope.now.table scope.now.code (act_in act.entry)) }
 {
     if !is_taken(act) {
         return Ok(None);
@@ -92,9 +90,8 @@ fn instruction_of(
     number: u32,
     line: &[u8],
 ) -> Result<Instruction, CreateFault>
-    requires { HasLabels scope.now.code.now scope.now.labels }
-    ensures created { IfOk result (λ i. instruction_of scope.now.table scope.now.code.now number line.now ≡ Ok i) }
-    ensures bad { IfErr result (λ fault. (fault ≡ CreateFault.NoMemory) ⊎ (instruction_of scope.now.table scope.now.code.now number line.now ≡ Err fault)) }
+    ensures created { IfOk result (λ i. instruction_of scope.now.table scope.now.code number line.now ≡ Ok i) }
+    ensures bad { IfErr result (λ fault. (fault ≡ CreateFault.NoMemory) ⊎ (instruction_of scope.now.table scope.now.code number line.now ≡ Err fault)) }
 {
     let none = CreateFault::Bad {
         id: exceptions::OPERANDS_INVALID,
@@ -112,13 +109,13 @@ fn instruction_of(
 /// The instructions of the code. `Bad` exactly at the first line that makes none, with its number among the
 /// instructions, from 1 on.
 pub fn instructions(alloc: Global, scope: &Scope) -> Result<Instructions, CreateFault>
-    requires tied { HasLabels scope.now.code.now scope.now.labels }
-    requires few { instruction_count scope.now.code.now ≤ 16384 }
-    ensures created { IfOk result (λ created. code_from scope.now.table scope.now.code.now [] scope.now.code.now ≡ Ok created) }
-    ensures bad { IfErr result (λ fault. (fault ≡ CreateFault.NoMemory) ⊎ (code_from scope.now.table scope.now.code.now [] scope.now.code.now ≡ Err fault)) }
+    requires { instruction_count scope.now.code ≤ 16384 }
+    ensures created { IfOk result (λ created. code_from scope.now.table scope.now.code [] scope.now.code ≡ Ok created) }
+    ensures bad { IfErr result (λ fault. (fault ≡ CreateFault.NoMemory) ⊎ (code_from scope.now.table scope.now.code [] scope.now.code ≡ Err fault)) }
 {
     let mut created = Seq::new(alloc);
-    for line in scope.code {
+    let lines = scope.code.lines();
+    for line in lines {
         if !is_label(line.as_slice()) {
             let number = created.len() as u32 + 1;
             let instruction = instruction_of(alloc, scope, number, line.as_slice())?;

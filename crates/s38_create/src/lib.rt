@@ -11,7 +11,6 @@ mod forms;
 mod frame;
 mod instruction;
 mod items;
-mod labels;
 mod operand_rules;
 mod operands;
 mod parsed;

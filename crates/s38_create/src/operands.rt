@@ -1,6 +1,5 @@
 ghost use Rattle.std.specs.Prelude.{◌≡◌, [], IfOk};
 ghost use Rattle.std.specs.Option.{option_map};
-ghost use Rattle.s38_create.specs.Labels.{HasLabels};
 ghost use Rattle.s38_create.specs.Parsed.{is_argument, parsed_from};
 
 use crate::by_class::parsed_operand;
@@ -25,8 +24,7 @@ pub fn parsed_operands(
     classes: &[Class],
     text: Option<&[u8]>,
 ) -> Result<Option<Vec<ParsedOperand>>, NoMemory>
-    requires { HasLabels scope.now.code.now scope.now.labels }
-    ensures { IfOk result (λ parsed. option_map (λ v. v.items) parsed ≡ parsed_from scope.now.table scope.now.code.now [] classes.now (option_map (λ t. t.now) text.entry)) }
+    ensures { IfOk result (λ parsed. option_map (λ v. v.items) parsed ≡ parsed_from scope.now.table scope.now.code [] classes.now (option_map (λ t. t.now) text.entry)) }
 {
     let mut parsed = Vec::new(alloc);
     let mut rest = text;

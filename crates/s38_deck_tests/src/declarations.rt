@@ -1,10 +1,13 @@
-//! Declarations that are refused, and the bytes with which variables begin.
+//! Declarations that are refused, the bytes with which variables begin, and the places of handlers.
 
 use s38_base::{Bytes, NoMemory, Seq};
 use s38_code::{CreateFault, Form};
-use s38_odt::{Odt, definition_table, rows};
+use s38_odt::{CodeLines, Odt, definition_table, instruction_count, rows};
 use std::alloc::Global;
 use std::test::Fail;
+
+/// The code behind the declarations.
+const CODE: &str = "LABEL FRONT\nRTX\nRTX\nLABEL BACK";
 
 /// The lines of a text.
 fn lines(alloc: Global, text: &str) -> Result<Seq<Bytes>, NoMemory> {
@@ -17,13 +20,13 @@ fn lines(alloc: Global, text: &str) -> Result<Seq<Bytes>, NoMemory> {
 
 /// The table of a text's declarations.
 fn table_of(alloc: Global, text: &str) -> Result<Odt, CreateFault> {
-    let Ok(lines) = lines(alloc, text) else {
-        return Err(CreateFault::NoMemory);
-    };
-    if lines.len() > 1024 {
+    let declarations = lines(alloc, text)?;
+    let code = lines(alloc, CODE)?;
+    if declarations.len() > 1024 || instruction_count(code.as_slice()) > 16384 {
         return Err(CreateFault::NoMemory);
     }
-    definition_table(alloc, lines.as_slice())
+    let code = CodeLines::new(alloc, code.as_slice())?;
+    definition_table(alloc, &code, declarations.as_slice())
 }
 
 /// Texts that are refused: the cause, and the number of the declaration.
@@ -37,6 +40,9 @@ const REFUSED: &[(&str, u16, u32)] = &[
     ("DCL A BASED P 0 CHAR:3\nDCL P PTR", 0x2A03, 1),
     ("DCL P PTR\nDCL A BASED P 16777217 CHAR:3", 0x2A02, 2),
     ("DCL A PARM 1 CHAR:3", 0x2A03, 1),
+    ("DCL A EXCM 0C0A NOWHERE", 0x2A03, 1),
+    ("DCL A PTR\nDCL A EXCM * BACK", 0x2A03, 2),
+    ("DCL A EXCM 0C0 NOWHERE", 0x2A02, 1),
     ("RTX", 0x2A02, 1),
 ];
 
@@ -72,15 +78,35 @@ fn a_variable_begins_with_its_bytes(rt: HostRuntime) -> Result<(), Fail> {
     for (text, bytes) in BEGUN {
         let table = table_of(rt.alloc(), text)?;
         assert_eq!(rt; table.item(b"A"), Some(0), "{text}");
-        let lines = lines(rt.alloc(), text)?;
-        assert_eq!(rt; lines.len(), 1);
-        match rows(rt.alloc(), lines.as_slice())?.as_slice() {
+        let declarations = lines(rt.alloc(), text)?;
+        assert_eq!(rt; declarations.len(), 1);
+        let code = CodeLines::new(rt.alloc(), &[])?;
+        match rows(rt.alloc(), &code, declarations.as_slice())?.as_slice() {
             [row] => assert!(rt;
                 matches!(&row.form, Form::Local { first, .. } if first.as_slice() == *bytes),
                 "{text}"
             ),
             _ => assert!(rt; false, "{text}"),
         }
+    }
+    Ok(())
+}
+
+/// Descriptions of exceptions: the code that each takes, and the place at which control goes on.
+const HANDLERS: &[(&str, Option<u16>, u32)] = &[
+    ("DCL A EXCM 0C0A FRONT", Some(0x0C0A), 0),
+    ("DCL A EXCM * BACK", None, 2),
+];
+
+#[test]
+fn a_handler_goes_on_at_its_label(rt: HostRuntime) -> Result<(), Fail> {
+    for (text, taken, place) in HANDLERS {
+        let table = table_of(rt.alloc(), text)?;
+        let row = table.rows().first().ok_or("no row")?;
+        assert!(rt;
+            matches!(&row.form, Form::Handler { code, at } if code == taken && at == place),
+            "{text}"
+        );
     }
     Ok(())
 }

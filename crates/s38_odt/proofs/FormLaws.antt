@@ -17,7 +17,7 @@ use Rattle.s38_words.specs.Literal.{text_of}
 use Rattle.s38_words.specs.Number.{number_of}
 use Rattle.s38_code.specs.declared.program.CreateFault.{CreateFault}
 use Rattle.s38_code.specs.declared.program.Form.{Form}
-use Rattle.s38_code.specs.declared.program.Form.TheVariants.{Local, Based}
+use Rattle.s38_code.specs.declared.program.Form.TheVariants.{Local, Based, Handler}
 use Rattle.s38_code.specs.declared.program.Row.{Row}
 use Rattle.s38_words.specs.declared.declarations.DeclarationLine.{DeclarationLine}
 use Rattle.s38_words.specs.declared.declarations.Declares.{Declares}
@@ -25,7 +25,9 @@ use Rattle.s38_words.specs.declared.declarations.Declares.TheVariants.{Variable,
 use Rattle.s38_words.specs.declared.numbers.Numeral.{Numeral}
 use Rattle.s38_odt.specs.First.{blank_of, either_held, filled, first_of, is_exact, number_held, text_held, units_held, units_in}
 use Rattle.s38_odt.specs.Formed.{AreFormed, IsForm, first_length}
-use Rattle.s38_odt.specs.Table.{and_then, base_at, base_in, based_form, checked_form, form_of, is_base_row, is_bounded_line, more_rows, new_row, place_in, refused, row_of, row_from, rows_from, variable_form}
+use Rattle.s38_odt.specs.Labels.{instruction_count, label_in}
+use Rattle.s38_odt.specs.Table.{and_then, base_at, base_in, based_form, checked_form, form_of, handler_form, is_base_row, is_bounded_line, more_rows, new_row, place_in, refused, row_of, row_from, rows_from, variable_form}
+use Rattle.s38_odt.proofs.LabelLemmas.{label_in-bound}
 use Rattle.s38_odt.proofs.Parts.{and_then-some, if-ok, if-some, unless-ok}
 
 -- ---- first bytes
@@ -88,21 +90,29 @@ first_of-length attr (Some literal) first h = either_held-length attr (number_of
 
 -- ---- forms
 
-variable_form-formed : (rows : List Row) (attr : Attr) (begun : Option (List ℕ)) (form : Form) → is_bounded attr ≡ true →
-    ((first : List ℕ) → begun ≡ Some first → length first ≡ first_length attr) → variable_form attr begun ≡ Ok form → IsForm rows form
-variable_form-formed rows attr None form bounded long h = absurd (let e : Err exceptions.declaration_invalid ≡ Ok form = h in cc)
-variable_form-formed rows attr (Some first) form bounded long h =
+variable_form-formed : (count : ℕ) (rows : List Row) (attr : Attr) (begun : Option (List ℕ)) (form : Form) → is_bounded attr ≡ true →
+    ((first : List ℕ) → begun ≡ Some first → length first ≡ first_length attr) → variable_form attr begun ≡ Ok form → IsForm count rows form
+variable_form-formed count rows attr None form bounded long h = absurd (let e : Err exceptions.declaration_invalid ≡ Ok form = h in cc)
+variable_form-formed count rows attr (Some first) form bounded long h =
     let same : Local attr first ≡ form = cc in
-    let P : Form → Type 0 = λ f. IsForm rows f in
+    let P : Form → Type 0 = λ f. IsForm count rows f in
     subst P same (record { bounded = bounded; begun = long first refl })
 
-based_form-formed : (rows : List Row) (offset : ℕ) (attr : Attr) (base : Option ℕ) (form : Form) → is_bounded attr ≡ true → offset ≤ 16777216 →
-    ((k : ℕ) → base ≡ Some k → is_base_row (slice_get rows k) ≡ true) → based_form offset attr base ≡ Ok form → IsForm rows form
-based_form-formed rows offset attr None form bounded near is h = absurd (let e : Err exceptions.name_invalid ≡ Ok form = h in cc)
-based_form-formed rows offset attr (Some k) form bounded near is h =
+based_form-formed : (count : ℕ) (rows : List Row) (offset : ℕ) (attr : Attr) (base : Option ℕ) (form : Form) → is_bounded attr ≡ true → offset ≤ 16777216 →
+    ((k : ℕ) → base ≡ Some k → is_base_row (slice_get rows k) ≡ true) → based_form offset attr base ≡ Ok form → IsForm count rows form
+based_form-formed count rows offset attr None form bounded near is h = absurd (let e : Err exceptions.name_invalid ≡ Ok form = h in cc)
+based_form-formed count rows offset attr (Some k) form bounded near is h =
     let same : Based k offset attr ≡ form = cc in
-    let P : Form → Type 0 = λ f. IsForm rows f in
+    let P : Form → Type 0 = λ f. IsForm count rows f in
     subst P same (record { bounded = bounded; near = near; declared = is k refl })
+
+handler_form-formed : (count : ℕ) (rows : List Row) (taken place : Option ℕ) (form : Form) →
+    ((at : ℕ) → place ≡ Some at → at ≤ count) → handler_form taken place ≡ Ok form → IsForm count rows form
+handler_form-formed count rows taken None form within h = absurd (let e : Err exceptions.name_invalid ≡ Ok form = h in cc)
+handler_form-formed count rows taken (Some at) form within h =
+    let same : Handler taken at ≡ form = cc in
+    let P : Form → Type 0 = λ f. IsForm count rows f in
+    subst P same (within at refl)
 
 base_in-is : (rows : List Row) (name : List ℕ) (k : ℕ) → base_in rows name ≡ Some k → is_base_row (slice_get rows k) ≡ true
 base_in-is rows name k h =
@@ -113,50 +123,52 @@ base_in-is rows name k h =
     let P : ℕ → Type 0 = λ n. is_base_row (slice_get rows n) ≡ true in
     subst P same made.0
 
-form_of-formed : (rows : List Row) (literal : Option (List ℕ)) (declares : Declares) (form : Form) →
-    is_bounded_line declares ≡ true → form_of rows literal declares ≡ Ok form → IsForm rows form
+form_of-formed : (code : List (List ℕ)) (rows : List Row) (literal : Option (List ℕ)) (declares : Declares) (form : Form) →
+    is_bounded_line declares ≡ true → form_of code rows literal declares ≡ Ok form → IsForm (instruction_count code) rows form
 unfolding form_of
-form_of-formed rows literal (Variable attr) form bounded h =
-    variable_form-formed rows attr (first_of attr literal) form bounded (λ first e. first_of-length attr literal first e) h
-form_of-formed rows literal (Parameter k attr) form bounded h = absurd (let e : Err exceptions.name_invalid ≡ Ok form = h in cc)
-form_of-formed rows literal (BasedItem base offset attr) form bounded h =
+form_of-formed code rows literal (Variable attr) form bounded h =
+    variable_form-formed (instruction_count code) rows attr (first_of attr literal) form bounded (λ first e. first_of-length attr literal first e) h
+form_of-formed code rows literal (Parameter k attr) form bounded h = absurd (let e : Err exceptions.name_invalid ≡ Ok form = h in cc)
+form_of-formed code rows literal (BasedItem base offset attr) form bounded h =
     let near : offset ≤ 16777216 = grind (arith, nat_tests) in
     let attr_bounded : is_bounded attr ≡ true = grind arith in
-    based_form-formed rows offset attr (base_in rows base) form attr_bounded near (λ k e. base_in-is rows base k e) h
-form_of-formed rows literal (Description code label) form bounded h = absurd (let e : Err exceptions.name_invalid ≡ Ok form = h in cc)
+    based_form-formed (instruction_count code) rows offset attr (base_in rows base) form attr_bounded near (λ k e. base_in-is rows base k e) h
+form_of-formed code rows literal (Description taken label) form bounded h =
+    handler_form-formed (instruction_count code) rows taken (label_in code label) form (λ at e. label_in-bound code label at e) h
 
 -- ---- rows
 
-new_row-formed : (rows : List Row) (name : List ℕ) (made : Result Form ℕ) (row : Row) →
-    ((form : Form) → made ≡ Ok form → IsForm rows form) → new_row rows name made ≡ Ok row → IsForm rows row.form
-new_row-formed rows name (Err cause) row formed h = absurd (let e : Err cause ≡ Ok row = h in cc)
-new_row-formed rows name (Ok form) row formed h =
+new_row-formed : (count : ℕ) (rows : List Row) (name : List ℕ) (made : Result Form ℕ) (row : Row) →
+    ((form : Form) → made ≡ Ok form → IsForm count rows form) → new_row rows name made ≡ Ok row → IsForm count rows row.form
+new_row-formed count rows name (Err cause) row formed h = absurd (let e : Err cause ≡ Ok row = h in cc)
+new_row-formed count rows name (Ok form) row formed h =
     let parts = unless-ok (is_some (place_in rows name)) (Ok (record { name = name; form = form })) exceptions.name_invalid row h in
     let taken = parts.1 in
     let same : record { name = name; form = form } ≡ row = cc in
-    let P : Row → Type 0 = λ r. IsForm rows r.form in
+    let P : Row → Type 0 = λ r. IsForm count rows r.form in
     subst P same (formed form refl)
 
-row_from-formed : (rows : List Row) (literal : Option (List ℕ)) (line : Option DeclarationLine) (row : Row) → row_from rows literal line ≡ Ok row → IsForm rows row.form
-row_from-formed rows literal None row h = absurd (let e : Err exceptions.declaration_invalid ≡ Ok row = h in cc)
-row_from-formed rows literal (Some line) row h =
-    new_row-formed rows line.name (checked_form rows literal line.declares) row
-    (λ form e. let checked = if-ok (is_bounded_line line.declares) (form_of rows literal line.declares) exceptions.declaration_invalid form e in
-    form_of-formed rows literal line.declares form checked.0 checked.1) h
+row_from-formed : (code : List (List ℕ)) (rows : List Row) (literal : Option (List ℕ)) (line : Option DeclarationLine) (row : Row) →
+    row_from code rows literal line ≡ Ok row → IsForm (instruction_count code) rows row.form
+row_from-formed code rows literal None row h = absurd (let e : Err exceptions.declaration_invalid ≡ Ok row = h in cc)
+row_from-formed code rows literal (Some line) row h =
+    new_row-formed (instruction_count code) rows line.name (checked_form code rows literal line.declares) row
+    (λ form e. let checked = if-ok (is_bounded_line line.declares) (form_of code rows literal line.declares) exceptions.declaration_invalid form e in
+    form_of-formed code rows literal line.declares form checked.0 checked.1) h
 
-row_of-formed : (rows : List Row) (line : List ℕ) (row : Row) → row_of rows line ≡ Ok row → IsForm rows row.form
+row_of-formed : (code : List (List ℕ)) (rows : List Row) (line : List ℕ) (row : Row) → row_of code rows line ≡ Ok row → IsForm (instruction_count code) rows row.form
 unfolding row_of
-row_of-formed rows line row h = row_from-formed rows (initial_of line) (declaration_of line) row h
+row_of-formed code rows line row h = row_from-formed code rows (initial_of line) (declaration_of line) row h
 
-AreFormed-none : AreFormed []
-AreFormed-none = record { each = λ k row h. absurd (let within : k < 0 = slice_get_within [] k row h in omega arith) }
+AreFormed-none : (count : ℕ) → AreFormed count []
+AreFormed-none count = record { each = λ k row h. absurd (let within : k < 0 = slice_get_within [] k row h in omega arith) }
 
-AreFormed-push : (rows : List Row) (row : Row) → AreFormed rows → IsForm rows row.form → AreFormed (rows ++ row ∷ [])
-AreFormed-push rows row formed one = record {
+AreFormed-push : (count : ℕ) (rows : List Row) (row : Row) → AreFormed count rows → IsForm count rows row.form → AreFormed count (rows ++ row ∷ [])
+AreFormed-push count rows row formed one = record {
   each = λ k r h.
       let within : k < length (rows ++ row ∷ []) = slice_get_within (rows ++ row ∷ []) k r h in
       let read : get_or (rows ++ row ∷ []) k r ≡ r = get_or_from_slice_get (rows ++ row ∷ []) k r r h in
-      let P : List Row → Type 0 = λ front. IsForm front r.form in
+      let P : List Row → Type 0 = λ front. IsForm count front r.form in
       ⊎_elim
       (λ below.
       let old : get_or rows k r ≡ r = sym (get_or_append_left rows (row ∷ []) r k below) ∙ read in
@@ -166,7 +178,7 @@ AreFormed-push rows row formed one = record {
       let last : length rows ≡ k = omega (arith, length-append rows (row ∷ [])) in
       let same : row ≡ r = sym (get_or-append_seam rows row [] r) ∙ (ap (λ n. get_or (rows ++ row ∷ []) n r) last ∙ read) in
       let front : rows ≡ take k (rows ++ row ∷ []) = sym (take-append_seam rows (row ∷ [])) ∙ ap (λ n. take n (rows ++ row ∷ [])) last in
-      let Q : Row → Type 0 = λ x. IsForm rows x.form in
+      let Q : Row → Type 0 = λ x. IsForm count rows x.form in
       subst P front (subst Q same one))
       (cases_lt k (length rows));
 }
@@ -177,15 +189,21 @@ more_rows-ok rows (Err cause) next out h = absurd (let e : Err (refused rows cau
 more_rows-ok rows (Ok row) next out h = (row, refl, h)
 
 -- the rows of all lines are formed, and each line makes one
-pub rows_from-formed : (rows : List Row) (lines : List (List ℕ)) (out : List Row) → AreFormed rows → rows_from rows lines ≡ Ok out →
-    AreFormed out × (length out ≡ length rows + length lines)
-rows_from-formed rows [] out formed h =
+pub rows_from-formed : (code : List (List ℕ)) (rows : List Row) (lines : List (List ℕ)) (out : List Row) →
+    AreFormed (instruction_count code) rows → rows_from code rows lines ≡ Ok out →
+    AreFormed (instruction_count code) out × (length out ≡ length rows + length lines)
+rows_from-formed code rows [] out formed h =
     let same : rows ≡ out = cc in
-    (subst AreFormed same formed, omega (arith, ap length same))
-rows_from-formed rows (line ∷ lines) out formed h =
-    let step = more_rows-ok rows (row_of rows line) (λ more. rows_from more lines) out h in
-    let rest = rows_from-formed (rows ++ step.0 ∷ []) lines out (AreFormed-push rows step.0 formed (row_of-formed rows line step.0 step.1)) step.2 in
+    let P : List Row → Type 0 = λ xs. AreFormed (instruction_count code) xs in
+    (subst P same formed, omega (arith, ap length same))
+rows_from-formed code rows (line ∷ lines) out formed h =
+    let step = more_rows-ok rows (row_of code rows line) (λ more. rows_from code more lines) out h in
+    let pushed = AreFormed-push (instruction_count code) rows step.0 formed (row_of-formed code rows line step.0 step.1) in
+    let rest = rows_from-formed code (rows ++ step.0 ∷ []) lines out pushed step.2 in
     (rest.0, omega (arith, rest.1, length-append rows (step.0 ∷ [])))
 
-pub rows_of-formed : (lines : List (List ℕ)) (out : List Row) → rows_from [] lines ≡ Ok out → AreFormed out × (length out ≡ length lines)
-rows_of-formed lines out h = let all = rows_from-formed [] lines out AreFormed-none h in (all.0, omega (arith, all.1))
+pub rows_of-formed : (code lines : List (List ℕ)) (out : List Row) → rows_from code [] lines ≡ Ok out →
+    AreFormed (instruction_count code) out × (length out ≡ length lines)
+rows_of-formed code lines out h =
+    let all = rows_from-formed code [] lines out (AreFormed-none (instruction_count code)) h in
+    (all.0, omega (arith, all.1))

@@ -22,13 +22,14 @@ pub record IsBased (before : List Row) (base offset : ℕ) (attr : Attr) : Type 
   pub near : offset ≤ 16777216
   pub declared : IsTrue (is_base_row (slice_get before base))
 
--- of a form, by the rows before it
-abbrev pub IsForm : List Row → Form → Type 0
-IsForm before (Local attr first) = IsVariable attr first
-IsForm before (Parm k attr) = ⊥
-IsForm before (Based base offset attr) = IsBased before base offset attr
-IsForm before (Handler code at) = ⊥
+-- of a form, by the number of the instructions and by the rows before it; control goes on at an instruction, or
+-- behind the last
+abbrev pub IsForm : ℕ → List Row → Form → Type 0
+IsForm count before (Local attr first) = IsVariable attr first
+IsForm count before (Parm k attr) = ⊥
+IsForm count before (Based base offset attr) = IsBased before base offset attr
+IsForm count before (Handler code at) = at ≤ count
 
--- each row has its form by the rows before it
-pub record AreFormed (rows : List Row) : Type 0 where
-  pub each : (k : ℕ) (row : Row) → slice_get rows k ≡ Some row → IsForm (take k rows) row.form
+-- each row has its form by the rows before it, where there are so many instructions
+pub record AreFormed (count : ℕ) (rows : List Row) : Type 0 where
+  pub each : (k : ℕ) (row : Row) → slice_get rows k ≡ Some row → IsForm count (take k rows) row.form

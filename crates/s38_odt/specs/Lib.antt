@@ -1,4 +1,5 @@
 pub mod First
 pub mod Formed
+pub mod Labels
 pub mod Places
 pub mod Table

@@ -17,6 +17,7 @@ use Rattle.s38_words.specs.declared.declarations.DeclarationLine.{DeclarationLin
 use Rattle.s38_words.specs.declared.declarations.Declares.{Declares}
 use Rattle.s38_words.specs.declared.declarations.Declares.TheVariants.{Variable, Parameter, BasedItem, Description}
 use Rattle.s38_odt.specs.First.{first_of}
+use Rattle.s38_odt.specs.Labels.{label_in}
 
 -- ---- names
 
@@ -68,28 +69,33 @@ abbrev pub based_form : ℕ → Attr → Option ℕ → Result Form ℕ
 based_form offset attr None = Err exceptions.name_invalid
 based_form offset attr (Some base) = Ok (Based base offset attr)
 
--- what a bounded line makes of its name; parameters and descriptions of exceptions are not built
-unfoldable pub form_of : List Row → Option (List ℕ) → Declares → Result Form ℕ
-form_of rows literal (Variable attr) = variable_form attr (first_of attr literal)
-form_of rows literal (Parameter k attr) = Err exceptions.name_invalid
-form_of rows literal (BasedItem base offset attr) = based_form offset attr (base_in rows base)
-form_of rows literal (Description code label) = Err exceptions.name_invalid
+-- the code of the exception that is taken, and the place at which control goes on
+abbrev pub handler_form : Option ℕ → Option ℕ → Result Form ℕ
+handler_form taken None = Err exceptions.name_invalid
+handler_form taken (Some at) = Ok (Handler taken at)
 
-abbrev pub checked_form : List Row → Option (List ℕ) → Declares → Result Form ℕ
-checked_form rows literal declares = if is_bounded_line declares then form_of rows literal declares else Err exceptions.declaration_invalid
+-- what a bounded line makes of its name, before these lines of code; parameters are not built
+unfoldable pub form_of : List (List ℕ) → List Row → Option (List ℕ) → Declares → Result Form ℕ
+form_of code rows literal (Variable attr) = variable_form attr (first_of attr literal)
+form_of code rows literal (Parameter k attr) = Err exceptions.name_invalid
+form_of code rows literal (BasedItem base offset attr) = based_form offset attr (base_in rows base)
+form_of code rows literal (Description taken label) = handler_form taken (label_in code label)
+
+abbrev pub checked_form : List (List ℕ) → List Row → Option (List ℕ) → Declares → Result Form ℕ
+checked_form code rows literal declares = if is_bounded_line declares then form_of code rows literal declares else Err exceptions.declaration_invalid
 
 -- the row, if its name is new
 abbrev pub new_row : List Row → List ℕ → Result Form ℕ → Result Row ℕ
 new_row rows name (Err cause) = Err cause
 new_row rows name (Ok form) = if is_some (place_in rows name) then Err exceptions.name_invalid else Ok (record { name = name; form = form })
 
-abbrev pub row_from : List Row → Option (List ℕ) → Option DeclarationLine → Result Row ℕ
-row_from rows literal None = Err exceptions.declaration_invalid
-row_from rows literal (Some line) = new_row rows line.name (checked_form rows literal line.declares)
+abbrev pub row_from : List (List ℕ) → List Row → Option (List ℕ) → Option DeclarationLine → Result Row ℕ
+row_from code rows literal None = Err exceptions.declaration_invalid
+row_from code rows literal (Some line) = new_row rows line.name (checked_form code rows literal line.declares)
 
--- the row that a line makes behind these rows, or the cause for which it is refused
-unfoldable pub row_of : List Row → List ℕ → Result Row ℕ
-row_of rows line = row_from rows (initial_of line) (declaration_of line)
+-- the row that a line makes behind these rows and before these lines of code, or the cause for which it is refused
+unfoldable pub row_of : List (List ℕ) → List Row → List ℕ → Result Row ℕ
+row_of code rows line = row_from code rows (initial_of line) (declaration_of line)
 
 -- ---- all declarations
 
@@ -106,10 +112,10 @@ and_then (Err fault) next = Err fault
 and_then (Ok rows) next = next rows
 
 -- the rows so far and those of further lines, up to the first bad one
-abbrev pub rows_from : List Row → List (List ℕ) → Result (List Row) CreateFault
-rows_from rows [] = Ok rows
-rows_from rows (line ∷ lines) = and_then (more_rows rows (row_of rows line)) (λ more. rows_from more lines)
+abbrev pub rows_from : List (List ℕ) → List Row → List (List ℕ) → Result (List Row) CreateFault
+rows_from code rows [] = Ok rows
+rows_from code rows (line ∷ lines) = and_then (more_rows rows (row_of code rows line)) (λ more. rows_from code more lines)
 
--- the rows of all declarations, or the first bad one
-unfoldable pub rows_of : List (List ℕ) → Result (List Row) CreateFault
-rows_of lines = rows_from [] lines
+-- the rows of all declarations before these lines of code, or the first bad one
+unfoldable pub rows_of : List (List ℕ) → List (List ℕ) → Result (List Row) CreateFault
+rows_of code lines = rows_from code [] lines

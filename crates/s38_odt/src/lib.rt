@@ -5,9 +5,11 @@
 mod first;
 mod form;
 mod image;
+mod labels;
 mod places;
 mod table;
 
+pub use labels::{CodeLines, instruction_count, is_label};
 pub use table::{Odt, definition_table, rows};
 
 /// What is sent between threads.

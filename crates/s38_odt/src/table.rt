@@ -1,10 +1,12 @@
 ghost use Rattle.std.specs.Prelude.{◌≡◌, ◌⊎◌, ◌≤◌, ◌<◌, length, [], Ok, Err, IfOk, IfErr, OnOk};
 ghost use Rattle.s38_odt.specs.Formed.{AreFormed};
+ghost use Rattle.s38_odt.specs.Labels.{instruction_count};
 ghost use Rattle.s38_odt.specs.Table.{item_of, more_rows, place_in, row_of, rows_from, rows_of};
 ghost use Rattle.s38_odt.specs.Places.{IsTied};
 ghost use Rattle.s38_code.specs.declared.program.CreateFault.{CreateFault};
 
 use crate::form::row;
+use crate::labels::CodeLines;
 use crate::places::{Declared, Places, add};
 use s38_base::{Bytes, Name, NoMemory, Seq};
 use s38_code::{CreateFault, Row, Rows};
@@ -66,14 +68,19 @@ impl Odt {
 }
 
 /// Checks one more line behind those that are declared; the cause, if it is refused.
-fn declare(alloc: Global, declared: &mut Declared, line: &[u8]) -> Result<Result<(), u16>, NoMemory>
+fn declare(
+    alloc: Global,
+    code: &CodeLines<'_>,
+    declared: &mut Declared,
+    line: &[u8],
+) -> Result<Result<(), u16>, NoMemory>
     requires tied { IsTied declared.old.places declared.old.rows.items }
     requires few { length declared.old.rows.items < 1024 }
     ensures tied { IfOk result (λ answer. OnOk answer (IsTied declared.new.places declared.new.rows.items)) }
-    ensures rows { IfOk result (λ answer. OnOk answer (more_rows declared.old.rows.items (row_of declared.old.rows.items line.now) ≡ Ok declared.new.rows.items)) }
-    ensures refused { IfOk result (λ answer. IfErr answer (λ cause. row_of declared.old.rows.items line.now ≡ Err cause)) }
+    ensures rows { IfOk result (λ answer. OnOk answer (more_rows declared.old.rows.items (row_of code.now declared.old.rows.items line.now) ≡ Ok declared.new.rows.items)) }
+    ensures refused { IfOk result (λ answer. IfErr answer (λ cause. row_of code.now declared.old.rows.items line.now ≡ Err cause)) }
 {
-    match row(alloc, declared, line)? {
+    match row(alloc, code, declared, line)? {
         Err(cause) => Ok(Err(cause)),
         Ok(row) => {
             add(declared, row)?;
@@ -83,11 +90,15 @@ fn declare(alloc: Global, declared: &mut Declared, line: &[u8]) -> Result<Result
 }
 
 /// The declarations of these lines, and where each name stands among them.
-fn declarations(alloc: Global, lines: &[Bytes]) -> Result<Declared, CreateFault>
+fn declarations(
+    alloc: Global,
+    code: &CodeLines<'_>,
+    lines: &[Bytes],
+) -> Result<Declared, CreateFault>
     requires { length lines.now ≤ 1024 }
-    ensures made { IfOk result (λ declared. rows_from [] lines.now ≡ Ok declared.rows.items) }
+    ensures made { IfOk result (λ declared. rows_from code.now [] lines.now ≡ Ok declared.rows.items) }
     ensures tied { IfOk result (λ declared. IsTied declared.places declared.rows.items) }
-    ensures bad { IfErr result (λ fault. (fault ≡ CreateFault.NoMemory) ⊎ (rows_from [] lines.now ≡ Err fault)) }
+    ensures bad { IfErr result (λ fault. (fault ≡ CreateFault.NoMemory) ⊎ (rows_from code.now [] lines.now ≡ Err fault)) }
 {
     let mut declared = Declared {
         rows: Vec::new(alloc),
@@ -95,7 +106,7 @@ fn declarations(alloc: Global, lines: &[Bytes]) -> Result<Declared, CreateFault>
     };
     for line in lines {
         let number = declared.rows.len() as u32 + 1;
-        match declare(alloc, &mut declared, line.as_slice()) {
+        match declare(alloc, code, &mut declared, line.as_slice()) {
             Ok(Ok(())) => {}
             Ok(Err(id)) => return Err(CreateFault::Bad { id, number }),
             Err(NoMemory) => return Err(CreateFault::NoMemory),
@@ -104,32 +115,36 @@ fn declarations(alloc: Global, lines: &[Bytes]) -> Result<Declared, CreateFault>
     Ok(declared)
 }
 
-/// The object definition table of a program's declarations. `Bad` exactly where one of them is bad: at the
-/// first, with its number from 1 on, and 2A02 or 2A03 as its cause.
+/// The object definition table of a program's declarations, which stand before this code. `Bad` exactly where one
+/// of them is bad: at the first, with its number from 1 on, and 2A02 or 2A03 as its cause.
 #[tactic(auto, unfolding(crate::specs::Table::rows_of))]
-pub fn definition_table(alloc: Global, lines: &[Bytes]) -> Result<Odt, CreateFault>
+pub fn definition_table(
+    alloc: Global,
+    code: &CodeLines<'_>,
+    lines: &[Bytes],
+) -> Result<Odt, CreateFault>
     requires { length lines.now ≤ 1024 }
-    ensures made { IfOk result (λ table. rows_of lines.now ≡ Ok table) }
-    ensures bad { IfErr result (λ fault. (fault ≡ CreateFault.NoMemory) ⊎ (rows_of lines.now ≡ Err fault)) }
-    ensures formed { IfOk result (λ table. AreFormed table) }
+    ensures made { IfOk result (λ table. rows_of code.now lines.now ≡ Ok table) }
+    ensures bad { IfErr result (λ fault. (fault ≡ CreateFault.NoMemory) ⊎ (rows_of code.now lines.now ≡ Err fault)) }
+    ensures formed { IfOk result (λ table. AreFormed (instruction_count code.now) table) }
     ensures few { IfOk result (λ table. length table ≡ length lines.now) }
 {
-    match declarations(alloc, lines) {
+    match declarations(alloc, code, lines) {
         Ok(Declared { rows, places }) => Ok(Odt { rows, places }),
         Err(fault) => Err(fault),
     }
 }
 
-/// The rows of a program's declarations. `Bad` exactly where one of them is bad: at the first, with its number
-/// from 1 on, and 2A02 or 2A03 as its cause.
-pub fn rows(alloc: Global, lines: &[Bytes]) -> Result<Rows, CreateFault>
+/// The rows of a program's declarations, which stand before this code. `Bad` exactly where one of them is bad: at
+/// the first, with its number from 1 on, and 2A02 or 2A03 as its cause.
+pub fn rows(alloc: Global, code: &CodeLines<'_>, lines: &[Bytes]) -> Result<Rows, CreateFault>
     requires { length lines.now ≤ 1024 }
-    ensures made { IfOk result (λ rows. rows_of lines.now ≡ Ok rows) }
-    ensures bad { IfErr result (λ fault. (fault ≡ CreateFault.NoMemory) ⊎ (rows_of lines.now ≡ Err fault)) }
-    ensures formed { IfOk result (λ rows. AreFormed rows) }
+    ensures made { IfOk result (λ rows. rows_of code.now lines.now ≡ Ok rows) }
+    ensures bad { IfErr result (λ fault. (fault ≡ CreateFault.NoMemory) ⊎ (rows_of code.now lines.now ≡ Err fault)) }
+    ensures formed { IfOk result (λ rows. AreFormed (instruction_count code.now) rows) }
     ensures few { IfOk result (λ rows. length rows ≡ length lines.now) }
 {
-    match definition_table(alloc, lines) {
+    match definition_table(alloc, code, lines) {
         Ok(table) => Ok(table.into_rows()),
         Err(fault) => Err(fault),
     }

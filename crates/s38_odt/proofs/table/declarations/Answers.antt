@@ -12,5 +12,5 @@ loop-line-init c =
     record {
       count = ap length none;
       tied = subst P (sym none) (IsTied-none c.new-2.result c.new-2.ensures.empty);
-      rest = ap (λ rows. rows_from rows c.args.lines.now) (sym none);
+      rest = ap (λ rows. rows_from c.args.code.now rows c.args.lines.now) (sym none);
     }

@@ -7,5 +7,5 @@ abbrev pub invariant-loop-line : goal.invariant-loop-line
 invariant-loop-line l = record {
   count : length l.declared.rows.items ≡ l.line-index;
   tied : IsTied l.declared.places l.declared.rows.items;
-  rest : rows_from [] l.lines ≡ rows_from l.declared.rows.items (drop l.line-index l.lines);
+  rest : rows_from l.code [] l.lines ≡ rows_from l.code l.declared.rows.items (drop l.line-index l.lines);
 }

@@ -3,8 +3,8 @@ use Rattle.std.specs.Ordering.{nat_cmp}
 use Rattle.std.specs.Cmp.Lexicographic.{slice_cmp}
 use Rattle.std.specs.BTreeMap.{get}
 use Rattle.std.specs.Option.{option_or}
-use Rattle.s38_create.specs.Names.{instruction_count, label_from, label_in}
-use Rattle.s38_create.proofs.labels.labels_of.Given as goal
+use Rattle.s38_odt.specs.Labels.{instruction_count, label_from, label_in}
+use Rattle.s38_odt.proofs.labels.labels_of.Given as goal
 
 abbrev pub invariant-loop-line : goal.invariant-loop-line
 invariant-loop-line l = record {

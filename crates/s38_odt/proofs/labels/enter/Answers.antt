@@ -3,8 +3,8 @@ use Rattle.std.proofs.lemmas.Grind.{common_steps}
 use Rattle.std.specs.Ordering.{nat_cmp}
 use Rattle.std.specs.Cmp.Lexicographic.{slice_cmp}
 use Rattle.std.specs.BTreeMap.{get}
-use Rattle.s38_create.proofs.MapLemmas.{EntersNew-insert}
-use Rattle.s38_create.proofs.labels.enter.Goals as goal
+use Rattle.s38_odt.proofs.MapLemmas.{EntersNew-insert}
+use Rattle.s38_odt.proofs.labels.enter.Goals as goal
 
 pub returns-in_ok-insert : goal.returns-in_ok-insert
 returns-in_ok-insert c =

@@ -1,8 +1,8 @@
 use Rattle.std.proofs.Common.{ap, arith}
 use Rattle.std.specs.Option.{option_or}
-use Rattle.s38_create.proofs.LabelLemmas.{get-empty}
-use Rattle.s38_create.specs.Names.{label_from, label_in}
-use Rattle.s38_create.proofs.labels.labels_of.Goals as goal
+use Rattle.s38_odt.proofs.LabelLemmas.{get-empty}
+use Rattle.s38_odt.specs.Labels.{label_from, label_in}
+use Rattle.s38_odt.proofs.labels.labels_of.Goals as goal
 
 pub loop-line-init : goal.loop-line-init
 unfolding label_in

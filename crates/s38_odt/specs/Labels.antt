@@ -1,9 +1,14 @@
--- The labels of a program, and the places in its code for which they stand.
-use Rattle.std.specs.Prelude.{ℕ, ◌+◌, Bool, false, not, List, [], ◌∷◌, Option, Some, None, is_some, if◌then◌else◌}
+-- The lines of a program's code: its labels, and the places for which they stand.
+use Rattle.std.specs.Prelude.{◌≡◌, ℕ, ◌+◌, Bool, true, false, not, List, [], ◌∷◌, Option, Some, None, is_some, if◌then◌else◌}
 use Rattle.std.specs.List.{count_by}
 use Rattle.std.specs.Option.{option_map_or}
+use Rattle.std.specs.Ordering.{nat_cmp}
 use Rattle.std.specs.Str.{bytes_eq}
+use Rattle.std.specs.Cmp.Lexicographic.{slice_cmp}
+use Rattle.std.specs.BTreeMap.{BTreeMap, get}
 use Rattle.s38_words.specs.ProgramLine.{label_of}
+
+-- ---- labels
 
 abbrev pub is_label : List ℕ → Bool
 is_label line = is_some (label_of line)
@@ -31,3 +36,18 @@ is_instruction line = not (is_label line)
 -- how many instructions the code has: labels are not counted
 abbrev pub instruction_count : List (List ℕ) → ℕ
 instruction_count code = count_by is_instruction code
+
+-- ---- a map from labels to places, beside the code of which it speaks
+
+-- a map in which this name is entered, unless one of that name was there
+abbrev pub entered : Option ℕ → Bool → ℕ → Option ℕ
+entered (Some old) is_name n = Some old
+entered None true n = Some n
+entered None false n = None
+
+pub record EntersNew (old new : BTreeMap (List ℕ) ℕ) (name : List ℕ) (n : ℕ) : Type 0 where
+  pub each : (q : List ℕ) → get (slice_cmp nat_cmp) new q ≡ entered (get (slice_cmp nat_cmp) old q) (bytes_eq name q) n
+
+-- the map gives the place of each label
+pub record HasLabels (code : List (List ℕ)) (labels : BTreeMap (List ℕ) ℕ) : Type 0 where
+  pub place : (name : List ℕ) → get (slice_cmp nat_cmp) labels name ≡ label_in code name

@@ -1,0 +1,98 @@
+ghost use Rattle.std.specs.Prelude.{◌≡◌, ◌≤◌, IfOk, OnOk};
+ghost use Rattle.s38_odt.specs.Labels.{EntersNew, HasLabels, instruction_count, is_label, label_in};
+
+use s38_base::{Bytes, Name, NoMemory};
+use s38_words::label;
+use std::alloc::Global;
+use std::collections::BTreeMap;
+use std::marker::Model;
+
+/// The place in the code of each label, from 0 on.
+type LabelPlaces = BTreeMap<Name, u32>;
+
+/// Whether a line of code is a label; every other is an instruction.
+pub fn is_label(line: &[u8]) -> bool
+    ensures { result ≡ is_label line.now }
+{
+    label(line).is_some()
+}
+
+/// How many of the lines are no labels.
+pub fn instruction_count(code: &[Bytes]) -> usize
+    ensures { result ≡ instruction_count code.now }
+{
+    code.iter()
+        .filter(|line| !is_label(line.as_slice()))
+        .count()
+}
+
+/// Enters a label that is not there yet.
+fn enter(labels: &mut LabelPlaces, name: Name, at: u32) -> Result<(), NoMemory>
+    ensures { OnOk result (EntersNew labels.old labels.new name at) }
+{
+    if !labels.contains_key(&name) {
+        labels.insert(name, at)?;
+    }
+    Ok(())
+}
+
+/// Where each label stands: before how many instructions. The first of two labels of one name counts.
+fn labels_of(alloc: Global, code: &[Bytes]) -> Result<LabelPlaces, NoMemory>
+    requires { instruction_count code.now ≤ 16384 }
+    ensures { IfOk result (λ labels. HasLabels code.now labels) }
+{
+    let mut labels = BTreeMap::new(alloc);
+    let mut at: u32 = 0;
+    for line in code {
+        match label(line.as_slice()) {
+            Some(name) => enter(&mut labels, name, at)?,
+            None => at += 1,
+        }
+    }
+    Ok(labels)
+}
+
+/// The lines of a program's code, and where each label stands in them. Contracts see it as the list of the
+/// lines.
+#[derive(Drop)]
+pub struct CodeLines<'a> {
+    lines: &'a [Bytes],
+    labels: LabelPlaces,
+}
+
+impl<'a> Model for CodeLines<'a> {
+    ghost use Rattle.std.specs.Prelude.{List, ℕ};
+    ghost use Rattle.s38_odt.specs.Labels.{HasLabels};
+
+    ghost Value = { List (List ℕ) };
+
+    ghost view = { λ c. c.lines.now };
+
+    ghost invariant = { λ c. HasLabels c.lines.now c.labels };
+}
+
+impl<'a> CodeLines<'a> {
+    /// Finds the labels in these lines.
+    pub fn new(alloc: Global, lines: &'a [Bytes]) -> Result<CodeLines<'a>, NoMemory>
+        requires { instruction_count lines.now ≤ 16384 }
+        ensures { IfOk result (λ code. code ≡ lines.now) }
+    {
+        let labels = labels_of(alloc, lines)?;
+        Ok(CodeLines { lines, labels })
+    }
+
+    /// The lines, in order.
+    pub fn lines(&self) -> &'a [Bytes]
+        ensures { result.now ≡ self.now }
+    {
+        self.lines
+    }
+
+    /// The place at which a label stands: before the instruction of this number, from 0 on; None exactly where
+    /// no line is this label.
+    pub fn place(&self, name: &Name) -> Option<u32>
+        ensures { result ≡ label_in self.now name.now }
+    {
+        self.labels.get(name).copied()
+    }
+}
