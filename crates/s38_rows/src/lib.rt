@@ -10,6 +10,8 @@ mod computed;
 #[cfg(test)]
 mod decks;
 #[cfg(test)]
+mod exceptions;
+#[cfg(test)]
 mod faults;
 #[cfg(test)]
 mod pages;

@@ -4,6 +4,7 @@ use crate::answers::answers;
 use crate::commands::{BAD_DECKS, BAD_WORDS, CHECKED, RUN};
 use crate::computed::COMPUTED;
 use crate::decks::DECKS;
+use crate::exceptions::EXCEPTIONS;
 use crate::programs::PROGRAMS;
 use crate::refused::{CHECKS, JOBS};
 use crate::rules::RULES;
@@ -47,8 +48,19 @@ fn wrong_row(
 #[test]
 fn every_row_is_answered(rt: HostRuntime) -> Result<(), Fail> {
     let tables = [
-        &RUN, &CHECKED, &BAD_WORDS, &BAD_DECKS, &DECKS, &SPACES, &LIMITS, &COMPUTED, &PROGRAMS,
-        &JOBS, &CHECKS, &RULES,
+        &RUN,
+        &CHECKED,
+        &BAD_WORDS,
+        &BAD_DECKS,
+        &DECKS,
+        &SPACES,
+        &LIMITS,
+        &COMPUTED,
+        &PROGRAMS,
+        &JOBS,
+        &CHECKS,
+        &RULES,
+        &EXCEPTIONS,
     ];
     for table in tables {
         for words in table.calls {
