@@ -18,6 +18,7 @@ use Rattle.s38_code.specs.declared.rule.OperandRule.{OperandRule}
 use Rattle.s38_code.specs.declared.rule.OperandRule.TheVariants.{Free, EqualLengths, EqualTables, OneByte, TwiceTheSource, TwiceTheReceiver, TwoLocalBytes, ShortBinary, Parameters, QueueLengths, EntryLength}
 use Rattle.s38_create.specs.Suits.{is_natural_to, is_nothing, item_suits, operand_attr, all_suit}
 use Rattle.s38_decimal.specs.Need.{has_receiver, need_of}
+use Rattle.s38_odt.specs.Table.{is_parameter}
 
 -- ---- operands by their place, from 0 on
 
@@ -70,12 +71,6 @@ is_two_local_bytes (forms.Local attr first) = is_two_bytes attr
 is_two_local_bytes (forms.Parm k attr) = false
 is_two_local_bytes (forms.Based base offset attr) = false
 is_two_local_bytes (forms.Handler code at) = false
-
-abbrev pub is_parameter : Form → Bool
-is_parameter (forms.Local attr first) = false
-is_parameter (forms.Parm k attr) = true
-is_parameter (forms.Based base offset attr) = false
-is_parameter (forms.Handler code at) = false
 
 abbrev pub is_short_binary : Option Attr → Bool
 is_short_binary (Some (Binary size)) = size == 2

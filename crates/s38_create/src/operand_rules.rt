@@ -1,7 +1,8 @@
 ghost use Rattle.std.specs.Prelude.{◌≡◌, drop, slice_get};
 ghost use Rattle.std.specs.List.{list_all};
 ghost use Rattle.s38_create.specs.Suits.{item_suits};
-ghost use Rattle.s38_create.specs.OperandRules.{at_suits, attr_at, attr_length, fits, has_length, is_from_one_to, is_key_length, is_of_kind, is_parameter, is_short_binary, keeps_rule, is_two_local_bytes, length_at, nothing_at, whole_at, word_at};
+ghost use Rattle.s38_create.specs.OperandRules.{at_suits, attr_at, attr_length, fits, has_length, is_from_one_to, is_key_length, is_of_kind, is_short_binary, keeps_rule, is_two_local_bytes, length_at, nothing_at, whole_at, word_at};
+ghost use Rattle.s38_odt.specs.Table.{is_parameter};
 
 use crate::attributes::operand_attr;
 use crate::items::{item_is_parameter, item_is_two_local_bytes};

@@ -1,6 +1,6 @@
 -- The rows that are made are formed.
 use Rattle.std.proofs.Common.{◌≡◌, ◌≤◌, ◌<◌, ◌+◌, ◌-◌, ◌/◌, ℕ, ℤ, pos, true, leb, List, [], ◌∷◌, ◌++◌, length, length-append, get_or, take, Option, Some, None, Result, Ok, Err, refl, sym, ◌∙◌, ap, subst, ⊎_elim, arith}
-use Rattle.std.specs.Prelude.{slice_get, replicate}
+use Rattle.std.specs.Prelude.{◌==◌, slice_get, replicate}
 use Rattle.std.specs.Option.{is_some}
 use Rattle.std.proofs.lemmas.Bool.{cases_lt}
 use Rattle.std.proofs.lemmas.Bool.Decides.{nat_tests}
@@ -17,7 +17,7 @@ use Rattle.s38_words.specs.Literal.{text_of}
 use Rattle.s38_words.specs.Number.{number_of}
 use Rattle.s38_code.specs.declared.program.CreateFault.{CreateFault}
 use Rattle.s38_code.specs.declared.program.Form.{Form}
-use Rattle.s38_code.specs.declared.program.Form.TheVariants.{Local, Based, Handler}
+use Rattle.s38_code.specs.declared.program.Form.TheVariants.{Local, Parm, Based, Handler}
 use Rattle.s38_code.specs.declared.program.Row.{Row}
 use Rattle.s38_words.specs.declared.declarations.DeclarationLine.{DeclarationLine}
 use Rattle.s38_words.specs.declared.declarations.Declares.{Declares}
@@ -26,7 +26,7 @@ use Rattle.s38_words.specs.declared.numbers.Numeral.{Numeral}
 use Rattle.s38_odt.specs.First.{blank_of, either_held, filled, first_of, is_exact, number_held, text_held, units_held, units_in}
 use Rattle.s38_odt.specs.Formed.{AreFormed, IsForm, first_length}
 use Rattle.s38_odt.specs.Labels.{instruction_count, label_in}
-use Rattle.s38_odt.specs.Table.{and_then, base_at, base_in, based_form, checked_form, form_of, handler_form, is_base_row, is_bounded_line, more_rows, new_row, place_in, refused, row_of, row_from, rows_from, variable_form}
+use Rattle.s38_odt.specs.Table.{and_then, base_at, base_in, based_form, checked_form, form_of, handler_form, is_base_row, is_bounded_line, more_rows, new_row, parameter_count, parameter_form, place_in, refused, row_of, row_from, rows_from, variable_form}
 use Rattle.s38_odt.proofs.LabelLemmas.{label_in-bound}
 use Rattle.s38_odt.proofs.Parts.{and_then-some, if-ok, if-some, unless-ok}
 
@@ -98,6 +98,17 @@ variable_form-formed count rows attr (Some first) form bounded long h =
     let P : Form → Type 0 = λ f. IsForm count rows f in
     subst P same (record { bounded = bounded; begun = long first refl })
 
+parameter_form-formed : (count : ℕ) (rows : List Row) (k : ℕ) (attr : Attr) (form : Form) → is_bounded attr ≡ true → k ≤ 16 →
+    parameter_form rows k attr ≡ Ok form → IsForm count rows form
+parameter_form-formed count rows k attr form bounded few h =
+    let made = if-ok (k == parameter_count rows + 1) (Ok (Parm k attr)) exceptions.name_invalid form h in
+    let test : (k == parameter_count rows + 1) ≡ true = made.0 in
+    let next : k ≡ parameter_count rows + 1 = grind (arith, nat_tests) in
+    let taken = made.1 in
+    let same : Parm k attr ≡ form = cc in
+    let P : Form → Type 0 = λ f. IsForm count rows f in
+    subst P same (record { bounded = bounded; few = few; next = next })
+
 based_form-formed : (count : ℕ) (rows : List Row) (offset : ℕ) (attr : Attr) (base : Option ℕ) (form : Form) → is_bounded attr ≡ true → offset ≤ 16777216 →
     ((k : ℕ) → base ≡ Some k → is_base_row (slice_get rows k) ≡ true) → based_form offset attr base ≡ Ok form → IsForm count rows form
 based_form-formed count rows offset attr None form bounded near is h = absurd (let e : Err exceptions.name_invalid ≡ Ok form = h in cc)
@@ -128,7 +139,10 @@ form_of-formed : (code : List (List ℕ)) (rows : List Row) (literal : Option (L
 unfolding form_of
 form_of-formed code rows literal (Variable attr) form bounded h =
     variable_form-formed (instruction_count code) rows attr (first_of attr literal) form bounded (λ first e. first_of-length attr literal first e) h
-form_of-formed code rows literal (Parameter k attr) form bounded h = absurd (let e : Err exceptions.name_invalid ≡ Ok form = h in cc)
+form_of-formed code rows literal (Parameter k attr) form bounded h =
+    let few : k ≤ 16 = grind (arith, nat_tests) in
+    let attr_bounded : is_bounded attr ≡ true = grind arith in
+    parameter_form-formed (instruction_count code) rows k attr form attr_bounded few h
 form_of-formed code rows literal (BasedItem base offset attr) form bounded h =
     let near : offset ≤ 16777216 = grind (arith, nat_tests) in
     let attr_bounded : is_bounded attr ≡ true = grind arith in

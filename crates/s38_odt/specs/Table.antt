@@ -1,6 +1,6 @@
 -- The declarations of a program: each line is checked against the rows before it.
-use Rattle.std.specs.Prelude.{ℕ, ◌+◌, Bool, true, false, ◌&&◌, List, [], ◌∷◌, ◌++◌, length, slice_get, Option, Some, None, is_some, Result, Ok, Err, if◌then◌else◌}
-use Rattle.std.specs.List.{position_from}
+use Rattle.std.specs.Prelude.{ℕ, ◌+◌, ◌==◌, Bool, true, false, ◌&&◌, List, [], ◌∷◌, ◌++◌, length, slice_get, Option, Some, None, is_some, Result, Ok, Err, if◌then◌else◌}
+use Rattle.std.specs.List.{count_by, position_from}
 use Rattle.std.specs.Option.{option_and_then}
 use Rattle.std.specs.Str.{bytes_eq}
 use Rattle.s38_base.specs.NameText.{is_name}
@@ -49,6 +49,18 @@ base_at rows k = if is_base_row (slice_get rows k) then Some k else None
 abbrev pub base_in : List Row → List ℕ → Option ℕ
 base_in rows name = option_and_then (base_at rows) (place_in rows name)
 
+-- ---- parameters
+
+abbrev pub is_parameter : Form → Bool
+is_parameter (Local attr first) = false
+is_parameter (Parm k attr) = true
+is_parameter (Based base offset attr) = false
+is_parameter (Handler code at) = false
+
+-- how many of these rows are parameters
+abbrev pub parameter_count : List Row → ℕ
+parameter_count rows = count_by (λ row. is_parameter row.form) rows
+
 -- ---- one declaration
 
 -- its attribute keeps its bounds, and its numbers their ranges
@@ -65,6 +77,10 @@ abbrev pub variable_form : Attr → Option (List ℕ) → Result Form ℕ
 variable_form attr None = Err exceptions.declaration_invalid
 variable_form attr (Some first) = Ok (Local attr first)
 
+-- parameters are numbered from 1 on in the order of their declarations
+abbrev pub parameter_form : List Row → ℕ → Attr → Result Form ℕ
+parameter_form rows k attr = if k == parameter_count rows + 1 then Ok (Parm k attr) else Err exceptions.name_invalid
+
 abbrev pub based_form : ℕ → Attr → Option ℕ → Result Form ℕ
 based_form offset attr None = Err exceptions.name_invalid
 based_form offset attr (Some base) = Ok (Based base offset attr)
@@ -74,10 +90,10 @@ abbrev pub handler_form : Option ℕ → Option ℕ → Result Form ℕ
 handler_form taken None = Err exceptions.name_invalid
 handler_form taken (Some at) = Ok (Handler taken at)
 
--- what a bounded line makes of its name, before these lines of code; parameters are not built
+-- what a bounded line makes of its name, before these lines of code
 unfoldable pub form_of : List (List ℕ) → List Row → Option (List ℕ) → Declares → Result Form ℕ
 form_of code rows literal (Variable attr) = variable_form attr (first_of attr literal)
-form_of code rows literal (Parameter k attr) = Err exceptions.name_invalid
+form_of code rows literal (Parameter k attr) = parameter_form rows k attr
 form_of code rows literal (BasedItem base offset attr) = based_form offset attr (base_in rows base)
 form_of code rows literal (Description taken label) = handler_form taken (label_in code label)
 

@@ -36,7 +36,7 @@ fn text_held(attr: Attr, text: Vec<u8>) -> Result<Option<Bytes>, NoMemory>
 }
 
 /// With which bytes a variable begins without a literal: numbers as plus 0, bytes as blanks, pointers as none.
-fn blank(alloc: Global, attr: Attr) -> Result<Option<Bytes>, NoMemory>
+pub fn blank(alloc: Global, attr: Attr) -> Result<Option<Bytes>, NoMemory>
     ensures { IfOk result (λ bytes. bytes ≡ blank_of attr) }
 {
     match attr {

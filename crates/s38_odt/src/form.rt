@@ -1,13 +1,13 @@
-ghost use Rattle.std.specs.Prelude.{◌≡◌, IsTrue, IfOk, None};
+ghost use Rattle.std.specs.Prelude.{◌≡◌, ◌≤◌, IsTrue, IfOk, None, length};
 ghost use Rattle.std.specs.Option.{option_map};
 ghost use Rattle.s38_odt.specs.First.{first_of};
 ghost use Rattle.s38_odt.specs.Labels.{label_in};
 ghost use Rattle.s38_odt.specs.Places.{IsTied};
-ghost use Rattle.s38_odt.specs.Table.{attribute_bounded, base_in, based_form, checked_form, form_of, handler_form, is_bounded_line, place_in, row_of, variable_form};
+ghost use Rattle.s38_odt.specs.Table.{attribute_bounded, base_in, based_form, checked_form, form_of, handler_form, is_bounded_line, parameter_count, parameter_form, place_in, row_of, variable_form};
 
 use crate::first::first;
 use crate::labels::CodeLines;
-use crate::places::{Declared, base, is_declared};
+use crate::places::{Declared, base, is_declared, parameter_count};
 use s38_base::{Attr, Name, NoMemory, exceptions};
 use s38_code::{Form, Row};
 use s38_words::{Declares, declaration, initial, is_in_range};
@@ -42,6 +42,18 @@ fn variable(
     match first(alloc, attr, literal)? {
         Some(first) => Ok(Ok(Form::Local { attr, first })),
         None => Ok(Err(exceptions::DECLARATION_INVALID)),
+    }
+}
+
+/// A parameter; refused where its number is not the next one.
+fn parameter(rows: &[Row], k: u64, attr: Attr) -> Result<Form, u16>
+    requires { k ≤ 16 }
+    ensures { result ≡ parameter_form rows.now k attr }
+{
+    if k == parameter_count(rows) as u64 + 1 {
+        Ok(Form::Parm { k: k as u8, attr })
+    } else {
+        Err(exceptions::NAME_INVALID)
     }
 }
 
@@ -81,7 +93,7 @@ fn form(
 {
     match declares {
         Declares::Variable { attr } => variable(alloc, *attr, literal),
-        Declares::Parameter { .. } => Ok(Err(exceptions::NAME_INVALID)),
+        Declares::Parameter { k, attr } => Ok(parameter(declared.rows.as_slice(), *k, *attr)),
         Declares::BasedItem { base, offset, attr } => {
             Ok(based(declared, base, *offset as u32, *attr))
         }

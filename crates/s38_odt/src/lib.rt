@@ -9,6 +9,7 @@ mod labels;
 mod places;
 mod table;
 
+pub use first::blank;
 pub use labels::{CodeLines, instruction_count, is_label};
 pub use table::{Odt, definition_table, rows};
 

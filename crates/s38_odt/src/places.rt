@@ -1,6 +1,6 @@
-ghost use Rattle.std.specs.Prelude.{◌≡◌, ◌<◌, ◌++◌, ◌∷◌, [], length, slice_get, is_some, None, OnOk};
+ghost use Rattle.std.specs.Prelude.{◌≡◌, ◌≤◌, ◌<◌, ◌++◌, ◌∷◌, [], length, slice_get, is_some, None, OnOk};
 ghost use Rattle.s38_odt.specs.Places.{IsTied};
-ghost use Rattle.s38_odt.specs.Table.{base_in, is_base, is_base_row, item_of, place_in};
+ghost use Rattle.s38_odt.specs.Table.{base_in, is_base, is_base_row, is_parameter, item_of, parameter_count, place_in};
 
 use s38_base::{Name, NoMemory};
 use s38_code::{Form, Row};
@@ -42,6 +42,21 @@ fn is_base_row(rows: &[Row], at: u16) -> bool
         Some(row) => is_base(&row.form),
         None => false,
     }
+}
+
+/// The row is a parameter.
+fn is_parameter(row: &Row) -> bool
+    ensures { result ≡ is_parameter row.now.form }
+{
+    matches!(row.form, Form::Parm { .. })
+}
+
+/// How many of the rows are parameters.
+pub fn parameter_count(rows: &[Row]) -> usize
+    ensures count { result ≡ parameter_count rows.now }
+    ensures few { result ≤ length rows.now }
+{
+    rows.iter().filter(|row| is_parameter(row)).count()
 }
 
 /// The number of the base that a name is.

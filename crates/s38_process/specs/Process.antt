@@ -26,6 +26,7 @@ use Rattle.s38_local.specs.declared.local_end.LocalEnd.TheVariants as ends
 use Rattle.s38_local.specs.declared.frame.Frame.{Frame}
 use Rattle.s38_local.specs.Frames.{Went}
 use Rattle.s38_local.specs.Local.{is_local, run}
+use Rattle.s38_odt.specs.First.{blank_of}
 use Rattle.s38_process.specs.Exceptions.{label_for, taken}
 use Rattle.s38_process.specs.declared.status.Status.{Status}
 use Rattle.s38_process.specs.declared.status.Status.TheVariants.{Fresh, Running, Ending, Ended}
@@ -61,9 +62,13 @@ abbrev pub first_by : Attr → List ℕ → Val
 first_by attrs.Pointer first = vals.Ptr None
 first_by _ first = vals.Bytes first
 
+-- a parameter that no caller gave begins as a variable does without a literal
+abbrev pub blank_bytes : Attr → List ℕ
+blank_bytes attr = unwrap_or (blank_of attr) []
+
 abbrev pub first_value : Form → Val
 first_value (forms.Local attr first) = first_by attr first
-first_value (forms.Parm k attr) = vals.Ptr None
+first_value (forms.Parm k attr) = first_by attr (blank_bytes attr)
 first_value (forms.Based base offset attr) = vals.Ptr None
 first_value (forms.Handler code at) = vals.Ptr None
 

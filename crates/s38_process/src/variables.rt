@@ -2,7 +2,7 @@ ghost use Rattle.std.specs.Prelude.{◌≡◌, ◌<◌, ◌+◌, ◌^◌, ◌||�
 ghost use Rattle.std.specs.Option.{option_copied};
 ghost use Rattle.s38_code.specs.declared.class.Class.{Class};
 ghost use Rattle.s38_compute.specs.Computed.{copies_left, copies_right};
-ghost use Rattle.s38_process.specs.Process.{first_by, first_frame, first_value, first_values, next_instruction};
+ghost use Rattle.s38_process.specs.Process.{blank_bytes, first_by, first_frame, first_value, first_values, next_instruction};
 ghost use Rattle.s38_process.specs.Replies.{is_taken, label_in, label_of, merged, merged_bytes, put, received, takes_value};
 ghost use Rattle.s38_process.specs.Requests.{is_receiver};
 ghost use Rattle.s38_local.specs.Variables.{form_in, is_based, value_bytes, value_pointer};
@@ -11,6 +11,7 @@ use s38_base::{Attr, Bytes, NoMemory, Op, Pile, Pointer, Seq, TryClone};
 use s38_code::{Arg, Class, Form, Instruction, Row, Val};
 use s38_compute::{copies_left, copies_right};
 use s38_local::Frame;
+use s38_odt::blank;
 use s38_strings::{copy_left, copy_right};
 use std::alloc::Global;
 use std::mem;
@@ -25,12 +26,23 @@ pub fn form_in(row: Option<&Row>) -> Option<&Form>
     }
 }
 
-fn first_by(alloc: Global, attr: Attr, first: &Bytes) -> Result<Val, NoMemory>
-    ensures { IfOk result (λ v. v ≡ first_by attr first.now) }
+/// What a variable begins with: a pointer variable with no pointer, another with its first bytes.
+fn first_by(attr: Attr, first: Bytes) -> Val
+    ensures { result ≡ first_by attr first }
 {
     match attr {
-        Attr::Pointer => Ok(Val::Ptr(None)),
-        _ => Ok(Val::Bytes(first.try_clone(alloc)?)),
+        Attr::Pointer => Val::Ptr(None),
+        _ => Val::Bytes(first),
+    }
+}
+
+/// The bytes with which a parameter begins that no caller gave.
+fn blank_bytes(alloc: Global, attr: Attr) -> Result<Bytes, NoMemory>
+    ensures { IfOk result (λ bytes. bytes ≡ blank_bytes attr) }
+{
+    match blank(alloc, attr)? {
+        Some(bytes) => Ok(bytes),
+        None => Ok(Seq::new(alloc)),
     }
 }
 
@@ -38,8 +50,8 @@ fn first_value(alloc: Global, form: &Form) -> Result<Val, NoMemory>
     ensures { IfOk result (λ v. v ≡ first_value form.now) }
 {
     match form {
-        Form::Local { attr, first } => first_by(alloc, *attr, first),
-        Form::Parm { .. } => Ok(Val::Ptr(None)),
+        Form::Local { attr, first } => Ok(first_by(*attr, first.try_clone(alloc)?)),
+        Form::Parm { attr, .. } => Ok(first_by(*attr, blank_bytes(alloc, *attr)?)),
         Form::Based { .. } => Ok(Val::Ptr(None)),
         Form::Handler { .. } => Ok(Val::Ptr(None)),
     }

@@ -1,7 +1,7 @@
 //! Local instructions by a table: the item and the operands, how they end, and what the item holds behind them.
-use s38_base::{Attr, Exception, Name, NoMemory, Op, Seq};
+use s38_base::{Attr, Exception, Name, NoMemory, Op, Pile, Seq};
 use s38_code::{Arg, Form, Instruction, Row, Val};
-use s38_local::{LocalEnd, run_local};
+use s38_local::{Frame, LocalEnd, run_local};
 use std::alloc::Global;
 use std::test::Fail;
 
@@ -146,7 +146,19 @@ fn instructions_end_and_leave(rt: HostRuntime) -> Result<(), Fail> {
             round: true,
             args: args_of(alloc, words)?,
         };
-        let ended = run_local(alloc, &instruction, rows.as_slice(), &mut values)?;
+        let mut frame = Frame {
+            at: 0,
+            on: Seq::new(alloc),
+            returns: Pile::new(alloc),
+            latest: 0,
+        };
+        let ended = run_local(
+            alloc,
+            &instruction,
+            rows.as_slice(),
+            &mut frame,
+            &mut values,
+        )?;
         assert_eq!(rt; ended, end_of(*end), "{op:?}");
         assert!(rt; is_bytes(values.first(), left), "{op:?}");
     }

@@ -30,6 +30,14 @@ CAT M,N,'AB';ENQ Q,*NONE,M;DEQ M,Q,ANY,*NONE,NOWAIT;RTX;ENQ Q,*NONE,'LOST';",
             "2 CRTQ OK S6/00;3 ENQ OK;4 DEQ OK C3F1C6F0;5 ENQ OK;6 DEQ OK F0F3C1C2;7 FINISH RETURN
 DONE 7;",
         ),
+        // Parameters of a job's program begin as plus 0 and as blanks, and are variables of their own.
+        (
+            "DCL K PARM 1 PKD:3:0;DCL Q PTR;DCL T PARM 2 CHAR:2;CRTQ Q,*NONE,QUEUE/00/Q,NONE,FIFO,0,8
+ENQ Q,*NONE,K;ENQ Q,*NONE,T;DEQ T,Q,ANY,*NONE,NOWAIT;DEQ T,Q,ANY,*NONE,NOWAIT;ADDN K,K,7
+ENQ Q,*NONE,K;DEQ T,Q,ANY,*NONE,NOWAIT;",
+            "2 CRTQ OK S6/00;3 ENQ OK;4 ENQ OK;5 DEQ OK 000F;6 DEQ OK 4040;7 ENQ OK;8 DEQ OK 007F
+9 FINISH RETURN;DONE 9;",
+        ),
         // A space pointer is moved, and tells its kind.
         (
             "DCL S PTR;DCL A PTR;DCL D PTR;CRTS S,*NONE,SPACE/00/S,NONE,64;SETSPPFP A,S;ADDSPP A,A,48

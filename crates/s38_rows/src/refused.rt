@@ -20,7 +20,7 @@ const REFUSED: &[(&str, &str)] = &[
     ("DCL A CHAR:2;DCL B CHAR:2 INIT 'ABC';", "2A02 2"),
     ("DCL A PTR;DCL A PTR;", "2A03 2"),
     ("DCL A BASED B 0 PTR;", "2A03 1"),
-    ("DCL A PARM 1 PTR;", "2A03 1"),
+    ("DCL A PARM 2 PTR;", "2A03 1"),
     ("DCL A EXCM 0C0A THERE;LABEL HERE;", "2A03 1"),
     ("DCL P PTR;CRTQ P,*NONE,SPACE/00/Q,NONE,FIFO,0,8;", "2A05 1"),
     ("DCL P PTR;CRTQ P,*NONE,QUEUE/00/Q,NONE,LIFO,0,8;", "2A04 1"),
