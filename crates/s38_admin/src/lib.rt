@@ -2,6 +2,7 @@
 //! beside, what it gives and what it changes, by family.
 #![tactic(auto)]
 
+mod calls;
 pub mod programs;
 pub mod resolving;
 pub mod spaces;

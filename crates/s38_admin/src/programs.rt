@@ -1,8 +1,9 @@
-//! Programs as objects: made of the deck's templates, and destroyed.
+//! Programs as objects: made of the deck's templates, called, and destroyed.
 ghost use Rattle.std.specs.Prelude.{◌≡◌, None, IfOk, OnOk, OnErr};
 ghost use Rattle.std.specs.Option.{option_copied};
 ghost use Rattle.s38_rules.specs.Programs.{created_program, crtpg_changes, crtpg_fails, new_program, program_in, programs_row, template_at};
 
+use crate::calls::{call_gives, call_needs, callx, callx_fails, xctl, xctl_fails};
 use crate::templates::{is_larger, program_in, template_in, template_rule};
 use s38_base::exceptions::LIMIT_EXCEEDED;
 use s38_base::{Exception, Kind, NoMemory, Op, TryClone};
@@ -99,6 +100,7 @@ pub fn needs(world: &World<Objects>, process: u32, depth: u16, request: &Request
     let _ = depth;
     match request.op {
         Op::Crtpg => creation_needs(request.operands.as_slice()),
+        Op::Callx | Op::Xctl => call_needs(),
         Op::Despg => destruction_needs(Kind::Program),
         _ => Needs::none(),
     }
@@ -114,9 +116,11 @@ pub fn conditions(
 ) -> Option<Exception>
     ensures { result ≡ (programs_row request.now.op).fails world.now process depth request.now }
 {
-    let _ = depth;
+    let operands = request.operands.as_slice();
     match request.op {
-        Op::Crtpg => crtpg_fails(world, process, request.operands.as_slice()),
+        Op::Crtpg => crtpg_fails(world, process, operands),
+        Op::Callx => callx_fails(world, process, depth, operands),
+        Op::Xctl => xctl_fails(&world.objects, operands),
         _ => None,
     }
 }
@@ -132,15 +136,13 @@ pub fn value(
 ) -> Result<Option<Val>, NoMemory>
     ensures { IfOk result (λ value. value ≡ (programs_row request.now.op).gives world.now process depth request.now) }
 {
-    let _ = alloc;
     let _ = process;
     let _ = depth;
     let objects = &world.objects;
+    let operands = request.operands.as_slice();
     match request.op {
-        Op::Crtpg => Ok(Some(creation_gives(
-            objects,
-            &new_program(objects, request.operands.as_slice()),
-        ))),
+        Op::Crtpg => Ok(Some(creation_gives(objects, &new_program(objects, operands)))),
+        Op::Callx | Op::Xctl => call_gives(alloc, objects, operands),
         _ => Ok(None),
     }
 }
@@ -161,6 +163,11 @@ pub fn apply(
     let operands = request.operands.as_slice();
     match request.op {
         Op::Crtpg => crtpg(alloc, world, process, operands),
+        Op::Callx => callx(world, process, depth, operands),
+        Op::Xctl => {
+            xctl(world, process, depth, operands);
+            Ok(())
+        }
         Op::Despg => {
             destruction_changes(&mut world.objects, operands);
             Ok(())

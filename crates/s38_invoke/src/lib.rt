@@ -1,6 +1,8 @@
-//! The machine's world, over any table of objects: its processes, who acts in them, and their starts and ends.
+//! The machine's world, over any table of objects: its processes, who acts in them, their invocations, and their
+//! starts and ends.
 #![tactic(auto)]
 
+mod invocations;
 mod processes;
 mod starts;
 mod users;

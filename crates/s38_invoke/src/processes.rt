@@ -1,6 +1,7 @@
 //! The processes of a world: how far each has come, and which are ready.
-ghost use Rattle.std.specs.Prelude.{◌≡◌, ◌-◌, slice_get};
+ghost use Rattle.std.specs.Prelude.{◌≡◌, ◌≤◌, ◌-◌, length, slice_get};
 ghost use Rattle.std.specs.Option.{option_copied};
+ghost use Rattle.s38_rules.specs.Invocations.{most_frames, stack_in, stack_of};
 ghost use Rattle.s38_rules.specs.State.{is_early, process_entry, ready, started, started_in, waits};
 ghost use Rattle.s38_rules.specs.Users.{contexts_in, contexts_of, user_in, user_of};
 
@@ -41,6 +42,16 @@ fn contexts_in(started: Option<&Started>) -> &[ObjNum]
     }
 }
 
+fn stack_in(started: Option<&Started>) -> &[ObjNum]
+    ensures value { result.now ≡ stack_in (option_copied started.entry) }
+    ensures few { length result.now ≤ most_frames }
+{
+    match started {
+        None => &[],
+        Some(started) => started.stack.as_slice(),
+    }
+}
+
 fn is_early_in(entries: &[ProcessEntry], stage: u16) -> bool
     ensures { result ≡ is_early entries.now stage }
 {
@@ -67,6 +78,14 @@ impl<T: Table> World<T> {
         ensures { result.now ≡ contexts_of self.now process }
     {
         contexts_in(started_in(self.process_entry(process)))
+    }
+
+    /// The programs of a started process's invocations, the newest last; none for another.
+    pub fn stack_of(&self, process: u32) -> &[ObjNum]
+        ensures value { result.now ≡ stack_of self.now process }
+        ensures few { length result.now ≤ most_frames }
+    {
+        stack_in(started_in(self.process_entry(process)))
     }
 
     /// Whether a process waits.

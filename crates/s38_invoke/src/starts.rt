@@ -1,5 +1,5 @@
 //! The start of a process, which finds its user and its contexts, and its end.
-ghost use Rattle.std.specs.Prelude.{◌≡◌, ◌+◌, ◌<◌, ◌^◌, ◌∷◌, [], true, IfOk, OnErr, OnOk, Some, length, slice_get, slice_set};
+ghost use Rattle.std.specs.Prelude.{◌≡◌, ◌+◌, ◌<◌, ◌^◌, true, IfOk, OnErr, OnOk, Some, length, slice_get, slice_set};
 ghost use Rattle.std.specs.Option.{option_map};
 ghost use Rattle.s38_base.specs.Limits.{last_operand, machine_context};
 ghost use Rattle.s38_rules.specs.declared.process.ProcessEntry.{ProcessEntry};
@@ -13,7 +13,7 @@ use s38_base::exceptions::OBJECT_NOT_FOUND;
 use s38_base::limits::MACHINE_CONTEXT;
 use s38_base::{Exception, Id, Kind, Name, NoMemory, ObjNum, Seq};
 use s38_code::Job;
-use s38_rules::{ProcessEntry, Started, Table};
+use s38_rules::{ProcessEntry, Stack, Started, Table};
 use std::alloc::Global;
 
 // ---- what a start finds
@@ -100,20 +100,12 @@ fn numbers_of<T: Table>(alloc: Global, objects: &T, names: &[Name]) -> Result<Se
     Ok(numbers)
 }
 
-fn own_template(alloc: Global) -> Result<Seq<ObjNum>, NoMemory>
-    ensures { IfOk result (λ stack. stack ≡ record { 0 = 0 } ∷ []) }
-{
-    let mut stack = Seq::new(alloc);
-    stack.push(ObjNum(0))?;
-    Ok(stack)
-}
-
 fn started_as<T: Table>(alloc: Global, objects: &T, job: &Job) -> Result<Started, NoMemory>
     ensures { IfOk result (λ started. started ≡ started_as (T.held objects.now) job.now) }
 {
     let user = number_or_none(objects, &profile_id(&job.user));
     let contexts = numbers_of(alloc, objects, job.contexts.as_slice())?;
-    let stack = own_template(alloc)?;
+    let stack = Stack::own_template(alloc)?;
     Ok(Started {
         user,
         contexts,

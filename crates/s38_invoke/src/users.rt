@@ -1,10 +1,12 @@
 //! Who acts in a process.
-ghost use Rattle.std.specs.Prelude.{◌≡◌, ◌∷◌, [], map};
-ghost use Rattle.s38_rules.specs.Users.{acting};
+ghost use Rattle.std.specs.Prelude.{◌≡◌, ◌+◌, ◌<◌, ◌≤◌, ◌++◌, ◌∷◌, [], length, map};
+ghost use Rattle.std.specs.Option.{option_map};
+ghost use Rattle.s38_rules.specs.Invocations.{in_use, most_frames, stack_of};
+ghost use Rattle.s38_rules.specs.Users.{acting, adopted, adoption_of, frame_header};
 
 use crate::world::World;
 use s38_base::{ObjNum, UserNum};
-use s38_rules::Table;
+use s38_rules::{Header, Table};
 use std::marker::Model;
 
 /// How many users act at most: the process's own, and the owner of each program of its stack.
@@ -37,6 +39,15 @@ impl Acting {
         Acting { users, count: 1 }
     }
 
+    /// One user more.
+    fn add(&mut self, user: UserNum)
+        requires { length self.old < 65 }
+        ensures { self.new ≡ self.old ++ user.0 ∷ [] }
+    {
+        self.users[self.count] = user;
+        self.count += 1;
+    }
+
     /// The users.
     pub fn as_slice(&self) -> &[UserNum]
         ensures { map (λ u. u.0) result.now ≡ self.now }
@@ -45,13 +56,72 @@ impl Acting {
     }
 }
 
+/// What is said of the program of a frame: nothing of the job's own template, nor of a program that is gone.
+fn frame_header<T: Table>(objects: &T, frame: ObjNum) -> Option<Header>
+    ensures { result ≡ frame_header (T.held objects.now) frame }
+{
+    if frame.0 == 0 {
+        None
+    } else {
+        objects.header(frame)
+    }
+}
+
+/// The owner of an adopting program, where it is the last that counts or passes its adoption on.
+fn adoption_of(last: bool, program: Option<Header>) -> Option<UserNum>
+    ensures { option_map (λ u. u.0) result ≡ adoption_of last program }
+{
+    match program {
+        None => None,
+        Some(program) => {
+            if program.adopts && (last || program.propagates) {
+                Some(program.owner)
+            } else {
+                None
+            }
+        }
+    }
+}
+
+/// The owners that the frames bring join the acting users.
+fn adopt<T: Table>(objects: &T, acting: &mut Acting, frames: &[ObjNum])
+    requires { length acting.old + length frames.now ≤ 65 }
+    ensures { acting.new ≡ acting.old ++ adopted (T.held objects.now) frames.now }
+{
+    match frames {
+        [] => {}
+        [frame, more @ ..] => {
+            let owner = adoption_of(more.len() == 0, frame_header(objects, *frame));
+            if let Some(owner) = owner {
+                acting.add(owner);
+            }
+            adopt(objects, acting, more);
+        }
+    }
+}
+
 impl<T: Table> World<T> {
-    /// The acting users of a process that has come to a depth of invocations: its user.
+    /// The frames of a process that count at a depth.
+    fn frames_in_use(&self, process: u32, depth: u16) -> &[ObjNum]
+        ensures value { result.now ≡ in_use depth (stack_of self.now process) }
+        ensures few { length result.now ≤ most_frames }
+    {
+        let frames = self.stack_of(process);
+        &frames[..frames.len().min(depth as usize)]
+    }
+
+    /// The acting users of a process that has come to a depth of invocations: its user, and the owners of programs
+    /// that adopt.
     #[tactic(auto, unfolding(s38_rules::specs::Users::acting))]
     pub fn acting(&self, process: u32, depth: u16) -> Acting
         ensures { result ≡ acting self.now process depth }
     {
-        let _ = depth;
-        Acting::one(self.user_of(process))
+        let mut acting = Acting::one(self.user_of(process));
+        adopt(
+            &self.objects,
+            &mut acting,
+            self.frames_in_use(process, depth),
+        );
+        acting
     }
 }

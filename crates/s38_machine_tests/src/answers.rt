@@ -2,7 +2,7 @@
 ghost use Rattle.std.specs.Prelude.{◌≡◌};
 ghost use Rattle.s38_rules.specs.Legal.{IsProcess, IsSound};
 
-use crate::given::Asked::{Do, End, Start};
+use crate::given::Asked::{Called, Do, End, Start};
 use crate::given::{Asked, Given, event, jobs, templates};
 use Outcome::{Done, Signal, Wait};
 use s38_base::{Attr, Kind, Op};
@@ -68,8 +68,16 @@ const Q: Given = Given::Object(7);
 
 const P: Given = Given::Object(8);
 
+/// A program in no context, which everybody may find.
+const A: Given = Given::Object(9);
+
+const FOUND: Given = Given::Word(8);
+
+/// The queue of the security officer, into which nobody else may put.
+const LOCKED: Given = Given::Object(5);
+
 /// What each process asks, and how that is answered.
-const CASES: [(u32, Asked, Outcome); 19] = [
+const CASES: [(u32, Asked, Outcome); 28] = [
     (1, Start, Done),
     (2, Start, Wait),
     (1, Do(Op::Crts, &[INTO, QGPL, SPACE, NONE, LONG]), Done),
@@ -82,11 +90,20 @@ const CASES: [(u32, Asked, Outcome); 19] = [
     (1, Do(Op::Mods, &[S, SHORT]), Done),
     (1, Do(Op::Enq, &[Q, NONE, TEXT]), Done),
     (1, Do(Op::Deq, &[BYTE, Q, ANY, NONE, NONE]), Done),
+    (1, Do(Op::Crtpg, &[INTO, NONE, PROGRAM, FOUND, NAME]), Done),
+    (1, Do(Op::Callx, &[P, TEXT]), Done),
+    (1, Do(Op::Callx, &[P]), Signal),
+    (1, Do(Op::Xctl, &[P, TEXT]), Done),
     (1, Do(Op::Dess, &[S]), Done),
     (1, Do(Op::Desq, &[Q]), Done),
     (1, Do(Op::Despg, &[P]), Done),
     (1, End, Done),
     (2, Start, Done),
+    (2, Called(Op::Enq, &[LOCKED, NONE, TEXT]), Signal),
+    (2, Do(Op::Callx, &[A, TEXT]), Done),
+    (2, Called(Op::Enq, &[LOCKED, NONE, TEXT]), Done),
+    (2, Do(Op::Enq, &[LOCKED, NONE, TEXT]), Signal),
+    (2, Called(Op::Enq, &[LOCKED, NONE, TEXT]), Done),
     (3, Start, Signal),
     (2, End, Done),
 ];

@@ -2,8 +2,8 @@
 
 use s38_base::{Attr, Id, Kind, Name, ObjNum, Op, Pointer, Rights, Seq};
 use s38_code::{
-    Checked, CheckedTemplate, Code, CreateResult, EndCause, Event, Job, Operand, Program, Request,
-    Template,
+    Checked, CheckedTemplate, Code, CreateResult, EndCause, Event, Form, Job, Operand, Program,
+    Request, Row, Template,
 };
 use std::alloc::Global;
 use std::test::Fail;
@@ -13,6 +13,8 @@ use std::test::Fail;
 pub enum Asked {
     Start,
     Do(Op, &'static [Given]),
+    /// The same from a program that was called.
+    Called(Op, &'static [Given]),
     End,
 }
 
@@ -68,9 +70,10 @@ fn operand(alloc: Global, given: Given) -> Result<Operand, Fail> {
 
 /// The event of what a process asks.
 pub fn event(alloc: Global, asked: Asked) -> Result<Event, Fail> {
-    let (op, given) = match asked {
+    let (depth, op, given) = match asked {
         Asked::Start => return Ok(Event::Start),
-        Asked::Do(op, given) => (op, given),
+        Asked::Do(op, given) => (1, op, given),
+        Asked::Called(op, given) => (2, op, given),
         Asked::End => {
             let cause = EndCause::Return;
             return Ok(Event::Finish { cause });
@@ -86,16 +89,22 @@ pub fn event(alloc: Global, asked: Asked) -> Result<Event, Fail> {
         round,
         operands,
     };
-    Ok(Event::Act { depth: 1, request })
+    Ok(Event::Act { depth, request })
 }
 
-/// A template that makes a program without an instruction.
+/// A template that makes a program of one parameter, without an instruction, which adopts.
 pub fn templates(alloc: Global) -> Result<Checked, Fail> {
+    let attr = Attr::Chars { len: 1 };
+    let mut rows = Seq::new(alloc);
+    rows.push(Row {
+        name: name()?,
+        form: Form::Parm { k: 1, attr },
+    })?;
     let program = Program {
         template: Template::new(alloc, Seq::new(alloc))?,
-        rows: Seq::new(alloc),
+        rows,
         code: Seq::new(alloc),
-        adopts: false,
+        adopts: true,
         propagates: false,
     };
     let mut templates = Seq::new(alloc);

@@ -1,7 +1,7 @@
 //! Computations that the machine does, since an operand lies in a space.
 ghost use Rattle.std.specs.Prelude.{◌≡◌, IfOk, length, replicate};
 ghost use Rattle.std.specs.Option.{option_copied};
-ghost use Rattle.s38_rules.specs.Computing.{computing_fails, computing_gives, computing_needs, held_in, of_operands, offset_needs, power_of, receiver_at, receiver_attr, shift_at};
+ghost use Rattle.s38_rules.specs.Computing.{computing_fails, computing_gives, computing_needs, held_in, is_call, of_operands, offset_needs, power_of, receiver_at, receiver_attr, shift_at};
 ghost use Rattle.s38_rules.specs.Operands.{place as operand};
 
 use crate::hex::are_hex_of;
@@ -171,11 +171,18 @@ pub fn computing_needs(op: Op) -> Needs
     }
 }
 
-/// The operand that gets the value of an instruction; that of a branch comes back with the reply.
+/// Whether an instruction gives the program that is called.
+fn is_call(op: Op) -> bool
+    ensures { result ≡ is_call op }
+{
+    matches!(op, Op::Callx | Op::Xctl)
+}
+
+/// The operand that gets the value of an instruction; that of a branch and of a call comes back with the reply.
 pub fn receiver_at(op: Op, operands: &[Operand]) -> Option<&Operand>
     ensures { option_copied result ≡ receiver_at op operands.now }
 {
-    if is_branch(op) {
+    if is_branch(op) || is_call(op) {
         None
     } else {
         place(operands, 1)

@@ -1,10 +1,11 @@
 -- Laws of the definitions that the crates above rest on.
-use Rattle.std.proofs.Common.{◌≡◌, ℕ, ◌+◌, Bool, true, false, List, [], ◌∷◌, ◌++◌, length, refl, sym, ◌∙◌, ap, subst, inl, inr, append_assoc, length-append, length-set}
-use Rattle.std.proofs.lemmas.List.{append-nil}
+use Rattle.std.proofs.Common.{◌≡◌, ℕ, ◌+◌, ◌-◌, Bool, true, false, List, [], ◌∷◌, ◌++◌, length, map, refl, sym, ◌∙◌, ap, subst, inl, inr, append_assoc, length-append, length-set, get_or-set_other, zero, suc}
+use Rattle.std.proofs.lemmas.List.{append-nil, length-map}
 use Rattle.std.proofs.lemmas.List.Elements.{All-nil, All-push}
-use Rattle.std.specs.Prelude.{Option, Some, None}
+use Rattle.std.specs.Prelude.{Option, Some, None, slice_get, slice_set}
+use Rattle.s38_base.specs.declared.id.ObjNum.{ObjNum}
 use Rattle.s38_base.specs.declared.op.Op.{Op}
-use Rattle.s38_base.specs.declared.op.Op.TheVariants.{Rslvsp, Setsppfp, Setspfp, Setdp, Cpybwp, Crtpg, Crtq, Crts, Mods, Despg, Desq, Dess, Enq, Deq}
+use Rattle.s38_base.specs.declared.op.Op.TheVariants.{Rslvsp, Setsppfp, Setspfp, Setdp, Cpybwp, Crtpg, Callx, Xctl, Crtq, Crts, Mods, Despg, Desq, Dess, Enq, Deq}
 use Rattle.s38_code.specs.declared.entry.Entry.{Entry}
 use Rattle.s38_code.specs.declared.event.Event.{Event}
 use Rattle.s38_code.specs.declared.event.Event.TheVariants.{Start, Act, Finish}
@@ -19,14 +20,16 @@ use Rattle.s38_code.specs.declared.reply.Val.{Val}
 use Rattle.s38_code.specs.Operations.{family_of}
 use Rattle.s38_code.specs.History.{IsAnswered, entry_after}
 use Rattle.s38_rules.specs.declared.process.ProcessEntry.{ProcessEntry}
+use Rattle.s38_rules.specs.declared.process.Started.{Started}
 use Rattle.s38_rules.specs.declared.verdict.Verdict.{Verdict}
 use Rattle.s38_rules.specs.declared.verdict.Verdict.TheVariants.{Permit, Wait, Refuse}
 use Rattle.s38_rules.specs.Computing.{receiver_at, shift_at}
 use Rattle.s38_rules.specs.Effect.{effect, effect_of, start_at, end_at}
-use Rattle.s38_rules.specs.Instruction.{Instruction, KeepsProcesses, inert}
+use Rattle.s38_rules.specs.Instruction.{AreKept, Instruction, KeepsProcesses, inert, unstacked}
+use Rattle.s38_rules.specs.Invocations.{pushed, replaced, restack, restack_at, restacked, with_stack}
 use Rattle.s38_rules.specs.Legal.{IsEntry, IsProcess, IsSound, IsUnstored, Leads, Run, after, after_by, begun, history_after}
-use Rattle.s38_rules.specs.Operands.{deliver, delivered}
-use Rattle.s38_rules.specs.Programs.{created_program, crtpg_changes, program_in, programs_row, template_at}
+use Rattle.s38_rules.specs.Operands.{deliver, delivered, target}
+use Rattle.s38_rules.specs.Programs.{callx_changes, created_program, crtpg_changes, program_in, programs_row, template_at, xctl_changes}
 use Rattle.s38_rules.specs.Queues.{crtq_changes, queues_row}
 use Rattle.s38_rules.specs.Resolving.{resolving_row}
 use Rattle.s38_rules.specs.Rows.{row, row_in}
@@ -89,23 +92,58 @@ delivered_keeps : (s : State) (shift : ℕ) (receiver : Option Operand) (v : Opt
 delivered_keeps s shift receiver None = refl
 delivered_keeps s shift receiver (Some v) = deliver_keeps s shift receiver v
 
--- ---- an instruction neither makes a process nor takes one away: one line for each row
+-- ---- an instruction neither makes a process nor takes one away, and changes of its own the frames alone: one line
+-- for each row
+
+same_kept : (p : ℕ) (xs : List ProcessEntry) → AreKept p xs xs
+same_kept p xs = record { stays = refl; others = λ k d h. refl }
+
+still : (p : ℕ) (xs ys : List ProcessEntry) → ys ≡ xs → AreKept p xs ys
+still p xs ys same = subst (λ (zs : List ProcessEntry). AreKept p xs zs) (sym same) (same_kept p xs)
+
+unstack_restacked : (f : List ObjNum → List ObjNum) (o : Option Started) → restacked (λ frames. []) (restacked f o) ≡ restacked (λ frames. []) o
+unstack_restacked f None = refl
+unstack_restacked f (Some p) = refl
+
+unstack_with : (f : List ObjNum → List ObjNum) (x : ProcessEntry) → unstacked (with_stack f x) ≡ unstacked x
+unstack_with f x = ap (λ (o : Option Started). record x { started = o }) (unstack_restacked f x.started)
+
+set_stays : (xs : List ProcessEntry) (k : ℕ) (x y : ProcessEntry) → slice_get xs k ≡ Some x → unstacked y ≡ unstacked x → map unstacked (slice_set xs k y) ≡ map unstacked xs
+set_stays [] k x y h e = refl
+set_stays (z ∷ xs) zero x y h e = ap (λ o. o ∷ map unstacked xs) (e ∙ ap unstacked (some_is x z (sym h)))
+  where
+    some_is : (a b : ProcessEntry) → Some a ≡ Some b → a ≡ b
+    some_is a b g = cc
+set_stays (z ∷ xs) (suc k) x y h e = ap (λ os. unstacked z ∷ os) (set_stays xs k x y h e)
+
+restack_kept : (f : List ObjNum → List ObjNum) (s : State) (p : ℕ) (o : Option ProcessEntry) → process_entry s p ≡ o → AreKept p s.processes (restack_at f s p o).processes
+restack_kept f s p None h = same_kept p s.processes
+restack_kept f s p (Some x) h = record {
+  stays = set_stays s.processes (p - 1) x (with_stack f x) h (unstack_with f x);
+  others = λ k d away. rw get_or-set_other refl;
+}
+
+-- other frames of a process
+restacks : (f : List ObjNum → List ObjNum) (s : State) (p : ℕ) → AreKept p s.processes (restack f s p).processes
+restacks f s p = restack_kept f s p (process_entry s p) refl
 
 created_program_keeps : (s : State) (p : ℕ) (ops : List Operand) (program : Option Program) → (created_program s p ops program).processes ≡ s.processes
 created_program_keeps s p ops None = refl
 created_program_keeps s p ops (Some program) = refl
 
 keeps_programs : (op : Op) → KeepsProcesses (programs_row op)
-unfolding programs_row crtpg_changes
-keeps_programs Crtpg = record { kept = λ s p d r. created_program_keeps s p r.operands (program_in (template_at s r.operands)) }
-keeps_programs Despg = record { kept = λ s p d r. refl }
-keeps_programs _ = record { kept = λ s p d r. refl }
+unfolding programs_row crtpg_changes callx_changes xctl_changes
+keeps_programs Crtpg = record { kept = λ s p d r. still p s.processes _ (created_program_keeps s p r.operands (program_in (template_at s r.operands))) }
+keeps_programs Callx = record { kept = λ s p d r. restacks (pushed d (record { 0 = target s.held r.operands 1 })) s p }
+keeps_programs Xctl = record { kept = λ s p d r. restacks (replaced d (record { 0 = target s.held r.operands 1 })) s p }
+keeps_programs Despg = record { kept = λ s p d r. same_kept p s.processes }
+keeps_programs _ = record { kept = λ s p d r. same_kept p s.processes }
 
 keeps_resolving : (op : Op) → KeepsProcesses (resolving_row op)
 unfolding resolving_row
-keeps_resolving Rslvsp = record { kept = λ s p d r. refl }
-keeps_resolving Setspfp = record { kept = λ s p d r. refl }
-keeps_resolving _ = record { kept = λ s p d r. refl }
+keeps_resolving Rslvsp = record { kept = λ s p d r. same_kept p s.processes }
+keeps_resolving Setspfp = record { kept = λ s p d r. same_kept p s.processes }
+keeps_resolving _ = record { kept = λ s p d r. same_kept p s.processes }
 
 -- and resolving changes nothing at all
 pub resolving_still : (op : Op) (s : State) (p d : ℕ) (r : Request) → (resolving_row op).changes s p d r ≡ s
@@ -116,44 +154,51 @@ resolving_still _ s p d r = refl
 
 keeps_spaces : (op : Op) → KeepsProcesses (spaces_row op)
 unfolding spaces_row crts_changes
-keeps_spaces Setsppfp = record { kept = λ s p d r. refl }
-keeps_spaces Setdp = record { kept = λ s p d r. refl }
-keeps_spaces Cpybwp = record { kept = λ s p d r. refl }
-keeps_spaces Crts = record { kept = λ s p d r. refl }
-keeps_spaces Mods = record { kept = λ s p d r. refl }
-keeps_spaces Dess = record { kept = λ s p d r. refl }
-keeps_spaces _ = record { kept = λ s p d r. refl }
+keeps_spaces Setsppfp = record { kept = λ s p d r. same_kept p s.processes }
+keeps_spaces Setdp = record { kept = λ s p d r. same_kept p s.processes }
+keeps_spaces Cpybwp = record { kept = λ s p d r. same_kept p s.processes }
+keeps_spaces Crts = record { kept = λ s p d r. same_kept p s.processes }
+keeps_spaces Mods = record { kept = λ s p d r. same_kept p s.processes }
+keeps_spaces Dess = record { kept = λ s p d r. same_kept p s.processes }
+keeps_spaces _ = record { kept = λ s p d r. same_kept p s.processes }
 
 keeps_queues : (op : Op) → KeepsProcesses (queues_row op)
 unfolding queues_row crtq_changes
-keeps_queues Crtq = record { kept = λ s p d r. refl }
-keeps_queues Desq = record { kept = λ s p d r. refl }
-keeps_queues Enq = record { kept = λ s p d r. refl }
-keeps_queues Deq = record { kept = λ s p d r. refl }
-keeps_queues _ = record { kept = λ s p d r. refl }
+keeps_queues Crtq = record { kept = λ s p d r. same_kept p s.processes }
+keeps_queues Desq = record { kept = λ s p d r. same_kept p s.processes }
+keeps_queues Enq = record { kept = λ s p d r. same_kept p s.processes }
+keeps_queues Deq = record { kept = λ s p d r. same_kept p s.processes }
+keeps_queues _ = record { kept = λ s p d r. same_kept p s.processes }
 
 keeps_inert : KeepsProcesses inert
-keeps_inert = record { kept = λ s p d r. refl }
+keeps_inert = record { kept = λ s p d r. same_kept p s.processes }
 
 pub keeps_row : (f : Family) (op : Op) → KeepsProcesses (row_in f op)
 unfolding row_in
-keeps_row families.Computing op = record { kept = λ s p d r. refl }
+keeps_row families.Computing op = record { kept = λ s p d r. same_kept p s.processes }
 keeps_row families.Resolving op = keeps_resolving op
 keeps_row families.Programs op = keeps_programs op
 keeps_row families.Spaces op = keeps_spaces op
 keeps_row families.Queues op = keeps_queues op
 keeps_row _ op = keeps_inert
 
-pub act_keeps : (i : Instruction) (s : State) (p d : ℕ) (r : Request) → KeepsProcesses i → (effect i s p d r).state.processes ≡ s.processes
+-- nor does its effect
+pub act_keeps : (i : Instruction) (s : State) (p d : ℕ) (r : Request) → KeepsProcesses i → AreKept p s.processes (effect i s p d r).state.processes
 unfolding effect
 act_keeps i s p d r keeps =
-    delivered_keeps (i.changes s p d r) (shift_at s.held r.op r.operands) (receiver_at r.op r.operands) (i.gives s p d r) ∙ keeps.kept s p d r
+    subst (λ (ys : List ProcessEntry). AreKept p s.processes ys)
+    (sym (delivered_keeps (i.changes s p d r) (shift_at s.held r.op r.operands) (receiver_at r.op r.operands) (i.gives s p d r)))
+    (keeps.kept s p d r)
+
+-- as many processes as before
+pub kept_count : (p : ℕ) (xs ys : List ProcessEntry) → AreKept p xs ys → length ys ≡ length xs
+kept_count p xs ys kept = sym (length-map ys unstacked) ∙ ap length kept.stays ∙ length-map xs unstacked
 
 -- an effect neither makes a process nor takes one away
 pub effect_keeps : (s : State) (p : ℕ) (e : Event) → length (effect_of s p e).state.processes ≡ length s.processes
 unfolding effect_of
 effect_keeps s p Start = start_keeps s p (process_entry s p)
-effect_keeps s p (Act depth request) = ap length (act_keeps (row request.op) s p depth request (keeps_row (family_of request.op) request.op))
+effect_keeps s p (Act depth request) = kept_count p s.processes _ (act_keeps (row request.op) s p depth request (keeps_row (family_of request.op) request.op))
 effect_keeps s p (Finish cause) = end_keeps s p (process_entry s p)
 
 verdict_keeps : (s : State) (p : ℕ) (e : Event) (v : Verdict) → length (by_verdict s p e v).state.processes ≡ length s.processes

@@ -1,9 +1,10 @@
 -- Computations that the machine does, since an operand lies in a space: what they read at their operands.
-use Rattle.std.specs.Prelude.{ℕ, false, ℤ, pos, List, [], replicate, Option, Some, None, if◌then◌else◌}
+use Rattle.std.specs.Prelude.{ℕ, Bool, true, false, ◌||◌, ℤ, pos, List, [], replicate, Option, Some, None, if◌then◌else◌}
 use Rattle.s38_base.specs.declared.attr.Attr.{Attr}
 use Rattle.s38_base.specs.declared.attr.Attr.TheVariants as attrs
 use Rattle.s38_base.specs.declared.exception.Exception.{Exception}
 use Rattle.s38_base.specs.declared.op.Op.{Op}
+use Rattle.s38_base.specs.declared.op.Op.TheVariants.{Callx, Xctl}
 use Rattle.s38_base.specs.RightNames as rights
 use Rattle.s38_code.specs.declared.event.Request.{Request}
 use Rattle.s38_code.specs.declared.operand.Operand.{Operand}
@@ -76,9 +77,15 @@ computing = record inert {
 
 -- ---- where a value goes
 
--- the operand that gets the value of an instruction; the value of a branch comes back with the reply
+-- a call gives the program that is called
+abbrev pub is_call : Op → Bool
+is_call Callx = true
+is_call Xctl = true
+is_call _ = false
+
+-- the operand that gets the value of an instruction; that of a branch and of a call comes back with the reply
 abbrev pub receiver_at : Op → List Operand → Option Operand
-receiver_at op ops = if is_branch op then None else place ops 1
+receiver_at op ops = if is_branch op || is_call op then None else place ops 1
 
 -- a copy at the right goes so many bytes behind the beginning of its receiver
 abbrev pub shift_at : Held → Op → List Operand → ℕ

@@ -1,10 +1,12 @@
 -- One row of the set of instructions that the machine does: what it needs, when it fails beside, what it gives, and
 -- what it changes. The process, the depth that it has come to and its request are handed to each.
-use Rattle.std.specs.Prelude.{◌≡◌, ℕ, List, [], Option, None}
+use Rattle.std.specs.Prelude.{◌≡◌, ◌≢◌, ℕ, ◌-◌, List, [], map, slice_index_or, Option, None}
 use Rattle.s38_base.specs.declared.exception.Exception.{Exception}
 use Rattle.s38_code.specs.declared.event.Request.{Request}
 use Rattle.s38_code.specs.declared.reply.Val.{Val}
 use Rattle.s38_rules.specs.declared.need.Need.{Need}
+use Rattle.s38_rules.specs.declared.process.ProcessEntry.{ProcessEntry}
+use Rattle.s38_rules.specs.Invocations.{with_stack}
 use Rattle.s38_rules.specs.State.{State}
 
 pub record Instruction : Type 0 where
@@ -16,9 +18,18 @@ pub record Instruction : Type 0 where
   pub gives : State → ℕ → ℕ → Request → Option Val
   pub changes : State → ℕ → ℕ → Request → State
 
--- a change neither makes a process nor takes one away
+-- what an instruction leaves of each process: all but its frames
+abbrev pub unstacked : ProcessEntry → ProcessEntry
+unstacked x = with_stack (λ frames. []) x
+
+-- each process stands as it stood, but that the one of a number may have other frames
+pub record AreKept (p : ℕ) (xs ys : List ProcessEntry) : Type 0 where
+  pub stays : map unstacked ys ≡ map unstacked xs
+  pub others : (k : ℕ) (d : ProcessEntry) → k ≢ p - 1 → slice_index_or ys k d ≡ slice_index_or xs k d
+
+-- a change neither makes a process nor takes one away, and changes no more of one than its own frames
 pub record KeepsProcesses (i : Instruction) : Type 0 where
-  pub kept : (s : State) (p d : ℕ) (r : Request) → (i.changes s p d r).processes ≡ s.processes
+  pub kept : (s : State) (p d : ℕ) (r : Request) → AreKept p s.processes (i.changes s p d r).processes
 
 -- an instruction that needs nothing and does nothing
 abbrev pub inert : Instruction

@@ -6,6 +6,7 @@ pub mod Effect
 pub mod Headers
 pub mod Held
 pub mod Instruction
+pub mod Invocations
 pub mod Legal
 pub mod Lending
 pub mod Needs

@@ -8,6 +8,7 @@ mod need;
 mod object;
 mod part;
 mod process;
+mod stack;
 mod table;
 mod verdict;
 
@@ -16,6 +17,7 @@ pub use need::{Located, Named, Need, PointerKind, Sought};
 pub use object::{Body, Object, PrivateRow, RowList};
 pub use part::BodyPart;
 pub use process::{ProcessEntry, Started};
+pub use stack::Stack;
 pub use table::{Header, Table, TableRows};
 pub use verdict::Verdict;
 

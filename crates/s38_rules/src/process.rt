@@ -1,3 +1,4 @@
+use crate::stack::Stack;
 use s38_base::{ObjNum, Seq, UserNum};
 use s38_code::Job;
 
@@ -8,7 +9,7 @@ pub struct Started {
     /// The contexts of its job's list, in order.
     pub contexts: Seq<ObjNum>,
     /// The programs of its invocations, 0 for the job's own template.
-    pub stack: Seq<ObjNum>,
+    pub stack: Stack,
 }
 
 /// A job, and how far its process has come.

@@ -7,6 +7,7 @@ use Rattle.s38_code.specs.declared.entry.Entry.{Entry}
 use Rattle.s38_rules.specs.declared.process.ProcessEntry.{ProcessEntry}
 use Rattle.s38_rules.specs.Effect.{start_at}
 use Rattle.s38_rules.specs.Legal.{Leads}
+use Rattle.s38_rules.specs.Instruction.{AreKept, unstacked}
 use Rattle.s38_rules.specs.State.{State, is_early, process_entry, ready, ready_in, runs_before, waits}
 use Rattle.s38_rules.specs.Step.{step}
 use Rattle.s38_run.specs.Order.{InOrder, IsFirstReady}
@@ -72,6 +73,16 @@ set_outline (z ∷ xs) (suc k) x y h e = ap (λ os. outline_of z ∷ os) (set_ou
 pub start_outline : (s : State) (p : ℕ) (o : Option ProcessEntry) → process_entry s p ≡ o → outline (start_at s p o).processes ≡ outline s.processes
 start_outline s p None h = refl
 start_outline s p (Some x) h = set_outline s.processes (p - 1) x _ h refl
+
+-- ---- an instruction
+
+unstacked_outline : (xs : List ProcessEntry) → outline (map unstacked xs) ≡ outline xs
+unstacked_outline [] = refl
+unstacked_outline (x ∷ xs) = ap (λ os. outline_of x ∷ os) (unstacked_outline xs)
+
+-- other frames change nothing of who goes first
+pub kept_outline : (p : ℕ) (xs ys : List ProcessEntry) → AreKept p xs ys → outline ys ≡ outline xs
+kept_outline p xs ys kept = sym (unstacked_outline ys) ∙ ap outline kept.stays ∙ unstacked_outline xs
 
 -- ---- one more entry
 

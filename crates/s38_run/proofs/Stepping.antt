@@ -16,9 +16,10 @@ use Rattle.s38_rules.specs.Step.{Stepped, by_verdict, by_waiting, step}
 use Rattle.s38_process.specs.Process.{is_finish}
 use Rattle.s38_code.specs.Operations.{family_of}
 use Rattle.s38_rules.specs.Rows.{row}
-use Rattle.s38_rules.proofs.Laws.{act_keeps, keeps_row}
+use Rattle.s38_rules.specs.Instruction.{AreKept}
+use Rattle.s38_rules.proofs.Laws.{act_keeps, keeps_row, kept_count}
 use Rattle.s38_run.specs.Running.{HasEnded, OthersStay}
-use Rattle.s38_run.proofs.OrderLaws.{outline, start_outline}
+use Rattle.s38_run.proofs.OrderLaws.{kept_outline, outline, start_outline}
 
 -- what we want of an outcome
 pub record GoesTo (s : State) (p : ℕ) (e : Event) (x : Stepped) : Type 0 where
@@ -52,17 +53,19 @@ end_stays : (s : State) (p : ℕ) (o : Option ProcessEntry) → OthersStay s.pro
 end_stays s p None = same_stays s.processes (p - 1)
 end_stays s p (Some x) = set_stays s.processes (p - 1) _
 
+kept_stays : (p : ℕ) (xs ys : List ProcessEntry) → AreKept p xs ys → OthersStay xs ys (p - 1)
+kept_stays p xs ys kept = record { count = kept_count p xs ys kept; same = kept.others }
+
 effect_stays : (s : State) (p : ℕ) (e : Event) → OthersStay s.processes (effect_of s p e).state.processes (p - 1)
 unfolding effect_of
 effect_stays s p Start = start_stays s p (process_entry s p)
-effect_stays s p (Act depth request) =
-    subst (λ (xs : List ProcessEntry). OthersStay s.processes xs (p - 1)) (sym (act_keeps (row request.op) s p depth request (keeps_row (family_of request.op) request.op))) (same_stays s.processes (p - 1))
+effect_stays s p (Act depth request) = kept_stays p s.processes _ (act_keeps (row request.op) s p depth request (keeps_row (family_of request.op) request.op))
 effect_stays s p (Finish cause) = end_stays s p (process_entry s p)
 
 effect_outline : (s : State) (p : ℕ) (e : Event) → is_finish e ≡ false → outline (effect_of s p e).state.processes ≡ outline s.processes
 unfolding effect_of
 effect_outline s p Start f = start_outline s p (process_entry s p) refl
-effect_outline s p (Act depth request) f = ap outline (act_keeps (row request.op) s p depth request (keeps_row (family_of request.op) request.op))
+effect_outline s p (Act depth request) f = kept_outline p s.processes _ (act_keeps (row request.op) s p depth request (keeps_row (family_of request.op) request.op))
 effect_outline s p (Finish cause) f = cc
 
 end_ends : (s : State) (p : ℕ) (o : Option ProcessEntry) → slice_get s.processes (p - 1) ≡ o → p - 1 < length s.processes → HasEnded (end_at s p o).processes (p - 1)
