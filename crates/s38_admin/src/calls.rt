@@ -93,7 +93,7 @@ fn are_arguments(rows: &[Row], arguments: &[Operand]) -> bool
 }
 
 fn suits(program: Option<&Code>, arguments: &[Operand]) -> bool
-    ensures { result ≡ are_arguments (parameters_of (option_map (λ code. code.now) program)) arguments.now }
+    ensures { result ≡ are_arguments (parameters_of (option_map (λ code. code.now) program.entry)) arguments.now }
 {
     match program {
         None => are_arguments(&[], arguments),

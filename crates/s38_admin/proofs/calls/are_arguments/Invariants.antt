@@ -3,4 +3,4 @@ use Rattle.s38_rules.specs.Programs.{are_arguments, parameters_in}
 use Rattle.s38_admin.proofs.calls.are_arguments.Given as goal
 
 abbrev pub invariant-loop-row : goal.invariant-loop-row
-invariant-loop-row l = are_arguments (parameters_in l.rows) l.fn.arguments.now ≡ are_arguments (parameters_in (drop l.row-index l.rows)) l.rest.now
+invariant-loop-row l = are_arguments (parameters_in l.rows) l.fn.arguments ≡ are_arguments (parameters_in (drop l.row-index l.rows)) l.rest
