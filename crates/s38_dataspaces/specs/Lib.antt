@@ -1,0 +1,4 @@
+pub mod Entries
+pub mod Seeks
+pub mod Table
+pub mod Refusals
