@@ -1,6 +1,6 @@
 -- How the last entry that stands is found.
-use Rattle.std.proofs.Common.{◌≡◌, ℕ, zero, suc, ◌+◌, ◌-◌, ◌<◌, ◌≤◌, Bool, true, false, List, [], ◌∷◌, length, refl, sym, ◌∙◌, ap, arith}
-use Rattle.std.specs.Prelude.{Option, Some, None}
+use Rattle.std.proofs.Common.{◌≡◌, ℕ, zero, suc, ◌-◌, ◌<◌, Bool, true, false, List, refl, arith}
+use Rattle.std.specs.Prelude.{Some}
 use Rattle.s38_dataspaces.specs.Seeks.{last_up_to, stands_at}
 
 no_less : (k : ℕ) → suc k - 1 ≡ k

@@ -5,7 +5,7 @@ use Rattle.std.proofs.Math.Seq.{take-length, take-append_seam, drop-append_seam}
 use Rattle.std.proofs.lemmas.List.{take-append-le, drop-append-le, drop-drop, drop-take, length-take, take-take}
 use Rattle.std.proofs.lemmas.Option.{slice_get_past}
 use Rattle.std.specs.Option.{option_flatten}
-use Rattle.std.specs.Prelude.{Option, Some, None, if◌then◌else◌, is_some, map, slice_get}
+use Rattle.std.specs.Prelude.{Some, None, if◌then◌else◌, is_some, map, slice_get}
 use Rattle.s38_dataspaces.specs.Entries.{Entry, entry_at, stored}
 
 -- the bytes of a first slot, and those of the others

@@ -1,5 +1,5 @@
 -- Which entry is sought, among those that are not deleted.
-use Rattle.std.specs.Prelude.{ℕ, zero, suc, ◌+◌, ◌-◌, Bool, true, false, Option, Some, None, List, length, min, drop, if◌then◌else◌, option_map, position, slice_get}
+use Rattle.std.specs.Prelude.{ℕ, zero, suc, ◌+◌, ◌-◌, Bool, false, Option, Some, None, List, length, min, drop, if◌then◌else◌, option_map, position, slice_get}
 use Rattle.std.specs.Option.{unwrap_or}
 use Rattle.s38_base.specs.declared.words.Seek.{Seek}
 use Rattle.s38_base.specs.declared.words.Seek.TheVariants.{First, Last, Next, Prev, At}

@@ -1,9 +1,10 @@
 -- A data space is the attributes of its fields and its entries, all of the fields' length.
-use Rattle.std.specs.Prelude.{ℕ, ◌+◌, ◌*◌, Bool, not, ◌&&◌, nat_le, List, length, map, sum_by}
+use Rattle.std.specs.Prelude.{◌≡◌, ℕ, ◌+◌, ◌*◌, ◌≤◌, Bool, IsTrue, not, ◌&&◌, nat_le, List, length, sum_by}
 use Rattle.std.specs.List.{list_all}
 use Rattle.s38_base.specs.Scalar.{is_bounded, is_pointer_attr, length_of}
 use Rattle.s38_base.specs.declared.attr.Attr.{Attr}
 use Rattle.s38_dataspaces.specs.Entries.{Entry, put_at, with_entry}
+use Rattle.s38_dataspaces.specs.Values.{is_proper}
 
 -- its fields, its entries from ordinal 1 on, and how many further entries take no memory
 pub record DataTable : Type 0 where
@@ -36,3 +37,11 @@ inserted table entry = record table { spare = 0; entries = with_entry table.entr
 -- another entry under an ordinal, or None to delete it
 abbrev pub changed : DataTable → ℕ → Entry → DataTable
 changed table at entry = record table { entries = put_at table.entries at entry }
+
+-- a data space as it is kept: the width of its entries, the size of its image, and its entries
+pub record IsDataSpace (fields : List Attr) (width size : ℕ) (entries : List Entry) : Type 0 where
+  pub fields_fit : IsTrue (are_fields fields)
+  pub width_is : width ≡ entry_len fields
+  pub size_is : size ≡ image_size fields (length entries)
+  pub small : size ≤ 16777216
+  pub proper : IsTrue (list_all (is_proper fields) entries)

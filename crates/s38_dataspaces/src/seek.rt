@@ -1,25 +1,29 @@
-ghost use Rattle.std.specs.Prelude.{◌≡◌, ◌≤◌, ◌<◌, ◌^◌, length, position};
+ghost use Rattle.std.specs.Bool.{OnTrue};
+ghost use Rattle.std.specs.Prelude.{IfSome, ◌≡◌, ◌≤◌, ◌<◌, ◌^◌, length, position};
 ghost use Rattle.s38_dataspaces.specs.Seeks.{last_up_to, next_above, sought, stands_at};
 
 use s38_base::Seek;
 
 /// Whether the entry of an ordinal stands.
 fn stands_at(flags: &[bool], at: usize) -> bool
-    ensures { result ≡ stands_at flags.now at }
+    ensures stands { result ≡ stands_at flags.now at }
+    ensures within { OnTrue result (at ≤ length flags.now) }
 {
     at > 0 && at <= flags.len() && flags[at - 1]
 }
 
 /// Where the first that stands is.
 fn first_standing(flags: &[bool]) -> Option<usize>
-    ensures { result ≡ position (λ stands. stands) flags.now }
+    ensures place { result ≡ position (λ stands. stands) flags.now }
+    ensures within { IfSome result (λ k. k < length flags.now) }
 {
     flags.iter().position(|stands| *stands)
 }
 
 /// The least ordinal above a number whose entry stands.
 fn next_above(flags: &[bool], from: usize) -> Option<usize>
-    ensures { result ≡ next_above flags.now from }
+    ensures ordinal { result ≡ next_above flags.now from }
+    ensures within { IfSome result (λ at. at ≤ length flags.now) }
 {
     if from >= flags.len() {
         return None;
@@ -33,7 +37,9 @@ fn next_above(flags: &[bool], from: usize) -> Option<usize>
 /// The greatest ordinal up to a number whose entry stands.
 #[tactic(auto, using(crate::proofs::SeekLaws::last_found, crate::proofs::SeekLaws::last_below))]
 fn last_up_to(flags: &[bool], most: usize) -> Option<usize>
-    ensures { result ≡ last_up_to flags.now most }
+    requires { most ≤ length flags.now }
+    ensures ordinal { result ≡ last_up_to flags.now most }
+    ensures within { IfSome result (λ at. at ≤ length flags.now) }
 {
     let mut at = most;
     while at > 0 {
@@ -47,7 +53,8 @@ fn last_up_to(flags: &[bool], most: usize) -> Option<usize>
 
 /// The ordinal of the entry that is sought.
 pub fn sought(flags: &[bool], how: Seek, from: usize) -> Option<usize>
-    ensures { result ≡ sought flags.now how from }
+    ensures ordinal { result ≡ sought flags.now how from }
+    ensures within { IfSome result (λ at. at ≤ length flags.now) }
 {
     match how {
         Seek::First => next_above(flags, 0),

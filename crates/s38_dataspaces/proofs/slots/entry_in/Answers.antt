@@ -1,4 +1,4 @@
-use Rattle.std.proofs.Common.{◌∙◌, sym, arith}
+use Rattle.std.proofs.Common.{sym, arith}
 use Rattle.s38_dataspaces.proofs.StoredLaws.{found_entry, missing_entry, past_entry}
 use Rattle.s38_dataspaces.proofs.slots.entry_in.Goals as goal
 
