@@ -57,7 +57,7 @@ still_kept fields size old new at entry is one held =
       width_is = held.width_is;
       size_is = rw (length-set old.entries (at - 1) entry) held.size_is;
       small = held.small;
-      proper = proper_put fields old.entries at entry held.proper one
+      proper = proper_put fields old.entries at entry held.proper one;
     })
 
 pub right_length : (table : DataTable) (at : ℕ) (entry : List ℕ) → update_refusal table at entry ≡ None → length entry ≡ entry_len table.fields

@@ -44,9 +44,9 @@ later_first w n bytes rest enough =
 later_others : (w n m : ℕ) (bytes entry : List ℕ) → w ≤ length bytes → drop w (take (n + w) bytes ++ (entry ++ drop (m + w) bytes)) ≡ take n (drop w bytes) ++ (entry ++ drop m (drop w bytes))
 later_others w n m bytes entry enough =
     let front : drop w (take (n + w) bytes) ≡ take n (drop w bytes) =
-        ap (λ (k : ℕ). drop w (take k bytes)) (omega arith) ∙ drop-take w n bytes in
+    ap (λ (k : ℕ). drop w (take k bytes)) (omega arith) ∙ drop-take w n bytes in
     let back : drop m (drop w bytes) ≡ drop (m + w) bytes =
-        drop-drop m w bytes ∙ ap (λ (k : ℕ). drop k bytes) (omega arith) in
+    drop-drop m w bytes ∙ ap (λ (k : ℕ). drop k bytes) (omega arith) in
     drop-append-le w (take (n + w) bytes) (entry ++ drop (m + w) bytes) (omega (arith, length-take (n + w) bytes))
     ∙ rw (front, back) refl
 
@@ -72,7 +72,7 @@ stored_at [] bytes w at = refl
 stored_at (f ∷ flags) bytes w zero = rw (nothing_before w) refl
 stored_at (f ∷ flags) bytes w (suc k) =
     let back : drop (k * w) (drop w bytes) ≡ drop (suc k * w) bytes =
-        drop-drop (k * w) w bytes ∙ ap (λ (n : ℕ). drop n bytes) (let more = suc-mul k w in omega arith) in
+    drop-drop (k * w) w bytes ∙ ap (λ (n : ℕ). drop n bytes) (let more = suc-mul k w in omega arith) in
     rw (sym back) (stored_at flags (drop w bytes) w k)
 
 pub stored_count : (flags : List Bool) (bytes : List ℕ) (w : ℕ) → length (stored w flags bytes) ≡ length flags

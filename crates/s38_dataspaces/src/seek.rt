@@ -61,6 +61,10 @@ pub fn sought(flags: &[bool], how: Seek, from: usize) -> Option<usize>
         Seek::Last => last_up_to(flags, flags.len()),
         Seek::Next => next_above(flags, from),
         Seek::Prev => last_up_to(flags, from.saturating_sub(1).min(flags.len())),
-        Seek::At => if stands_at(flags, from) { Some(from) } else { None },
+        Seek::At => if stands_at(flags, from) {
+            Some(from)
+        } else {
+            None
+        },
     }
 }

@@ -24,12 +24,7 @@ pub fn write_slot(bytes: &mut [u8], at: usize, entry: &[u8])
 }
 
 /// The entry of an ordinal.
-pub fn entry_in<'a>(
-    standing: &[bool],
-    bytes: &'a [u8],
-    at: usize,
-    width: usize,
-) -> Option<&'a [u8]>
+pub fn entry_in<'a>(standing: &[bool], bytes: &'a [u8], at: usize, width: usize) -> Option<&'a [u8]>
     requires { length bytes.now ≡ length standing.now * width }
     ensures entry { option_copied result ≡ entry_at (stored width standing.now bytes.now) at }
     ensures len { IfSome result (λ entry. length entry.now ≡ width) }

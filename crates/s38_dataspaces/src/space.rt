@@ -1,8 +1,8 @@
-ghost use Rattle.std.specs.Prelude.{IsOk, ◌≡◌, ◌+◌, ◌≤◌, ◌<◌, [], Some, None, IfErr, IfOk, IfSome, IsErrOf, IsTrue, OnOk, OnErr, length, map, is_some};
+ghost use Rattle.std.specs.Prelude.{◌==◌, IsOk, ◌≡◌, ◌+◌, ◌≤◌, ◌<◌, [], Some, None, IfErr, IfNone, IfOk, IfSome, IsErrOf, IsTrue, OnOk, OnErr, length, map, is_some};
 ghost use Rattle.std.specs.Option.{ForSome, option_copied, unwrap_or};
 ghost use Rattle.s38_dataspaces.specs.Entries.{entry_at};
 ghost use Rattle.s38_dataspaces.specs.Refusals.{delete_refusal, insert_refusal, update_refusal};
-ghost use Rattle.s38_dataspaces.specs.Seeks.{sought};
+ghost use Rattle.s38_dataspaces.specs.Seeks.{IsNowhere, IsSought, sought};
 ghost use Rattle.s38_dataspaces.specs.Table.{are_fields, changed, entry_len, image_size, inserted};
 ghost use Rattle.s38_dataspaces.specs.Values.{have_values};
 
@@ -95,11 +95,18 @@ impl DataSpace {
         self.records.reserve()
     }
 
+    /// Whether an entry has the length of the fields.
+    fn has_length(&self, entry: &[u8]) -> bool
+        ensures { result ≡ (length entry.now == entry_len self.now.fields) }
+    {
+        entry.len() == self.records.width()
+    }
+
     /// Why an entry may not be inserted: for its length, then where the image would exceed 16,777,216 bytes.
     fn insert_refusal(&self, entry: &[u8]) -> Option<EntryFault>
         ensures { result ≡ insert_refusal self.now entry.now }
     {
-        if entry.len() != self.records.width() {
+        if !self.has_length(entry) {
             return Some(EntryFault::BadLength);
         }
         if self.size + 1 + entry.len() as u32 > LARGEST {
@@ -122,7 +129,7 @@ impl DataSpace {
     fn update_refusal(&self, at: u32, entry: &[u8]) -> Option<EntryFault>
         ensures { result ≡ update_refusal self.now at entry.now }
     {
-        if entry.len() != self.records.width() {
+        if !self.has_length(entry) {
             return Some(EntryFault::BadLength);
         }
         self.delete_refusal(at)
@@ -198,7 +205,9 @@ impl DataSpace {
 
     /// The ordinal of the entry that is sought, among those that are not deleted; None where there is none.
     pub fn seek(&self, how: Seek, from: u32) -> Option<u32>
-        ensures { result ≡ sought (map (λ entry. is_some entry) self.now.entries) how from }
+        ensures ordinal { result ≡ sought (map (λ entry. is_some entry) self.now.entries) how from }
+        ensures found { IfSome result (λ at. IsSought self.now.entries how from at) }
+        ensures none { IfNone result (IsNowhere self.now.entries how from) }
     {
         match sought(self.records.standing(), how, from as usize) {
             Some(at) => Some(at as u32),
