@@ -39,12 +39,12 @@ fn five(alloc: Global) -> Result<DataSpace, Fail> {
 
 #[test]
 fn entries_are_inserted(rt: HostRuntime) -> Result<(), Fail> {
-    let mut space = five(rt.alloc())?;
-    assert_eq!(rt; (space.ordinals(), space.image_len()), (5, 48));
-    assert!(rt; space.get(4) == Some(b"ddd".as_slice()));
-    assert!(rt; space.get(2).is_none());
-    assert_eq!(rt; space.insert(b"ff"), Err(EntryFault::BadLength));
-    assert_eq!(rt; space.insert(b"fff"), Ok(6));
+    let mut space = DataSpace::new(rt.alloc(), Seq::from_slice(rt.alloc(), FIELDS)?);
+    space.reserve()?;
+    assert_eq!(rt; space.insert(b"aaa"), Ok(1));
+    assert_eq!(rt; space.insert(b"bb"), Err(EntryFault::BadLength));
+    assert_eq!(rt; space.insert(b"ccc"), Ok(2));
+    assert_eq!(rt; (space.ordinals(), space.image_len()), (2, 36));
     Ok(())
 }
 
