@@ -4,6 +4,8 @@
 #[cfg(test)]
 mod adapters;
 #[cfg(test)]
+mod dataspaces;
+#[cfg(test)]
 mod decimals;
 #[cfg(test)]
 mod locks;

@@ -1,0 +1,3 @@
+pub mod StoredLaws
+pub mod SeekLaws
+pub mod SpaceLaws

@@ -1,0 +1,67 @@
+-- Every entry that stands is one of the fields: where one is put, and where one is read.
+use Rattle.std.proofs.Common.{◌≡◌, ℕ, zero, suc, ◌-◌, Bool, true, false, ◌&&◌, Bor, List, [], ◌∷◌, arith, length, set, refl, sym, ◌∙◌, ap, subst}
+use Rattle.std.proofs.lemmas.Bool.Decides.{nat_tests}
+use Rattle.std.proofs.lemmas.List.{length-set}
+use Rattle.std.specs.List.{list_all}
+use Rattle.std.specs.Option.{option_copied, option_flatten}
+use Rattle.std.specs.Prelude.{IfSome, IsTrue, Option, Some, None, ◌==◌, if◌then◌else◌, slice_get}
+use Rattle.s38_base.specs.declared.attr.Attr.{Attr}
+use Rattle.s38_dataspaces.specs.Entries.{Entry, Kept, entry_at, put_at}
+use Rattle.s38_dataspaces.specs.declared.fault.EntryFault.TheVariants.{BadLength}
+use Rattle.s38_dataspaces.specs.Refusals.{delete_refusal, update_refusal}
+use Rattle.s38_dataspaces.specs.Table.{DataTable, IsDataSpace, entry_len}
+use Rattle.s38_dataspaces.specs.Values.{have_values, is_proper}
+
+both : (a b : Bool) → a ≡ true → b ≡ true → (a && b) ≡ true
+both true true p q = refl
+both true false p q = q
+both false b p q = p
+
+first_of : (a b : Bool) → (a && b) ≡ true → a ≡ true
+first_of true b p = refl
+first_of false b p = p
+
+second_of : (a b : Bool) → (a && b) ≡ true → b ≡ true
+second_of true b p = p
+second_of false b p = absurd (cc)
+
+proper_set : (fields : List Attr) (entries : List Entry) (i : ℕ) (entry : Entry) → list_all (is_proper fields) entries ≡ true → is_proper fields entry ≡ true → list_all (is_proper fields) (set entries i entry) ≡ true
+proper_set fields [] i entry all one = refl
+proper_set fields (e ∷ es) zero entry all one =
+    both (is_proper fields entry) _ one (second_of (is_proper fields e) _ all)
+proper_set fields (e ∷ es) (suc i) entry all one =
+    both (is_proper fields e) _ (first_of (is_proper fields e) _ all) (proper_set fields es i entry (second_of (is_proper fields e) _ all) one)
+
+proper_put : (fields : List Attr) (entries : List Entry) (at : ℕ) (entry : Entry) → IsTrue (list_all (is_proper fields) entries) → IsTrue (is_proper fields entry) → IsTrue (list_all (is_proper fields) (put_at entries at entry))
+proper_put fields entries at entry all one = proper_set fields entries (at - 1) entry all one
+
+proper_slot : (fields : List Attr) (entries : List Entry) (k : ℕ) → list_all (is_proper fields) entries ≡ true → is_proper fields (option_flatten (slice_get entries k)) ≡ true
+proper_slot fields [] k all = refl
+proper_slot fields (e ∷ es) zero all = first_of (is_proper fields e) _ all
+proper_slot fields (e ∷ es) (suc k) all = proper_slot fields es k (second_of (is_proper fields e) _ all)
+
+proper_at : (fields : List Attr) (entries : List Entry) (at : ℕ) → list_all (is_proper fields) entries ≡ true → is_proper fields (entry_at entries at) ≡ true
+proper_at fields entries zero all = refl
+proper_at fields entries (suc k) all = proper_slot fields entries k all
+
+pub proper_read : (fields : List Attr) (entries : List Entry) (at : ℕ) (r : Option (Bor (List ℕ))) → IsTrue (list_all (is_proper fields) entries) → option_copied r ≡ entry_at entries at → IfSome r (λ entry. IsTrue (have_values fields entry.now))
+proper_read fields entries at None all is = tt
+proper_read fields entries at (Some e) all is =
+    ap (λ (o : Entry). is_proper fields o) is ∙ proper_at fields entries at all
+
+-- what is kept after another entry was put, or none
+pub still_kept : (fields : List Attr) (size : ℕ) (old new : Kept) (at : ℕ) (entry : Entry) → new ≡ record old { entries = put_at old.entries at entry } → IsTrue (is_proper fields entry) → IsDataSpace fields old.width size old.entries → IsDataSpace fields new.width size new.entries
+still_kept fields size old new at entry is one held =
+    subst (λ (kept : Kept). IsDataSpace fields kept.width size kept.entries) (sym is) (record {
+      fields_fit = held.fields_fit;
+      width_is = held.width_is;
+      size_is = rw (length-set old.entries (at - 1) entry) held.size_is;
+      small = held.small;
+      proper = proper_put fields old.entries at entry held.proper one;
+    })
+
+pub right_length : (table : DataTable) (at : ℕ) (entry : List ℕ) → update_refusal table at entry ≡ None → length entry ≡ entry_len table.fields
+right_length table at entry none = elim (length entry == entry_len table.fields) as (λ b. (length entry == entry_len table.fields) ≡ b → (if b then delete_refusal table at else Some BadLength) ≡ None → length entry ≡ entry_len table.fields) [
+  | true ↦ λ same q. grind (arith, nat_tests)
+  | false ↦ λ same q. absurd (cc)
+] refl none
