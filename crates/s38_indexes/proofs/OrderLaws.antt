@@ -1,5 +1,5 @@
 -- What the order of the entries tells: which entries fit, and that they still rise after a change.
-use Rattle.std.proofs.Common.{◌≡◌, ℕ, ◌+◌, ◌-◌, ◌≤◌, ◌<◌, Bool, true, false, cond, not, List, [], ◌∷◌, ◌++◌, length, suc, refl, sym, ◌∙◌, ap, arith, subst}
+use Rattle.std.proofs.Common.{◌≡◌, ℕ, ◌+◌, ◌-◌, ◌≤◌, ◌<◌, Bool, true, false, cond, not, List, [], ◌∷◌, ◌++◌, length, suc, refl, sym, ◌∙◌, ap, arith, length-append, subst}
 use Rattle.std.proofs.lemmas.Bool.Decides.{nat_tests}
 use Rattle.std.proofs.lemmas.Cmp.{nat_list_cmp_total}
 use Rattle.std.proofs.lemmas.List.{reverse-append}
@@ -17,6 +17,7 @@ use Rattle.std.specs.declared.result.Result.TheVariants.{Ok, Err}
 use Rattle.s38_base.specs.Relations.{holds, is_equal, is_less, is_greater}
 use Rattle.s38_base.specs.declared.words.Relation.{Relation}
 use Rattle.s38_base.specs.declared.words.Relation.TheVariants.{Eq, Lo, Hi}
+use Rattle.s38_indexes.specs.Leaves.{IsLeaf, most}
 use Rattle.s38_indexes.specs.Entries.{Entry, IsBelow, IsRising, fits, is_held, least, order, place, with_entry, without_entry}
 
 -- ---- which way two entries stand
@@ -146,7 +147,7 @@ position-none p xs e =
       | false ↦ λ is q. grind (arith, nat_tests)
     ] refl e
 
-none_before_len : {X : Type 0} (p : X → Bool) (xs : List X) → length xs ≤ position_or_len p xs → AllByRecursion (λ x. p x ≡ false) xs
+pub none_before_len : {X : Type 0} (p : X → Bool) (xs : List X) → length xs ≤ position_or_len p xs → AllByRecursion (λ x. p x ≡ false) xs
 none_before_len p [] h = tt
 none_before_len p (x ∷ xs) h =
     let rest = none_before_len p xs in
@@ -160,7 +161,7 @@ untouched : (key : Entry) (xs : List Entry) → AllByRecursion (λ x. fits Eq ke
 untouched key [] h = refl
 untouched key (x ∷ xs) h = rw h.0 (ap (λ (ys : List Entry). x ∷ ys) (untouched key xs h.1))
 
-position_held : {X : Type 0} (p : X → Bool) (xs : List X) → position p xs ≡ None → AllByRecursion (λ x. p x ≡ false) xs
+pub position_held : {X : Type 0} (p : X → Bool) (xs : List X) → position p xs ≡ None → AllByRecursion (λ x. p x ≡ false) xs
 position_held p xs e = none_before_len p xs (position-none p xs e)
 
 pub not_removed : (key : Entry) (xs : List Entry) → None ≡ position (fits Eq key) xs → xs ≡ without_entry key xs
@@ -244,15 +245,51 @@ pub rising_later : (xs ys : List Entry) → IsRising (xs ++ ys) → IsRising ys
 rising_later [] ys h = h
 rising_later (x ∷ xs) ys h = rising_later xs ys h.1
 
+-- ---- leaves
+
+pub length-with : (key : Entry) (xs : List Entry) → length (with_entry key xs) ≡ length xs + 1
+length-with key [] = refl
+length-with key (x ∷ xs) =
+    let rest = length-with key xs in
+    elim (fits Lo key x) as (λ b. length (cond b (x ∷ with_entry key xs) (key ∷ x ∷ xs)) ≡ length (x ∷ xs) + 1) [
+      | true ↦ omega arith
+      | false ↦ omega arith
+    ]
+
+pub length-without : (key : Entry) (xs : List Entry) → length (without_entry key xs) ≤ length xs
+length-without key [] = omega arith
+length-without key (x ∷ xs) =
+    let rest = length-without key xs in
+    elim (fits Eq key x) as (λ b. length (cond b xs (x ∷ without_entry key xs)) ≤ length (x ∷ xs)) [
+      | true ↦ omega arith
+      | false ↦ omega arith
+    ]
+
 -- an entry was added, or there was no memory for it
-pub rising_added : {A E : Type 0} (r : Result A E) (key : Entry) (xs ys : List Entry) → OnOk r (ys ≡ with_entry key xs) → OnErr r (ys ≡ xs) → is_held key xs ≡ false → IsRising xs → IsRising ys
-rising_added (Ok a) key xs ys ok err new h = rw ok (rising_with key xs new h)
-rising_added (Err e) key xs ys ok err new h = rw err h
+pub leaf_added : {A E : Type 0} (r : Result A E) (key : Entry) (xs ys : List Entry) → OnOk r (ys ≡ with_entry key xs) → OnErr r (ys ≡ xs) → is_held key xs ≡ false → length xs < most → IsLeaf xs → IsLeaf ys
+leaf_added (Ok a) key xs ys ok err new room h =
+    let longer = length-with key xs in
+    subst IsLeaf (sym ok) (record { rising = rising_with key xs new h.rising; few = omega arith })
+leaf_added (Err e) key xs ys ok err new room h = subst IsLeaf (sym err) h
+
+pub leaf_without : (key : Entry) (xs : List Entry) → IsLeaf xs → IsLeaf (without_entry key xs)
+leaf_without key xs h =
+    let shorter = length-without key xs in
+    let few = h.few in
+    record { rising = rising_without key xs h.rising; few = omega arith }
 
 -- the lower part was kept, or nothing was given away
-pub rising_lower : {A E : Type 0} (f : A → List Entry) (r : Result A E) (xs ys : List Entry) → IfOk r (λ upper. xs ++ f upper ≡ ys) → OnErr r (xs ≡ ys) → IsRising ys → IsRising xs
-rising_lower f (Ok a) xs ys ok err h = rising_first xs (f a) (subst (λ zs. IsRising zs) (sym ok) h)
-rising_lower f (Err e) xs ys ok err h = rw err h
+pub leaf_lower : {A E : Type 0} (f : A → List Entry) (r : Result A E) (xs ys : List Entry) → IfOk r (λ upper. xs ++ f upper ≡ ys) → OnErr r (xs ≡ ys) → IsLeaf ys → IsLeaf xs
+leaf_lower f (Ok a) xs ys ok err h =
+    let few = h.few in
+    let both = length-append xs (f a) in
+    let whole = ap length ok in
+    record { rising = rising_first xs (f a) (subst (λ zs. IsRising zs) (sym ok) h.rising); few = omega arith }
+leaf_lower f (Err e) xs ys ok err h = subst IsLeaf (sym err) h
 
-pub rising_upper : (xs upper ys : List Entry) → xs ++ upper ≡ ys → IsRising ys → IsRising upper
-rising_upper xs upper ys ok h = rising_later xs upper (subst (λ zs. IsRising zs) (sym ok) h)
+pub leaf_upper : (xs upper ys : List Entry) → xs ++ upper ≡ ys → IsLeaf ys → IsLeaf upper
+leaf_upper xs upper ys ok h =
+    let few = h.few in
+    let both = length-append xs upper in
+    let whole = ap length ok in
+    record { rising = rising_later xs upper (subst (λ zs. IsRising zs) (sym ok) h.rising); few = omega arith }

@@ -1,4 +1,4 @@
-ghost use Rattle.std.specs.Prelude.{◌≡◌, ◌≤◌, ◌++◌, false, insert, length, not, position, IfOk, OnOk, OnErr, IsTrue};
+ghost use Rattle.std.specs.Prelude.{◌≡◌, ◌+◌, ◌≤◌, ◌++◌, false, insert, length, not, position, IfOk, OnOk, OnErr, IsTrue};
 ghost use Rattle.std.specs.List.{AllByRecursion};
 ghost use Rattle.std.specs.Option.{option_copied};
 ghost use Rattle.s38_base.specs.declared.words.Relation.TheVariants.{Eq, Lo};
@@ -108,13 +108,15 @@ pub fn remove(entries: &mut Vec<Bytes>, key: &[u8])
     }
 }
 
-/// Gives the upper half away; an error leaves the entries as they were.
-pub fn split(entries: &mut Vec<Bytes>) -> Result<Vec<Bytes>, NoMemory>
+/// Gives the entries from a place on away; an error leaves them as they were.
+pub fn split(entries: &mut Vec<Bytes>, at: usize) -> Result<Vec<Bytes>, NoMemory>
+    requires { at ≤ length entries.old.items }
     ensures ok { IfOk result (λ upper. entries.new.items ++ upper.items ≡ entries.old.items) }
+    ensures lower { OnOk result (length entries.new.items ≡ at) }
+    ensures upper { IfOk result (λ upper. length upper.items + at ≡ length entries.old.items) }
     ensures err { OnErr result (entries.new.items ≡ entries.old.items) }
 {
-    let half = entries.len() / 2;
-    match entries.split_off(half) {
+    match entries.split_off(at) {
         Ok(upper) => Ok(upper),
         Err(_) => Err(NoMemory),
     }

@@ -1,7 +1,7 @@
-ghost use Rattle.std.specs.Prelude.{◌≡◌, ◌++◌, [], false, is_some, IfOk, OnOk, OnErr};
+ghost use Rattle.std.specs.Prelude.{◌≡◌, ◌<◌, ◌≤◌, ◌↔◌, ◌++◌, [], false, is_some, length, nat_le, IfOk, IsTrue, OnOk, OnErr};
 ghost use Rattle.std.specs.Option.{option_copied};
 ghost use Rattle.s38_indexes.specs.Entries.{greatest, is_held, least, with_entry, without_entry};
-ghost use Rattle.s38_indexes.specs.Leaves.{reaches};
+ghost use Rattle.s38_indexes.specs.Leaves.{most, reaches};
 
 use crate::entries;
 use s38_base::{Bytes, NoMemory, Relation};
@@ -19,13 +19,14 @@ pub struct Leaf {
 
 impl Model for Leaf {
     ghost use Rattle.std.specs.Prelude.{List};
-    ghost use Rattle.s38_indexes.specs.Entries.{Entry, IsRising};
+    ghost use Rattle.s38_indexes.specs.Entries.{Entry};
+    ghost use Rattle.s38_indexes.specs.Leaves.{IsLeaf};
 
     ghost Value = { List Entry };
 
     ghost view = { λ l. l.entries.items };
 
-    ghost invariant = { λ l. IsRising l.entries.items };
+    ghost invariant = { λ l. IsLeaf l.entries.items };
 }
 
 impl Leaf {
@@ -39,8 +40,17 @@ impl Leaf {
     }
 
     /// Whether it has as many entries as it may have.
-    pub fn is_full(&self) -> bool {
+    pub fn is_full(&self) -> bool
+        ensures { result ≡ nat_le most (length self.now) }
+    {
         self.entries.len() >= MOST
+    }
+
+    /// Whether it has no entry.
+    pub fn is_empty(&self) -> bool
+        ensures { IsTrue result ↔ (self.now ≡ []) }
+    {
+        self.entries.is_empty()
     }
 
     /// The least entry that stands in a relation to a key.
@@ -73,7 +83,8 @@ impl Leaf {
 
     /// Adds an entry in its place; an error leaves the leaf as it was.
     pub fn add(&mut self, entry: Bytes) -> Result<(), NoMemory>
-        requires { is_held entry self.old ≡ false }
+        requires new { is_held entry self.old ≡ false }
+        requires room { length self.old < most }
         ensures ok { OnOk result (self.new ≡ with_entry entry self.old) }
         ensures err { OnErr result (self.new ≡ self.old) }
     {
@@ -89,10 +100,13 @@ impl Leaf {
 
     /// Gives the upper half away; an error leaves the leaf as it was.
     pub fn split(&mut self) -> Result<Leaf, NoMemory>
+        requires { most ≤ length self.old }
         ensures ok { IfOk result (λ upper. self.new ++ upper ≡ self.old) }
+        ensures lower_room { OnOk result (length self.new < most) }
+        ensures upper_room { IfOk result (λ upper. length upper < most) }
         ensures err { OnErr result (self.new ≡ self.old) }
     {
-        match entries::split(&mut self.entries) {
+        match entries::split(&mut self.entries, MOST / 2) {
             Ok(entries) => Ok(Leaf { entries }),
             Err(e) => Err(e),
         }
