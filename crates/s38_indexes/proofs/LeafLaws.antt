@@ -4,7 +4,7 @@ use Rattle.std.proofs.lemmas.Bool.Decides.{nat_tests}
 use Rattle.std.proofs.lemmas.List.{append-nil, drop-set-lt, length-take-le, reverse-append, set_split, take_more, take_more_set}
 use Rattle.std.proofs.lemmas.List.Folds.{find-append}
 use Rattle.std.proofs.lemmas.Option.{cond_some}
-use Rattle.std.specs.Prelude.{Option, Some, None, if◌then◌else◌, find, insert, is_some, nat_lt, position, reverse}
+use Rattle.std.specs.Prelude.{Option, Some, None, if◌then◌else◌, find, insert, is_some, nat_lt, position, remove, reverse}
 use Rattle.std.specs.Option.{option_or}
 use Rattle.std.specs.List.{AllByRecursion, position_or_len}
 use Rattle.std.specs.declared.cmp.Ordering.{Ordering}
@@ -171,7 +171,7 @@ same_entries old new i low h =
 goes : (key : Entry) (old : List (List Entry)) (i : ℕ) → IsPlaceFor key old i → with_entry key (joined old) ≡ joined (take i old) ++ (with_entry key (get_or old i []) ++ joined (drop (suc i) old))
 goes key old i h = sym h.joins ∙ joined-with_leaf old i (with_entry key (get_or old i []))
 
-pub lower_half : (key : Entry) (old new : List (List Entry)) (i : ℕ) → IsPlaceFor key old i → IsSplit old new i → reaches key (get_or new i []) ≡ true → IsPlaceFor key new i × (length (get_or new i []) < most)
+lower_half : (key : Entry) (old new : List (List Entry)) (i : ℕ) → IsPlaceFor key old i → IsSplit old new i → reaches key (get_or new i []) ≡ true → IsPlaceFor key new i × (length (get_or new i []) < most)
 lower_half key old new i h s reached =
     let b = take i old in
     let r = drop (suc i) old in
@@ -195,7 +195,7 @@ lower_half key old new i h s reached =
         ∙ ap (with_entry key) (sym (same_entries old new i low s));
     }, subst (λ l. length l < most) (sym at) s.lower_room)
 
-pub upper_half : (key : Entry) (old new : List (List Entry)) (i : ℕ) → IsPlaceFor key old i → IsSplit old new i → reaches key (get_or new i []) ≡ false → IsPlaceFor key new (i + 1) × (length (get_or new (i + 1) []) < most)
+upper_half : (key : Entry) (old new : List (List Entry)) (i : ℕ) → IsPlaceFor key old i → IsSplit old new i → reaches key (get_or new i []) ≡ false → IsPlaceFor key new (i + 1) × (length (get_or new (i + 1) []) < most)
 upper_half key old new i h s missed =
     let b = take i old in
     let r = drop (suc i) old in
@@ -238,3 +238,80 @@ new_at key ls i low e = new_in_leaf key (joined (take i ls)) (get_or ls i []) (j
 
 pub added_at : (key : Entry) (old new : List (List Entry)) (i : ℕ) → IsPlaceFor key old i → new ≡ set old i (with_entry key (get_or old i [])) → joined new ≡ with_entry key (joined old)
 added_at key old new i h e = ap joined (e ∙ set_split old i (with_entry key (get_or old i [])) h.inside) ∙ h.joins
+
+pub either_half : (key : Entry) (old new : List (List Entry)) (i k : ℕ) → IsPlaceFor key old i → IsSplit old new i → k ≡ (if reaches key (get_or new i []) then i else i + 1) → IsPlaceFor key new k × (length (get_or new k []) < most)
+either_half key old new i k h s e =
+    let P : ℕ → Type 0 = λ n. IsPlaceFor key new n × (length (get_or new n []) < most) in
+    subst P (sym e) (elim (reaches key (get_or new i [])) as (λ b. reaches key (get_or new i []) ≡ b → P (cond b i (i + 1))) [
+      | true ↦ λ is. lower_half key old new i h s is
+      | false ↦ λ is. upper_half key old new i h s is
+    ] refl)
+
+pub split_longer : (old new : List (List Entry)) (i : ℕ) → i < length old → IsSplit old new i → i + 1 < length new
+split_longer old new i low h =
+    let b = take i old in
+    let n : length b ≡ i = length-take-le i old (omega arith) in
+    let whole = ap length h.leaves in
+    let both = length-append b (h.lower ∷ h.upper ∷ drop (suc i) old) in
+    omega arith
+
+-- the only leaf, which has no entry yet
+pub only_place : (key : Entry) → IsPlaceFor key ([] ∷ []) 0
+only_place key = record { inside = omega arith; joins = refl }
+
+without_past : (key : Entry) (xs ys : List Entry) → is_held key xs ≡ false → without_entry key (xs ++ ys) ≡ xs ++ without_entry key ys
+without_past key [] ys e = refl
+without_past key (x ∷ xs) ys e =
+    let rest = without_past key xs ys in
+    elim (fits Eq key x) as (λ b. is_some (cond b (Some x) (least Eq key xs)) ≡ false → cond b (xs ++ ys) (x ∷ without_entry key (xs ++ ys)) ≡ x ∷ (xs ++ without_entry key ys)) [
+      | true ↦ λ q. absurd (held_up x (least Eq key xs) q)
+      | false ↦ λ q. ap (λ (zs : List Entry). x ∷ zs) (rest q)
+    ] e
+
+without_within : (key : Entry) (xs ys : List Entry) → is_held key xs ≡ true → without_entry key (xs ++ ys) ≡ without_entry key xs ++ ys
+without_within key [] ys e = absurd (cc)
+without_within key (x ∷ xs) ys e =
+    let rest = without_within key xs ys in
+    elim (fits Eq key x) as (λ b. is_some (cond b (Some x) (least Eq key xs)) ≡ true → cond b (xs ++ ys) (x ∷ without_entry key (xs ++ ys)) ≡ cond b xs (x ∷ without_entry key xs) ++ ys) [
+      | true ↦ λ q. refl
+      | false ↦ λ q. ap (λ (zs : List Entry). x ∷ zs) (rest q)
+    ] e
+
+first_without : (key : Entry) (ls : List (List Entry)) → position_or_len (is_held key) ls < length ls → let n = position_or_len (is_held key) ls in joined (with_leaf ls n (without_entry key (get_or ls n []))) ≡ without_entry key (joined ls)
+first_without key [] low = absurd (nothing_below low)
+first_without key (l ∷ ls) low =
+    let rest = first_without key ls in
+    let n = position_or_len (is_held key) ls in
+    elim (is_held key l) as (λ b. is_held key l ≡ b → cond (not b) (1 + n) 0 < suc (length ls) → joined (with_leaf (l ∷ ls) (cond (not b) (1 + n) 0) (without_entry key (get_or (l ∷ ls) (cond (not b) (1 + n) 0) []))) ≡ without_entry key (l ++ joined ls)) [
+      | true ↦ λ is q. sym (without_within key l (joined ls) is)
+      | false ↦ λ is q. rw (one_more n) (ap (λ (zs : List Entry). l ++ zs) (rest (omega arith)) ∙ sym (without_past key l (joined ls) is))
+    ] refl low
+
+pub held_inside : (key : Entry) (ls : List (List Entry)) (i : ℕ) → Some i ≡ position (is_held key) ls → i < length ls
+held_inside key ls i e =
+    let n = position_or_len (is_held key) ls in
+    let parts = cond_some (nat_lt n (length ls)) n i (sym e) in
+    let low : n < length ls = grind (arith, nat_tests, parts) in
+    subst (λ k. k < length ls) parts.1 low
+
+pub removed_in : (key : Entry) (ls new : List (List Entry)) (i : ℕ) → Some i ≡ position (is_held key) ls → new ≡ set ls i (without_entry key (get_or ls i [])) → joined new ≡ without_entry key (joined ls)
+removed_in key ls new i e is =
+    let n = position_or_len (is_held key) ls in
+    let parts = cond_some (nat_lt n (length ls)) n i (sym e) in
+    let low : n < length ls = grind (arith, nat_tests, parts) in
+    ap joined (is ∙ set_split ls i (without_entry key (get_or ls i [])) (held_inside key ls i e))
+    ∙ subst (λ k. joined (with_leaf ls k (without_entry key (get_or ls k []))) ≡ without_entry key (joined ls)) parts.1 (first_without key ls low)
+
+untouched : (key : Entry) (ls : List (List Entry)) → AllByRecursion (λ l. is_held key l ≡ false) ls → joined ls ≡ without_entry key (joined ls)
+untouched key [] h = refl
+untouched key (l ∷ ls) h = ap (λ (zs : List Entry). l ++ zs) (untouched key ls h.1) ∙ sym (without_past key l (joined ls) h.0)
+
+pub not_removed_in : (key : Entry) (ls : List (List Entry)) → None ≡ position (is_held key) ls → joined ls ≡ without_entry key (joined ls)
+not_removed_in key ls e = untouched key ls (position_held (is_held key) ls (sym e))
+
+-- a leaf without an entry may go
+pub emptied : (ls : List (List Entry)) (i : ℕ) → i < length ls → get_or ls i [] ≡ [] → joined (remove ls i) ≡ joined ls
+emptied ls i low none =
+    joined-append (take i ls) (drop (suc i) ls)
+    ∙ ap (λ xs. joined (take i ls) ++ (xs ++ joined (drop (suc i) ls))) (sym none)
+    ∙ sym (joined-opened ls i low)

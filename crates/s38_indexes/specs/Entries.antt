@@ -1,5 +1,5 @@
 -- An index is the length of its longest entry, and its entries, which are byte strings in strictly rising order.
-use Rattle.std.specs.Prelude.{◌≡◌, ℕ, ◌+◌, Bool, true, false, not, Option, List, [], ◌∷◌, length, sum_by, find, reverse, if◌then◌else◌, is_some}
+use Rattle.std.specs.Prelude.{◌≡◌, ℕ, ◌+◌, ◌≤◌, Bool, true, false, not, Option, List, [], ◌∷◌, length, sum_by, find, reverse, if◌then◌else◌, is_some}
 use Rattle.std.specs.declared.cmp.Ordering.{Ordering}
 use Rattle.std.specs.declared.cmp.Ordering.TheVariants.{Less}
 use Rattle.std.specs.Cmp.Lexicographic.{slice_cmp}
@@ -75,3 +75,14 @@ entry_size entry = 1 + length entry
 -- the bytes of the image: five for the index itself, and its entries
 abbrev pub image_size : List Entry → ℕ
 image_size entries = 5 + sum_by entry_size entries
+
+-- the largest image
+abbrev pub largest : ℕ
+largest = 16777216
+
+-- what an index keeps beside its entries: how many there are, and the bytes of its image, which are not too many
+pub record IsCounted (count size : ℕ) (entries : List Entry) : Type 0 where
+  pub rising : IsRising entries
+  pub counted : count ≡ length entries
+  pub sized : size ≡ image_size entries
+  pub within : size ≤ largest

@@ -1,12 +1,8 @@
 -- Why an index does not take an entry, or give one up.
 use Rattle.std.specs.Prelude.{ℕ, ◌+◌, nat_lt, Option, Some, None, length, if◌then◌else◌}
-use Rattle.s38_indexes.specs.Entries.{Entry, EntryIndex, entry_size, image_size, is_held}
+use Rattle.s38_indexes.specs.Entries.{Entry, EntryIndex, entry_size, image_size, is_held, largest}
 use Rattle.s38_indexes.specs.declared.fault.IndexFault.{IndexFault}
 use Rattle.s38_indexes.specs.declared.fault.IndexFault.TheVariants.{BadLength, Present, Full, Absent}
-
--- the greatest image of an index, in bytes
-abbrev pub largest : ℕ
-largest = 16777216
 
 -- an entry may not be longer than the longest, then it must be new, and then there must be room for it
 abbrev pub insert_refusal : Entry → EntryIndex → Option IndexFault

@@ -1,7 +1,7 @@
-ghost use Rattle.std.specs.Prelude.{◌≡◌, ◌+◌, ◌<◌, ◌≤◌, ◌++◌, [], false, insert, length, nat_le, if◌then◌else◌, position, slice_index_or, slice_set, IfOk, OnOk, OnErr};
+ghost use Rattle.std.specs.Prelude.{◌≡◌, ◌+◌, ◌<◌, ◌≤◌, ◌↔◌, ◌++◌, [], ◌∷◌, false, insert, length, nat_le, if◌then◌else◌, position, slice_index_or, slice_set, IfOk, IsTrue, OnOk, OnErr};
 ghost use Rattle.std.specs.Option.{option_copied};
 ghost use Rattle.std.specs.Vec.{vec_capacity, vec_len};
-ghost use Rattle.s38_indexes.specs.Entries.{greatest, is_held, least, with_entry, without_entry};
+ghost use Rattle.s38_indexes.specs.Entries.{found, greatest, is_held, least, with_entry, without_entry};
 ghost use Rattle.s38_indexes.specs.Leaves.{IsPlaceFor, IsSplit, joined, most, reaches};
 
 use crate::leaf::Leaf;
@@ -9,7 +9,7 @@ use s38_base::{Bytes, NoMemory, Relation};
 use std::alloc::Global;
 
 /// The least entry that stands in a relation to a key.
-pub fn least<'a>(leaves: &'a [Leaf], relation: Relation, key: &[u8]) -> Option<&'a Bytes>
+fn least<'a>(leaves: &'a [Leaf], relation: Relation, key: &[u8]) -> Option<&'a Bytes>
     ensures { option_copied result ≡ least relation key.now (joined leaves.now) }
 {
     for leaf in leaves {
@@ -21,7 +21,7 @@ pub fn least<'a>(leaves: &'a [Leaf], relation: Relation, key: &[u8]) -> Option<&
 }
 
 /// The greatest entry that stands in a relation to a key.
-pub fn greatest<'a>(leaves: &'a [Leaf], relation: Relation, key: &[u8]) -> Option<&'a Bytes>
+fn greatest<'a>(leaves: &'a [Leaf], relation: Relation, key: &[u8]) -> Option<&'a Bytes>
     ensures { option_copied result ≡ greatest relation key.now (joined leaves.now) }
 {
     let mut left = leaves.len();
@@ -32,6 +32,16 @@ pub fn greatest<'a>(leaves: &'a [Leaf], relation: Relation, key: &[u8]) -> Optio
         }
     }
     None
+}
+
+/// The entry that a search finds.
+pub fn found<'a>(leaves: &'a [Leaf], relation: Relation, key: &[u8]) -> Option<&'a Bytes>
+    ensures { option_copied result ≡ found relation key.now (joined leaves.now) }
+{
+    match relation {
+        Relation::Lo | Relation::Nh | Relation::Last => greatest(leaves, relation, key),
+        _ => least(leaves, relation, key),
+    }
 }
 
 /// In which leaf an entry is.
@@ -155,4 +165,86 @@ fn add_with_room(leaves: &mut Vec<Leaf>, at: usize, entry: Bytes) -> Result<(), 
     ensures err { OnErr result (joined leaves.new.items ≡ joined leaves.old.items) }
 {
     add_at(leaves, at, entry)
+}
+
+/// A place for an entry in this leaf, or in one of its halves; an error leaves the entries as they were.
+fn room_in(leaves: &mut Vec<Leaf>, at: usize, key: &[u8]) -> Result<usize, NoMemory>
+    requires { IsPlaceFor key.now leaves.old.items at }
+    ensures place { IfOk result (λ at. IsPlaceFor key.now leaves.new.items at) }
+    ensures room { IfOk result (λ at. length (slice_index_or leaves.new.items at []) < most) }
+    ensures same { joined leaves.new.items ≡ joined leaves.old.items }
+{
+    if !is_full_at(leaves, at) {
+        return Ok(at);
+    }
+    match split_at(leaves, at) {
+        Ok(()) => Ok(half_for(leaves, at, key)),
+        Err(e) => Err(e),
+    }
+}
+
+/// Makes the first leaf, in which any entry has its place.
+fn first_leaf(leaves: &mut Vec<Leaf>, alloc: Global) -> Result<usize, NoMemory>
+    requires { leaves.old.items ≡ [] }
+    ensures leaf { OnOk result (leaves.new.items ≡ [] ∷ []) }
+    ensures first { IfOk result (λ at. at ≡ 0) }
+    ensures err { OnErr result (leaves.new.items ≡ []) }
+{
+    match leaves.push(Leaf::new(alloc)) {
+        Ok(()) => Ok(0),
+        Err(_) => Err(NoMemory),
+    }
+}
+
+/// A place for an entry; an error leaves the entries as they were.
+fn room_for(leaves: &mut Vec<Leaf>, alloc: Global, key: &[u8]) -> Result<usize, NoMemory>
+    ensures place { IfOk result (λ at. IsPlaceFor key.now leaves.new.items at) }
+    ensures room { IfOk result (λ at. length (slice_index_or leaves.new.items at []) < most) }
+    ensures same { joined leaves.new.items ≡ joined leaves.old.items }
+{
+    if leaves.is_empty() {
+        return first_leaf(leaves, alloc);
+    }
+    let at = place_for(leaves, key);
+    room_in(leaves, at, key)
+}
+
+/// Adds an entry in its place; an error leaves the entries as they were.
+pub fn add(leaves: &mut Vec<Leaf>, alloc: Global, entry: Bytes) -> Result<(), NoMemory>
+    requires { is_held entry (joined leaves.old.items) ≡ false }
+    ensures ok { OnOk result (joined leaves.new.items ≡ with_entry entry (joined leaves.old.items)) }
+    ensures err { OnErr result (joined leaves.new.items ≡ joined leaves.old.items) }
+{
+    match room_for(leaves, alloc, entry.as_slice()) {
+        Ok(at) => add_with_room(leaves, at, entry),
+        Err(e) => Err(e),
+    }
+}
+
+/// Whether a leaf has no entry.
+fn is_empty_at(leaves: &[Leaf], at: usize) -> bool
+    requires { at < length leaves.now }
+    ensures { IsTrue result ↔ (slice_index_or leaves.now at [] ≡ []) }
+{
+    leaves[at].is_empty()
+}
+
+/// Lets a leaf go where it has no entry.
+fn drop_empty(leaves: &mut Vec<Leaf>, at: usize)
+    requires { at < length leaves.old.items }
+    ensures { joined leaves.new.items ≡ joined leaves.old.items }
+{
+    if is_empty_at(leaves, at) {
+        leaves.remove(at);
+    }
+}
+
+/// Takes an entry out.
+pub fn remove(leaves: &mut Vec<Leaf>, key: &[u8])
+    ensures { joined leaves.new.items ≡ without_entry key.now (joined leaves.old.items) }
+{
+    if let Some(at) = place_of(leaves, key) {
+        remove_at(leaves, at, key);
+        drop_empty(leaves, at);
+    }
 }
