@@ -1,5 +1,5 @@
 -- What is sought in all leaves is sought in one after another, and a change to one is a change to their entries.
-use Rattle.std.proofs.Common.{◌≡◌, ℕ, ◌+◌, ◌≤◌, ◌<◌, Bool, true, false, cond, not, List, [], ◌∷◌, ◌++◌, length, length-append, zero, get_or, take, drop, suc, refl, sym, ◌∙◌, ap, arith, add-one, drop-cons, append_assoc, set, subst}
+use Rattle.std.proofs.Common.{◌≡◌, ℕ, ◌+◌, ◌<◌, Bool, true, false, cond, not, List, [], ◌∷◌, ◌++◌, length, length-append, zero, get_or, take, drop, suc, refl, sym, ◌∙◌, ap, arith, add-one, drop-cons, append_assoc, set, subst}
 use Rattle.std.proofs.lemmas.Bool.Decides.{nat_tests}
 use Rattle.std.proofs.lemmas.List.{append-nil, drop-set-lt, length-take-le, reverse-append, set_split, take_more, take_more_set}
 use Rattle.std.proofs.lemmas.List.Folds.{find-append}
@@ -179,21 +179,23 @@ lower_half key old new i h s reached =
     let n : length b ≡ i = length-take-le i old (omega arith) in
     let at : get_or new i [] ≡ s.lower = ap (λ ls. get_or ls i []) s.leaves ∙ ap (λ k. get_or (b ++ s.lower ∷ s.upper ∷ r) k []) (sym n) ∙ seam b s.lower [] (s.upper ∷ r) in
     let changed : with_leaf new i (with_entry key s.lower) ≡ b ++ with_entry key s.lower ∷ s.upper ∷ r =
-        ap (λ ls. with_leaf ls i (with_entry key s.lower)) s.leaves ∙ ap (λ k. with_leaf (b ++ s.lower ∷ s.upper ∷ r) k (with_entry key s.lower)) (sym n) ∙ with_leaf-seam b s.lower (with_entry key s.lower) (s.upper ∷ r) in
+    ap (λ ls. with_leaf ls i (with_entry key s.lower)) s.leaves ∙ ap (λ k. with_leaf (b ++ s.lower ∷ s.upper ∷ r) k (with_entry key s.lower)) (sym n) ∙ with_leaf-seam b s.lower (with_entry key s.lower) (s.upper ∷ r) in
     let whole : with_entry key s.lower ++ s.upper ≡ with_entry key (get_or old i []) =
-        sym (within key s.lower s.upper (ap (reaches key) (sym at) ∙ reached)) ∙ ap (with_entry key) s.whole in
+    sym (within key s.lower s.upper (ap (reaches key) (sym at) ∙ reached)) ∙ ap (with_entry key) s.whole in
     let ins : length b < length (b ++ s.lower ∷ s.upper ∷ r) = inside_seam b s.lower (s.upper ∷ r) in
-    let long : length new ≡ length (b ++ s.lower ∷ s.upper ∷ r) = ap length s.leaves in
-    (record {
-      inside = omega arith;
-      joins =
-        ap (λ l. joined (with_leaf new i (with_entry key l))) at
-        ∙ ap joined changed
-        ∙ joined-around b (with_entry key s.lower) (s.upper ∷ r)
-        ∙ ap (λ xs. joined b ++ xs) (sym (append_assoc (with_entry key s.lower) s.upper (joined r)) ∙ ap (λ xs. xs ++ joined r) whole)
-        ∙ sym (goes key old i h)
-        ∙ ap (with_entry key) (sym (same_entries old new i low s));
-    }, subst (λ l. length l < most) (sym at) s.lower_room)
+    let long : length new ≡ length (b ++ s.lower ∷ s.upper ∷ r) = ap length s.leaves in (
+      record {
+        inside = omega arith;
+        joins =
+            ap (λ l. joined (with_leaf new i (with_entry key l))) at
+            ∙ ap joined changed
+            ∙ joined-around b (with_entry key s.lower) (s.upper ∷ r)
+            ∙ ap (λ xs. joined b ++ xs) (sym (append_assoc (with_entry key s.lower) s.upper (joined r)) ∙ ap (λ xs. xs ++ joined r) whole)
+            ∙ sym (goes key old i h)
+            ∙ ap (with_entry key) (sym (same_entries old new i low s));
+      },
+      subst (λ l. length l < most) (sym at) s.lower_room,
+    )
 
 upper_half : (key : Entry) (old new : List (List Entry)) (i : ℕ) → IsPlaceFor key old i → IsSplit old new i → reaches key (get_or new i []) ≡ false → IsPlaceFor key new (i + 1) × (length (get_or new (i + 1) []) < most)
 upper_half key old new i h s missed =
@@ -207,21 +209,23 @@ upper_half key old new i h s missed =
     let at_lower : get_or new i [] ≡ s.lower = ap (λ ls. get_or ls i []) s.leaves ∙ ap (λ k. get_or (b ++ s.lower ∷ s.upper ∷ r) k []) (sym n) ∙ seam b s.lower [] (s.upper ∷ r) in
     let at : get_or new (i + 1) [] ≡ s.upper = ap (λ ls. get_or ls (i + 1) []) is ∙ ap (λ k. get_or (c ++ s.upper ∷ r) k []) (sym m) ∙ seam c s.upper [] r in
     let changed : with_leaf new (i + 1) (with_entry key s.upper) ≡ b ++ s.lower ∷ with_entry key s.upper ∷ r =
-        ap (λ ls. with_leaf ls (i + 1) (with_entry key s.upper)) is ∙ ap (λ k. with_leaf (c ++ s.upper ∷ r) k (with_entry key s.upper)) (sym m) ∙ with_leaf-seam c s.upper (with_entry key s.upper) r ∙ append_assoc b (s.lower ∷ []) (with_entry key s.upper ∷ r) in
+    ap (λ ls. with_leaf ls (i + 1) (with_entry key s.upper)) is ∙ ap (λ k. with_leaf (c ++ s.upper ∷ r) k (with_entry key s.upper)) (sym m) ∙ with_leaf-seam c s.upper (with_entry key s.upper) r ∙ append_assoc b (s.lower ∷ []) (with_entry key s.upper ∷ r) in
     let whole : s.lower ++ with_entry key s.upper ≡ with_entry key (get_or old i []) =
-        sym (past key s.lower s.upper (ap (reaches key) (sym at_lower) ∙ missed)) ∙ ap (with_entry key) s.whole in
+    sym (past key s.lower s.upper (ap (reaches key) (sym at_lower) ∙ missed)) ∙ ap (with_entry key) s.whole in
     let ins : length c < length (c ++ s.upper ∷ r) = inside_seam c s.upper r in
-    let long : length new ≡ length (c ++ s.upper ∷ r) = ap length is in
-    (record {
-      inside = omega arith;
-      joins =
-        ap (λ l. joined (with_leaf new (i + 1) (with_entry key l))) at
-        ∙ ap joined changed
-        ∙ joined-around b s.lower (with_entry key s.upper ∷ r)
-        ∙ ap (λ xs. joined b ++ xs) (sym (append_assoc s.lower (with_entry key s.upper) (joined r)) ∙ ap (λ xs. xs ++ joined r) whole)
-        ∙ sym (goes key old i h)
-        ∙ ap (with_entry key) (sym (same_entries old new i low s));
-    }, subst (λ l. length l < most) (sym at) s.upper_room)
+    let long : length new ≡ length (c ++ s.upper ∷ r) = ap length is in (
+      record {
+        inside = omega arith;
+        joins =
+            ap (λ l. joined (with_leaf new (i + 1) (with_entry key l))) at
+            ∙ ap joined changed
+            ∙ joined-around b s.lower (with_entry key s.upper ∷ r)
+            ∙ ap (λ xs. joined b ++ xs) (sym (append_assoc s.lower (with_entry key s.upper) (joined r)) ∙ ap (λ xs. xs ++ joined r) whole)
+            ∙ sym (goes key old i h)
+            ∙ ap (with_entry key) (sym (same_entries old new i low s));
+      },
+      subst (λ l. length l < most) (sym at) s.upper_room,
+    )
 
 -- ---- an entry goes into its leaf, or out of it
 

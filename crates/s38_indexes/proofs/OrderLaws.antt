@@ -6,9 +6,9 @@ use Rattle.std.proofs.lemmas.List.{reverse-append}
 use Rattle.std.proofs.lemmas.List.Folds.{find-append}
 use Rattle.std.proofs.lemmas.List.Sums.{prefix_len-le-length}
 use Rattle.std.proofs.lemmas.Option.{cond_some}
-use Rattle.std.specs.Prelude.{Option, Some, None, IfOk, OnOk, OnErr, find, insert, is_some, nat_lt, position, remove, reverse, slice_get}
+use Rattle.std.specs.Prelude.{Some, None, IfOk, OnOk, OnErr, find, insert, is_some, nat_lt, position, remove, reverse, slice_get}
 use Rattle.std.specs.List.{AllByRecursion, position_or_len}
-use Rattle.std.specs.Option.{option_or, unwrap_or}
+use Rattle.std.specs.Option.{unwrap_or}
 use Rattle.std.specs.Ordering.{ordering_reverse}
 use Rattle.std.specs.declared.cmp.Ordering.{Ordering}
 use Rattle.std.specs.declared.cmp.Ordering.TheVariants.{Less, Equal, Greater}

@@ -1,4 +1,4 @@
--- An index is the length of its longest entry, and its entries, which are byte strings in strictly rising order.
+-- An index is how long an entry may be, and its entries: byte strings in strictly rising order.
 use Rattle.std.specs.Prelude.{◌≡◌, ℕ, ◌+◌, ◌≤◌, Bool, true, false, not, Option, List, [], ◌∷◌, length, sum_by, find, reverse, if◌then◌else◌, is_some}
 use Rattle.std.specs.declared.cmp.Ordering.{Ordering}
 use Rattle.std.specs.declared.cmp.Ordering.TheVariants.{Less}
@@ -61,12 +61,14 @@ place key entries = position_or_len (λ entry. not (fits Lo key entry)) entries
 -- one more entry, in its place
 abbrev pub with_entry : Entry → List Entry → List Entry
 with_entry key [] = key ∷ []
-with_entry key (entry ∷ entries) = if fits Lo key entry then entry ∷ with_entry key entries else key ∷ entry ∷ entries
+with_entry key (entry ∷ entries) =
+    if fits Lo key entry then entry ∷ with_entry key entries else key ∷ entry ∷ entries
 
 -- one entry less
 abbrev pub without_entry : Entry → List Entry → List Entry
 without_entry key [] = []
-without_entry key (entry ∷ entries) = if fits Eq key entry then entries else entry ∷ without_entry key entries
+without_entry key (entry ∷ entries) =
+    if fits Eq key entry then entries else entry ∷ without_entry key entries
 
 -- the bytes of an entry in the image of an index: one for its length, and the entry
 abbrev pub entry_size : Entry → ℕ
@@ -80,7 +82,7 @@ image_size entries = 5 + sum_by entry_size entries
 abbrev pub largest : ℕ
 largest = 16777216
 
--- what an index keeps beside its entries: how many there are, and the bytes of its image, which are not too many
+-- what an index keeps beside its entries: how many there are, and the bytes of its image
 pub record IsCounted (count size : ℕ) (entries : List Entry) : Type 0 where
   pub rising : IsRising entries
   pub counted : count ≡ length entries

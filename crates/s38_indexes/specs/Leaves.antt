@@ -28,7 +28,8 @@ with_leaf leaves at leaf = take at leaves ++ leaf ∷ drop (suc at) leaves
 -- an entry that is put into this leaf stands in its place among all
 pub record IsPlaceFor (key : Entry) (leaves : List (List Entry)) (at : ℕ) : Type 0 where
   pub inside : at < length leaves
-  pub joins : joined (with_leaf leaves at (with_entry key (slice_index_or leaves at []))) ≡ with_entry key (joined leaves)
+  pub joins :
+      joined (with_leaf leaves at (with_entry key (slice_index_or leaves at []))) ≡ with_entry key (joined leaves)
 
 -- a leaf has become two, which both have room
 pub record IsSplit (old new : List (List Entry)) (at : ℕ) : Type 0 where

@@ -1,5 +1,5 @@
 -- Why an index does not take an entry, or give one up.
-use Rattle.std.specs.Prelude.{ℕ, ◌+◌, nat_lt, Option, Some, None, length, if◌then◌else◌}
+use Rattle.std.specs.Prelude.{◌+◌, nat_lt, Option, Some, None, length, if◌then◌else◌}
 use Rattle.s38_indexes.specs.Entries.{Entry, EntryIndex, entry_size, image_size, is_held, largest}
 use Rattle.s38_indexes.specs.declared.fault.IndexFault.{IndexFault}
 use Rattle.s38_indexes.specs.declared.fault.IndexFault.TheVariants.{BadLength, Present, Full, Absent}

@@ -13,8 +13,8 @@ use std::marker::Model;
 /// The longest image of an index, in bytes.
 const LARGEST: u32 = 16_777_216;
 
-/// An independent index: byte strings, each once, in rising order. Contracts see it as the length of its longest
-/// entry and the list of its entries.
+/// An independent index: byte strings, each once, in rising order. Contracts see it as how long an entry may be
+/// and the list of its entries.
 #[derive(Drop)]
 pub struct Index {
     alloc: Global,
@@ -36,7 +36,7 @@ impl Model for Index {
 }
 
 impl Index {
-    /// An index without an entry, whose entries have at most so many bytes; it takes no memory until it grows.
+    /// An index without an entry, for entries of so many bytes at most; it takes no memory until it grows.
     pub fn new(alloc: Global, longest: u8) -> Index
         ensures { result ≡ record { longest = longest; entries = [] } }
     {
@@ -71,9 +71,9 @@ impl Index {
         self.size
     }
 
-    /// The entry that a search for a key finds: with EQ the key itself, with HI and NL the least entry above it
-    /// (or equal), with LO and NH the greatest below it (or equal), with NE the least other entry, with ANY and
-    /// FIRST the least of all, with LAST the greatest. None exactly where no entry fits.
+    /// The entry that a search for a key finds: with EQ the key itself, with HI and NL the least entry
+    /// above it (or equal), with LO and NH the greatest below it (or equal), with NE the least other
+    /// entry, with ANY and FIRST the least of all, with LAST the greatest. None exactly where none fits.
     pub fn find(&self, relation: Relation, key: &[u8]) -> Option<&[u8]>
         ensures found { option_copied result ≡ found relation key.now self.now.entries }
         ensures rising { IsRising self.now.entries }
@@ -111,5 +111,43 @@ impl Index {
         } else {
             Err(IndexFault::Absent)
         }
+    }
+    /// Adds an entry in its place. It is refused where it has more bytes than an entry may have, then where it
+    /// is there, then where the image would exceed 16,777,216 bytes; an error leaves the index as it was.
+    pub fn insert(&mut self, entry: &[u8]) -> Result<(), IndexFault>
+        ensures taken { OnOk result (insert_refusal entry.now self.old ≡ None) }
+        ensures ok { OnOk result (self.new
+            ≡ record self.old { entries = with_entry entry.now self.old.entries }) }
+        ensures fault { IfErr result (λ fault. fault
+            ≡ unwrap_or (insert_refusal entry.now self.old) IndexFault.NoMemory) }
+        ensures err { OnErr result (self.new ≡ self.old) }
+    {
+        self.can_insert(entry)?;
+        let Ok(copy) = Seq::from_slice(self.alloc, entry) else {
+            return Err(IndexFault::NoMemory);
+        };
+        match leaves::add(&mut self.leaves, self.alloc, copy) {
+            Ok(()) => {}
+            Err(_) => return Err(IndexFault::NoMemory),
+        }
+        self.count += 1;
+        self.size += 1 + entry.len() as u32;
+        Ok(())
+    }
+
+    /// Takes an entry out, without memory. It is refused where it is not there; an error leaves the index
+    /// as it was.
+    pub fn remove(&mut self, entry: &[u8]) -> Result<(), IndexFault>
+        ensures held { OnOk result (remove_refusal entry.now self.old ≡ None) }
+        ensures ok { OnOk result (self.new
+            ≡ record self.old { entries = without_entry entry.now self.old.entries }) }
+        ensures fault { IfErr result (λ fault. remove_refusal entry.now self.old ≡ Some fault) }
+        ensures err { OnErr result (self.new ≡ self.old) }
+    {
+        self.can_remove(entry)?;
+        leaves::remove(&mut self.leaves, entry);
+        self.count -= 1;
+        self.size -= 1 + entry.len() as u32;
+        Ok(())
     }
 }

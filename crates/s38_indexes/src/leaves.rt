@@ -81,7 +81,8 @@ fn add_at(leaves: &mut Vec<Leaf>, at: usize, entry: Bytes) -> Result<(), NoMemor
     requires inside { at < length leaves.old.items }
     requires new { is_held entry (slice_index_or leaves.old.items at []) ≡ false }
     requires room { length (slice_index_or leaves.old.items at []) < most }
-    ensures ok { OnOk result (leaves.new.items ≡ slice_set leaves.old.items at (with_entry entry (slice_index_or leaves.old.items at []))) }
+    ensures ok { OnOk result (leaves.new.items
+        ≡ slice_set leaves.old.items at (with_entry entry (slice_index_or leaves.old.items at []))) }
     ensures err { OnErr result (leaves.new.items ≡ leaves.old.items) }
 {
     let leaf = &mut leaves[at];
@@ -91,7 +92,8 @@ fn add_at(leaves: &mut Vec<Leaf>, at: usize, entry: Bytes) -> Result<(), NoMemor
 /// Takes an entry out of a leaf.
 fn remove_at(leaves: &mut Vec<Leaf>, at: usize, key: &[u8])
     requires { at < length leaves.old.items }
-    ensures { leaves.new.items ≡ slice_set leaves.old.items at (without_entry key.now (slice_index_or leaves.old.items at [])) }
+    ensures { leaves.new.items
+        ≡ slice_set leaves.old.items at (without_entry key.now (slice_index_or leaves.old.items at [])) }
 {
     let leaf = &mut leaves[at];
     leaf.remove(key);
@@ -101,11 +103,14 @@ fn remove_at(leaves: &mut Vec<Leaf>, at: usize, key: &[u8])
 fn halve(leaves: &mut Vec<Leaf>, at: usize) -> Result<Leaf, NoMemory>
     requires inside { at < length leaves.old.items }
     requires full { most ≤ length (slice_index_or leaves.old.items at []) }
-    ensures lower { OnOk result (leaves.new.items ≡ slice_set leaves.old.items at (slice_index_or leaves.new.items at [])) }
-    ensures whole { IfOk result (λ upper. slice_index_or leaves.new.items at [] ++ upper ≡ slice_index_or leaves.old.items at []) }
+    ensures lower { OnOk result (leaves.new.items
+        ≡ slice_set leaves.old.items at (slice_index_or leaves.new.items at [])) }
+    ensures whole { IfOk result (λ upper. slice_index_or leaves.new.items at [] ++ upper
+        ≡ slice_index_or leaves.old.items at []) }
     ensures lower_room { OnOk result (length (slice_index_or leaves.new.items at []) < most) }
     ensures upper_room { IfOk result (λ upper. length upper < most) }
-    ensures room { OnOk result ((vec_len leaves.new ≡ vec_len leaves.old) × (vec_capacity leaves.new ≡ vec_capacity leaves.old)) }
+    ensures len { OnOk result (vec_len leaves.new ≡ vec_len leaves.old) }
+    ensures capacity { OnOk result (vec_capacity leaves.new ≡ vec_capacity leaves.old) }
     ensures err { OnErr result (leaves.new.items ≡ leaves.old.items) }
 {
     let leaf = &mut leaves[at];

@@ -1,7 +1,7 @@
-use Rattle.std.proofs.Common.{◌≡◌, ◌∙◌, ap, List}
+use Rattle.std.proofs.Common.{◌≡◌, ◌∙◌, ap}
 use Rattle.std.proofs.lemmas.Result.{on_ok_weaker}
 use Rattle.std.specs.Prelude.{insert}
-use Rattle.s38_indexes.specs.Entries.{Entry, place}
+use Rattle.s38_indexes.specs.Entries.{place}
 use Rattle.s38_indexes.proofs.OrderLaws.{inserted_at}
 use Rattle.s38_indexes.proofs.entries.add.Goals as goal
 

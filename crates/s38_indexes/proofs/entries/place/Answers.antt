@@ -1,6 +1,5 @@
-use Rattle.std.proofs.Common.{◌≡◌, ◌≤◌, ◌∙◌, ap, length, subst, sym}
+use Rattle.std.proofs.Common.{◌≤◌, ◌∙◌, ap, length, subst, sym}
 use Rattle.std.specs.Option.{unwrap_or}
-use Rattle.s38_indexes.specs.Entries.{Entry, place}
 use Rattle.s38_indexes.proofs.OrderLaws.{place-bound, placed}
 use Rattle.s38_indexes.proofs.entries.place.Goals as goal
 

@@ -1,5 +1,5 @@
 use Rattle.std.proofs.Common.{◌≡◌, get_or, set, []}
-use Rattle.std.proofs.lemmas.Result.{on_err_weaker, on_ok_weaker}
+use Rattle.std.proofs.lemmas.Result.{on_ok_weaker}
 use Rattle.s38_indexes.specs.Entries.{with_entry}
 use Rattle.s38_indexes.proofs.LeafLaws.{added_at, new_at}
 use Rattle.s38_indexes.proofs.leaves.add_with_room.Goals as goal

@@ -1,7 +1,7 @@
 use Rattle.std.proofs.Common.{◌∙◌, ap, sym}
 use Rattle.std.specs.Prelude.{position}
 use Rattle.s38_indexes.specs.Entries.{is_held}
-use Rattle.s38_indexes.proofs.LeafLaws.{held_inside, not_removed_in, removed_in}
+use Rattle.s38_indexes.proofs.LeafLaws.{not_removed_in, removed_in}
 use Rattle.s38_indexes.proofs.leaves.remove.Goals as goal
 
 pub returns-in-Some : goal.returns-in-Some

@@ -1,4 +1,4 @@
-use Rattle.std.proofs.Common.{◌≡◌, ◌∙◌, ap, get_or, set, [], List}
+use Rattle.std.proofs.Common.{◌∙◌, ap, get_or, set, [], List}
 use Rattle.s38_indexes.specs.Entries.{Entry}
 use Rattle.s38_indexes.proofs.LeafLaws.{split_leaves}
 use Rattle.s38_indexes.proofs.leaves.split_at.Goals as goal
