@@ -6,6 +6,8 @@ mod adapters;
 #[cfg(test)]
 mod decimals;
 #[cfg(test)]
+mod indexes;
+#[cfg(test)]
 mod locks;
 #[cfg(test)]
 mod logs;
