@@ -8,6 +8,8 @@ mod dataspaces;
 #[cfg(test)]
 mod decimals;
 #[cfg(test)]
+mod indexes;
+#[cfg(test)]
 mod locks;
 #[cfg(test)]
 mod logs;

@@ -1,0 +1,153 @@
+ghost use Rattle.std.specs.Prelude.{◌≡◌, ◌≤◌, [], None, Some, length, IfErr, OnOk, OnErr};
+ghost use Rattle.std.specs.Option.{option_copied, unwrap_or};
+ghost use Rattle.s38_indexes.specs.Entries.{IsRising, found, image_size, largest, with_entry, without_entry};
+ghost use Rattle.s38_indexes.specs.Refusals.{insert_refusal, remove_refusal};
+
+use crate::fault::IndexFault;
+use crate::leaf::Leaf;
+use crate::leaves;
+use s38_base::{Relation, Seq};
+use std::alloc::Global;
+use std::marker::Model;
+
+/// The longest image of an index, in bytes.
+const LARGEST: u32 = 16_777_216;
+
+/// An independent index: byte strings, each once, in rising order. Contracts see it as how long an entry may be
+/// and the list of its entries.
+#[derive(Drop)]
+pub struct Index {
+    alloc: Global,
+    longest: u8,
+    count: u32,
+    size: u32,
+    leaves: Vec<Leaf>,
+}
+
+impl Model for Index {
+    ghost use Rattle.s38_indexes.specs.Entries.{EntryIndex, IsCounted};
+    ghost use Rattle.s38_indexes.specs.Leaves.{joined};
+
+    ghost Value = { EntryIndex };
+
+    ghost view = { λ i. record { longest = i.longest; entries = joined i.leaves.items } };
+
+    ghost invariant = { λ i. IsCounted i.count i.size (joined i.leaves.items) };
+}
+
+impl Index {
+    /// An index without an entry, for entries of so many bytes at most; it takes no memory until it grows.
+    pub fn new(alloc: Global, longest: u8) -> Index
+        ensures { result ≡ record { longest = longest; entries = [] } }
+    {
+        Index {
+            alloc,
+            longest,
+            count: 0,
+            size: 5,
+            leaves: Vec::new(alloc),
+        }
+    }
+
+    /// How many bytes an entry has at most.
+    pub fn longest(&self) -> u8
+        ensures { result ≡ self.now.longest }
+    {
+        self.longest
+    }
+
+    /// How many entries there are.
+    pub fn len(&self) -> usize
+        ensures { result ≡ length self.now.entries }
+    {
+        self.count as usize
+    }
+
+    /// How many bytes the image of the index has.
+    pub fn image_len(&self) -> u32
+        ensures size { result ≡ image_size self.now.entries }
+        ensures bound { result ≤ largest }
+    {
+        self.size
+    }
+
+    /// The entry that a search for a key finds: with EQ the key itself, with HI and NL the least entry
+    /// above it (or equal), with LO and NH the greatest below it (or equal), with NE the least other
+    /// entry, with ANY and FIRST the least of all, with LAST the greatest. None exactly where none fits.
+    pub fn find(&self, relation: Relation, key: &[u8]) -> Option<&[u8]>
+        ensures found { option_copied result ≡ found relation key.now self.now.entries }
+        ensures rising { IsRising self.now.entries }
+    {
+        match leaves::found(self.leaves.as_slice(), relation, key) {
+            Some(entry) => Some(entry.as_slice()),
+            None => None,
+        }
+    }
+
+    /// Whether an entry would be taken: what `insert` answers, want of memory aside.
+    pub fn can_insert(&self, entry: &[u8]) -> Result<(), IndexFault>
+        ensures ok { OnOk result (insert_refusal entry.now self.now ≡ None) }
+        ensures fault { IfErr result (λ fault. insert_refusal entry.now self.now ≡ Some fault) }
+    {
+        if entry.len() > self.longest as usize {
+            return Err(IndexFault::BadLength);
+        }
+        if leaves::holds(self.leaves.as_slice(), entry) {
+            return Err(IndexFault::Present);
+        }
+        if self.size + 1 + entry.len() as u32 > LARGEST {
+            return Err(IndexFault::Full);
+        }
+        Ok(())
+    }
+
+    /// Whether an entry is there to be removed: what `remove` answers.
+    pub fn can_remove(&self, entry: &[u8]) -> Result<(), IndexFault>
+        ensures ok { OnOk result (remove_refusal entry.now self.now ≡ None) }
+        ensures fault { IfErr result (λ fault. remove_refusal entry.now self.now ≡ Some fault) }
+    {
+        if leaves::holds(self.leaves.as_slice(), entry) {
+            Ok(())
+        } else {
+            Err(IndexFault::Absent)
+        }
+    }
+    /// Adds an entry in its place. It is refused where it has more bytes than an entry may have, then where it
+    /// is there, then where the image would exceed 16,777,216 bytes; an error leaves the index as it was.
+    pub fn insert(&mut self, entry: &[u8]) -> Result<(), IndexFault>
+        ensures taken { OnOk result (insert_refusal entry.now self.old ≡ None) }
+        ensures ok { OnOk result (self.new
+            ≡ record self.old { entries = with_entry entry.now self.old.entries }) }
+        ensures fault { IfErr result (λ fault. fault
+            ≡ unwrap_or (insert_refusal entry.now self.old) IndexFault.NoMemory) }
+        ensures err { OnErr result (self.new ≡ self.old) }
+    {
+        self.can_insert(entry)?;
+        let Ok(copy) = Seq::from_slice(self.alloc, entry) else {
+            return Err(IndexFault::NoMemory);
+        };
+        match leaves::add(&mut self.leaves, self.alloc, copy) {
+            Ok(()) => {}
+            Err(_) => return Err(IndexFault::NoMemory),
+        }
+        self.count += 1;
+        self.size += 1 + entry.len() as u32;
+        Ok(())
+    }
+
+    /// Takes an entry out, without memory. It is refused where it is not there; an error leaves the index
+    /// as it was.
+    pub fn remove(&mut self, entry: &[u8]) -> Result<(), IndexFault>
+        ensures held { OnOk result (remove_refusal entry.now self.old ≡ None) }
+        ensures ok { OnOk result (self.new
+            ≡ record self.old { entries = without_entry entry.now self.old.entries }) }
+        ensures fault { IfErr result (λ fault. remove_refusal entry.now self.old ≡ Some fault) }
+        ensures err { OnErr result (self.new ≡ self.old) }
+    {
+        self.can_remove(entry)?;
+        leaves::remove(&mut self.leaves, entry);
+        self.count -= 1;
+        self.size -= 1 + entry.len() as u32;
+        Ok(())
+    }
+}

@@ -1,0 +1,114 @@
+ghost use Rattle.std.specs.Prelude.{◌≡◌, ◌<◌, ◌≤◌, ◌↔◌, ◌++◌, [], false, is_some, length, nat_le, IfOk, IsTrue, OnOk, OnErr};
+ghost use Rattle.std.specs.Option.{option_copied};
+ghost use Rattle.s38_indexes.specs.Entries.{greatest, is_held, least, with_entry, without_entry};
+ghost use Rattle.s38_indexes.specs.Leaves.{most, reaches};
+
+use crate::entries;
+use s38_base::{Bytes, NoMemory, Relation};
+use std::alloc::Global;
+use std::marker::Model;
+
+/// How many entries a leaf has at most.
+const MOST: usize = 64;
+
+/// Some entries of an index that follow one another.
+#[derive(Drop)]
+pub struct Leaf {
+    entries: Vec<Bytes>,
+}
+
+impl Model for Leaf {
+    ghost use Rattle.std.specs.Prelude.{List};
+    ghost use Rattle.s38_indexes.specs.Entries.{Entry};
+    ghost use Rattle.s38_indexes.specs.Leaves.{IsLeaf};
+
+    ghost Value = { List Entry };
+
+    ghost view = { λ l. l.entries.items };
+
+    ghost invariant = { λ l. IsLeaf l.entries.items };
+}
+
+impl Leaf {
+    /// A leaf without an entry; it takes no memory until it grows.
+    pub fn new(alloc: Global) -> Leaf
+        ensures { result ≡ [] }
+    {
+        Leaf {
+            entries: Vec::new(alloc),
+        }
+    }
+
+    /// Whether it has as many entries as it may have.
+    pub fn is_full(&self) -> bool
+        ensures { result ≡ nat_le most (length self.now) }
+    {
+        self.entries.len() >= MOST
+    }
+
+    /// Whether it has no entry.
+    pub fn is_empty(&self) -> bool
+        ensures { IsTrue result ↔ (self.now ≡ []) }
+    {
+        self.entries.is_empty()
+    }
+
+    /// The least entry that stands in a relation to a key.
+    pub fn least(&self, relation: Relation, key: &[u8]) -> Option<&Bytes>
+        ensures { option_copied result ≡ least relation key.now self.now }
+    {
+        entries::least(self.entries.as_slice(), relation, key)
+    }
+
+    /// The greatest entry that stands in a relation to a key.
+    pub fn greatest(&self, relation: Relation, key: &[u8]) -> Option<&Bytes>
+        ensures { option_copied result ≡ greatest relation key.now self.now }
+    {
+        entries::greatest(self.entries.as_slice(), relation, key)
+    }
+
+    /// Whether it has an entry that does not come before a key.
+    pub fn reaches(&self, key: &[u8]) -> bool
+        ensures { result ≡ reaches key.now self.now }
+    {
+        self.least(Relation::Nl, key).is_some()
+    }
+
+    /// Whether it has an entry.
+    pub fn holds(&self, key: &[u8]) -> bool
+        ensures { result ≡ is_held key.now self.now }
+    {
+        self.least(Relation::Eq, key).is_some()
+    }
+
+    /// Adds an entry in its place; an error leaves the leaf as it was.
+    pub fn add(&mut self, entry: Bytes) -> Result<(), NoMemory>
+        requires new { is_held entry self.old ≡ false }
+        requires room { length self.old < most }
+        ensures ok { OnOk result (self.new ≡ with_entry entry self.old) }
+        ensures err { OnErr result (self.new ≡ self.old) }
+    {
+        entries::add(&mut self.entries, entry)
+    }
+
+    /// Takes an entry out.
+    pub fn remove(&mut self, key: &[u8])
+        ensures { self.new ≡ without_entry key.now self.old }
+    {
+        entries::remove(&mut self.entries, key);
+    }
+
+    /// Gives the upper half away; an error leaves the leaf as it was.
+    pub fn split(&mut self) -> Result<Leaf, NoMemory>
+        requires { most ≤ length self.old }
+        ensures ok { IfOk result (λ upper. self.new ++ upper ≡ self.old) }
+        ensures lower_room { OnOk result (length self.new < most) }
+        ensures upper_room { IfOk result (λ upper. length upper < most) }
+        ensures err { OnErr result (self.new ≡ self.old) }
+    {
+        match entries::split(&mut self.entries, MOST / 2) {
+            Ok(entries) => Ok(Leaf { entries }),
+            Err(e) => Err(e),
+        }
+    }
+}
