@@ -92,12 +92,14 @@ fn entries_of_a_mixed_order_are_sorted(rt: HostRuntime) -> Result<(), Fail> {
         index.insert(&[(i * 29 % 65) as u8])?;
     }
     assert!(rt; index.len() == 65 && index.image_len() == 135);
-    let mut place = index.find(First, &[]);
-    for byte in 0..65u8 {
-        assert!(rt; place == Some([byte].as_slice()), "at {byte}");
-        place = index.find(Hi, &[byte]);
+    assert!(rt; index.find(First, &[]) == Some([0].as_slice()));
+    for byte in 0..64u8 {
+        assert!(rt;
+            index.find(Hi, &[byte]) == Some([byte + 1].as_slice()),
+            "behind {byte}"
+        );
     }
-    assert!(rt; place.is_none());
+    assert!(rt; index.find(Hi, &[64]).is_none());
     Ok(())
 }
 
