@@ -29,6 +29,7 @@ fn first_ready(machine: &Machine, jobs: usize) -> Option<usize>
 }
 
 /// Runs a job whose process goes first, from its start to its end.
+#[tactic(auto, using(crate::proofs::Running::ran_on_none))]
 fn run_job(
     alloc: Global,
     machine: &mut Machine,
