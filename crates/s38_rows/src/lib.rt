@@ -8,6 +8,8 @@ mod commands;
 #[cfg(test)]
 mod computed;
 #[cfg(test)]
+mod created;
+#[cfg(test)]
 mod decks;
 #[cfg(test)]
 mod exceptions;

@@ -1,8 +1,9 @@
 //! Every row of the tables is answered as it says.
 
 use crate::answers::answers;
-use crate::commands::{BAD_DECKS, BAD_WORDS, CHECKED, RUN};
+use crate::commands::{BAD_DECKS, BAD_LINES, BAD_WORDS, CHECKED, RUN};
 use crate::computed::COMPUTED;
+use crate::created::CREATED;
 use crate::decks::DECKS;
 use crate::exceptions::EXCEPTIONS;
 use crate::programs::PROGRAMS;
@@ -61,6 +62,8 @@ fn every_row_is_answered(rt: HostRuntime) -> Result<(), Fail> {
         &CHECKS,
         &RULES,
         &EXCEPTIONS,
+        &CREATED,
+        &BAD_LINES,
     ];
     for table in tables {
         for words in table.calls {
