@@ -1,5 +1,5 @@
 -- The one table of operations, column by column: the mnemonic, the classes of the operands, what they owe together,
--- the kind of the object that it makes, whether its result may be rounded, its family, and whether this machine has it.
+-- the kind of the object that it makes, whether its result may be rounded, and its family.
 use Rattle.std.specs.Prelude.{ℕ, Bool, true, false, List, [], ◌∷◌, codes, Option, Some, None}
 use Rattle.s38_base.specs.declared.id.Kind.{Kind}
 use Rattle.s38_base.specs.declared.id.Kind.TheVariants as kinds
@@ -349,54 +349,3 @@ family_of Descr = DataSpaces
 family_of Desjs = Journals
 family_of Desjp = Journals
 family_of Descb = Journals
-
--- ---- whether this machine has it
-
--- these are not built yet
-unfoldable pub is_built : Op → Bool
-is_built Crtctx = false
-is_built Modadr = false
-is_built Rename = false
-is_built Matctx = false
-is_built Crtup = false
-is_built Modup = false
-is_built Grant = false
-is_built Retract = false
-is_built Xfro = false
-is_built Testau = false
-is_built Matau = false
-is_built Matauobj = false
-is_built Callx = false
-is_built Xctl = false
-is_built Lock = false
-is_built Unlock = false
-is_built Xfrlock = false
-is_built Matobjlk = false
-is_built Crtinx = false
-is_built Insinxen = false
-is_built Fndinxen = false
-is_built Rmvinxen = false
-is_built Crtds = false
-is_built Crtcr = false
-is_built Setcr = false
-is_built Insdsen = false
-is_built Retdsen = false
-is_built Updsen = false
-is_built Deldsen = false
-is_built Crtjs = false
-is_built Crtjp = false
-is_built Jrnlobj = false
-is_built Retjent = false
-is_built Crtcb = false
-is_built Commit = false
-is_built Decommit = false
-is_built Ensobj = false
-is_built Desctx = false
-is_built Desup = false
-is_built Desinx = false
-is_built Desds = false
-is_built Descr = false
-is_built Desjs = false
-is_built Desjp = false
-is_built Descb = false
-is_built _ = true

@@ -24,7 +24,7 @@ pub use event::{EndCause, Event, Request};
 pub use family::Family;
 pub use made::{Checked, CheckedTemplate, CreateResult};
 pub use operand::{Operand, Operands};
-pub use operations::{classes, family_of, is_built, made_kind, may_round, mnemonic, operand_rule};
+pub use operations::{classes, family_of, made_kind, may_round, mnemonic, operand_rule};
 pub use program::{Arg, Args, CreateFault, Form, Instruction, Instructions, Program, Row, Rows};
 pub use reply::{Reply, Val, Vals};
 pub use rule::OperandRule;

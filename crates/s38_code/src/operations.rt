@@ -1,7 +1,7 @@
 //! The one table of operations, column by column.
 
 ghost use Rattle.std.specs.Prelude.{◌≡◌};
-ghost use Rattle.s38_code.specs.Operations.{classes, family_of, is_built, made_kind, may_round, mnemonic, operand_rule};
+ghost use Rattle.s38_code.specs.Operations.{classes, family_of, made_kind, may_round, mnemonic, operand_rule};
 
 use crate::class::Class;
 use crate::class::Constant::{
@@ -470,60 +470,5 @@ pub fn family_of(op: Op) -> Family
         | Op::Desjs
         | Op::Desjp
         | Op::Descb => Family::Journals,
-    }
-}
-
-/// Whether this machine has the operation.
-#[tactic(auto, unfolding(crate::specs::Operations::is_built))]
-pub fn is_built(op: Op) -> bool
-    ensures { result ≡ is_built op }
-{
-    match op {
-        Op::Crtctx => false,
-        Op::Modadr => false,
-        Op::Rename => false,
-        Op::Matctx => false,
-        Op::Crtup => false,
-        Op::Modup => false,
-        Op::Grant => false,
-        Op::Retract => false,
-        Op::Xfro => false,
-        Op::Testau => false,
-        Op::Matau => false,
-        Op::Matauobj => false,
-        Op::Callx => false,
-        Op::Xctl => false,
-        Op::Lock => false,
-        Op::Unlock => false,
-        Op::Xfrlock => false,
-        Op::Matobjlk => false,
-        Op::Crtinx => false,
-        Op::Insinxen => false,
-        Op::Fndinxen => false,
-        Op::Rmvinxen => false,
-        Op::Crtds => false,
-        Op::Crtcr => false,
-        Op::Setcr => false,
-        Op::Insdsen => false,
-        Op::Retdsen => false,
-        Op::Updsen => false,
-        Op::Deldsen => false,
-        Op::Crtjs => false,
-        Op::Crtjp => false,
-        Op::Jrnlobj => false,
-        Op::Retjent => false,
-        Op::Crtcb => false,
-        Op::Commit => false,
-        Op::Decommit => false,
-        Op::Ensobj => false,
-        Op::Desctx => false,
-        Op::Desup => false,
-        Op::Desinx => false,
-        Op::Desds => false,
-        Op::Descr => false,
-        Op::Desjs => false,
-        Op::Desjp => false,
-        Op::Descb => false,
-        _ => true,
     }
 }

@@ -5,7 +5,8 @@ use Rattle.std.specs.List.{All, list_all}
 use Rattle.std.proofs.lemmas.List.Elements.{All-append, All-cons, All-nil}
 use Rattle.std.proofs.lemmas.List.Folds.{list_all-map}
 use Rattle.s38_base.specs.declared.op.Op.{Op}
-use Rattle.s38_code.specs.Operations.{is_built, classes, made_kind, operand_rule}
+use Rattle.s38_code.specs.Operations.{classes, made_kind, operand_rule}
+use Rattle.s38_create.specs.Built.{is_built}
 use Rattle.s38_base.specs.Exceptions as exceptions
 use Rattle.s38_words.specs.ProgramLine.{ActLine, act_of, rounds_right}
 use Rattle.s38_code.specs.declared.program.CreateFault.{CreateFault}

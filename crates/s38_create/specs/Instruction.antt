@@ -2,7 +2,8 @@
 use Rattle.std.specs.Prelude.{ℕ, ◌+◌, Bool, true, not, ◌&&◌, ◌==◌, List, [], ◌∷◌, ◌++◌, map, length, nat_le, Option, Some, None, Result, Ok, Err, if◌then◌else◌}
 use Rattle.std.specs.List.{list_all}
 use Rattle.s38_base.specs.declared.op.Op.{Op}
-use Rattle.s38_code.specs.Operations.{classes, is_built}
+use Rattle.s38_code.specs.Operations.{classes}
+use Rattle.s38_create.specs.Built.{is_built}
 use Rattle.s38_code.specs.declared.program.Arg.{Arg}
 use Rattle.s38_code.specs.declared.program.CreateFault.{CreateFault}
 use Rattle.s38_code.specs.declared.program.CreateFault.TheVariants.{Bad}

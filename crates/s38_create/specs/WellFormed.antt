@@ -2,7 +2,8 @@
 use Rattle.std.specs.Prelude.{◌≤◌, ℕ, Bool, true, IsTrue, ◌==◌, List, length, nat_le}
 use Rattle.std.specs.List.{All, list_all}
 use Rattle.s38_base.specs.Scalar.{length_of}
-use Rattle.s38_code.specs.Operations.{is_built, classes, made_kind, operand_rule}
+use Rattle.s38_code.specs.Operations.{classes, made_kind, operand_rule}
+use Rattle.s38_create.specs.Built.{is_built}
 use Rattle.s38_code.specs.declared.program.Arg.{Arg}
 use Rattle.s38_code.specs.declared.program.Arg.TheVariants as args
 use Rattle.s38_code.specs.declared.program.Instruction.{Instruction}

@@ -6,12 +6,13 @@ ghost use Rattle.s38_words.specs.Views.{act_in};
 ghost use Rattle.s38_odt.specs.Labels.{instruction_count};
 ghost use Rattle.s38_create.specs.Parsed.{arg_of, is_declared, is_placed};
 
+use crate::built::is_built;
 use crate::causes::cause;
 use crate::operands::parsed_operands;
 use crate::parsed::{ParsedOperand, arg_of, is_declared, is_placed};
 use crate::scope::Scope;
 use s38_base::{NoMemory, Op, Seq, exceptions};
-use s38_code::{Arg, CreateFault, Instruction, Instructions, classes, is_built};
+use s38_code::{Arg, CreateFault, Instruction, Instructions, classes};
 use s38_odt::is_label;
 use s38_words::{InstructionLine, instruction, rounds_right};
 use std::alloc::Global;

@@ -2,6 +2,7 @@
 #![tactic(auto)]
 
 mod attributes;
+mod built;
 mod by_class;
 mod causes;
 mod check;

@@ -1,0 +1,53 @@
+-- The instructions that this machine has: creation refuses the others.
+use Rattle.std.specs.Prelude.{Bool, true, false}
+use Rattle.s38_base.specs.declared.op.Op.{Op}
+use Rattle.s38_base.specs.declared.op.Op.TheVariants.{Crtctx, Modadr, Rename, Matctx, Crtup, Modup, Grant, Retract, Xfro, Testau, Matau, Matauobj, Callx, Xctl, Lock, Unlock, Xfrlock, Matobjlk, Crtinx, Insinxen, Fndinxen, Rmvinxen, Crtds, Crtcr, Setcr, Insdsen, Retdsen, Updsen, Deldsen, Crtjs, Crtjp, Jrnlobj, Retjent, Crtcb, Commit, Decommit, Ensobj, Desctx, Desup, Desinx, Desds, Descr, Desjs, Desjp, Descb}
+
+-- these are not built yet
+unfoldable pub is_built : Op → Bool
+is_built Crtctx = false
+is_built Modadr = false
+is_built Rename = false
+is_built Matctx = false
+is_built Crtup = false
+is_built Modup = false
+is_built Grant = false
+is_built Retract = false
+is_built Xfro = false
+is_built Testau = false
+is_built Matau = false
+is_built Matauobj = false
+is_built Callx = false
+is_built Xctl = false
+is_built Lock = false
+is_built Unlock = false
+is_built Xfrlock = false
+is_built Matobjlk = false
+is_built Crtinx = false
+is_built Insinxen = false
+is_built Fndinxen = false
+is_built Rmvinxen = false
+is_built Crtds = false
+is_built Crtcr = false
+is_built Setcr = false
+is_built Insdsen = false
+is_built Retdsen = false
+is_built Updsen = false
+is_built Deldsen = false
+is_built Crtjs = false
+is_built Crtjp = false
+is_built Jrnlobj = false
+is_built Retjent = false
+is_built Crtcb = false
+is_built Commit = false
+is_built Decommit = false
+is_built Ensobj = false
+is_built Desctx = false
+is_built Desup = false
+is_built Desinx = false
+is_built Desds = false
+is_built Descr = false
+is_built Desjs = false
+is_built Desjp = false
+is_built Descb = false
+is_built _ = true

@@ -1,0 +1,61 @@
+//! The instructions that this machine has.
+
+ghost use Rattle.std.specs.Prelude.{◌≡◌};
+ghost use Rattle.s38_create.specs.Built.{is_built};
+
+use s38_base::Op;
+
+/// Whether this machine has the operation; creation refuses the others.
+#[tactic(auto, unfolding(crate::specs::Built::is_built))]
+pub fn is_built(op: Op) -> bool
+    ensures { result ≡ is_built op }
+{
+    match op {
+        Op::Crtctx => false,
+        Op::Modadr => false,
+        Op::Rename => false,
+        Op::Matctx => false,
+        Op::Crtup => false,
+        Op::Modup => false,
+        Op::Grant => false,
+        Op::Retract => false,
+        Op::Xfro => false,
+        Op::Testau => false,
+        Op::Matau => false,
+        Op::Matauobj => false,
+        Op::Callx => false,
+        Op::Xctl => false,
+        Op::Lock => false,
+        Op::Unlock => false,
+        Op::Xfrlock => false,
+        Op::Matobjlk => false,
+        Op::Crtinx => false,
+        Op::Insinxen => false,
+        Op::Fndinxen => false,
+        Op::Rmvinxen => false,
+        Op::Crtds => false,
+        Op::Crtcr => false,
+        Op::Setcr => false,
+        Op::Insdsen => false,
+        Op::Retdsen => false,
+        Op::Updsen => false,
+        Op::Deldsen => false,
+        Op::Crtjs => false,
+        Op::Crtjp => false,
+        Op::Jrnlobj => false,
+        Op::Retjent => false,
+        Op::Crtcb => false,
+        Op::Commit => false,
+        Op::Decommit => false,
+        Op::Ensobj => false,
+        Op::Desctx => false,
+        Op::Desup => false,
+        Op::Desinx => false,
+        Op::Desds => false,
+        Op::Descr => false,
+        Op::Desjs => false,
+        Op::Desjp => false,
+        Op::Descb => false,
+        _ => true,
+    }
+}
