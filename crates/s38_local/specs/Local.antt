@@ -1,5 +1,5 @@
--- A local instruction: its operands are items of the invocation and literals, and it changes the invocation's
--- variables and where it stands alone. Sources are read before a receiver is written, and a signal leaves all
+-- A local instruction: its operands are items of the invocation and literals, and it changes the variables of its
+-- items and where the invocation stands alone. Sources are read before a receiver is written, and a signal leaves all
 -- variables as they are.
 use Rattle.std.specs.Prelude.{ℕ, ◌-◌, ◌&&◌, ◌||◌, Bool, true, false, not, ℤ, pos, List, length, Option, Some, None, Result, Ok, Err, slice_get, if◌then◌else◌}
 use Rattle.std.specs.List.{list_any}
@@ -22,15 +22,19 @@ use Rattle.s38_local.specs.declared.frame.Frame.{Frame}
 use Rattle.s38_local.specs.Frames.{Went, called, code_bytes, exception_code, moves, returned, stays, switched}
 use Rattle.s38_local.specs.declared.local_end.LocalEnd.TheVariants as ends
 use Rattle.s38_local.specs.Received.{Ran, bytes_put, goes_on, jump_to, jumps, number_put, signals}
-use Rattle.s38_local.specs.Variables.{attr_of, bytes_of, form_in, held_by, is_based, pointer_of, put_in}
+use Rattle.s38_local.specs.Variables.{attr_of, bytes_of, form_in, held_at, is_based, place_of, pointer_of, put_at}
 
 -- ---- operands, numbered from 1
 
 abbrev pub operand : List Arg → ℕ → Option Arg
 operand given k = slice_get given (k - 1)
 
-abbrev pub number_of : List Row → List Val → Option Arg → Option ℤ
-number_of rows values arg = value_of (attr_of rows arg) (bytes_of values arg)
+abbrev pub number_of : List Row → List ℕ → List Val → Option Arg → Option ℤ
+number_of rows homes values arg = value_of (attr_of rows arg) (bytes_of homes values arg)
+
+-- the receiver is operand 1
+abbrev pub receiver_of : List ℕ → List Arg → Option ℕ
+receiver_of homes given = place_of homes (operand given 1)
 
 abbrev pub word_of : Option Arg → ℕ
 word_of (Some (args.Word w)) = w
@@ -41,17 +45,17 @@ whole_of (Some (args.Whole z)) = z
 whole_of _ = pos 0
 
 -- what is read among variables
-abbrev pub of_variables : List Row → List Val → List Arg → Readings
-of_variables rows values given = record {
-  number = λ k. number_of rows values (operand given k);
+abbrev pub of_variables : List Row → List ℕ → List Val → List Arg → Readings
+of_variables rows homes values given = record {
+  number = λ k. number_of rows homes values (operand given k);
   attr = λ k. attr_of rows (operand given k);
-  bytes = λ k. bytes_of values (operand given k);
-  pointer = λ k. pointer_of values (operand given k);
+  bytes = λ k. bytes_of homes values (operand given k);
+  pointer = λ k. pointer_of homes values (operand given k);
   word = λ k. word_of (operand given k);
   power = whole_of (operand given 3);
   receiver = attr_of rows (operand given 1);
-  room = length (held_by values (operand given 1));
-  held = held_by values (operand given 1);
+  room = length (held_at values (receiver_of homes given));
+  held = held_at values (receiver_of homes given);
   keeps_rest = true;
 }
 
@@ -72,14 +76,14 @@ abbrev pub label_at : Op → ℕ
 label_at Cmpptrt = 3
 label_at _ = 4
 
--- the receiver is operand 1
-abbrev pub received : List Val → Instruction → Option (Result Given Exception) → Ran
-received values i None = goes_on values
-received values i (Some (Err x)) = signals values x
-received values i (Some (Ok (givens.Number attr z))) = goes_on (number_put values (operand i.args 1) attr z)
-received values i (Some (Ok (givens.Bytes bytes))) = goes_on (bytes_put values (operand i.args 1) bytes)
-received values i (Some (Ok (givens.Pointer p))) = goes_on (put_in values (operand i.args 1) (vals.Ptr (Some p)))
-received values i (Some (Ok (givens.Branch taken))) =
+-- what was computed goes to the receiver, or tells whether to branch
+abbrev pub received : List ℕ → List Val → Instruction → Option (Result Given Exception) → Ran
+received homes values i None = goes_on values
+received homes values i (Some (Err x)) = signals values x
+received homes values i (Some (Ok (givens.Number attr z))) = goes_on (number_put values (receiver_of homes i.args) attr z)
+received homes values i (Some (Ok (givens.Bytes bytes))) = goes_on (bytes_put values (receiver_of homes i.args) bytes)
+received homes values i (Some (Ok (givens.Pointer p))) = goes_on (put_at values (receiver_of homes i.args) (vals.Ptr (Some p)))
+received homes values i (Some (Ok (givens.Branch taken))) =
     record { end = jumps taken (operand i.args (label_at i.op)); values = values }
 
 -- an instruction that only goes on elsewhere, or looks at the descriptions of exceptions
@@ -88,19 +92,19 @@ controlled frame values i B = stays frame (record { end = jump_to (operand i.arg
 controlled frame values i Calli = moves values (called frame (operand i.args 1))
 controlled frame values i Rtx = moves values (returned frame)
 controlled frame values i Sigexcp = stays frame (signals values (plain (exception_code (word_of (operand i.args 1))) 0))
-controlled frame values i Retexcpd = stays frame (goes_on (bytes_put values (operand i.args 1) (code_bytes frame.latest)))
+controlled frame values i Retexcpd = stays frame (goes_on (bytes_put values (receiver_of frame.homes i.args) (code_bytes frame.latest)))
 controlled frame values i Modexcpd =
     record { end = ends.Next; frame = switched frame (operand i.args 1) (word_of (operand i.args 2)); values = values }
 controlled frame values i op = stays frame (goes_on values)
 
-abbrev pub computed_run : List Row → List Val → Instruction → Ran
-computed_run rows values i = received values i (computed i.op i.round (of_variables rows values i.args))
+abbrev pub computed_run : List Row → List ℕ → List Val → Instruction → Ran
+computed_run rows homes values i = received homes values i (computed i.op i.round (of_variables rows homes values i.args))
 
 -- what an instruction does to an invocation; one that is not local does nothing, and the end of the code is a return
 unfoldable pub run : List Row → Frame → List Val → Option Instruction → Went
 run rows frame values None = moves values (returned frame)
 run rows frame values (Some i) =
-    if is_control i.op then controlled frame values i i.op else stays frame (computed_run rows values i)
+    if is_control i.op then controlled frame values i i.op else stays frame (computed_run rows frame.homes values i)
 
 -- ---- which instructions are local
 

@@ -4,37 +4,34 @@ use Rattle.std.specs.Prelude.{ℕ, ◌==◌, Bool, false, ◌||◌, List, [], Op
 use Rattle.s38_base.specs.declared.exception.Exception.{Exception}
 use Rattle.s38_base.specs.declared.op.Op.{Op}
 use Rattle.s38_code.specs.declared.program.Arg.{Arg}
-use Rattle.s38_code.specs.declared.program.Arg.TheVariants as args
 use Rattle.s38_code.specs.declared.reply.Val.{Val}
 use Rattle.s38_code.specs.declared.reply.Val.TheVariants as vals
 use Rattle.s38_compute.specs.Compute.{string_given}
 use Rattle.s38_compute.specs.Written.{bytes_behind, failed}
 use Rattle.s38_local.specs.declared.local_end.LocalEnd.{LocalEnd}
 use Rattle.s38_local.specs.declared.local_end.LocalEnd.TheVariants as ends
-use Rattle.s38_local.specs.Local.{operand}
+use Rattle.s38_local.specs.Local.{operand, receiver_of}
 use Rattle.s38_local.specs.Received.{Ran, bytes_received}
-use Rattle.s38_local.specs.Variables.{bytes_of, held_by, value_bytes}
+use Rattle.s38_local.specs.Variables.{bytes_of, held_at, place_of, value_bytes}
 
--- the item that an operand is
-abbrev pub item_of : Option Arg → Option ℕ
-item_of (Some (args.Item i)) = Some i
-item_of _ = None
+-- a variable that stands there
+abbrev pub is_place : ℕ → Option ℕ → Bool
+is_place at None = false
+is_place at (Some place) = place == at
 
-abbrev pub is_item : ℕ → Option Arg → Bool
-is_item at (Some (args.Item i)) = i == at
-is_item at _ = false
+-- one of the sources, from operand 2 on, lies there
+abbrev pub reads : List ℕ → ℕ → List Arg → Bool
+reads homes at given =
+    is_place at (place_of homes (operand given 2))
+    || (is_place at (place_of homes (operand given 3)) || is_place at (place_of homes (operand given 4)))
 
--- one of the sources, from operand 2 on, is the item
-abbrev pub reads : ℕ → List Arg → Bool
-reads at given = is_item at (operand given 2) || (is_item at (operand given 3) || is_item at (operand given 4))
+-- the bytes that stand there, where they are a source
+abbrev pub own_bytes : List ℕ → List Val → ℕ → List Arg → List ℕ
+own_bytes homes values at given = if reads homes at given then value_bytes (slice_get values at) else []
 
--- the bytes of the item, where it is a source
-abbrev pub own_bytes : List Val → ℕ → List Arg → List ℕ
-own_bytes values at given = if reads at given then value_bytes (slice_get values at) else []
-
--- the bytes of a source, while the item at a place is taken out
-abbrev pub bytes_past : ℕ → List ℕ → List Val → Option Arg → List ℕ
-bytes_past at own values arg = if is_item at arg then own else bytes_of values arg
+-- the bytes of a source, while the variable at a place is taken out
+abbrev pub bytes_past : List ℕ → ℕ → List ℕ → List Val → Option Arg → List ℕ
+bytes_past homes at own values arg = if is_place at (place_of homes arg) then own else bytes_of homes values arg
 
 abbrev pub end_behind : Option Exception → LocalEnd
 end_behind None = ends.Next
@@ -49,7 +46,7 @@ end_at op (vals.Bytes into) a b c = end_behind (failed (string_given op into a b
 end_at op v a b c = ends.Next
 
 -- what a string instruction does
-abbrev pub string_run : List Val → Op → List Arg → Ran
-string_run values op given =
-    bytes_received values (operand given 1)
-    (string_given op (held_by values (operand given 1)) (bytes_of values (operand given 2)) (bytes_of values (operand given 3)) (bytes_of values (operand given 4)))
+abbrev pub string_run : List ℕ → List Val → Op → List Arg → Ran
+string_run homes values op given =
+    bytes_received values (receiver_of homes given)
+    (string_given op (held_at values (receiver_of homes given)) (bytes_of homes values (operand given 2)) (bytes_of homes values (operand given 3)) (bytes_of homes values (operand given 4)))

@@ -10,7 +10,7 @@ use Rattle.s38_code.specs.declared.reply.Val.{Val}
 use Rattle.s38_code.specs.declared.reply.Val.TheVariants as vals
 use Rattle.s38_local.specs.declared.local_end.LocalEnd.{LocalEnd}
 use Rattle.s38_local.specs.declared.local_end.LocalEnd.TheVariants as ends
-use Rattle.s38_local.specs.Variables.{put_in}
+use Rattle.s38_local.specs.Variables.{put_at, value_at}
 
 pub record Ran : Type 0 where
   pub end : LocalEnd
@@ -34,43 +34,45 @@ jump_to _ = ends.Next
 abbrev pub jumps : Bool → Option Arg → LocalEnd
 jumps test label = if test then jump_to label else ends.Next
 
--- ---- receivers
+-- ---- receivers, by the place of their variable
 
 -- a number is written where bytes of its attribute's length stand
 abbrev pub with_number : Attr → ℤ → Val → Val
 with_number attr z (vals.Bytes old) = vals.Bytes (if length old == length_of attr then image_of attr z else old)
 with_number attr z v = v
 
-abbrev pub number_put_at : List Val → ℕ → Attr → ℤ → Option Val → List Val
-number_put_at values i attr z None = values
-number_put_at values i attr z (Some v) = slice_set values i (with_number attr z v)
+abbrev pub changed_there : List Val → Option ℕ → (Val → Val) → Option Val → List Val
+changed_there values place f None = values
+changed_there values place f (Some v) = put_at values place (f v)
 
-abbrev pub number_put : List Val → Option Arg → Attr → ℤ → List Val
-number_put values (Some (args.Item i)) attr z = number_put_at values i attr z (slice_get values i)
-number_put values _ attr z = values
+-- the variable that stands at a place is changed
+abbrev pub changed_at : List Val → Option ℕ → (Val → Val) → List Val
+changed_at values place f = changed_there values place f (value_at values place)
+
+abbrev pub number_put : List Val → Option ℕ → Attr → ℤ → List Val
+number_put values place attr z = changed_at values place (with_number attr z)
 
 -- a receiver that holds no bytes gets none
-abbrev pub bytes_put_at : List Val → ℕ → List ℕ → Option Val → List Val
-bytes_put_at values i bytes (Some (vals.Bytes old)) = slice_set values i (vals.Bytes bytes)
-bytes_put_at values i bytes _ = values
+abbrev pub with_bytes : List ℕ → Val → Val
+with_bytes bytes (vals.Bytes old) = vals.Bytes bytes
+with_bytes bytes v = v
 
-abbrev pub bytes_put : List Val → Option Arg → List ℕ → List Val
-bytes_put values (Some (args.Item i)) bytes = bytes_put_at values i bytes (slice_get values i)
-bytes_put values _ bytes = values
+abbrev pub bytes_put : List Val → Option ℕ → List ℕ → List Val
+bytes_put values place bytes = changed_at values place (with_bytes bytes)
 
 -- ---- what is given goes to its receiver, or is signalled
 
-abbrev pub number_received : List Val → Option Arg → Attr → Result ℤ Exception → Ran
+abbrev pub number_received : List Val → Option ℕ → Attr → Result ℤ Exception → Ran
 number_received values to attr (Err x) = signals values x
 number_received values to attr (Ok z) = goes_on (number_put values to attr z)
 
-abbrev pub bytes_received : List Val → Option Arg → Result (List ℕ) Exception → Ran
+abbrev pub bytes_received : List Val → Option ℕ → Result (List ℕ) Exception → Ran
 bytes_received values to (Err x) = signals values x
 bytes_received values to (Ok bytes) = goes_on (bytes_put values to bytes)
 
-abbrev pub pointer_received : List Val → Option Arg → Result Pointer Exception → Ran
+abbrev pub pointer_received : List Val → Option ℕ → Result Pointer Exception → Ran
 pointer_received values to (Err x) = signals values x
-pointer_received values to (Ok p) = goes_on (put_in values to (vals.Ptr (Some p)))
+pointer_received values to (Ok p) = goes_on (put_at values to (vals.Ptr (Some p)))
 
 abbrev pub branch_end : Option Arg → Result Bool Exception → LocalEnd
 branch_end label (Err x) = ends.Signal x

@@ -35,6 +35,21 @@ abbrev pub attr_in : Option Row → Attr
 attr_in None = attrs.Pointer
 attr_in (Some row) = attr_of_form row.form
 
+-- ---- where a variable lies: all variables of a process are one list, and each declared name has a place there
+
+-- the place of an item; other operands have none
+abbrev pub place_of : List ℕ → Option Arg → Option ℕ
+place_of homes (Some (args.Item i)) = slice_get homes i
+place_of homes _ = None
+
+abbrev pub value_at : List Val → Option ℕ → Option Val
+value_at values None = None
+value_at values (Some place) = slice_get values place
+
+-- what an item holds
+abbrev pub value_of_item : List ℕ → List Val → ℕ → Option Val
+value_of_item homes values i = value_at values (slice_get homes i)
+
 -- ---- what a variable holds
 
 abbrev pub value_bytes : Option Val → List ℕ
@@ -52,22 +67,21 @@ attr_of rows (Some (args.Item i)) = attr_in (slice_get rows i)
 attr_of rows (Some (args.Literal attr bytes)) = attr
 attr_of rows _ = attrs.Pointer
 
-abbrev pub bytes_of : List Val → Option Arg → List ℕ
-bytes_of values (Some (args.Item i)) = value_bytes (slice_get values i)
-bytes_of values (Some (args.Literal attr bytes)) = bytes
-bytes_of values _ = []
+abbrev pub bytes_of : List ℕ → List Val → Option Arg → List ℕ
+bytes_of homes values (Some (args.Item i)) = value_bytes (value_of_item homes values i)
+bytes_of homes values (Some (args.Literal attr bytes)) = bytes
+bytes_of homes values _ = []
 
-abbrev pub pointer_of : List Val → Option Arg → Option Pointer
-pointer_of values (Some (args.Item i)) = value_pointer (slice_get values i)
-pointer_of values _ = None
+abbrev pub pointer_of : List ℕ → List Val → Option Arg → Option Pointer
+pointer_of homes values (Some (args.Item i)) = value_pointer (value_of_item homes values i)
+pointer_of homes values _ = None
 
 -- ---- how a variable gets a value
 
-abbrev pub put_in : List Val → Option Arg → Val → List Val
-put_in values (Some (args.Item i)) v = slice_set values i v
-put_in values _ v = values
+abbrev pub put_at : List Val → Option ℕ → Val → List Val
+put_at values None v = values
+put_at values (Some place) v = slice_set values place v
 
--- what a receiver holds; only an item is one
-abbrev pub held_by : List Val → Option Arg → List ℕ
-held_by values (Some (args.Item i)) = value_bytes (slice_get values i)
-held_by values _ = []
+-- what stands at a place
+abbrev pub held_at : List Val → Option ℕ → List ℕ
+held_at values place = value_bytes (value_at values place)
