@@ -1,5 +1,6 @@
 pub mod Asked
 pub mod Exceptions
+pub mod Invocations
 pub mod Process
 pub mod Progress
 pub mod Replies

@@ -1,5 +1,5 @@
 -- What a reply brings to the variables, and where the process goes on.
-use Rattle.std.specs.Prelude.{ℕ, ◌&&◌, Bool, false, not, List, [], ◌∷◌, Option, Some, None, slice_get, slice_set, if◌then◌else◌}
+use Rattle.std.specs.Prelude.{ℕ, ◌&&◌, Bool, false, not, List, [], ◌∷◌, Option, Some, None, slice_get, if◌then◌else◌}
 use Rattle.std.specs.Option.{option_or}
 use Rattle.s38_base.specs.declared.op.Op.{Op}
 use Rattle.s38_code.specs.declared.class.Class.{Class}
@@ -9,7 +9,7 @@ use Rattle.s38_code.specs.declared.program.Row.{Row}
 use Rattle.s38_code.specs.declared.reply.Val.{Val}
 use Rattle.s38_code.specs.declared.reply.Val.TheVariants as vals
 use Rattle.s38_compute.specs.Computed.{copies_left, copies_right}
-use Rattle.s38_local.specs.Variables.{form_in, is_based}
+use Rattle.s38_local.specs.Variables.{form_in, is_based, place_of, put_at, value_at}
 use Rattle.s38_process.specs.Requests.{is_receiver}
 use Rattle.s38_strings.specs.Copies.{copied_left, copied_right}
 
@@ -22,9 +22,8 @@ abbrev pub merged : Op → Option Val → Val → Val
 merged op (Some (vals.Bytes old)) (vals.Bytes new) = vals.Bytes (merged_bytes op old new)
 merged op old v = v
 
-abbrev pub put : Op → List Val → Arg → Val → List Val
-put op values (args.Item i) v = slice_set values i (merged op (slice_get values i) v)
-put op values _ v = values
+abbrev pub put : Op → List Val → Option ℕ → Val → List Val
+put op values place v = put_at values place (merged op (value_at values place) v)
 
 -- a receiver gets a value, but for one in a space, which the machine has changed there
 abbrev pub takes_value : List Row → Class → Arg → Bool
@@ -32,12 +31,12 @@ takes_value rows class (args.Item i) = is_receiver class && not (is_based (form_
 takes_value rows class _ = is_receiver class
 
 -- the variables behind a reply, whose values go to the receivers in order
-abbrev pub received : Op → List Row → List Class → List Arg → List Val → List Val → List Val
-received op rows (class ∷ more) (arg ∷ rest) [] values = values
-received op rows (class ∷ more) (arg ∷ rest) (v ∷ vs) values =
-    if takes_value rows class arg then received op rows more rest vs (put op values arg v)
-    else received op rows more rest (v ∷ vs) values
-received op rows _ _ vs values = values
+abbrev pub received : Op → List Row → List ℕ → List Class → List Arg → List Val → List Val → List Val
+received op rows homes (class ∷ more) (arg ∷ rest) [] values = values
+received op rows homes (class ∷ more) (arg ∷ rest) (v ∷ vs) values =
+    if takes_value rows class arg then received op rows homes more rest vs (put op values (place_of homes (Some arg)) v)
+    else received op rows homes more rest (v ∷ vs) values
+received op rows homes _ _ vs values = values
 
 -- a comparison that was asked tells whether it branches
 abbrev pub is_taken : List Val → Bool

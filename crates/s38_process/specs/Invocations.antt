@@ -1,0 +1,152 @@
+-- The invocations of a process. Each has its program and its place, and its variables stand among those of all, behind
+-- those of its callers. A parameter is no variable of its own: it lies where the caller's argument does.
+use Rattle.std.specs.Prelude.{ℕ, ◌+◌, ◌-◌, Bool, true, false, List, [], ◌∷◌, ◌++◌, map, length, take, replicate, Option, Some, None, unwrap_or, slice_get, nat_lt, if◌then◌else◌}
+use Rattle.std.specs.List.{range_with_len}
+use Rattle.s38_base.specs.declared.attr.Attr.{Attr}
+use Rattle.s38_base.specs.declared.attr.Attr.TheVariants as attrs
+use Rattle.s38_code.specs.declared.made.CreateResult.{CreateResult}
+use Rattle.s38_code.specs.declared.made.CreateResult.TheVariants.{Created, Refused}
+use Rattle.s38_code.specs.declared.program.Arg.{Arg}
+use Rattle.s38_code.specs.declared.program.Form.{Form}
+use Rattle.s38_code.specs.declared.program.Form.TheVariants as forms
+use Rattle.s38_code.specs.declared.program.Instruction.{Instruction}
+use Rattle.s38_code.specs.declared.program.Program.{Program}
+use Rattle.s38_code.specs.declared.program.Row.{Row}
+use Rattle.s38_code.specs.declared.reply.Val.{Val}
+use Rattle.s38_code.specs.declared.reply.Val.TheVariants as vals
+use Rattle.s38_local.specs.declared.frame.Frame.{Frame}
+use Rattle.s38_local.specs.Variables.{place_of}
+use Rattle.s38_odt.specs.First.{blank_of}
+use Rattle.s38_process.specs.declared.invocation.Invocation.{Invocation}
+
+pub record Stack : Type 0 where
+  -- all variables, the oldest invocation's first
+  pub values : List Val
+  -- the newest invocation
+  pub top : Invocation
+  -- those that called it, the newest first
+  pub callers : List Invocation
+
+-- how many invocations there are
+abbrev pub depth_of : Stack → ℕ
+depth_of s = length s.callers + 1
+
+-- how many there are at most
+abbrev pub deepest : ℕ
+deepest = 64
+
+-- ---- the program of an invocation; a template that was refused has none
+
+abbrev pub rows_in : CreateResult → List Row
+rows_in (Created program) = program.rows
+rows_in (Refused id number) = []
+
+abbrev pub code_in : CreateResult → List Instruction
+code_in (Created program) = program.code
+code_in (Refused id number) = []
+
+-- the instruction that comes next; none past the last
+abbrev pub instruction_of : Invocation → Option Instruction
+instruction_of top = slice_get (code_in top.made) top.frame.at
+
+-- ---- what variables begin with
+
+-- a pointer variable begins with no pointer, another with its first bytes
+abbrev pub first_by : Attr → List ℕ → Val
+first_by attrs.Pointer first = vals.Ptr None
+first_by _ first = vals.Bytes first
+
+-- a name that stands for no variable of the invocation has a place that nothing uses
+abbrev pub first_value : Form → Val
+first_value (forms.Local attr first) = first_by attr first
+first_value (forms.Parm k attr) = vals.Ptr None
+first_value (forms.Based base offset attr) = vals.Ptr None
+first_value (forms.Handler code at) = vals.Ptr None
+
+abbrev pub first_values : List Row → List Val
+first_values rows = map (λ row. first_value row.form) rows
+
+-- a job gives a variable for each parameter of its template, which begins as one without a literal does
+abbrev pub blank_bytes : Attr → List ℕ
+blank_bytes attr = unwrap_or (blank_of attr) []
+
+abbrev pub with_blank : Form → List Val → List Val
+with_blank (forms.Parm k attr) more = first_by attr (blank_bytes attr) ∷ more
+with_blank _ more = more
+
+abbrev pub blank_values : List Row → List Val
+blank_values [] = []
+blank_values (row ∷ rows) = with_blank row.form (blank_values rows)
+
+-- ---- where names lie
+
+-- where the caller's argument lies, if that stays while the invocation lasts
+abbrev pub lent : ℕ → Option ℕ → ℕ → ℕ
+lent base None own = own
+lent base (Some place) own = if nat_lt place base then place else own
+
+-- parameters are numbered from 1
+abbrev pub home_for : ℕ → List ℕ → ℕ → Form → ℕ
+home_for base places own (forms.Parm k attr) = lent base (slice_get places (k - 1)) own
+home_for base places own _ = own
+
+-- each declared name has a place of its own behind the base, in order
+abbrev pub homes_from : ℕ → List ℕ → ℕ → List Row → List ℕ
+homes_from base places own [] = []
+homes_from base places own (row ∷ rows) = home_for base places own row.form ∷ homes_from base places (own + 1) rows
+
+-- the places of arguments; what is no item lies nowhere below the base
+abbrev pub argument_places : List ℕ → ℕ → List Arg → List ℕ
+argument_places homes base arguments = map (λ argument. unwrap_or (place_of homes (Some argument)) base) arguments
+
+-- an invocation begins with its first instruction, and each description of exceptions is on
+abbrev pub first_frame : List Row → ℕ → List ℕ → Frame
+first_frame rows base places =
+    record { at = 0; base = base; homes = homes_from base places base rows; on = replicate (length rows) true; returns = []; latest = 0 }
+
+-- ---- how invocations begin and end
+
+-- the first invocation of a job, behind the variables that the job gives for parameters
+abbrev pub first_stack : CreateResult → Stack
+first_stack made =
+    let rows = rows_in made in
+    let given = blank_values rows in
+    record {
+      values = given ++ first_values rows;
+      top = record { made = made; frame = first_frame rows (length given) (range_with_len 0 (length given)) };
+      callers = [];
+    }
+
+abbrev pub invoked : Program → ℕ → List ℕ → Invocation
+invoked program base places = record { made = Created program; frame = first_frame program.rows base places }
+
+-- a caller goes on behind its call
+abbrev pub behind_call : Invocation → Invocation
+behind_call caller = record caller { frame = record caller.frame { at = caller.frame.at + 1 } }
+
+-- a program is called
+abbrev pub entered : Stack → Program → List Arg → Stack
+entered s program arguments =
+    let base = length s.values in
+    record {
+      values = s.values ++ first_values program.rows;
+      top = invoked program base (argument_places s.top.frame.homes base arguments);
+      callers = behind_call s.top ∷ s.callers;
+    }
+
+-- a program comes in place of the newest invocation, whose variables end
+abbrev pub exchanged : Stack → Program → List Arg → Stack
+exchanged s program arguments =
+    let base = s.top.frame.base in
+    record s {
+      values = take base s.values ++ first_values program.rows;
+      top = invoked program base (argument_places s.top.frame.homes base arguments);
+    }
+
+-- the newest invocation ends, and its variables with it; the first one stays
+abbrev pub popped_to : Stack → List Invocation → Stack
+popped_to s [] = s
+popped_to s (caller ∷ more) = record { values = take s.top.frame.base s.values; top = caller; callers = more }
+
+abbrev pub popped : Stack → Stack
+popped s = popped_to s s.callers
