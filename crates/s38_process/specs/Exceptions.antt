@@ -28,8 +28,8 @@ label_for (row ∷ rows) [] code = None
 label_for (row ∷ rows) (on ∷ more) code = option_or (taken_by row.form on code) (label_for rows more code)
 
 -- where an invocation goes on, if it takes the exception
-abbrev pub label_in : Invocation → ℕ → Option ℕ
-label_in top code = label_for (rows_in top.made) top.frame.on code
+abbrev pub label_by : Invocation → ℕ → Option ℕ
+label_by top code = label_for (rows_in top.made) top.frame.on code
 
 -- control goes to the label, and the internal calls of the invocation end
 abbrev pub taken : Frame → ℕ → ℕ → Frame
@@ -52,10 +52,10 @@ or_else code s None next = next
 abbrev pub offered_from : ℕ → List Val → Invocation → List Invocation → Offered
 offered_from code values top [] =
     let s : Stack = record { values = values; top = top; callers = [] } in
-    or_else code s (label_in top code) (record { stack = s; taken = false })
+    or_else code s (label_by top code) (record { stack = s; taken = false })
 offered_from code values top (caller ∷ more) =
     let s : Stack = record { values = values; top = top; callers = caller ∷ more } in
-    or_else code s (label_in top code) (offered_from code (take top.frame.base values) caller more)
+    or_else code s (label_by top code) (offered_from code (take top.frame.base values) caller more)
 
 abbrev pub offered : ℕ → Stack → Offered
 offered code s = offered_from code s.values s.top s.callers
