@@ -44,13 +44,14 @@ impl Model for Invocations {
 }
 
 /// A program that is to begin, and what its variables begin with.
+#[derive(Drop)]
 struct Entrant {
     invocation: Invocation,
     values: Vec<Val>,
 }
 
 /// What a program needs that begins behind so many variables, with arguments at these places.
-fn entrant(
+fn prepared(
     alloc: Global,
     code: Code,
     homes: &[usize],
@@ -186,12 +187,12 @@ impl Invocations {
     }
 
     /// What a program needs that the next instruction begins behind so many variables.
-    fn entrant(&self, alloc: Global, code: Code, base: usize) -> Result<Entrant, NoMemory>
+    fn prepared(&self, alloc: Global, code: Code, base: usize) -> Result<Entrant, NoMemory>
         ensures invocation { IfOk result (λ e. e.invocation ≡ invoked code base (places_for self.now.top base)) }
         ensures values { IfOk result (λ e. e.values.items ≡ first_values code.rows) }
     {
         let homes = self.top.frame.homes.as_slice();
-        entrant(alloc, code, homes, base, arguments_in(self.instruction()))
+        prepared(alloc, code, homes, base, arguments_in(self.instruction()))
     }
 
     /// A program is called by the next instruction. An error changes nothing.
@@ -201,7 +202,7 @@ impl Invocations {
         ensures ok { OnOk result (self.new ≡ entered self.old code) }
         ensures err { OnErr result (self.new ≡ self.old) }
     {
-        let mut entrant = match self.entrant(alloc, code, self.values.len()) {
+        let mut entrant = match self.prepared(alloc, code, self.values.len()) {
             Ok(entrant) => entrant,
             Err(fault) => return Err(fault),
         };
@@ -225,7 +226,7 @@ impl Invocations {
         ensures err { OnErr result (self.new ≡ self.old) }
     {
         let base = self.top.frame.base;
-        let mut entrant = match self.entrant(alloc, code, base) {
+        let mut entrant = match self.prepared(alloc, code, base) {
             Ok(entrant) => entrant,
             Err(fault) => return Err(fault),
         };
