@@ -85,7 +85,7 @@ fn pointer_put(values: &mut [Val], to: Option<usize>, pointer: Pointer)
     }
 }
 
-/// The value, where it holds bytes with others in their stead.
+/// The value, with these bytes where it holds some.
 fn with_bytes(value: Val, bytes: Bytes) -> Val
     ensures { result ≡ with_bytes bytes value }
 {
