@@ -13,8 +13,8 @@ fn lent(base: usize, place: Option<usize>, own: usize) -> usize
     ensures { result ≡ lent base place own }
 {
     match place {
-        None => own,
-        Some(place) => { if place < base { place } else { own } }
+        Some(place) if place < base => place,
+        _ => own,
     }
 }
 
