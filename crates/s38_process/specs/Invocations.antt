@@ -1,6 +1,6 @@
 -- The invocations of a process. Each has its program and its place, and its variables stand among those of all, behind
 -- those of its callers. A parameter is no variable of its own: it lies where the caller's argument does.
-use Rattle.std.specs.Prelude.{ℕ, ◌+◌, ◌-◌, Bool, true, false, List, [], ◌∷◌, ◌++◌, map, drop, length, take, replicate, Option, Some, None, unwrap_or, slice_get, nat_lt, if◌then◌else◌}
+use Rattle.std.specs.Prelude.{ℕ, ◌+◌, ◌-◌, true, List, [], ◌∷◌, ◌++◌, map, drop, length, take, replicate, Option, Some, None, unwrap_or, slice_get, nat_lt, if◌then◌else◌}
 use Rattle.std.specs.List.{range_with_len}
 use Rattle.s38_base.specs.declared.attr.Attr.{Attr}
 use Rattle.s38_base.specs.declared.attr.Attr.TheVariants as attrs

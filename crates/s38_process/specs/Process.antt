@@ -1,6 +1,6 @@
 -- A process: its invocations, and how far it has come. It asks one event after another, and goes on by the replies, each
 -- time up to its next shared instruction.
-use Rattle.std.specs.Prelude.{◌≡◌, ℕ, zero, suc, ◌+◌, ◌-◌, Bool, true, false, not, ◌&&◌, List, [], ◌∷◌, Option, Some, None, unwrap_or, length, nat_le, nat_lt, if◌then◌else◌}
+use Rattle.std.specs.Prelude.{◌≡◌, ℕ, zero, suc, ◌+◌, ◌-◌, Bool, true, false, not, ◌&&◌, List, [], ◌∷◌, Option, Some, None, unwrap_or, nat_le, nat_lt, if◌then◌else◌}
 use Rattle.s38_base.specs.declared.op.Op.{Op}
 use Rattle.s38_base.specs.declared.op.Op.TheVariants.{Callx, Rtx, Xctl}
 use Rattle.s38_code.specs.Operations.{classes}
@@ -23,7 +23,6 @@ use Rattle.s38_local.specs.declared.local_end.LocalEnd.TheVariants as ends
 use Rattle.s38_local.specs.declared.frame.Frame.{Frame}
 use Rattle.s38_local.specs.Frames.{Went}
 use Rattle.s38_local.specs.Local.{is_local, run}
-use Rattle.s38_process.specs.declared.invocation.Invocation.{Invocation}
 use Rattle.s38_process.specs.declared.status.Status.{Status}
 use Rattle.s38_process.specs.declared.status.Status.TheVariants.{Fresh, Running, Ending, Ended}
 use Rattle.s38_process.specs.Exceptions.{Offered, offered}
