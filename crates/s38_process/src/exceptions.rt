@@ -77,6 +77,7 @@ fn label_by(invocations: &Invocations, code: u16) -> Option<usize>
 
 /// Offers an exception to the newest invocation and then to its callers, the newest first, and says whether one of
 /// them takes it. Invocations that do not take it end, but for the first.
+#[tactic(auto, using(crate::proofs::OfferLaws::offered_here, crate::proofs::OfferLaws::offered_last, crate::proofs::OfferLaws::offered_next))]
 fn offer(alloc: Global, invocations: &mut Invocations, code: u16) -> bool
     ensures stack { invocations.new ≡ (offered code invocations.old).stack }
     ensures taken { result ≡ (offered code invocations.old).taken }

@@ -94,6 +94,16 @@ fn arguments_in(instruction: Option<&Instruction>) -> &[Arg]
     }
 }
 
+/// The place behind the next instruction.
+fn behind_next(top: &Invocation) -> usize
+    requires { top.now.frame.at < length (code_in top.now.made) }
+    ensures { result ≡ top.now.frame.at + 1 }
+{
+    let at = top.frame.at;
+    let _ = &code_of(&top.made)[at];
+    at + 1
+}
+
 impl Invocations {
     /// The first invocation of a job, over what creation made of its template.
     pub fn first(alloc: Global, made: CreateResult) -> Result<Invocations, NoMemory>
@@ -197,11 +207,12 @@ impl Invocations {
 
     /// A program is called by the next instruction. An error changes nothing.
     pub fn call(&mut self, alloc: Global, code: Code) -> Result<(), NoMemory>
-        requires place { self.old.top.frame.at + 1 < 2 ^ 64 }
+        requires within { self.old.top.frame.at < length (code_in self.old.top.made) }
         requires depth { depth_of self.old < deepest }
         ensures ok { OnOk result (self.new ≡ entered self.old code) }
         ensures err { OnErr result (self.new ≡ self.old) }
     {
+        let behind = behind_next(&self.top);
         let mut entrant = match self.prepared(alloc, code, self.values.len()) {
             Ok(entrant) => entrant,
             Err(fault) => return Err(fault),
@@ -215,7 +226,7 @@ impl Invocations {
             Err(_) => return Err(NoMemory),
         }
         let mut caller = mem::replace(&mut self.top, entrant.invocation);
-        caller.frame.at += 1;
+        caller.frame.at = behind;
         self.callers.push_reserved(caller);
         Ok(())
     }
