@@ -1,12 +1,13 @@
 -- An instruction that suits the declarations of its program: its operands are of the classes of its row.
 use Rattle.std.specs.Prelude.{ℕ, Bool, true, IsTrue, ◌==◌, List, length, nat_le}
-use Rattle.std.specs.List.{list_all}
+use Rattle.std.specs.List.{All, list_all}
 use Rattle.s38_base.specs.Scalar.{length_of}
 use Rattle.s38_code.specs.Operations.{classes, operand_rule}
 use Rattle.s38_code.specs.declared.program.Arg.{Arg}
 use Rattle.s38_code.specs.declared.program.Arg.TheVariants as args
 use Rattle.s38_code.specs.declared.program.Instruction.{Instruction}
 use Rattle.s38_code.specs.declared.program.Row.{Row}
+use Rattle.s38_odt.specs.Formed.{AreFormed}
 use Rattle.s38_odt.specs.OperandRules.{keeps_rule}
 use Rattle.s38_odt.specs.Suits.{all_suit}
 
@@ -27,3 +28,9 @@ pub record IsSuited (rows : List Row) (count : ℕ) (instruction : Instruction) 
   pub ruled : IsTrue (keeps_rule rows (operand_rule instruction.op) instruction.args)
   pub filled : IsTrue (list_all is_filled instruction.args)
   pub jumps : IsTrue (list_all (lands_in count) instruction.args)
+
+-- ---- a program whose declarations are well formed and whose instructions suit them
+
+pub record AreSuited (rows : List Row) (code : List Instruction) : Type 0 where
+  pub formed : AreFormed (length code) rows
+  pub each : All (IsSuited rows (length code)) code
