@@ -18,7 +18,9 @@ use Rattle.s38_process.specs.Invocations.{IsPassedFor, Stack, argument_places, a
 
 home_at : (base : ℕ) (places : List ℕ) (own : ℕ) (rows : List Row) (k : ℕ) (row : Row) → slice_get rows k ≡ Some row → slice_get (homes_from base places own rows) k ≡ Some (home_for base places (own + k) row.form)
 home_at base places own [] k row h = cc
-home_at base places own (x ∷ rows) zero row h = let e : x ≡ row = cc in ap (λ (r : Row). Some (home_for base places own r.form)) e
+home_at base places own (x ∷ rows) zero row h =
+    let e : x ≡ row = cc in
+    ap (λ (r : Row). Some (home_for base places own r.form)) e ∙ ap (λ n. Some (home_for base places n row.form)) (omega arith)
 home_at base places own (x ∷ rows) (suc k) row h =
     home_at base places (own + 1) rows k row h ∙ ap (λ n. Some (home_for base places n row.form)) (omega arith)
 

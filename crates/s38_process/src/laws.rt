@@ -1,5 +1,5 @@
 //! What calls promise to programs.
-ghost use Rattle.std.specs.Prelude.{◌≡◌, slice_get, slice_set};
+ghost use Rattle.std.specs.Prelude.{◌≡◌, ℕ, slice_get, slice_set};
 ghost use Rattle.s38_code.specs.declared.program.Program.{Program};
 ghost use Rattle.s38_code.specs.declared.reply.Val.{Val};
 ghost use Rattle.s38_process.specs.Invocations.{IsPassedFor, Stack, behind_call, entered, popped, read_at, written_at};
