@@ -1,3 +1,4 @@
+pub mod LawLaws
 mod NumberLaws
 mod PlaceLaws
 mod ReceivedLaws

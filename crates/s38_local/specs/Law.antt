@@ -19,9 +19,9 @@ use Rattle.s38_local.specs.Frames.{Went}
 -- ---- what a variable holds, but for which
 
 pub data Shape : Type 0 where
-  pub OfBytes : ℕ → Shape
-  pub OfPointer : Shape
-  pub OfNeither : Shape
+  OfBytes : ℕ → Shape
+  OfPointer : Shape
+  OfNeither : Shape
 
 abbrev pub shape_of : Val → Shape
 shape_of (vals.Bytes bytes) = OfBytes (length bytes)
