@@ -1,9 +1,11 @@
-ghost use Rattle.std.specs.Prelude.{◌≡◌, ◌<◌, ◌+◌, ◌^◌, IfOk, IsTrue, OnErr, OnOk, Some};
+ghost use Rattle.std.specs.Prelude.{◌≡◌, ◌<◌, ◌+◌, ◌^◌, ℕ, IfOk, IsTrue, OnErr, OnOk, Some};
 ghost use Rattle.s38_base.specs.Scalar.{fits};
 ghost use Rattle.s38_compute.specs.Computed.{computes_number, is_branch, number_given, pointer_given};
 ghost use Rattle.s38_local.specs.Kinds.{branch_run, bytes_run, number_run, pointer_run};
-ghost use Rattle.s38_local.specs.Local.{computed_run, controlled, label_at, of_variables, operand, run};
+ghost use Rattle.s38_local.specs.Law.{AreHeld, IsWithin, KeepsLaw, shapes_of};
+ghost use Rattle.s38_local.specs.Local.{computed_run, controlled, is_local, label_at, of_variables, operand, run};
 ghost use Rattle.s38_local.specs.Variables.{attr_of};
+ghost use Rattle.s38_odt.specs.Suited.{IsSuited};
 
 use crate::control::{call, is_control, return_from, signal, switch, tell_latest};
 use crate::frame::Frame;
@@ -205,7 +207,8 @@ fn computation(
 
 /// Does a local instruction: reads its sources, then writes its receiver. A signal leaves all variables as they
 /// were, and so does an error. Memory is taken only where the receiver of a string is a source too, by an internal
-/// call, and for the code of an exception.
+/// call, and for the code of an exception. Where it suits the declarations of its program, each variable goes on
+/// holding what its declaration says, and control stays within the code.
 #[tactic(auto, unfolding(crate::specs::Local::run))]
 pub fn run_local(
     alloc: Global,
@@ -219,6 +222,7 @@ pub fn run_local(
     ensures frame { OnOk result (frame.new ≡ (run rows.now frame.old values.old (Some instruction.now)).frame) }
     ensures values { OnOk result (values.new ≡ (run rows.now frame.old values.old (Some instruction.now)).values) }
     ensures err { OnErr result ((frame.new ≡ frame.old) × (values.new ≡ values.old)) }
+    ensures law { (count : ℕ) → IsSuited rows.now count instruction.now → IsTrue (is_local rows.now instruction.now) → AreHeld rows.now frame.old.homes (shapes_of values.old) → IsWithin count frame.old → frame.old.at < count → IfOk result (λ end. KeepsLaw rows.now count frame.old values.old instruction.now.args (record { end = end; frame = frame.new; values = values.new })) }
 {
     if is_control(instruction.op) {
         control(alloc, instruction, frame, values)
