@@ -57,7 +57,7 @@ IsPassed shapes places _ = Unit {0}
 
 -- a program that a call goes into: it is one that creation makes, and the arguments are its parameters
 pub record SuitsCall (s : Stack) (arguments : List Arg) (program : Program) : Type 0 where
-  pub program : AreSuited program.rows program.code
+  pub suited : AreSuited program.rows program.code
   pub passed : (k : ℕ) (row : Row) → slice_get program.rows k ≡ Some row
     → IsPassed (shapes_of s.values) (argument_places s.top.frame.homes (length s.values) arguments) row.form
 
@@ -66,11 +66,17 @@ abbrev pub SuitsPlace : Op → List Val → Option ℕ → Val → Type 0
 SuitsPlace op values None v = Unit {0}
 SuitsPlace op values (Some place) v = (old : Val) → slice_get values place ≡ Some old → shape_of (merged op (Some old) v) ≡ shape_of old
 
+-- one or the other, by a test
+abbrev pub Either : Bool → Type 0 → Type 0 → Type 0
+Either true A B = A
+Either false A B = B
+
 -- so are all, each for its receiver in order
 abbrev pub SuitValues : Op → List Row → List ℕ → List Val → List Class → List Arg → List Val → Type 0
 SuitValues op rows homes values (class ∷ more) (arg ∷ rest) (v ∷ vs) =
-    if takes_value rows class arg then SuitsPlace op values (place_of homes (Some arg)) v × SuitValues op rows homes values more rest vs
-    else SuitValues op rows homes values more rest (v ∷ vs)
+    Either (takes_value rows class arg)
+    (SuitsPlace op values (place_of homes (Some arg)) v × SuitValues op rows homes values more rest vs)
+    (SuitValues op rows homes values more rest (v ∷ vs))
 SuitValues op rows homes values _ _ _ = Unit {0}
 
 abbrev pub SuitsHere : Stack → Instruction → List Val → Type 0

@@ -1,6 +1,9 @@
 ghost use Rattle.std.specs.Prelude.{◌≡◌, IfOk, OnErr, OnOk};
 ghost use Rattle.s38_code.specs.declared.reply.Reply.{Reply};
+ghost use Rattle.s38_odt.specs.Suited.{AreSuited};
 ghost use Rattle.s38_process.specs.Asked.{asked};
+ghost use Rattle.s38_process.specs.Invocations.{code_in, rows_in};
+ghost use Rattle.s38_process.specs.Lawful.{IsLawful, SuitsReply};
 ghost use Rattle.s38_process.specs.Process.{absorbed, event_of, fresh};
 
 use crate::next::Next;
@@ -26,9 +29,10 @@ impl Model for Process {
 
 impl Process {
     /// A process that has not started, over what creation made of the job's template.
-    #[tactic(auto, using(crate::proofs::Alone::fresh_settled))]
+    #[tactic(auto, using(crate::proofs::Alone::fresh_settled, crate::proofs::LawfulLaws::fresh_lawful))]
     pub fn begin(alloc: Global, job: &Job, made: CreateResult) -> Result<Process, NoMemory>
-        ensures { IfOk result (λ process. process ≡ fresh made job.now.budget) }
+        ensures ok { IfOk result (λ process. process ≡ fresh made job.now.budget) }
+        ensures lawful { AreSuited (rows_in made) (code_in made) → IfOk result (λ process. IsLawful process) }
     {
         let inner = Unsettled::begin(alloc, job, made)?;
         Ok(Process { inner })
@@ -38,6 +42,7 @@ impl Process {
     pub fn next(&mut self) -> Result<Next, NoMemory>
         ensures asked { IfOk result (λ next. asked next ≡ event_of self.old) }
         ensures same { self.new ≡ self.old }
+        ensures lawful { IsLawful self.old → IsLawful self.new }
     {
         match self.inner.run_locally() {
             Ok(()) => {}
@@ -52,6 +57,7 @@ impl Process {
         ensures ok { OnOk result (self.new ≡ absorbed self.old reply.now) }
         ensures waits { reply.now ≡ Reply.MustWait → self.new ≡ self.old }
         ensures err { OnErr result (self.new ≡ self.old) }
+        ensures lawful { IsLawful self.old → SuitsReply self.old reply.now → IsLawful self.new }
     {
         match self.inner.run_locally() {
             Ok(()) => {}
