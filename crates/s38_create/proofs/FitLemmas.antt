@@ -2,7 +2,7 @@
 use Rattle.std.proofs.Common.{◌≡◌, ◌≤◌, ◌+◌, ℕ, Bool, true, false, cond, List, [], ◌∷◌, ◌++◌, map, length, length-append, Option, Some, None, Result, Ok, Err, refl, sym, ◌∙◌, ap, subst, arith, leb-true}
 use Rattle.std.specs.Bool.{nat_le}
 use Rattle.std.specs.List.{All, list_all}
-use Rattle.std.proofs.lemmas.List.Elements.{All-append, All-cons, All-nil}
+use Rattle.std.proofs.lemmas.List.Elements.{All-append, All-cons, All-nil, All-weaker}
 use Rattle.std.proofs.lemmas.List.Folds.{list_all-map}
 use Rattle.s38_base.specs.declared.op.Op.{Op}
 use Rattle.s38_code.specs.Operations.{classes, made_kind, operand_rule}
@@ -12,6 +12,7 @@ use Rattle.s38_words.specs.ProgramLine.{ActLine, act_of, rounds_right}
 use Rattle.s38_code.specs.declared.program.CreateFault.{CreateFault}
 use Rattle.s38_code.specs.declared.program.CreateFault.TheVariants.{Bad}
 use Rattle.s38_code.specs.declared.program.Instruction.{Instruction}
+use Rattle.s38_code.specs.declared.program.Program.{Program}
 use Rattle.s38_code.specs.declared.program.Row.{Row}
 use Rattle.s38_odt.proofs.LabelLemmas.{instruction_count-label, instruction_count-more}
 use Rattle.s38_create.proofs.Parts.{and-both, if-some, no-cause}
@@ -22,7 +23,7 @@ use Rattle.s38_create.specs.Parsed.{arg_of, is_declared, is_placed, parsed_from}
 use Rattle.s38_odt.specs.Suits.{all_suit}
 use Rattle.s38_odt.specs.OperandRules.{digits_needed, fits, is_of_kind, keeps_rule}
 use Rattle.s38_create.specs.WellFormed.{InstructionFits, WellFormed}
-use Rattle.s38_odt.specs.Suited.{IsSuited, is_filled, lands_in}
+use Rattle.s38_odt.specs.Suited.{AreSuited, IsSuited, is_filled, lands_in}
 use Rattle.s38_create.specs.Created.{program}
 use Rattle.s38_words.specs.declared.program_lines.Head.{Head}
 use Rattle.s38_odt.specs.Formed.{AreFormed}
@@ -145,3 +146,10 @@ program-well_formed template head rows code made few formed small h =
     let P : ℕ → Type 0 = λ n. All (InstructionFits rows n) made in
     let Q : ℕ → Type 0 = λ n. AreFormed n rows in
     record { few_rows = few; formed = subst Q (sym long) formed; few_instructions = omega arith; fits = subst P (sym long) fit.0 }
+
+-- its instructions suit its declarations
+pub well_formed_suited : (program : Program) → WellFormed program → AreSuited program.rows program.code
+well_formed_suited program formed = record {
+  formed = formed.formed;
+  each = All-weaker (InstructionFits program.rows (length program.code)) (IsSuited program.rows (length program.code)) (λ i fits. fits.suited) program.code formed.fits;
+}

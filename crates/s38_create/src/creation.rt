@@ -3,6 +3,7 @@ ghost use Rattle.s38_create.specs.Created.{created, created_by, created_inner, i
 ghost use Rattle.s38_create.specs.WellFormed.{WellFormed};
 ghost use Rattle.s38_odt.specs.Formed.{AreFormed};
 ghost use Rattle.s38_odt.specs.Labels.{instruction_count};
+ghost use Rattle.s38_odt.specs.Suited.{AreSuited};
 
 use crate::frame::{declaration_count, is_ended};
 use crate::instruction::instructions;
@@ -96,11 +97,12 @@ fn created_by(
 }
 
 /// Makes a checked program of a template. `Bad` is the first bad declaration, or else the first bad
-/// instruction, with its cause.
-#[tactic(auto, unfolding(crate::specs::Created::created))]
+/// instruction, with its cause. The instructions of a program suit its declarations.
+#[tactic(auto, using(crate::proofs::FitLemmas::well_formed_suited), unfolding(crate::specs::Created::created))]
 pub fn create(alloc: Global, template: &Template) -> Result<Program, CreateFault>
     ensures created { IfOk result (λ program. created template.now ≡ Ok program) }
     ensures formed { IfOk result (λ program. WellFormed program) }
+    ensures suited { IfOk result (λ program. AreSuited program.rows program.code) }
     ensures bad { IfErr result (λ fault. (fault ≡ CreateFault.NoMemory) ⊎ (created template.now ≡ Err fault)) }
 {
     let lines = template.lines();
