@@ -1,7 +1,7 @@
 -- The instructions that this machine has: creation refuses the others.
 use Rattle.std.specs.Prelude.{Bool, true, false}
 use Rattle.s38_base.specs.declared.op.Op.{Op}
-use Rattle.s38_base.specs.declared.op.Op.TheVariants.{Crtctx, Modadr, Rename, Matctx, Crtup, Modup, Grant, Retract, Xfro, Testau, Matau, Matauobj, Callx, Xctl, Lock, Unlock, Xfrlock, Matobjlk, Crtinx, Insinxen, Fndinxen, Rmvinxen, Crtds, Crtcr, Setcr, Insdsen, Retdsen, Updsen, Deldsen, Crtjs, Crtjp, Jrnlobj, Retjent, Crtcb, Commit, Decommit, Ensobj, Desctx, Desup, Desinx, Desds, Descr, Desjs, Desjp, Descb}
+use Rattle.s38_base.specs.declared.op.Op.TheVariants.{Crtctx, Modadr, Rename, Matctx, Crtup, Modup, Grant, Retract, Xfro, Testau, Matau, Matauobj, Lock, Unlock, Xfrlock, Matobjlk, Crtinx, Insinxen, Fndinxen, Rmvinxen, Crtds, Crtcr, Setcr, Insdsen, Retdsen, Updsen, Deldsen, Crtjs, Crtjp, Jrnlobj, Retjent, Crtcb, Commit, Decommit, Ensobj, Desctx, Desup, Desinx, Desds, Descr, Desjs, Desjp, Descb}
 
 -- these are not built yet
 unfoldable pub is_built : Op → Bool
@@ -17,8 +17,6 @@ is_built Xfro = false
 is_built Testau = false
 is_built Matau = false
 is_built Matauobj = false
-is_built Callx = false
-is_built Xctl = false
 is_built Lock = false
 is_built Unlock = false
 is_built Xfrlock = false

@@ -23,8 +23,6 @@ pub fn is_built(op: Op) -> bool
         Op::Testau => false,
         Op::Matau => false,
         Op::Matauobj => false,
-        Op::Callx => false,
-        Op::Xctl => false,
         Op::Lock => false,
         Op::Unlock => false,
         Op::Xfrlock => false,

@@ -1,5 +1,5 @@
 -- How a local instruction ends, and what the variables hold behind it.
-use Rattle.std.specs.Prelude.{ℕ, ◌==◌, Bool, ℤ, List, length, Option, Some, None, Result, Ok, Err, slice_get, slice_set, if◌then◌else◌}
+use Rattle.std.specs.Prelude.{ℕ, ◌==◌, Bool, ℤ, List, length, Option, Some, None, Result, Ok, Err, if◌then◌else◌}
 use Rattle.s38_base.specs.declared.attr.Attr.{Attr}
 use Rattle.s38_base.specs.declared.exception.Exception.{Exception}
 use Rattle.s38_base.specs.declared.pointer.Pointer.{Pointer}

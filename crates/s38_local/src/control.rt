@@ -1,14 +1,15 @@
 //! Instructions that go on elsewhere, or look at the descriptions of exceptions.
-ghost use Rattle.std.specs.Prelude.{◌≡◌, ◌<◌, ◌+◌, ◌^◌, IfOk, OnErr, OnOk, length, slice_get, slice_set};
+ghost use Rattle.std.specs.Prelude.{◌≡◌, ◌<◌, ◌+◌, ◌^◌, IfOk, OnErr, OnOk, slice_set};
 ghost use Rattle.std.specs.Option.{option_copied};
 ghost use Rattle.s38_base.specs.Signals.{plain};
 ghost use Rattle.s38_local.specs.declared.local_end.LocalEnd.{LocalEnd};
 ghost use Rattle.s38_local.specs.Frames.{called, called_at, code_bytes, exception_code, returned, switched};
-ghost use Rattle.s38_local.specs.Received.{bytes_put, bytes_put_at};
+ghost use Rattle.s38_local.specs.Received.{bytes_put};
 ghost use Rattle.s38_local.specs.Local.{is_control};
 
 use crate::frame::Frame;
 use crate::local_end::LocalEnd;
+use crate::receivers::bytes_put;
 use s38_base::exceptions::LIMIT_EXCEEDED;
 use s38_base::limits::MOST_CALLS;
 use s38_base::{Bytes, Exception, NoMemory, Op, Seq};
@@ -83,41 +84,23 @@ fn code_bytes(alloc: Global, code: u16) -> Result<Bytes, NoMemory>
     Seq::from_slice(alloc, &[(code / 256) as u8, (code % 256) as u8])
 }
 
-fn write_bytes_at(values: &mut [Val], at: usize, bytes: Bytes)
-    requires { at < length values.old }
-    ensures { values.new ≡ bytes_put_at values.old at bytes (slice_get values.old at) }
-{
-    match &values[at] {
-        Val::Bytes(_) => {}
-        _ => return,
-    }
-    values[at] = Val::Bytes(bytes);
-}
-
 /// A variable gets the code of the exception that was taken last.
 pub fn tell_latest(
     alloc: Global,
     frame: &Frame,
     values: &mut [Val],
-    to: Option<&Arg>,
+    to: Option<usize>,
 ) -> Result<(), NoMemory>
-    ensures ok { OnOk result (values.new ≡ bytes_put values.old (option_copied to.entry) (code_bytes frame.now.latest)) }
+    ensures ok { OnOk result (values.new ≡ bytes_put values.old to (code_bytes frame.now.latest)) }
     ensures err { OnErr result (values.new ≡ values.old) }
 {
-    let bytes = match code_bytes(alloc, frame.latest) {
-        Ok(bytes) => bytes,
-        Err(fault) => return Err(fault),
-    };
-    match to {
-        Some(Arg::Item(item)) => {
-            let at = *item as usize;
-            if at < values.len() {
-                write_bytes_at(values, at, bytes);
-            }
+    match code_bytes(alloc, frame.latest) {
+        Ok(bytes) => {
+            bytes_put(values, to, bytes);
+            Ok(())
         }
-        _ => {}
+        Err(fault) => Err(fault),
     }
-    Ok(())
 }
 
 fn switch_at(on: &mut [bool], at: usize, is_on: bool)

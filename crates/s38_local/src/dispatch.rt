@@ -8,7 +8,7 @@ ghost use Rattle.s38_local.specs.Variables.{attr_of};
 use crate::control::{call, is_control, return_from, signal, switch, tell_latest};
 use crate::frame::Frame;
 use crate::local_end::LocalEnd;
-use crate::operands::{attr_of, operand, word_of};
+use crate::operands::{attr_of, operand, place_of, receiver_of, word_of};
 use crate::overlap::string_run;
 use crate::receivers::{branch_end, jump_to, receive_number, receive_pointer};
 use crate::variables::Variables;
@@ -19,26 +19,37 @@ use s38_compute::{
 };
 use std::alloc::Global;
 
-fn number_read(rows: &[Row], values: &[Val], instruction: &Instruction) -> Result<i128, Exception>
+fn number_read(
+    rows: &[Row],
+    homes: &[usize],
+    values: &[Val],
+    instruction: &Instruction,
+) -> Result<i128, Exception>
     requires { IsTrue (computes_number instruction.now.op) }
-    ensures exact { result ≡ number_given instruction.now.op instruction.now.round (of_variables rows.now values.now instruction.now.args) }
+    ensures exact { result ≡ number_given instruction.now.op instruction.now.round (of_variables rows.now homes.now values.now instruction.now.args) }
     ensures fits { IfOk result (λ units. IsTrue (fits (attr_of rows.now (operand instruction.now.args 1)) units)) }
 {
     let args = instruction.args.as_slice();
-    let sources = Variables { rows, values, args };
+    let sources = Variables {
+        rows,
+        homes,
+        values,
+        args,
+    };
     number_given(&sources, instruction.op, instruction.round)
 }
 
 /// A computation that gives a number.
 #[tactic(auto, using(crate::proofs::ReceivedLaws::received_number))]
-fn number(rows: &[Row], values: &mut [Val], instruction: &Instruction) -> LocalEnd
+fn number(rows: &[Row], homes: &[usize], values: &mut [Val], instruction: &Instruction) -> LocalEnd
     requires { IsTrue (computes_number instruction.now.op) }
-    ensures end { result ≡ (number_run rows.now values.old instruction.now).end }
-    ensures values { values.new ≡ (number_run rows.now values.old instruction.now).values }
+    ensures end { result ≡ (number_run rows.now homes.now values.old instruction.now).end }
+    ensures values { values.new ≡ (number_run rows.now homes.now values.old instruction.now).values }
 {
-    let given = number_read(rows, values, instruction);
-    let to = operand(instruction.args.as_slice(), 1);
-    receive_number(values, to, attr_of(rows, to), given)
+    let given = number_read(rows, homes, values, instruction);
+    let receiver = operand(instruction.args.as_slice(), 1);
+    let to = place_of(homes, receiver);
+    receive_number(values, to, attr_of(rows, receiver), given)
 }
 
 /// A branch by a comparison.
@@ -46,15 +57,21 @@ fn number(rows: &[Row], values: &mut [Val], instruction: &Instruction) -> LocalE
 fn branch(
     alloc: Global,
     rows: &[Row],
+    homes: &[usize],
     values: &[Val],
     instruction: &Instruction,
 ) -> Result<LocalEnd, NoMemory>
     requires { IsTrue (is_branch instruction.now.op) }
-    ensures end { IfOk result (λ end. end ≡ (branch_run rows.now values.now instruction.now).end) }
-    ensures values { values.now ≡ (branch_run rows.now values.now instruction.now).values }
+    ensures end { IfOk result (λ end. end ≡ (branch_run rows.now homes.now values.now instruction.now).end) }
+    ensures values { values.now ≡ (branch_run rows.now homes.now values.now instruction.now).values }
 {
     let args = instruction.args.as_slice();
-    let sources = Variables { rows, values, args };
+    let sources = Variables {
+        rows,
+        homes,
+        values,
+        args,
+    };
     let test = test_given(alloc, &sources, instruction.op)?;
     Ok(branch_end(test, operand(args, label_at(instruction.op))))
 }
@@ -73,36 +90,53 @@ fn label_at(op: Op) -> usize
 fn string(
     alloc: Global,
     rows: &[Row],
+    homes: &[usize],
     values: &mut [Val],
     instruction: &Instruction,
 ) -> Result<LocalEnd, NoMemory>
-    ensures end { IfOk result (λ end. end ≡ (bytes_run rows.now values.old instruction.now).end) }
-    ensures values { OnOk result (values.new ≡ (bytes_run rows.now values.old instruction.now).values) }
+    ensures end { IfOk result (λ end. end ≡ (bytes_run rows.now homes.now values.old instruction.now).end) }
+    ensures values { OnOk result (values.new ≡ (bytes_run rows.now homes.now values.old instruction.now).values) }
     ensures err { OnErr result (values.new ≡ values.old) }
 {
     let _ = rows;
-    string_run(alloc, instruction.op, values, instruction.args.as_slice())
+    string_run(
+        alloc,
+        instruction.op,
+        homes,
+        values,
+        instruction.args.as_slice(),
+    )
 }
 
 fn pointer_read(
     rows: &[Row],
+    homes: &[usize],
     values: &[Val],
     instruction: &Instruction,
 ) -> Result<Pointer, Exception>
-    ensures { result ≡ pointer_given instruction.now.op (of_variables rows.now values.now instruction.now.args) }
+    ensures { result ≡ pointer_given instruction.now.op (of_variables rows.now homes.now values.now instruction.now.args) }
 {
     let args = instruction.args.as_slice();
-    pointer_given(&Variables { rows, values, args }, instruction.op)
+    pointer_given(
+        &Variables {
+            rows,
+            homes,
+            values,
+            args,
+        },
+        instruction.op,
+    )
 }
 
 /// A space pointer that is moved.
 #[tactic(auto, using(crate::proofs::ReceivedLaws::received_pointer))]
-fn pointer(rows: &[Row], values: &mut [Val], instruction: &Instruction) -> LocalEnd
-    ensures end { result ≡ (pointer_run rows.now values.old instruction.now).end }
-    ensures values { values.new ≡ (pointer_run rows.now values.old instruction.now).values }
+fn pointer(rows: &[Row], homes: &[usize], values: &mut [Val], instruction: &Instruction) -> LocalEnd
+    ensures end { result ≡ (pointer_run rows.now homes.now values.old instruction.now).end }
+    ensures values { values.new ≡ (pointer_run rows.now homes.now values.old instruction.now).values }
 {
-    let given = pointer_read(rows, values, instruction);
-    receive_pointer(values, operand(instruction.args.as_slice(), 1), given)
+    let given = pointer_read(rows, homes, values, instruction);
+    let to = receiver_of(homes, instruction.args.as_slice());
+    receive_pointer(values, to, given)
 }
 
 /// Goes on elsewhere, or looks at the descriptions of exceptions.
@@ -125,10 +159,13 @@ fn control(
         Op::Calli => call(frame, first),
         Op::Rtx => Ok(return_from(frame)),
         Op::Sigexcp => Ok(LocalEnd::Signal(signal(word_of(first)))),
-        Op::Retexcpd => match tell_latest(alloc, frame, values, first) {
-            Ok(()) => Ok(LocalEnd::Next),
-            Err(fault) => Err(fault),
-        },
+        Op::Retexcpd => {
+            let to = place_of(frame.homes.as_slice(), first);
+            match tell_latest(alloc, frame, values, to) {
+                Ok(()) => Ok(LocalEnd::Next),
+                Err(fault) => Err(fault),
+            }
+        }
         Op::Modexcpd => {
             switch(alloc, frame, first, word_of(operand(args, 2)));
             Ok(LocalEnd::Next)
@@ -143,24 +180,25 @@ fn computation(
     alloc: Global,
     instruction: &Instruction,
     rows: &[Row],
+    homes: &[usize],
     values: &mut [Val],
 ) -> Result<LocalEnd, NoMemory>
-    ensures end { IfOk result (λ end. end ≡ (computed_run rows.now values.old instruction.now).end) }
-    ensures values { OnOk result (values.new ≡ (computed_run rows.now values.old instruction.now).values) }
+    ensures end { IfOk result (λ end. end ≡ (computed_run rows.now homes.now values.old instruction.now).end) }
+    ensures values { OnOk result (values.new ≡ (computed_run rows.now homes.now values.old instruction.now).values) }
     ensures err { OnErr result (values.new ≡ values.old) }
 {
     let op = instruction.op;
     if computes_number(op) {
-        return Ok(number(rows, values, instruction));
+        return Ok(number(rows, homes, values, instruction));
     }
     if is_branch(op) {
-        return branch(alloc, rows, values, instruction);
+        return branch(alloc, rows, homes, values, instruction);
     }
     if computes_string(op) {
-        return string(alloc, rows, values, instruction);
+        return string(alloc, rows, homes, values, instruction);
     }
     Ok(match op {
-        Op::Addspp | Op::Subspp => pointer(rows, values, instruction),
+        Op::Addspp | Op::Subspp => pointer(rows, homes, values, instruction),
         _ => LocalEnd::Next,
     })
 }
@@ -185,6 +223,6 @@ pub fn run_local(
     if is_control(instruction.op) {
         control(alloc, instruction, frame, values)
     } else {
-        computation(alloc, instruction, rows, values)
+        computation(alloc, instruction, rows, frame.homes.as_slice(), values)
     }
 }

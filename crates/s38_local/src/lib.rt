@@ -18,6 +18,7 @@ pub use dispatch::run_local;
 pub use frame::Frame;
 pub use local_end::LocalEnd;
 pub use locality::is_local;
+pub use operands::{place_of, value_at};
 
 /// What is sent between threads.
 fn sends<T: Send + Sync>() {}

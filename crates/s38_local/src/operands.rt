@@ -1,7 +1,7 @@
 ghost use Rattle.std.specs.Prelude.{◌≡◌, IfSome};
 ghost use Rattle.std.specs.Option.{option_copied, option_map};
-ghost use Rattle.s38_local.specs.Local.{number_of, operand, whole_of, word_of};
-ghost use Rattle.s38_local.specs.Variables.{attr_in, attr_of, attr_of_form, bytes_of, pointer_of, held_by, value_bytes, value_pointer};
+ghost use Rattle.s38_local.specs.Local.{number_of, operand, receiver_of, whole_of, word_of};
+ghost use Rattle.s38_local.specs.Variables.{attr_in, attr_of, attr_of_form, bytes_of, held_at, place_of, pointer_of, value_at, value_bytes, value_of_item, value_pointer};
 
 use s38_base::{Attr, Pointer};
 use s38_code::{Arg, Form, Row, Val};
@@ -64,43 +64,74 @@ fn value_pointer(value: Option<&Val>) -> Option<Pointer>
     }
 }
 
-/// The bytes of an item or a literal.
-pub fn bytes_of<'a>(values: &'a [Val], arg: Option<&'a Arg>) -> &'a [u8]
-    ensures { result.now ≡ bytes_of values.now (option_copied arg.entry) }
+/// The place of an item among all variables; other operands have none.
+pub fn place_of(homes: &[usize], arg: Option<&Arg>) -> Option<usize>
+    ensures { result ≡ place_of homes.now (option_copied arg.entry) }
 {
     match arg {
-        Some(Arg::Item(item)) => value_bytes(values.get(*item as usize)),
+        Some(Arg::Item(item)) => homes.get(*item as usize).copied(),
+        _ => None,
+    }
+}
+
+/// The variable at a place.
+pub fn value_at(values: &[Val], place: Option<usize>) -> Option<&Val>
+    ensures { option_copied result ≡ value_at values.now place }
+{
+    match place {
+        Some(at) => values.get(at),
+        None => None,
+    }
+}
+
+/// What an item holds.
+fn value_of_item<'a>(homes: &[usize], values: &'a [Val], item: u16) -> Option<&'a Val>
+    ensures { option_copied result ≡ value_of_item homes.now values.now item }
+{
+    value_at(values, homes.get(item as usize).copied())
+}
+
+/// The bytes of an item or a literal.
+pub fn bytes_of<'a>(homes: &[usize], values: &'a [Val], arg: Option<&'a Arg>) -> &'a [u8]
+    ensures { result.now ≡ bytes_of homes.now values.now (option_copied arg.entry) }
+{
+    match arg {
+        Some(Arg::Item(item)) => value_bytes(value_of_item(homes, values, *item)),
         Some(Arg::Literal { bytes, .. }) => bytes.as_slice(),
         _ => &[],
     }
 }
 
 /// The pointer of an item.
-pub fn pointer_of(values: &[Val], arg: Option<&Arg>) -> Option<Pointer>
-    ensures { result ≡ pointer_of values.now (option_copied arg.entry) }
+pub fn pointer_of(homes: &[usize], values: &[Val], arg: Option<&Arg>) -> Option<Pointer>
+    ensures { result ≡ pointer_of homes.now values.now (option_copied arg.entry) }
 {
     match arg {
-        Some(Arg::Item(item)) => value_pointer(values.get(*item as usize)),
+        Some(Arg::Item(item)) => value_pointer(value_of_item(homes, values, *item)),
         _ => None,
     }
 }
 
 /// The number of an item or a literal; None where its bytes have no value.
-pub fn number_of(rows: &[Row], values: &[Val], arg: Option<&Arg>) -> Option<Dec>
-    ensures units { option_map (λ d. d.units) result ≡ number_of rows.now values.now (option_copied arg.entry) }
+pub fn number_of(rows: &[Row], homes: &[usize], values: &[Val], arg: Option<&Arg>) -> Option<Dec>
+    ensures units { option_map (λ d. d.units) result ≡ number_of rows.now homes.now values.now (option_copied arg.entry) }
     ensures attr { IfSome result (λ d. d.attr ≡ attr_of rows.now (option_copied arg.entry)) }
 {
-    read_scalar(attr_of(rows, arg), bytes_of(values, arg)).ok()
+    read_scalar(attr_of(rows, arg), bytes_of(homes, values, arg)).ok()
 }
 
-/// What a receiver holds; only an item is one.
-pub fn held_by<'a>(values: &'a [Val], arg: Option<&'a Arg>) -> &'a [u8]
-    ensures { result.now ≡ held_by values.now (option_copied arg.entry) }
+/// The place of the receiver, which is operand 1.
+pub fn receiver_of(homes: &[usize], args: &[Arg]) -> Option<usize>
+    ensures { result ≡ receiver_of homes.now args.now }
 {
-    match arg {
-        Some(Arg::Item(item)) => value_bytes(values.get(*item as usize)),
-        _ => &[],
-    }
+    place_of(homes, operand(args, 1))
+}
+
+/// The bytes that stand at a place.
+pub fn held_at(values: &[Val], place: Option<usize>) -> &[u8]
+    ensures { result.now ≡ held_at values.now place }
+{
+    value_bytes(value_at(values, place))
 }
 
 /// A word of the row: a relation, or a kind of pointer.

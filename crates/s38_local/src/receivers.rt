@@ -1,13 +1,13 @@
-ghost use Rattle.std.specs.Prelude.{◌≡◌, ◌<◌, Some, IsTrue, length, slice_get};
+ghost use Rattle.std.specs.Prelude.{◌≡◌, ◌<◌, Some, IsTrue, length};
 ghost use Rattle.std.specs.Option.{option_copied};
 ghost use Rattle.std.specs.Result.{ForOk};
 ghost use Rattle.s38_base.specs.Scalar.{fits};
-ghost use Rattle.s38_local.specs.Received.{branch_end, jump_to, jumps, number_put, number_put_at, number_received, pointer_received, with_number};
-ghost use Rattle.s38_local.specs.Variables.{put_in};
+ghost use Rattle.s38_local.specs.Received.{branch_end, bytes_put, jump_to, jumps, number_put, number_received, pointer_received, with_bytes, with_number};
+ghost use Rattle.s38_local.specs.Variables.{put_at};
 ghost use Rattle.s38_code.specs.declared.reply.Val.{Val};
 
 use crate::local_end::LocalEnd;
-use s38_base::{Attr, Exception, Pointer, Seq};
+use s38_base::{Attr, Bytes, Exception, Pointer, Seq};
 use s38_code::{Arg, Val};
 use s38_decimal::write_scalar;
 use std::mem;
@@ -32,37 +32,36 @@ fn with_number(value: Val, attr: Attr, units: i128) -> Val
 fn write_number(values: &mut [Val], at: usize, attr: Attr, units: i128)
     requires fits { IsTrue (fits attr units) }
     requires within { at < length values.old }
-    ensures { values.new ≡ number_put_at values.old at attr units (slice_get values.old at) }
+    ensures { values.new ≡ number_put values.old (Some at) attr units }
 {
     let value = mem::replace(&mut values[at], Val::Branch(false));
     values[at] = with_number(value, attr, units);
 }
 
-fn number_put(values: &mut [Val], to: Option<&Arg>, attr: Attr, units: i128)
+fn number_put(values: &mut [Val], to: Option<usize>, attr: Attr, units: i128)
     requires { IsTrue (fits attr units) }
-    ensures { values.new ≡ number_put values.old (option_copied to.entry) attr units }
+    ensures { values.new ≡ number_put values.old to attr units }
 {
     match to {
-        Some(Arg::Item(item)) => {
-            let at = *item as usize;
+        Some(at) => {
             if at < values.len() {
                 write_number(values, at, attr, units);
             }
         }
-        _ => {}
+        None => {}
     }
 }
 
 /// The receiver gets a number, or the exception is signalled and all variables stay.
 pub fn receive_number(
     values: &mut [Val],
-    to: Option<&Arg>,
+    to: Option<usize>,
     attr: Attr,
     given: Result<i128, Exception>,
 ) -> LocalEnd
     requires { ForOk given (λ units. IsTrue (fits attr units)) }
-    ensures end { result ≡ (number_received values.old (option_copied to.entry) attr given).end }
-    ensures values { values.new ≡ (number_received values.old (option_copied to.entry) attr given).values }
+    ensures end { result ≡ (number_received values.old to attr given).end }
+    ensures values { values.new ≡ (number_received values.old to attr given).values }
 {
     match given {
         Err(refusal) => LocalEnd::Signal(refusal),
@@ -73,28 +72,59 @@ pub fn receive_number(
     }
 }
 
-fn pointer_put(values: &mut [Val], to: Option<&Arg>, pointer: Pointer)
-    ensures { values.new ≡ put_in values.old (option_copied to.entry) (Val.Ptr (Some pointer)) }
+fn pointer_put(values: &mut [Val], to: Option<usize>, pointer: Pointer)
+    ensures { values.new ≡ put_at values.old to (Val.Ptr (Some pointer)) }
 {
     match to {
-        Some(Arg::Item(item)) => {
-            let at = *item as usize;
+        Some(at) => {
             if at < values.len() {
                 values[at] = Val::Ptr(Some(pointer));
             }
         }
-        _ => {}
+        None => {}
+    }
+}
+
+/// The value, with these bytes where it holds some.
+fn with_bytes(value: Val, bytes: Bytes) -> Val
+    ensures { result ≡ with_bytes bytes value }
+{
+    match value {
+        Val::Bytes(_) => Val::Bytes(bytes),
+        other => other,
+    }
+}
+
+fn write_bytes(values: &mut [Val], at: usize, bytes: Bytes)
+    requires { at < length values.old }
+    ensures { values.new ≡ bytes_put values.old (Some at) bytes }
+{
+    let value = mem::replace(&mut values[at], Val::Branch(false));
+    values[at] = with_bytes(value, bytes);
+}
+
+/// The receiver gets bytes, where it holds some.
+pub fn bytes_put(values: &mut [Val], to: Option<usize>, bytes: Bytes)
+    ensures { values.new ≡ bytes_put values.old to bytes }
+{
+    match to {
+        Some(at) => {
+            if at < values.len() {
+                write_bytes(values, at, bytes);
+            }
+        }
+        None => {}
     }
 }
 
 /// The receiver gets a pointer, or the exception is signalled and all variables stay.
 pub fn receive_pointer(
     values: &mut [Val],
-    to: Option<&Arg>,
+    to: Option<usize>,
     given: Result<Pointer, Exception>,
 ) -> LocalEnd
-    ensures end { result ≡ (pointer_received values.old (option_copied to.entry) given).end }
-    ensures values { values.new ≡ (pointer_received values.old (option_copied to.entry) given).values }
+    ensures end { result ≡ (pointer_received values.old to given).end }
+    ensures values { values.new ≡ (pointer_received values.old to given).values }
 {
     match given {
         Err(exception) => LocalEnd::Signal(exception),

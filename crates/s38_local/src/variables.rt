@@ -1,7 +1,7 @@
 ghost use Rattle.std.specs.Prelude.{◌≡◌};
 
 use crate::operands::{
-    attr_of, bytes_of, held_by, number_of, operand, pointer_of, whole_of, word_of,
+    attr_of, bytes_of, held_at, number_of, operand, pointer_of, receiver_of, whole_of, word_of,
 };
 use s38_base::{Attr, Bytes, NoMemory, Pointer, Seq};
 use s38_code::{Arg, Row, Val};
@@ -13,6 +13,7 @@ use std::alloc::Global;
 #[derive(Clone, Copy)]
 pub struct Variables<'a> {
     pub rows: &'a [Row],
+    pub homes: &'a [usize],
     pub values: &'a [Val],
     pub args: &'a [Arg],
 }
@@ -20,26 +21,26 @@ pub struct Variables<'a> {
 impl<'a> Sources for Variables<'a> {
     ghost use Rattle.s38_local.specs.Local.{of_variables};
 
-    ghost readings = { λ v. of_variables v.rows.now v.values.now v.args.now };
+    ghost readings = { λ v. of_variables v.rows.now v.homes.now v.values.now v.args.now };
 
     fn number(&self, k: usize) -> Option<Dec> {
-        number_of(self.rows, self.values, operand(self.args, k))
+        number_of(self.rows, self.homes, self.values, operand(self.args, k))
     }
 
     fn bytes(&self, _alloc: Global, k: usize) -> Result<Piece<'_>, NoMemory> {
-        Ok(Piece::Lent(bytes_of(self.values, operand(self.args, k))))
+        Ok(Piece::Lent(bytes_of(self.homes, self.values, operand(self.args, k))))
     }
 
     fn size(&self, k: usize) -> usize {
-        bytes_of(self.values, operand(self.args, k)).len()
+        bytes_of(self.homes, self.values, operand(self.args, k)).len()
     }
 
     fn are_hex(&self, k: usize) -> bool {
-        are_hex(bytes_of(self.values, operand(self.args, k)))
+        are_hex(bytes_of(self.homes, self.values, operand(self.args, k)))
     }
 
     fn pointer(&self, k: usize) -> Option<Pointer> {
-        pointer_of(self.values, operand(self.args, k))
+        pointer_of(self.homes, self.values, operand(self.args, k))
     }
 
     fn word(&self, k: usize) -> u32 {
@@ -55,15 +56,18 @@ impl<'a> Sources for Variables<'a> {
     }
 
     fn room(&self) -> usize {
-        held_by(self.values, operand(self.args, 1)).len()
+        held_at(self.values, receiver_of(self.homes, self.args)).len()
     }
 
     fn held(&self, alloc: Global) -> Result<Bytes, NoMemory> {
-        Seq::from_slice(alloc, held_by(self.values, operand(self.args, 1)))
+        Seq::from_slice(
+            alloc,
+            held_at(self.values, receiver_of(self.homes, self.args)),
+        )
     }
 
     fn size_held(&self) -> usize {
-        held_by(self.values, operand(self.args, 1)).len()
+        held_at(self.values, receiver_of(self.homes, self.args)).len()
     }
 
     fn keeps_rest(&self) -> bool {

@@ -1,7 +1,7 @@
 -- The local run of a process: it ends within the budget, and a settled process has none before it.
 use Rattle.std.proofs.Common.{◌≡◌, ℕ, zero, suc, ◌+◌, ◌-◌, ◌<◌, ◌≤◌, ◌⊎◌, inl, inr, Bool, true, false, cond, refl, sym, ◌∙◌, ap, arith, nat_le}
 use Rattle.std.proofs.lemmas.Bool.Decides.{nat_tests}
-use Rattle.std.specs.Prelude.{Option, Some, None, slice_get}
+use Rattle.std.specs.Prelude.{Option, Some, None}
 use Rattle.s38_code.specs.declared.event.EndCause.{EndCause}
 use Rattle.s38_code.specs.declared.event.Event.{Event}
 use Rattle.s38_code.specs.declared.event.Event.TheVariants.{Start, Act, Finish}
@@ -13,9 +13,9 @@ use Rattle.s38_local.specs.declared.local_end.LocalEnd.TheVariants.{Next, Jump, 
 use Rattle.s38_process.specs.declared.status.Status.{Status}
 use Rattle.s38_process.specs.declared.status.Status.TheVariants.{Fresh, Running, Ending, Ended}
 use Rattle.s38_local.specs.Frames.{Went}
-use Rattle.s38_local.specs.Local.{run}
-use Rattle.s38_process.specs.Exceptions.{label_for}
-use Rattle.s38_process.specs.Process.{ProcessState, absorbed, after_asked, after_local, after_signal_by, alone, alone_by, alone_there, code_in, event_of, fresh, rows_in, settled, local_step, local_steps}
+use Rattle.s38_process.specs.Exceptions.{Offered, offered}
+use Rattle.s38_process.specs.Invocations.{Stack, instruction_of}
+use Rattle.s38_process.specs.Process.{ProcessState, absorbed, after_asked, after_local, after_offer, alone, alone_by, alone_there, event_of, fresh, local_step, local_steps, ran, settled, with_frame}
 
 -- it stays where it stands, or is running and comes to its end
 abbrev pub Moves : Status → Status → Type 0
@@ -23,7 +23,6 @@ Moves s t = (t ≡ s) ⊎ ((s ≡ Running) × ((c : EndCause) × (t ≡ Ending c
 
 -- the same process, after local instructions
 pub record IsLater (d e : ProcessState) : Type 0 where
-  pub made : e.made ≡ d.made
   pub budget : e.budget ≡ d.budget
   pub done : d.done ≤ e.done
   pub within : d.done ≤ d.budget → e.done ≤ e.budget
@@ -31,7 +30,6 @@ pub record IsLater (d e : ProcessState) : Type 0 where
 
 -- after one of them
 pub record IsNext (d e : ProcessState) : Type 0 where
-  pub made : e.made ≡ d.made
   pub budget : e.budget ≡ d.budget
   pub done : e.done ≡ d.done + 1
   pub room : d.done < d.budget
@@ -45,7 +43,7 @@ room_by false c d test h = grind (arith, nat_tests)
 
 alone_running : (d : ProcessState) (s : Status) → alone_by d s ≡ true → (s ≡ Running) × (d.done < d.budget)
 alone_running d Fresh h = cc
-alone_running d Running h = (refl, room_by (nat_le d.budget d.done) (alone_there (rows_in d.made) d.frame (slice_get (code_in d.made) d.frame.at)) d refl h)
+alone_running d Running h = (refl, room_by (nat_le d.budget d.done) (alone_there d.stack (instruction_of d.stack.top)) d refl h)
 alone_running d (Ending c) h = cc
 alone_running d Ended h = cc
 
@@ -57,24 +55,25 @@ spent_by d Ended spent = refl
 
 -- ---- one step
 
-signal_is_next : (d e : ProcessState) (code : ℕ) (o : Option ℕ) → e.made ≡ d.made → e.budget ≡ d.budget → e.done ≡ d.done → e.status ≡ d.status → d.status ≡ Running → d.done < d.budget → IsNext d (after_signal_by e code o)
-signal_is_next d e code None made budget done status running room = record { made = made; budget = budget; done = ap (λ n. n + 1) done; room = room; status = inr (running, (_, refl)) }
-signal_is_next d e code (Some at) made budget done status running room = record { made = made; budget = budget; done = ap (λ n. n + 1) done; room = room; status = inl status }
+offer_is_next : (d e : ProcessState) (code : ℕ) (b : Bool) (s : Stack) → e.budget ≡ d.budget → e.done ≡ d.done → e.status ≡ d.status → d.status ≡ Running → d.done < d.budget → IsNext d (after_offer e code (record { stack = s; taken = b }))
+offer_is_next d e code false s budget done status running room = record { budget = budget; done = ap (λ n. n + 1) done; room = room; status = inr (running, (_, refl)) }
+offer_is_next d e code true s budget done status running room = record { budget = budget; done = ap (λ n. n + 1) done; room = room; status = inl status }
 
 after_is_next : (d : ProcessState) (went : Went) (e : LocalEnd) → d.status ≡ Running → d.done < d.budget → IsNext d (after_local d went e)
-after_is_next d went Next running room = record { made = refl; budget = refl; done = refl; room = room; status = inl refl }
-after_is_next d went (Jump at) running room = record { made = refl; budget = refl; done = refl; room = room; status = inl refl }
-after_is_next d went Return running room = record { made = refl; budget = refl; done = refl; room = room; status = inl refl }
+after_is_next d went Next running room = record { budget = refl; done = refl; room = room; status = inl refl }
+after_is_next d went (Jump at) running room = record { budget = refl; done = refl; room = room; status = inl refl }
+after_is_next d went Return running room = record { budget = refl; done = refl; room = room; status = inl refl }
 after_is_next d went (Signal x) running room =
-    let e = record d { values = went.values; frame = went.frame } in
-    signal_is_next d e x.id (label_for (rows_in e.made) e.frame.on x.id) refl refl refl refl running room
+    let e = record d { stack = with_frame d.stack went.values went.frame } in
+    let o = offered x.id e.stack in
+    offer_is_next d e x.id o.taken o.stack refl refl refl running room
 
 -- a local instruction counts
 pub step_next : (d : ProcessState) → alone d ≡ true → IsNext d (local_step d)
 unfolding local_step
 step_next d h =
     let at = alone_running d d.status h in
-    let went = run (rows_in d.made) d.frame d.values (slice_get (code_in d.made) d.frame.at) in
+    let went = ran d.stack in
     rw h (after_is_next d went went.end at.0 at.1)
 
 -- without one the process stays
@@ -151,7 +150,7 @@ absorbed_waits d rests = ap settled (end_waits d (event_of d)) ∙ rests
 -- ---- what stays meanwhile
 
 pub later_same : (d : ProcessState) → IsLater d d
-later_same d = record { made = refl; budget = refl; done = omega arith; within = λ h. h; status = inl refl }
+later_same d = record { budget = refl; done = omega arith; within = λ h. h; status = inl refl }
 
 moves_on : (s t u : Status) → Moves s t → Moves t u → Moves s u
 moves_on s t u a b = elim b as (λ _. Moves s u) [
@@ -170,7 +169,6 @@ moves_on s t u a b = elim b as (λ _. Moves s u) [
 
 later_on : (d e f : ProcessState) → IsNext d e → IsLater e f → IsLater d f
 later_on d e f a b = record {
-  made = b.made ∙ a.made;
   budget = b.budget ∙ a.budget;
   done = omega (arith, a.done, b.done);
   within = λ h. b.within (omega (arith, a.done, a.room, a.budget));
@@ -183,7 +181,7 @@ steps_later zero d b h = later_same d
 steps_later (suc n) d false h = rw (steps_still (suc n) d h) (later_same d)
 steps_later (suc n) d true h = later_on d (local_step d) (local_steps n (local_step d)) (step_next d h) (steps_later n (local_step d) (alone (local_step d)) refl)
 
--- local instructions change neither program nor budget, and count
+-- local instructions do not change the budget, and count
 pub settled_later : (d : ProcessState) → IsLater d (settled d)
 unfolding settled
 settled_later d = steps_later (d.budget - d.done) d (alone d) refl

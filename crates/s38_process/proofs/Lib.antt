@@ -1,3 +1,4 @@
 pub mod Alone
+mod OfferLaws
 mod PlaceLaws
 mod SettleLaws

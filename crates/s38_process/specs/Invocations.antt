@@ -1,6 +1,6 @@
 -- The invocations of a process. Each has its program and its place, and its variables stand among those of all, behind
 -- those of its callers. A parameter is no variable of its own: it lies where the caller's argument does.
-use Rattle.std.specs.Prelude.{ℕ, ◌+◌, ◌-◌, Bool, true, false, List, [], ◌∷◌, ◌++◌, map, length, take, replicate, Option, Some, None, unwrap_or, slice_get, nat_lt, if◌then◌else◌}
+use Rattle.std.specs.Prelude.{ℕ, ◌+◌, ◌-◌, true, List, [], ◌∷◌, ◌++◌, map, drop, length, take, replicate, Option, Some, None, unwrap_or, slice_get, nat_lt, if◌then◌else◌}
 use Rattle.std.specs.List.{range_with_len}
 use Rattle.s38_base.specs.declared.attr.Attr.{Attr}
 use Rattle.s38_base.specs.declared.attr.Attr.TheVariants as attrs
@@ -124,23 +124,31 @@ invoked program base places = record { made = Created program; frame = first_fra
 abbrev pub behind_call : Invocation → Invocation
 behind_call caller = record caller { frame = record caller.frame { at = caller.frame.at + 1 } }
 
--- a program is called
-abbrev pub entered : Stack → Program → List Arg → Stack
-entered s program arguments =
+-- the arguments of a call stand behind the program
+abbrev pub arguments_in : Option Instruction → List Arg
+arguments_in None = []
+arguments_in (Some i) = drop 1 i.args
+
+abbrev pub places_for : Invocation → ℕ → List ℕ
+places_for caller base = argument_places caller.frame.homes base (arguments_in (instruction_of caller))
+
+-- a program is called by the instruction at which the newest invocation stands
+abbrev pub entered : Stack → Program → Stack
+entered s program =
     let base = length s.values in
     record {
       values = s.values ++ first_values program.rows;
-      top = invoked program base (argument_places s.top.frame.homes base arguments);
+      top = invoked program base (places_for s.top base);
       callers = behind_call s.top ∷ s.callers;
     }
 
 -- a program comes in place of the newest invocation, whose variables end
-abbrev pub exchanged : Stack → Program → List Arg → Stack
-exchanged s program arguments =
+abbrev pub exchanged : Stack → Program → Stack
+exchanged s program =
     let base = s.top.frame.base in
     record s {
       values = take base s.values ++ first_values program.rows;
-      top = invoked program base (argument_places s.top.frame.homes base arguments);
+      top = invoked program base (places_for s.top base);
     }
 
 -- the newest invocation ends, and its variables with it; the first one stays

@@ -1,6 +1,6 @@
 -- A process: its invocations, and how far it has come. It asks one event after another, and goes on by the replies, each
 -- time up to its next shared instruction.
-use Rattle.std.specs.Prelude.{◌≡◌, ℕ, zero, suc, ◌+◌, ◌-◌, Bool, true, false, not, ◌&&◌, List, [], ◌∷◌, Option, Some, None, unwrap_or, drop, length, nat_le, nat_lt, if◌then◌else◌}
+use Rattle.std.specs.Prelude.{◌≡◌, ℕ, zero, suc, ◌+◌, ◌-◌, Bool, true, false, not, ◌&&◌, List, [], ◌∷◌, Option, Some, None, unwrap_or, nat_le, nat_lt, if◌then◌else◌}
 use Rattle.s38_base.specs.declared.op.Op.{Op}
 use Rattle.s38_base.specs.declared.op.Op.TheVariants.{Callx, Rtx, Xctl}
 use Rattle.s38_code.specs.Operations.{classes}
@@ -23,7 +23,6 @@ use Rattle.s38_local.specs.declared.local_end.LocalEnd.TheVariants as ends
 use Rattle.s38_local.specs.declared.frame.Frame.{Frame}
 use Rattle.s38_local.specs.Frames.{Went}
 use Rattle.s38_local.specs.Local.{is_local, run}
-use Rattle.s38_process.specs.declared.invocation.Invocation.{Invocation}
 use Rattle.s38_process.specs.declared.status.Status.{Status}
 use Rattle.s38_process.specs.declared.status.Status.TheVariants.{Fresh, Running, Ending, Ended}
 use Rattle.s38_process.specs.Exceptions.{Offered, offered}
@@ -183,15 +182,14 @@ program_in (vals.Code program ∷ vs) = Some program
 program_in _ = None
 
 -- a call goes on in the program that came, where one more invocation may be; so does a transfer
-abbrev pub went_into : Stack → Instruction → List Val → Op → Option Program → Stack
-went_into s i vs Callx (Some program) =
-    if nat_lt (depth_of s) deepest then entered s program (drop 1 i.args) else went_on s (Some i) vs
-went_into s i vs Xctl (Some program) = exchanged s program (drop 1 i.args)
-went_into s i vs op came = went_on s (Some i) vs
+abbrev pub went_into : Stack → List Val → Instruction → Op → Option Program → Stack
+went_into s vs i Callx (Some program) = if nat_lt (depth_of s) deepest then entered s program else went_on s (Some i) vs
+went_into s vs i Xctl (Some program) = exchanged s program
+went_into s vs i op came = went_on s (Some i) vs
 
 abbrev pub went_by : Stack → Option Instruction → List Val → Stack
 went_by s None vs = went_on s None vs
-went_by s (Some i) vs = went_into s i vs i.op (program_in vs)
+went_by s (Some i) vs = went_into s vs i i.op (program_in vs)
 
 abbrev pub after_act : ProcessState → Reply → ProcessState
 after_act d (replies.Done vs) = one_more d (went_by d.stack (instruction_of d.stack.top) vs)

@@ -1,16 +1,14 @@
-//! What an exception does to an invocation: the first description that takes it, or the end of the process.
-ghost use Rattle.std.specs.Prelude.{◌≡◌, ◌<◌, ◌+◌, List};
-ghost use Rattle.s38_code.specs.declared.reply.Val.{Val};
-ghost use Rattle.s38_process.specs.Exceptions.{label_for, names, taken_by};
+//! Who takes an exception: the newest invocation with a description of it, or nobody, which ends the process.
+ghost use Rattle.std.specs.Prelude.{◌≡◌, ◌<◌, ◌+◌};
+ghost use Rattle.s38_process.specs.Exceptions.{label_by, label_for, names, offered, taken_by};
 ghost use Rattle.s38_process.specs.Process.{after_signal, unhandled_by};
 ghost use Rattle.s38_process.specs.Progress.{process_state};
 
+use crate::invocations::Invocations;
 use crate::made::rows_of;
 use crate::progress::Progress;
 use crate::status::Status;
-use s38_base::Pile;
-use s38_code::{CreateResult, EndCause, Form, Row, Val};
-use s38_local::Frame;
+use s38_code::{EndCause, Form, Row};
 use std::alloc::Global;
 
 /// Whether a description names a code.
@@ -66,26 +64,47 @@ fn unhandled(done: u32, budget: u32, id: u16) -> EndCause
     }
 }
 
-/// A description takes an exception, or the process comes to its end; the instruction counts.
+/// Where the newest invocation goes on, if a description of it takes the exception.
+fn label_by(invocations: &Invocations, code: u16) -> Option<usize>
+    ensures { result ≡ label_by invocations.now.top code }
+{
+    label_for(
+        rows_of(invocations.made()),
+        invocations.frame().on.as_slice(),
+        code,
+    )
+}
+
+/// Offers an exception to the newest invocation and then to its callers, the newest first, and says whether one of
+/// them takes it. Invocations that do not take it end, but for the first.
+#[tactic(auto, using(crate::proofs::OfferLaws::offered_here, crate::proofs::OfferLaws::offered_last, crate::proofs::OfferLaws::offered_next))]
+fn offer(alloc: Global, invocations: &mut Invocations, code: u16) -> bool
+    ensures stack { invocations.new ≡ (offered code invocations.old).stack }
+    ensures taken { result ≡ (offered code invocations.old).taken }
+{
+    match label_by(invocations, code) {
+        Some(at) => {
+            invocations.take(alloc, code, at);
+            true
+        }
+        None => invocations.pop() && offer(alloc, invocations, code),
+    }
+}
+
+/// An exception is taken by an invocation, or the process comes to its end; the instruction counts.
 pub fn take_signal(
     alloc: Global,
-    made: &CreateResult,
     budget: u32,
-    frame: &mut Frame,
+    invocations: &mut Invocations,
     progress: &mut Progress,
     id: u16,
 )
     requires { progress.old.done < budget }
-    ensures signal { (values : List Val) → process_state made.now budget values frame.new progress.new ≡ after_signal (process_state made.now budget values frame.old progress.old) id }
+    ensures signal { process_state invocations.new budget progress.new ≡ after_signal (process_state invocations.old budget progress.old) id }
     ensures count { progress.new.done ≡ progress.old.done + 1 }
 {
-    match label_for(rows_of(made), frame.on.as_slice(), id) {
-        Some(at) => {
-            frame.at = at;
-            frame.returns = Pile::new(alloc);
-            frame.latest = id;
-        }
-        None => progress.status = Status::Ending(unhandled(progress.done, budget, id)),
+    if !offer(alloc, invocations, id) {
+        progress.status = Status::Ending(unhandled(progress.done, budget, id));
     }
     progress.done += 1;
 }

@@ -1,7 +1,11 @@
 //! A process: it asks one event after another, and goes on by the replies.
 #![tactic(auto)]
 
+mod entering;
 mod exceptions;
+mod homes;
+mod invocation;
+mod invocations;
 mod local_run;
 mod made;
 mod next;

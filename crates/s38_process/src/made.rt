@@ -1,5 +1,6 @@
 ghost use Rattle.std.specs.Prelude.{◌≡◌};
-ghost use Rattle.s38_process.specs.Process.{begun_by, code_in, rows_in};
+ghost use Rattle.s38_process.specs.Invocations.{code_in, rows_in};
+ghost use Rattle.s38_process.specs.Process.{begun_by};
 
 use crate::status::Status;
 use s38_code::{CreateResult, EndCause, Instruction, Row};

@@ -2,7 +2,7 @@ ghost use Rattle.std.specs.Prelude.{◌≡◌, ◌++◌, IfOk, OnOk};
 ghost use Rattle.std.specs.Option.{option_copied};
 ghost use Rattle.s38_process.specs.Requests.{item_by, item_operand, operand_of, operands_of, request_of, source_by};
 
-use crate::variables::{form_in, is_receiver, value_bytes, value_pointer};
+use crate::variables::{form_in, is_receiver, value_bytes, value_of_item, value_pointer};
 use s38_base::{Attr, NoMemory, Seq, TryClone};
 use s38_code::{Arg, Class, Form, Instruction, Operand, Request, Row, Val, classes};
 use std::alloc::Global;
@@ -37,17 +37,18 @@ fn item_operand(
 /// An item as the machine gets it: one behind a base lies in the space of the base's pointer.
 fn item_by(
     alloc: Global,
+    homes: &[usize],
     values: &[Val],
     receiver: bool,
     item: usize,
     form: Option<&Form>,
 ) -> Result<Operand, NoMemory>
-    ensures { IfOk result (λ operand. operand ≡ item_by values.now receiver item (option_copied form.entry)) }
+    ensures { IfOk result (λ operand. operand ≡ item_by homes.now values.now receiver item (option_copied form.entry)) }
 {
-    let value = values.get(item);
+    let value = value_of_item(homes, values, item);
     match form {
         Some(Form::Based { base, offset, attr }) => Ok(Operand::InSpace {
-            base: value_pointer(values.get(*base as usize)),
+            base: value_pointer(value_of_item(homes, values, *base as usize)),
             offset: *offset,
             attr: *attr,
         }),
@@ -61,15 +62,17 @@ fn item_by(
 fn operand_of(
     alloc: Global,
     rows: &[Row],
+    homes: &[usize],
     values: &[Val],
     class: Class,
     arg: &Arg,
 ) -> Result<Operand, NoMemory>
-    ensures { IfOk result (λ operand. operand ≡ operand_of rows.now values.now class arg.now) }
+    ensures { IfOk result (λ operand. operand ≡ operand_of rows.now homes.now values.now class arg.now) }
 {
     match arg {
         Arg::Item(item) => item_by(
             alloc,
+            homes,
             values,
             is_receiver(class),
             *item as usize,
@@ -95,23 +98,24 @@ fn add_operands(
     alloc: Global,
     made: &mut Vec<Operand>,
     rows: &[Row],
+    homes: &[usize],
     values: &[Val],
     classes: &[Class],
     args: &[Arg],
 ) -> Result<(), NoMemory>
-    ensures { OnOk result (made.new.items ≡ made.old.items ++ operands_of rows.now values.now classes.now args.now) }
+    ensures { OnOk result (made.new.items ≡ made.old.items ++ operands_of rows.now homes.now values.now classes.now args.now) }
 {
     match classes {
         [] => Ok(()),
         [class, more @ ..] => match args {
             [] => Ok(()),
             [arg, rest @ ..] => {
-                let operand = operand_of(alloc, rows, values, *class, arg)?;
+                let operand = operand_of(alloc, rows, homes, values, *class, arg)?;
                 match made.push(operand) {
                     Ok(()) => {}
                     Err(_) => return Err(NoMemory),
                 }
-                add_operands(alloc, made, rows, values, more, rest)
+                add_operands(alloc, made, rows, homes, values, more, rest)
             }
         },
     }
@@ -122,10 +126,11 @@ fn add_operands(
 pub fn request_of(
     alloc: Global,
     rows: &[Row],
+    homes: &[usize],
     values: &[Val],
     instruction: &Instruction,
 ) -> Result<Request, NoMemory>
-    ensures { IfOk result (λ request. request ≡ request_of rows.now values.now instruction.now) }
+    ensures { IfOk result (λ request. request ≡ request_of rows.now homes.now values.now instruction.now) }
 {
     let args = instruction.args.as_slice();
     let mut made = Vec::with_capacity(alloc, args.len())?;
@@ -133,6 +138,7 @@ pub fn request_of(
         alloc,
         &mut made,
         rows,
+        homes,
         values,
         classes(instruction.op),
         args,

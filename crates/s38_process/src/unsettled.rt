@@ -1,20 +1,20 @@
-ghost use Rattle.std.specs.Prelude.{◌≡◌, ◌<◌, ◌+◌, IfOk, OnOk, OnErr, Some, length, slice_get};
+ghost use Rattle.std.specs.Prelude.{◌≡◌, ◌<◌, ◌+◌, IfOk, OnOk, OnErr, Some, length};
 ghost use Rattle.std.specs.Option.{option_copied};
 ghost use Rattle.s38_process.specs.Asked.{asked, is_acting};
 ghost use Rattle.s38_process.specs.declared.status.Status.{Status};
-ghost use Rattle.s38_process.specs.Process.{acts, after_act, after_asked, after_signal, after_end, after_event, after_start, code_in, event_of, fresh, next_instruction, received_by, returns, rows_in, runs, settled};
+ghost use Rattle.s38_process.specs.Invocations.{code_in, instruction_of};
+ghost use Rattle.s38_process.specs.Process.{acts, after_act, after_asked, after_signal, after_end, after_event, after_start, event_of, fresh, one_more, returns, runs, settled, went_by};
 
+use crate::entering::go_into;
 use crate::exceptions::take_signal;
+use crate::invocations::Invocations;
 use crate::local_run::{is_return, run_locally};
-use crate::made::{begun_by, code_of, rows_of};
+use crate::made::begun_by;
 use crate::next::Next;
 use crate::progress::Progress;
-use crate::request::request_of;
 use crate::status::Status;
-use crate::variables::{first_frame, first_values, next_instruction, receive};
 use s38_base::{NoMemory, try_clones};
-use s38_code::{CreateResult, EndCause, Event, Instruction, Job, Reply, Val, classes};
-use s38_local::Frame;
+use s38_code::{CreateResult, EndCause, Event, Instruction, Job, Reply, Val};
 use std::alloc::Global;
 use std::marker::Model;
 
@@ -22,9 +22,7 @@ use std::marker::Model;
 #[derive(Drop)]
 pub struct Unsettled {
     alloc: Global,
-    made: CreateResult,
-    values: Vec<Val>,
-    frame: Frame,
+    invocations: Invocations,
     budget: u32,
     progress: Progress,
 }
@@ -36,7 +34,7 @@ impl Model for Unsettled {
 
     ghost Value = { ProcessState };
 
-    ghost view = { λ p. process_state p.made p.budget p.values.items p.frame p.progress };
+    ghost view = { λ p. process_state p.invocations p.budget p.progress };
 
     ghost invariant = { λ p. p.progress.done ≤ p.budget };
 }
@@ -46,13 +44,9 @@ impl Unsettled {
     pub fn begin(alloc: Global, job: &Job, made: CreateResult) -> Result<Unsettled, NoMemory>
         ensures { IfOk result (λ process. process ≡ fresh made job.now.budget) }
     {
-        let values = first_values(alloc, rows_of(&made))?;
-        let frame = first_frame(alloc, rows_of(&made))?;
         Ok(Unsettled {
             alloc,
-            made,
-            values,
-            frame,
+            invocations: Invocations::first(alloc, made)?,
             budget: job.budget,
             progress: Progress {
                 done: 0,
@@ -68,19 +62,10 @@ impl Unsettled {
     {
         run_locally(
             self.alloc,
-            &self.made,
             self.budget,
-            self.values.as_mut_slice(),
-            &mut self.frame,
+            &mut self.invocations,
             &mut self.progress,
         )
-    }
-
-    /// The instruction that comes next.
-    fn instruction(&self) -> Option<&Instruction>
-        ensures { option_copied result ≡ slice_get (code_in self.now.made) self.now.frame.at }
-    {
-        code_of(&self.made).get(self.frame.at)
     }
 
     fn returns(&self) -> Event
@@ -100,10 +85,9 @@ impl Unsettled {
         if is_return(instruction.op) {
             return Ok(self.returns());
         }
-        let rows = rows_of(&self.made);
         Ok(Event::Act {
-            depth: 1,
-            request: request_of(self.alloc, rows, self.values.as_slice(), instruction)?,
+            depth: self.invocations.depth() as u16,
+            request: self.invocations.request(self.alloc, instruction)?,
         })
     }
 
@@ -115,7 +99,7 @@ impl Unsettled {
                 cause: EndCause::Budget,
             });
         }
-        match self.instruction() {
+        match self.invocations.instruction() {
             None => Ok(self.returns()),
             Some(instruction) => self.acts(instruction),
         }
@@ -138,7 +122,7 @@ impl Unsettled {
         ensures { self.new ≡ after_start self.old reply.now }
     {
         match reply {
-            Reply::Done(_) => self.progress.status = begun_by(&self.made),
+            Reply::Done(_) => self.progress.status = begun_by(self.invocations.made()),
             Reply::Signal(exception) => {
                 self.progress.status = Status::Ending(EndCause::Start { id: exception.id });
             }
@@ -163,29 +147,26 @@ impl Unsettled {
         if self.budget <= self.progress.done {
             return false;
         }
-        match self.instruction() {
+        match self.invocations.instruction() {
             None => false,
             Some(instruction) => !is_return(instruction.op),
         }
     }
 
-    fn take_values(&mut self, given: Vec<Val>)
+    /// Goes on in a program that came, or behind the instruction with the values that came.
+    fn take_values(&mut self, given: Vec<Val>) -> Result<(), NoMemory>
         requires room { self.old.done < self.old.budget }
-        requires within { self.old.frame.at < length (code_in self.old.made) }
-        ensures { self.new ≡ (let i = slice_get (code_in self.old.made) self.old.frame.at in record self.old { values = received_by (rows_in self.old.made) i given.items self.old.values; frame = record self.old.frame { at = next_instruction i given.items self.old.frame.at }; done = self.old.done + 1 }) }
+        requires within { self.old.stack.top.frame.at < length (code_in self.old.stack.top.made) }
+        ensures ok { OnOk result (self.new ≡ one_more self.old (went_by self.old.stack (instruction_of self.old.stack.top) given.items)) }
+        ensures err { OnErr result (self.new ≡ self.old) }
     {
-        let instruction = &code_of(&self.made)[self.frame.at];
-        let next = next_instruction(instruction, given.as_slice(), self.frame.at);
-        receive(
-            instruction.op,
-            &mut self.values,
-            rows_of(&self.made),
-            classes(instruction.op),
-            instruction.args.as_slice(),
-            given,
-        );
-        self.frame.at = next;
-        self.progress.done += 1;
+        match go_into(self.alloc, &mut self.invocations, given) {
+            Ok(()) => {
+                self.progress.done += 1;
+                Ok(())
+            }
+            Err(fault) => Err(fault),
+        }
     }
 
     fn take_signal(&mut self, id: u16)
@@ -194,9 +175,8 @@ impl Unsettled {
     {
         take_signal(
             self.alloc,
-            &self.made,
             self.budget,
-            &mut self.frame,
+            &mut self.invocations,
             &mut self.progress,
             id,
         );
@@ -204,15 +184,14 @@ impl Unsettled {
 
     fn go_on_from_act(&mut self, reply: &Reply) -> Result<(), NoMemory>
         requires room { self.old.done < self.old.budget }
-        requires within { self.old.frame.at < length (code_in self.old.made) }
+        requires within { self.old.stack.top.frame.at < length (code_in self.old.stack.top.made) }
         ensures ok { OnOk result (self.new ≡ after_act self.old reply.now) }
         ensures err { OnErr result (self.new ≡ self.old) }
     {
         match reply {
             Reply::Done(values) => {
                 let given = try_clones(self.alloc, values.as_slice())?;
-                self.take_values(given.into_vec());
-                Ok(())
+                self.take_values(given.into_vec())
             }
             Reply::Signal(exception) => {
                 self.take_signal(exception.id);

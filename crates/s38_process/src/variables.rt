@@ -2,15 +2,16 @@ ghost use Rattle.std.specs.Prelude.{◌≡◌, ◌<◌, ◌+◌, ◌^◌, ◌||�
 ghost use Rattle.std.specs.Option.{option_copied};
 ghost use Rattle.s38_code.specs.declared.class.Class.{Class};
 ghost use Rattle.s38_compute.specs.Computed.{copies_left, copies_right};
-ghost use Rattle.s38_process.specs.Process.{blank_bytes, first_by, first_frame, first_value, first_values, next_instruction};
+ghost use Rattle.s38_process.specs.Invocations.{blank_bytes, blank_values, first_by, first_value, first_values};
+ghost use Rattle.s38_process.specs.Process.{next_instruction};
 ghost use Rattle.s38_process.specs.Replies.{is_taken, label_in, label_of, merged, merged_bytes, put, received, takes_value};
 ghost use Rattle.s38_process.specs.Requests.{is_receiver};
-ghost use Rattle.s38_local.specs.Variables.{form_in, is_based, value_bytes, value_pointer};
+ghost use Rattle.s38_local.specs.Variables.{form_in, is_based, value_bytes, value_of_item, value_pointer};
 
-use s38_base::{Attr, Bytes, NoMemory, Op, Pile, Pointer, Seq, TryClone};
+use s38_base::{Attr, Bytes, NoMemory, Op, Pointer, Seq, TryClone};
 use s38_code::{Arg, Class, Form, Instruction, Row, Val};
 use s38_compute::{copies_left, copies_right};
-use s38_local::Frame;
+use s38_local::{place_of, value_at};
 use s38_odt::blank;
 use s38_strings::{copy_left, copy_right};
 use std::alloc::Global;
@@ -36,7 +37,7 @@ fn first_by(attr: Attr, first: Bytes) -> Val
     }
 }
 
-/// The bytes with which a parameter begins that no caller gave.
+/// The bytes with which a variable begins that a job gives for a parameter.
 fn blank_bytes(alloc: Global, attr: Attr) -> Result<Bytes, NoMemory>
     ensures { IfOk result (λ bytes. bytes ≡ blank_bytes attr) }
 {
@@ -46,12 +47,13 @@ fn blank_bytes(alloc: Global, attr: Attr) -> Result<Bytes, NoMemory>
     }
 }
 
+/// What the place of a declared name begins with; nothing uses that of a name without a variable of its own.
 fn first_value(alloc: Global, form: &Form) -> Result<Val, NoMemory>
     ensures { IfOk result (λ v. v ≡ first_value form.now) }
 {
     match form {
         Form::Local { attr, first } => Ok(first_by(*attr, first.try_clone(alloc)?)),
-        Form::Parm { attr, .. } => Ok(first_by(*attr, blank_bytes(alloc, *attr)?)),
+        Form::Parm { .. } => Ok(Val::Ptr(None)),
         Form::Based { .. } => Ok(Val::Ptr(None)),
         Form::Handler { .. } => Ok(Val::Ptr(None)),
     }
@@ -69,16 +71,18 @@ pub fn first_values(alloc: Global, rows: &[Row]) -> Result<Vec<Val>, NoMemory>
     Ok(values)
 }
 
-/// An invocation begins with its first instruction, and each description of exceptions is on.
-pub fn first_frame(alloc: Global, rows: &[Row]) -> Result<Frame, NoMemory>
-    ensures { IfOk result (λ frame. frame ≡ first_frame rows.now) }
+/// The variables that a job gives, one for each parameter of its template.
+pub fn blank_values(alloc: Global, rows: &[Row]) -> Result<Vec<Val>, NoMemory>
+    ensures { IfOk result (λ values. values.items ≡ blank_values rows.now) }
 {
-    Ok(Frame {
-        at: 0,
-        on: Seq::from_vec(vec![in alloc; true; rows.len()]?),
-        returns: Pile::new(alloc),
-        latest: 0,
-    })
+    let mut values = Vec::new(alloc);
+    for row in rows {
+        if let Form::Parm { attr, .. } = &row.form {
+            let value = first_by(*attr, blank_bytes(alloc, *attr)?);
+            values.push(value)?;
+        }
+    }
+    Ok(values)
 }
 
 /// The bytes of a variable.
@@ -99,6 +103,13 @@ pub fn value_pointer(value: Option<&Val>) -> Option<Pointer>
         Some(Val::Ptr(pointer)) => *pointer,
         _ => None,
     }
+}
+
+/// What an item holds.
+pub fn value_of_item<'a>(homes: &[usize], values: &'a [Val], item: usize) -> Option<&'a Val>
+    ensures { option_copied result ≡ value_of_item homes.now values.now item }
+{
+    value_at(values, homes.get(item).copied())
 }
 
 /// Whether an operand of this class gets a value.
@@ -173,17 +184,13 @@ fn put_at(op: Op, values: &mut [Val], at: usize, value: Val)
     values[at] = merge(op, old, value);
 }
 
-fn put(op: Op, values: &mut Vec<Val>, arg: &Arg, value: Val)
-    ensures { values.new.items ≡ put op values.old.items arg.now value }
+fn put(op: Op, values: &mut Vec<Val>, place: Option<usize>, value: Val)
+    ensures { values.new.items ≡ put op values.old.items place value }
 {
-    match arg {
-        Arg::Item(item) => {
-            let at = *item as usize;
-            if at < values.len() {
-                put_at(op, values, at, value);
-            }
+    if let Some(at) = place {
+        if at < values.len() {
+            put_at(op, values, at, value);
         }
-        _ => {}
     }
 }
 
@@ -192,11 +199,12 @@ pub fn receive(
     op: Op,
     values: &mut Vec<Val>,
     rows: &[Row],
+    homes: &[usize],
     classes: &[Class],
     args: &[Arg],
     mut given: Vec<Val>,
 )
-    ensures { values.new.items ≡ received op rows.now classes.now args.now given.items values.old.items }
+    ensures { values.new.items ≡ received op rows.now homes.now classes.now args.now given.items values.old.items }
 {
     match classes {
         [] => {}
@@ -208,9 +216,9 @@ pub fn receive(
                 }
                 if takes_value(rows, *class, arg) {
                     let value = given.remove(0);
-                    put(op, values, arg, value);
+                    put(op, values, place_of(homes, Some(arg)), value);
                 }
-                receive(op, values, rows, more, rest, given);
+                receive(op, values, rows, homes, more, rest, given);
             }
         },
     }

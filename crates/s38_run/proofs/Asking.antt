@@ -1,7 +1,7 @@
 -- What a process can ask, and how its reply brings it nearer to its end.
 use Rattle.std.proofs.Common.{◌≡◌, ◌≢◌, ℕ, ◌+◌, ◌-◌, ◌<◌, ◌≤◌, ◌⊎◌, Bool, true, false, cond, List, [], ◌∷◌, ◌++◌, inl, inr, refl, sym, ◌∙◌, ap, subst, arith, nat_le}
 use Rattle.std.proofs.lemmas.Bool.Decides.{nat_tests}
-use Rattle.std.specs.Prelude.{Option, Some, None, slice_get}
+use Rattle.std.specs.Prelude.{Option, Some, None}
 use Rattle.s38_code.specs.declared.event.EndCause.{EndCause}
 use Rattle.s38_code.specs.declared.event.EndCause.TheVariants as causes
 use Rattle.s38_code.specs.declared.event.Event.{Event}
@@ -15,9 +15,9 @@ use Rattle.s38_code.specs.declared.reply.Reply.{Reply}
 use Rattle.s38_code.specs.declared.reply.Reply.TheVariants.{Done, Signal, MustWait}
 use Rattle.s38_process.specs.declared.status.Status.{Status}
 use Rattle.s38_process.specs.declared.status.Status.TheVariants.{Fresh, Running, Ending, Ended}
-use Rattle.s38_process.specs.Exceptions.{label_for}
-use Rattle.s38_process.specs.Requests.{request_of}
-use Rattle.s38_process.specs.Process.{ProcessState, RanFrom, absorbed, acts, after_act, after_asked, after_end, after_event, after_start, after_signal_by, alone_by, asks, begun_by, behind, code_in, ends_by_finish, event_of, is_finish, is_return, returns, rows_in, settled}
+use Rattle.s38_process.specs.Exceptions.{offered}
+use Rattle.s38_process.specs.Invocations.{Stack, instruction_of}
+use Rattle.s38_process.specs.Process.{ProcessState, RanFrom, absorbed, act_of, acts, after_act, after_asked, after_end, after_event, after_offer, after_signal, after_start, alone_by, asks, begun_by, behind, ends_by_finish, event_of, is_finish, is_return, returns, settled, signal_status}
 use Rattle.s38_process.proofs.Alone.{IsLater, Moves, settled_later, settled_still}
 use Rattle.s38_run.specs.Running.{left, left_by}
 
@@ -31,7 +31,7 @@ Ends d e = (0 < left d) × ((c : EndCause) × (e ≡ Finish c))
 
 -- or a running one asks for an instruction
 abbrev pub Acts : ProcessState → Event → Type 0
-Acts d e = (d.status ≡ Running) × (d.done < d.budget) × ((q : Request) × (e ≡ Act 1 q))
+Acts d e = (d.status ≡ Running) × (d.done < d.budget) × ((n : ℕ) × ((q : Request) × (e ≡ Act n q)))
 
 abbrev pub Asks : ProcessState → Event → Type 0
 Asks d e = Starts d e ⊎ (Ends d e ⊎ Acts d e)
@@ -39,15 +39,15 @@ Asks d e = Starts d e ⊎ (Ends d e ⊎ Acts d e)
 left_running : (d : ProcessState) → d.status ≡ Running → left d ≡ d.budget - d.done + 2
 left_running d h = ap (left_by d) h
 
-of_act : (d : ProcessState) (b : Bool) (i : Instruction) (e : Event) → d.status ≡ Running → d.done < d.budget → cond b (returns d) (Act 1 (request_of (rows_in d.made) d.values i)) ≡ e → Asks d e
+of_act : (d : ProcessState) (b : Bool) (i : Instruction) (e : Event) → d.status ≡ Running → d.done < d.budget → cond b (returns d) (act_of d.stack i) ≡ e → Asks d e
 of_act d true i e running room h = inr (inl (rw (left_running d running) (omega arith), (_, sym h)))
-of_act d false i e running room h = inr (inr (running, room, (_, sym h)))
+of_act d false i e running room h = inr (inr (running, room, (_, (_, sym h))))
 
 of_next : (d : ProcessState) (i : Option Instruction) (e : Event) → d.status ≡ Running → d.done < d.budget → acts d i ≡ e → Asks d e
 of_next d None e running room h = inr (inl (rw (left_running d running) (omega arith), (_, sym h)))
 of_next d (Some i) e running room h = of_act d (is_return i.op) i e running room h
 
-of_runs : (d : ProcessState) (b : Bool) (e : Event) → nat_le d.budget d.done ≡ b → d.status ≡ Running → cond b (Finish causes.Budget) (acts d (slice_get (code_in d.made) d.frame.at)) ≡ e → Asks d e
+of_runs : (d : ProcessState) (b : Bool) (e : Event) → nat_le d.budget d.done ≡ b → d.status ≡ Running → cond b (Finish causes.Budget) (acts d (instruction_of d.stack.top)) ≡ e → Asks d e
 of_runs d true e test running h = inr (inl (rw (left_running d running) (omega arith), (causes.Budget, sym h)))
 of_runs d false e test running h = of_next d _ e running (grind (arith, nat_tests)) h
 
@@ -80,13 +80,16 @@ end_falls d (Done vs) w h = h
 end_falls d (Signal x) w h = h
 end_falls d MustWait w h = absurd (w refl)
 
-signal_falls : (d : ProcessState) (code : ℕ) (o : Option ℕ) → d.status ≡ Running → d.done < d.budget → left (after_signal_by d code o) < left d
-signal_falls d code None running room = rw (left_running d running) (omega arith)
-signal_falls d code (Some at) running room = rw running (omega arith)
+offer_falls : (d : ProcessState) (code : ℕ) (s : Stack) (taken : Bool) → d.status ≡ Running → d.done < d.budget → left (after_offer d code (record { stack = s; taken = taken })) < left d
+offer_falls d code s false running room = rw (left_running d running) (omega arith)
+offer_falls d code s true running room = rw running (omega arith)
+
+signal_falls : (d : ProcessState) (code : ℕ) → d.status ≡ Running → d.done < d.budget → left (after_signal d code) < left d
+signal_falls d code running room = offer_falls d code (offered code d.stack).stack (offered code d.stack).taken running room
 
 act_falls : (d : ProcessState) (r : Reply) → r ≢ MustWait → d.status ≡ Running → d.done < d.budget → left (after_act d r) < left d
 act_falls d (Done vs) w running room = rw running (omega arith)
-act_falls d (Signal x) w running room = signal_falls d x.id (label_for (rows_in d.made) d.frame.on x.id) running room
+act_falls d (Signal x) w running room = signal_falls d x.id running room
 act_falls d MustWait w running room = absurd (w refl)
 
 -- also where its template was refused
@@ -95,7 +98,7 @@ begun_left d (Created program) = omega arith
 begun_left d (Refused id number) = omega arith
 
 start_falls : (d : ProcessState) (r : Reply) → r ≢ MustWait → d.status ≡ Fresh → left (after_start d r) < left d
-start_falls d (Done vs) w is = let n : left d ≡ d.budget + 3 = left_at d Fresh is in rw n (begun_left d d.made)
+start_falls d (Done vs) w is = let n : left d ≡ d.budget + 3 = left_at d Fresh is in rw n (begun_left d d.stack.top.made)
 start_falls d (Signal x) w is = let n : left d ≡ d.budget + 3 = left_at d Fresh is in rw n (omega arith)
 start_falls d MustWait w is = absurd (w refl)
 
@@ -104,7 +107,7 @@ falls_by d e r w asks = elim asks as (λ _. left (after_event d e r) < left d) [
   | inl h ↦ subst (λ (x : Event). left (after_event d x r) < left d) (sym h.1) (start_falls d r w h.0)
   | inr more ↦ elim more as (λ _. left (after_event d e r) < left d) [
     | inl h ↦ subst (λ (x : Event). left (after_event d x r) < left d) (sym h.1.1) (end_falls d r w h.0)
-    | inr h ↦ subst (λ (x : Event). left (after_event d x r) < left d) (sym h.2.1) (act_falls d r w h.0 h.1)
+    | inr h ↦ subst (λ (x : Event). left (after_event d x r) < left d) (sym h.2.1.1) (act_falls d r w h.0 h.1)
   ]
 ]
 
@@ -155,7 +158,7 @@ begun_leaves (Created program) = λ h. cc
 begun_leaves (Refused id number) = λ h. cc
 
 start_leaves : (d : ProcessState) (r : Reply) → r ≢ MustWait → (after_start d r).status ≢ Fresh
-start_leaves d (Done vs) w = begun_leaves d.made
+start_leaves d (Done vs) w = begun_leaves d.stack.top.made
 start_leaves d (Signal x) w = λ h. cc
 start_leaves d MustWait w = absurd (w refl)
 
@@ -164,13 +167,16 @@ end_leaves d (Done vs) w = λ h. cc
 end_leaves d (Signal x) w = λ h. cc
 end_leaves d MustWait w = absurd (w refl)
 
-signal_leaves : (d : ProcessState) (code : ℕ) (o : Option ℕ) → d.status ≡ Running → (after_signal_by d code o).status ≢ Fresh
-signal_leaves d code None running = λ h. cc
-signal_leaves d code (Some at) running = λ h. cc
+offer_leaves : (d : ProcessState) (code : ℕ) (taken : Bool) → d.status ≡ Running → signal_status d code taken ≢ Fresh
+offer_leaves d code false running = λ h. cc
+offer_leaves d code true running = λ h. cc
+
+signal_leaves : (d : ProcessState) (code : ℕ) → d.status ≡ Running → (after_signal d code).status ≢ Fresh
+signal_leaves d code running = offer_leaves d code (offered code d.stack).taken running
 
 act_leaves : (d : ProcessState) (r : Reply) → r ≢ MustWait → d.status ≡ Running → (after_act d r).status ≢ Fresh
 act_leaves d (Done vs) w running = λ h. cc
-act_leaves d (Signal x) w running = signal_leaves d x.id (label_for (rows_in d.made) d.frame.on x.id) running
+act_leaves d (Signal x) w running = signal_leaves d x.id running
 act_leaves d MustWait w running = absurd (w refl)
 
 leaves_by : (d : ProcessState) (e : Event) (r : Reply) → r ≢ MustWait → Asks d e → (after_event d e r).status ≢ Fresh
@@ -178,7 +184,7 @@ leaves_by d e r w asks = elim asks as (λ _. (after_event d e r).status ≢ Fres
   | inl h ↦ subst (λ (x : Event). (after_event d x r).status ≢ Fresh) (sym h.1) (start_leaves d r w)
   | inr more ↦ elim more as (λ _. (after_event d e r).status ≢ Fresh) [
     | inl h ↦ subst (λ (x : Event). (after_event d x r).status ≢ Fresh) (sym h.1.1) (end_leaves d r w)
-    | inr h ↦ subst (λ (x : Event). (after_event d x r).status ≢ Fresh) (sym h.2.1) (act_leaves d r w h.0)
+    | inr h ↦ subst (λ (x : Event). (after_event d x r).status ≢ Fresh) (sym h.2.1.1) (act_leaves d r w h.0)
   ]
 ]
 
@@ -191,17 +197,20 @@ begun_goes (Created program) = λ h. cc
 begun_goes (Refused id number) = λ h. cc
 
 start_goes : (d : ProcessState) (r : Reply) → d.status ≡ Fresh → (after_start d r).status ≢ Ended
-start_goes d (Done vs) is = begun_goes d.made
+start_goes d (Done vs) is = begun_goes d.stack.top.made
 start_goes d (Signal x) is = λ h. cc
 start_goes d MustWait is = λ h. cc
 
-signal_goes : (d : ProcessState) (code : ℕ) (o : Option ℕ) → d.status ≡ Running → (after_signal_by d code o).status ≢ Ended
-signal_goes d code None running = λ h. cc
-signal_goes d code (Some at) running = λ h. cc
+offer_goes : (d : ProcessState) (code : ℕ) (taken : Bool) → d.status ≡ Running → signal_status d code taken ≢ Ended
+offer_goes d code false running = λ h. cc
+offer_goes d code true running = λ h. cc
+
+signal_goes : (d : ProcessState) (code : ℕ) → d.status ≡ Running → (after_signal d code).status ≢ Ended
+signal_goes d code running = offer_goes d code (offered code d.stack).taken running
 
 act_goes : (d : ProcessState) (r : Reply) → d.status ≡ Running → (after_act d r).status ≢ Ended
 act_goes d (Done vs) is = λ h. cc
-act_goes d (Signal x) is = signal_goes d x.id (label_for (rows_in d.made) d.frame.on x.id) is
+act_goes d (Signal x) is = signal_goes d x.id is
 act_goes d MustWait is = λ h. cc
 
 ended_by : (d : ProcessState) (e : Event) (r : Reply) → Asks d e → (after_event d e r).status ≡ Ended → is_finish e ≡ true
@@ -209,7 +218,7 @@ ended_by d e r asks = elim asks as (λ _. (after_event d e r).status ≡ Ended �
   | inl h ↦ subst (λ (x : Event). (after_event d x r).status ≡ Ended → is_finish x ≡ true) (sym h.1) (λ g. absurd (start_goes d r h.0 g))
   | inr more ↦ elim more as (λ _. (after_event d e r).status ≡ Ended → is_finish e ≡ true) [
     | inl h ↦ subst (λ (x : Event). (after_event d x r).status ≡ Ended → is_finish x ≡ true) (sym h.1.1) (λ g. refl)
-    | inr h ↦ subst (λ (x : Event). (after_event d x r).status ≡ Ended → is_finish x ≡ true) (sym h.2.1) (λ g. absurd (act_goes d r h.0 g))
+    | inr h ↦ subst (λ (x : Event). (after_event d x r).status ≡ Ended → is_finish x ≡ true) (sym h.2.1.1) (λ g. absurd (act_goes d r h.0 g))
   ]
 ]
 
@@ -244,14 +253,14 @@ asks_open d e h g = none_some (sym (ap (asks d) g) ∙ h)
 start_asked : (d : ProcessState) (e : Event) → e ≡ Start → Asks d e → d.status ≡ Fresh
 start_asked d e s asks = elim asks as (λ _. d.status ≡ Fresh) [
   | inl h ↦ h.0
-  | inr more ↦ elim more as (λ _. d.status ≡ Fresh) [ inl h ↦ absurd (no_end h.1.0 (sym s ∙ h.1.1)) | inr h ↦ absurd (no_act h.2.0 (sym s ∙ h.2.1)) ]
+  | inr more ↦ elim more as (λ _. d.status ≡ Fresh) [ inl h ↦ absurd (no_end h.1.0 (sym s ∙ h.1.1)) | inr h ↦ absurd (no_act h.2.0 h.2.1.0 (sym s ∙ h.2.1.1)) ]
 ]
   where
     no_end : (c : EndCause) → Start ≡ Finish c → ⊥
     no_end c g = cc
 
-    no_act : (q : Request) → Start ≡ Act 1 q → ⊥
-    no_act q g = cc
+    no_act : (n : ℕ) (q : Request) → Start ≡ Act n q → ⊥
+    no_act n q g = cc
 
 -- only a fresh process asks to start
 pub starts_fresh : (d : ProcessState) → event_of d ≡ Some Start → d.status ≡ Fresh

@@ -1,5 +1,5 @@
 use Rattle.std.proofs.Common.{◌≡◌, take}
-use Rattle.s38_process.specs.Process.{first_values}
+use Rattle.s38_process.specs.Invocations.{first_values}
 use Rattle.s38_process.proofs.variables.first_values.Given as goal
 
 abbrev pub invariant-loop-row : goal.invariant-loop-row
