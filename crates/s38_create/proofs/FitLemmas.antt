@@ -19,9 +19,10 @@ use Rattle.s38_create.proofs.ParsedLemmas.{parsed_operand-good, parsed_from-all}
 use Rattle.s38_create.specs.Instruction.{are_words_built, by_act, by_parsed, cause_of, checked, code_from, instruction_from, instruction_of, is_taken, parsed_of, result_and_then, unless}
 use Rattle.s38_odt.specs.Labels.{instruction_count, is_label}
 use Rattle.s38_create.specs.Parsed.{arg_of, is_declared, is_placed, parsed_from}
-use Rattle.s38_create.specs.Suits.{all_suit}
-use Rattle.s38_create.specs.OperandRules.{digits_needed, fits, is_of_kind, keeps_rule}
-use Rattle.s38_create.specs.WellFormed.{InstructionFits, WellFormed, is_filled, lands_in}
+use Rattle.s38_odt.specs.Suits.{all_suit}
+use Rattle.s38_odt.specs.OperandRules.{digits_needed, fits, is_of_kind, keeps_rule}
+use Rattle.s38_create.specs.WellFormed.{InstructionFits, WellFormed}
+use Rattle.s38_odt.specs.Suited.{IsSuited, is_filled, lands_in}
 use Rattle.s38_create.specs.Created.{program}
 use Rattle.s38_words.specs.declared.program_lines.Head.{Head}
 use Rattle.s38_odt.specs.Formed.{AreFormed}
@@ -63,12 +64,14 @@ checked-fits rows code number op round parsed made built rounded filled lands h 
       built = built;
       words = held.0;
       rounded = rounded;
-      suited = parts.0;
+      suited = record {
+        classes = parts.0;
+        ruled = parts.2;
+        filled = list_all-map is_filled arg_of parsed ∙ filled;
+        jumps = list_all-map (lands_in (instruction_count code)) arg_of parsed ∙ lands;
+      };
       kinds = parts.1;
-      ruled = parts.2;
       digits = held.2;
-      filled = list_all-map is_filled arg_of parsed ∙ filled;
-      jumps = list_all-map (lands_in (instruction_count code)) arg_of parsed ∙ lands;
     })
 
 by_parsed-fits : (rows : List Row) (code : List (List ℕ)) (number : ℕ) (act : ActLine) (made : Instruction) (o : Option (List ParsedOperand)) →

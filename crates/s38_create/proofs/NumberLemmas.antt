@@ -14,8 +14,8 @@ use Rattle.s38_code.specs.declared.class.Keyword.TheVariants.{Comparison}
 use Rattle.s38_code.specs.declared.program.Arg.{Arg}
 use Rattle.s38_code.specs.declared.program.Arg.TheVariants.{Item}
 use Rattle.s38_code.specs.declared.program.Row.{Row}
-use Rattle.s38_create.specs.Suits.{is_number, item_attr, operand_attr, all_suit, suits}
-use Rattle.s38_create.specs.OperandRules.{fits, number_at}
+use Rattle.s38_odt.specs.Suits.{is_number, item_attr, operand_attr, all_suit, suits}
+use Rattle.s38_odt.specs.OperandRules.{fits, number_at}
 use Rattle.s38_decimal.specs.Need.{has_one, has_second}
 use Rattle.s38_create.proofs.Parts.{and-both}
 

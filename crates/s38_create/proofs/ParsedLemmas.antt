@@ -28,8 +28,9 @@ use Rattle.s38_odt.specs.Table.{place_in}
 use Rattle.s38_odt.proofs.LabelLemmas.{label_in-bound}
 use Rattle.s38_create.proofs.Parts.{if-some, and_then-some, map-some, or-some}
 use Rattle.s38_odt.specs.Labels.{instruction_count, label_in}
-use Rattle.s38_create.specs.Parsed.{arg_of, parsed_bytes, parsed_constant, given, is_argument, parsed_item, parsed_keyword, parsed_label, parsed_number, power_of, parsed_operand, parsed_from, size_arg, parsed_star, parsed_word}
-use Rattle.s38_create.specs.WellFormed.{is_filled, lands_in}
+use Rattle.s38_create.specs.Parsed.{arg_of, parsed_bytes, parsed_constant, given, parsed_item, parsed_keyword, parsed_label, parsed_number, power_of, parsed_operand, parsed_from, size_arg, parsed_star, parsed_word}
+use Rattle.s38_odt.specs.Suited.{is_filled, lands_in}
+use Rattle.s38_odt.specs.Suits.{is_argument}
 use Rattle.s38_create.specs.declared.parsed.ParsedOperand.{ParsedOperand}
 use Rattle.s38_create.specs.declared.parsed.ParsedOperand.TheVariants as parsed_as
 

@@ -11,8 +11,8 @@ use Rattle.s38_code.specs.declared.program.Instruction.{Instruction}
 use Rattle.s38_code.specs.declared.program.Row.{Row}
 use Rattle.s38_odt.specs.Labels.{is_label}
 use Rattle.s38_create.specs.Parsed.{arg_of, is_declared, is_placed, parsed_from}
-use Rattle.s38_create.specs.Suits.{is_natural_to}
-use Rattle.s38_create.specs.OperandRules.{digits_needed, fits, nothing_at, whole_at, word_at}
+use Rattle.s38_odt.specs.Suits.{is_natural_to}
+use Rattle.s38_odt.specs.OperandRules.{digits_needed, fits, nothing_at, whole_at, word_at}
 use Rattle.s38_create.specs.declared.parsed.ParsedOperand.{ParsedOperand}
 use Rattle.s38_base.specs.Exceptions as exceptions
 use Rattle.s38_base.specs.Relations.{relation_word}

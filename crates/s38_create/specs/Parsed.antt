@@ -17,6 +17,7 @@ use Rattle.s38_code.specs.declared.program.Arg.{Arg}
 use Rattle.s38_code.specs.declared.program.Arg.TheVariants as args
 use Rattle.s38_code.specs.declared.program.Row.{Row}
 use Rattle.s38_odt.specs.Labels.{label_in}
+use Rattle.s38_odt.specs.Suits.{is_argument}
 use Rattle.s38_odt.specs.Table.{place_in}
 use Rattle.s38_create.specs.declared.parsed.ParsedOperand.{ParsedOperand}
 use Rattle.s38_create.specs.declared.parsed.ParsedOperand.TheVariants as parsed_as
@@ -123,10 +124,6 @@ parsed_operand rows code (Constant constant) word = parsed_constant code constan
 parsed_operand rows code (Keyword keyword) word = parsed_keyword keyword word
 
 -- ---- by row
-
-abbrev pub is_argument : Class → Bool
-is_argument Argument = true
-is_argument _ = false
 
 -- what the words so far say and what those of the rest of the text say, parted by commas: one for each class,
 -- arguments at the end aside, and no text behind the last

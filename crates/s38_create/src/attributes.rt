@@ -1,5 +1,5 @@
 ghost use Rattle.std.specs.Prelude.{◌≡◌};
-ghost use Rattle.s38_create.specs.Suits.{are_bytes, form_attr, is_number, is_pointer, item_attr, operand_attr, row_attr};
+ghost use Rattle.s38_odt.specs.Suits.{are_bytes, form_attr, is_number, is_pointer, item_attr, operand_attr, row_attr};
 
 use s38_base::Attr;
 use s38_code::{Arg, Form, Row};

@@ -1,8 +1,8 @@
 ghost use Rattle.std.specs.Prelude.{◌≡◌, ◌||◌, IsTrue, pos, unwrap_or, if◌then◌else◌, nat_le, unsigned_abs};
 ghost use Rattle.s38_base.specs.declared.attr.Attr.TheVariants as attrs;
 ghost use Rattle.s38_code.specs.Operations.{classes};
-ghost use Rattle.s38_create.specs.Suits.{all_suit};
-ghost use Rattle.s38_create.specs.OperandRules.{digits_needed, fits, need_with, number_at, power_at, power_of};
+ghost use Rattle.s38_odt.specs.Suits.{all_suit};
+ghost use Rattle.s38_odt.specs.OperandRules.{digits_needed, fits, need_with, number_at, power_at, power_of};
 ghost use Rattle.s38_decimal.specs.Need.{has_one, has_second};
 
 use crate::operand_rules::{attr_at, whole_at};
@@ -47,7 +47,7 @@ fn power_of(number: i64) -> i8
 }
 
 /// How many digits an instruction needs; none where it doesn't compute.
-#[tactic(auto, unfolding(crate::specs::OperandRules::digits_needed))]
+#[tactic(auto, unfolding(s38_odt::specs::OperandRules::digits_needed))]
 pub fn digits_needed(rows: &[Row], op: Op, args: &[Arg]) -> u8
     requires { IsTrue (fits rows.now op args.now) }
     ensures { result ≡ digits_needed rows.now op args.now }

@@ -1,7 +1,7 @@
 ghost use Rattle.std.specs.Prelude.{◌≡◌};
 ghost use Rattle.std.specs.Option.{option_copied};
-ghost use Rattle.s38_create.specs.Suits.{are_cells, can_be_passed, has_cells, is_handler, item_suits, row_of};
-ghost use Rattle.s38_create.specs.OperandRules.{is_two_local_bytes};
+ghost use Rattle.s38_odt.specs.Suits.{are_cells, can_be_passed, has_cells, is_handler, item_suits, row_of};
+ghost use Rattle.s38_odt.specs.OperandRules.{is_two_local_bytes};
 ghost use Rattle.s38_odt.specs.Table.{is_parameter};
 
 use s38_base::Attr;

@@ -1,7 +1,7 @@
 ghost use Rattle.std.specs.Prelude.{◌≡◌, drop, slice_get};
 ghost use Rattle.std.specs.List.{list_all};
-ghost use Rattle.s38_create.specs.Suits.{item_suits};
-ghost use Rattle.s38_create.specs.OperandRules.{at_suits, attr_at, attr_length, fits, has_length, is_from_one_to, is_key_length, is_of_kind, is_short_binary, keeps_rule, is_two_local_bytes, length_at, nothing_at, whole_at, word_at};
+ghost use Rattle.s38_odt.specs.Suits.{item_suits};
+ghost use Rattle.s38_odt.specs.OperandRules.{at_suits, attr_at, attr_length, fits, has_length, is_from_one_to, is_key_length, is_of_kind, is_short_binary, keeps_rule, is_two_local_bytes, length_at, nothing_at, whole_at, word_at};
 ghost use Rattle.s38_odt.specs.Table.{is_parameter};
 
 use crate::attributes::operand_attr;
@@ -130,7 +130,7 @@ fn is_key_length(order: u32, number: i64) -> bool
     }
 }
 
-#[tactic(auto, unfolding(crate::specs::OperandRules::keeps_rule))]
+#[tactic(auto, unfolding(s38_odt::specs::OperandRules::keeps_rule))]
 fn keeps_rule(rows: &[Row], rule: OperandRule, args: &[Arg]) -> bool
     ensures { result ≡ keeps_rule rows.now rule args.now }
 {
@@ -177,7 +177,7 @@ fn are_of_kind(kind: Option<Kind>, args: &[Arg]) -> bool
 
 /// The operands are the row's: each suits its class, an identification is of the kind that is made, and they
 /// are tied as the row says.
-#[tactic(auto, unfolding(crate::specs::OperandRules::fits))]
+#[tactic(auto, unfolding(s38_odt::specs::OperandRules::fits))]
 pub fn fits(rows: &[Row], op: Op, args: &[Arg]) -> bool
     ensures { result ≡ fits rows.now op args.now }
 {

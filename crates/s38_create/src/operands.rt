@@ -1,6 +1,7 @@
 ghost use Rattle.std.specs.Prelude.{◌≡◌, [], IfOk};
 ghost use Rattle.std.specs.Option.{option_map};
-ghost use Rattle.s38_create.specs.Parsed.{is_argument, parsed_from};
+ghost use Rattle.s38_create.specs.Parsed.{parsed_from};
+ghost use Rattle.s38_odt.specs.Suits.{is_argument};
 
 use crate::by_class::parsed_operand;
 use crate::parsed::ParsedOperand;

@@ -1,6 +1,6 @@
 ghost use Rattle.std.specs.Prelude.{◌≡◌};
 ghost use Rattle.std.specs.List.{list_all};
-ghost use Rattle.s38_create.specs.Suits.{are_fields, attrs_suit, have_room, is_id, is_jump, is_list, is_machine, is_name, is_natural_to, is_nothing, is_one_scalar, is_power, is_scalar, is_size, is_word, is_word_to};
+ghost use Rattle.s38_odt.specs.Suits.{are_fields, attrs_suit, have_room, is_id, is_jump, is_list, is_machine, is_name, is_natural_to, is_nothing, is_one_scalar, is_power, is_scalar, is_size, is_word, is_word_to};
 
 use s38_base::Attr;
 use s38_code::Arg;

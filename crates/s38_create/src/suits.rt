@@ -1,5 +1,5 @@
 ghost use Rattle.std.specs.Prelude.{◌≡◌};
-ghost use Rattle.s38_create.specs.Suits.{all_suit, constant_suits, keyword_suits, suits};
+ghost use Rattle.s38_odt.specs.Suits.{all_suit, constant_suits, keyword_suits, suits};
 
 use crate::attributes::{are_bytes, is_number, is_pointer, item_attr, operand_attr};
 use crate::items::{item_can_be_passed, item_has_cells, item_is_handler};
@@ -14,7 +14,7 @@ use s38_code::{Arg, Class, Constant, Keyword, Row};
 const LAST_COMPARISON: u32 = 5;
 
 /// Whether an operand suits a place where this is written out in the program.
-#[tactic(auto, unfolding(crate::specs::Suits::constant_suits))]
+#[tactic(auto, unfolding(s38_odt::specs::Suits::constant_suits))]
 fn suits_constant(constant: Constant, arg: &Arg) -> bool
     ensures { result ≡ constant_suits constant arg.now }
 {
@@ -31,7 +31,7 @@ fn suits_constant(constant: Constant, arg: &Arg) -> bool
 }
 
 /// Whether an operand suits a place of a word of this list.
-#[tactic(auto, unfolding(crate::specs::Suits::keyword_suits))]
+#[tactic(auto, unfolding(s38_odt::specs::Suits::keyword_suits))]
 fn suits_keyword(keyword: Keyword, arg: &Arg) -> bool
     ensures { result ≡ keyword_suits keyword arg.now }
 {
@@ -42,7 +42,7 @@ fn suits_keyword(keyword: Keyword, arg: &Arg) -> bool
 }
 
 /// Whether an operand suits a place of a class, by the declared attributes.
-#[tactic(auto, unfolding(crate::specs::Suits::suits))]
+#[tactic(auto, unfolding(s38_odt::specs::Suits::suits))]
 fn suits(rows: &[Row], class: Class, arg: &Arg) -> bool
     ensures { result ≡ suits rows.now class arg.now }
 {

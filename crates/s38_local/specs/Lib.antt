@@ -1,5 +1,6 @@
 pub mod Frames
 pub mod Kinds
+pub mod Law
 pub mod Local
 pub mod Overlap
 pub mod Received

@@ -1,4 +1,5 @@
 pub mod Alone
 mod OfferLaws
+mod ParameterLaws
 mod PlaceLaws
 mod SettleLaws

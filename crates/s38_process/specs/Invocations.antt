@@ -1,12 +1,13 @@
 -- The invocations of a process. Each has its program and its place, and its variables stand among those of all, behind
 -- those of its callers. A parameter is no variable of its own: it lies where the caller's argument does.
-use Rattle.std.specs.Prelude.{ℕ, ◌+◌, ◌-◌, true, List, [], ◌∷◌, ◌++◌, map, drop, length, take, replicate, Option, Some, None, unwrap_or, slice_get, nat_lt, if◌then◌else◌}
+use Rattle.std.specs.Prelude.{◌≡◌, ◌<◌, ℕ, ◌+◌, ◌-◌, true, List, [], ◌∷◌, ◌++◌, map, drop, length, take, replicate, Option, Some, None, unwrap_or, slice_get, nat_lt, if◌then◌else◌}
 use Rattle.std.specs.List.{range_with_len}
 use Rattle.s38_base.specs.declared.attr.Attr.{Attr}
 use Rattle.s38_base.specs.declared.attr.Attr.TheVariants as attrs
 use Rattle.s38_code.specs.declared.made.CreateResult.{CreateResult}
 use Rattle.s38_code.specs.declared.made.CreateResult.TheVariants.{Created, Refused}
 use Rattle.s38_code.specs.declared.program.Arg.{Arg}
+use Rattle.s38_code.specs.declared.program.Arg.TheVariants as args
 use Rattle.s38_code.specs.declared.program.Form.{Form}
 use Rattle.s38_code.specs.declared.program.Form.TheVariants as forms
 use Rattle.s38_code.specs.declared.program.Instruction.{Instruction}
@@ -15,7 +16,7 @@ use Rattle.s38_code.specs.declared.program.Row.{Row}
 use Rattle.s38_code.specs.declared.reply.Val.{Val}
 use Rattle.s38_code.specs.declared.reply.Val.TheVariants as vals
 use Rattle.s38_local.specs.declared.frame.Frame.{Frame}
-use Rattle.s38_local.specs.Variables.{place_of}
+use Rattle.s38_local.specs.Variables.{place_of, put_at, value_of_item}
 use Rattle.s38_odt.specs.First.{blank_of}
 use Rattle.s38_process.specs.declared.invocation.Invocation.{Invocation}
 
@@ -158,3 +159,26 @@ popped_to s (caller ∷ more) = record { values = take s.top.frame.base s.values
 
 abbrev pub popped : Stack → Stack
 popped s = popped_to s s.callers
+
+-- ---- parameters, in the words of programs
+
+-- in a program that is called, the name at a row is a parameter, and the caller passes the item for it that lies at
+-- a place
+pub record IsPassedFor (s : Stack) (program : Program) (row place : ℕ) : Type 0 where
+  pub number : ℕ
+  pub attr : Attr
+  pub item : ℕ
+  pub name : Row
+  pub declared : slice_get program.rows row ≡ Some name
+  pub parameter : name.form ≡ forms.Parm number attr
+  pub passed : slice_get (arguments_in (instruction_of s.top)) (number - 1) ≡ Some (args.Item item)
+  pub lies : slice_get s.top.frame.homes item ≡ Some place
+  pub there : place < length s.values
+
+-- what a name of the newest invocation stands for
+abbrev pub read_at : Stack → ℕ → Option Val
+read_at s name = value_of_item s.top.frame.homes s.values name
+
+-- what is written there
+abbrev pub written_at : Stack → ℕ → Val → Stack
+written_at s name v = record s { values = put_at s.values (slice_get s.top.frame.homes name) v }

@@ -1,6 +1,7 @@
 pub mod Asked
 pub mod Exceptions
 pub mod Invocations
+pub mod Lawful
 pub mod Process
 pub mod Progress
 pub mod Replies

@@ -6,6 +6,7 @@ mod exceptions;
 mod homes;
 mod invocation;
 mod invocations;
+mod laws;
 mod local_run;
 mod made;
 mod next;
@@ -16,6 +17,7 @@ mod status;
 mod unsettled;
 mod variables;
 
+pub use laws::a_parameter_is_the_argument;
 pub use next::Next;
 pub use process::Process;
 pub use status::Status;

@@ -16,7 +16,6 @@ use Rattle.s38_code.specs.declared.program.Arg.TheVariants as args
 use Rattle.s38_code.specs.declared.program.Form.{Form}
 use Rattle.s38_code.specs.declared.program.Form.TheVariants as forms
 use Rattle.s38_code.specs.declared.program.Row.{Row}
-use Rattle.s38_create.specs.Parsed.{is_argument}
 
 -- ---- attributes of operands
 
@@ -205,6 +204,10 @@ suits rows Handler arg = item_suits is_handler rows arg
 suits rows Argument arg = item_suits can_be_passed rows arg
 suits rows (Constant constant) arg = constant_suits constant arg
 suits rows (Keyword keyword) arg = keyword_suits keyword arg
+
+abbrev pub is_argument : Class → Bool
+is_argument Argument = true
+is_argument _ = false
 
 -- an operand for each class, each in its place; arguments at the end may be left out
 abbrev pub all_suit : List Row → List Class → List Arg → Bool

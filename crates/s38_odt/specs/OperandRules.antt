@@ -16,7 +16,7 @@ use Rattle.s38_code.specs.declared.program.Form.TheVariants as forms
 use Rattle.s38_code.specs.declared.program.Row.{Row}
 use Rattle.s38_code.specs.declared.rule.OperandRule.{OperandRule}
 use Rattle.s38_code.specs.declared.rule.OperandRule.TheVariants.{Free, EqualLengths, EqualTables, OneByte, TwiceTheSource, TwiceTheReceiver, TwoLocalBytes, ShortBinary, Parameters, QueueLengths, EntryLength}
-use Rattle.s38_create.specs.Suits.{is_natural_to, is_nothing, item_suits, operand_attr, all_suit}
+use Rattle.s38_odt.specs.Suits.{is_natural_to, is_nothing, item_suits, operand_attr, all_suit}
 use Rattle.s38_decimal.specs.Need.{has_receiver, need_of}
 use Rattle.s38_odt.specs.Table.{is_parameter}
 
