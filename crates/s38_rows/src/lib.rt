@@ -16,6 +16,8 @@ mod exceptions;
 #[cfg(test)]
 mod faults;
 #[cfg(test)]
+mod invocations;
+#[cfg(test)]
 mod pages;
 #[cfg(test)]
 mod programs;

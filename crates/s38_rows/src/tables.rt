@@ -6,6 +6,7 @@ use crate::computed::COMPUTED;
 use crate::created::CREATED;
 use crate::decks::DECKS;
 use crate::exceptions::EXCEPTIONS;
+use crate::invocations::{ADOPTED, CALLED, MISMATCHED, OFFERED, PASSED};
 use crate::programs::PROGRAMS;
 use crate::refused::{CHECKS, JOBS};
 use crate::rules::RULES;
@@ -62,6 +63,11 @@ fn every_row_is_answered(rt: HostRuntime) -> Result<(), Fail> {
         &CHECKS,
         &RULES,
         &EXCEPTIONS,
+        &PASSED,
+        &MISMATCHED,
+        &OFFERED,
+        &ADOPTED,
+        &CALLED,
         &CREATED,
         &BAD_LINES,
     ];

@@ -1,0 +1,336 @@
+//! Programs that call programs: parameters, transfers, exceptions over invocations, and adopted rights.
+
+use crate::tables::{SERIAL, Table};
+
+/// A program that is called, and one that calls: its first parameters are variables of its own.
+const CALLER: &str = "PROGRAM ADDER;DCL Z PARM 1 PKD:3:0;ADDN Z,Z,5;END
+PROGRAM MAIN;DCL Q PARM 1 PTR;DCL K PARM 2 PKD:3:0;DCL P PTR;DCL R PTR;DCL W CHAR:6;DCL A PKD:3:0
+DCL C CHAR:4 INIT 'ABCD';DCL I BASED R 0 CHAR:4;DCL T BASED R 0 PTR;B START
+LABEL SHOW;CAT W,A,C;ENQ Q,*NONE,W;DEQ W,Q,ANY,*NONE,NOWAIT;RTX
+LABEL START;CRTQ Q,*NONE,QUEUE/00/Q,NONE,FIFO,0,6;CRTPG P,*NONE,PROGRAM/00/SUB,NONE,SUB
+CRTPG R,*NONE,PROGRAM/00/ADDER,NONE,ADDER;";
+
+/// The rest of the caller and the program that it calls, and the log behind what the caller makes.
+pub static PASSED: Table = Table {
+    calls: SERIAL,
+    deck: (CALLER, "END;STAGE;JOB A USER QSECOFR RUN MAIN BUDGET 400;"),
+    text: (
+        "JOB 1 A USER QSECOFR;1 START OK;2 CRTQ OK S6/00;3 CRTPG OK S7/00;4 CRTPG OK S8/00;",
+        "",
+    ),
+    status: 0,
+    rows: &[
+        // One item passed twice: what is written to one parameter is read at the other.
+        (
+            "CALLX P,A,A;B SHOW;END;PROGRAM SUB;DCL X PARM 1 PKD:3:0;DCL Y PARM 2 PKD:3:0
+ADDN X,X,1;ADDN Y,Y,1;ADDN X,X,Y;",
+            "5 CALLX OK;6 ENQ OK;7 DEQ OK 004FC1C2C3C4;8 FINISH RETURN;DONE 8;",
+        ),
+        // A receiver that is a source by another name: all sources are read first.
+        (
+            "CALLX P,C,C;B SHOW;END;PROGRAM SUB;DCL X PARM 1 CHAR:4;DCL Y PARM 2 CHAR:4
+XLATE X,Y,Y,'DCBA';CAT X,'Z',Y;",
+            "5 CALLX OK;6 ENQ OK;7 DEQ OK 000FE9C4C3C2;8 FINISH RETURN;DONE 8;",
+        ),
+        // A parameter is passed on.
+        (
+            "CALLX P,R,A;B SHOW;END;PROGRAM SUB;DCL R PARM 1 PTR;DCL L CHAR:1;DCL X PARM 2 PKD:3:0
+ADDN X,X,1;CALLX R,X;ADDN X,X,X;",
+            "5 CALLX OK;6 CALLX OK;7 ENQ OK;8 DEQ OK 012FC1C2C3C4;9 FINISH RETURN;DONE 9;",
+        ),
+        // A transfer hands a parameter on, and does not come back to the program that asked it.
+        (
+            "CALLX P,A,R;B SHOW;END;PROGRAM SUB;DCL X PARM 1 PKD:3:0;DCL R PARM 2 PTR;DCL N PKD:3:0 INIT 7
+ADDN X,X,N;XCTL R,X;SIGEXCP 2A99;",
+            "5 CALLX OK;6 XCTL OK;7 ENQ OK;8 DEQ OK 012FC1C2C3C4;9 FINISH RETURN;DONE 9;",
+        ),
+        // The first program of a job transfers, with parameters of its own.
+        (
+            "ADDN K,K,7;XCTL P,Q,K;SIGEXCP 2A99;END;PROGRAM SUB;DCL Q PARM 1 PTR;DCL M CHAR:2
+DCL X PARM 2 PKD:3:0;ADDN X,X,1;ENQ Q,*NONE,X;DEQ M,Q,ANY,*NONE,NOWAIT;",
+            "5 XCTL OK;6 ENQ OK;7 DEQ OK 008F;8 FINISH RETURN;DONE 8;",
+        ),
+        // Variables begin anew with each call.
+        (
+            "CALLX P,A;CALLX P,A;B SHOW;END;PROGRAM SUB;DCL N PKD:3:0 INIT 5;DCL X PARM 1 PKD:3:0
+ADDN N,N,1;ADDN X,X,N;",
+            "5 CALLX OK;6 CALLX OK;7 ENQ OK;8 DEQ OK 012FC1C2C3C4;9 FINISH RETURN;DONE 9;",
+        ),
+        // A parameter gets a pointer, and items lie behind it.
+        (
+            "CALLX P,R;CPYBLA C,I;B SHOW;END;PROGRAM SUB;DCL S PARM 1 PTR;DCL B BASED S 0 CHAR:4
+CRTS S,*NONE,SPACE/00/S,NONE,16;SETSPPFP S,S;CPYBLA B,'WXYZ';",
+            "5 CALLX OK;6 CRTS OK S9/00;7 SETSPPFP OK A9+0;8 CPYBLA OK;9 CPYBLA OK E6E7E8E9;10 ENQ OK
+11 DEQ OK 000FE6E7E8E9;12 FINISH RETURN;DONE 12;",
+        ),
+        // The pointer to the program lies in a space.
+        (
+            "CRTS R,*NONE,SPACE/00/S,NONE,16;SETSPPFP R,R;CPYBWP T,P;CALLX T,A;B SHOW;END
+PROGRAM SUB;DCL X PARM 1 PKD:3:0;ADDN X,X,9;",
+            "5 CRTS OK S9/00;6 SETSPPFP OK A9+0;7 CPYBWP OK;8 CALLX OK;9 ENQ OK;10 DEQ OK 009FC1C2C3C4
+11 FINISH RETURN;DONE 11;",
+        ),
+        // What is called is a program, and exists.
+        (
+            "CALLX Q;END;PROGRAM SUB;",
+            "5 CALLX 2403 1;6 FINISH UNHANDLED 2403;DONE 6;",
+        ),
+        (
+            "DESPG P;CALLX P;END;PROGRAM SUB;",
+            "5 DESPG OK;6 CALLX 2202 1;7 FINISH UNHANDLED 2202;DONE 7;",
+        ),
+        // The budget ends inside the called program.
+        (
+            "CALLX P;END;PROGRAM SUB;LABEL L;B L;",
+            "5 CALLX OK;6 FINISH BUDGET;DONE 6;",
+        ),
+    ],
+};
+
+/// A call and the parameters of the program that is called: they do not suit.
+pub static MISMATCHED: Table = Table {
+    calls: SERIAL,
+    deck: (CALLER, ";END;STAGE;JOB A USER QSECOFR RUN MAIN;"),
+    text: (
+        "JOB 1 A USER QSECOFR;1 START OK;2 CRTQ OK S6/00;3 CRTPG OK S7/00;4 CRTPG OK S8/00;5 ",
+        " 0802 1;6 FINISH UNHANDLED 0802;DONE 6;",
+    ),
+    status: 0,
+    rows: &[
+        ("CALLX P;END;PROGRAM SUB;DCL X PARM 1 PTR", "CALLX"),
+        ("CALLX P,A,A;END;PROGRAM SUB;DCL X PARM 1 PKD:3:0", "CALLX"),
+        ("CALLX P,A;END;PROGRAM SUB", "CALLX"),
+        ("CALLX P,A;END;PROGRAM SUB;DCL X PARM 1 PKD:3:1", "CALLX"),
+        ("CALLX P,C;END;PROGRAM SUB;DCL X PARM 1 CHAR:3", "CALLX"),
+        ("CALLX P,R;END;PROGRAM SUB;DCL X PARM 1 CHAR:16", "CALLX"),
+        ("CALLX P,A;END;PROGRAM SUB;DCL X PARM 1 PTR", "CALLX"),
+        (
+            "CALLX P,A,R;END;PROGRAM SUB;DCL X PARM 1 PTR;DCL Y PARM 2 PKD:3:0",
+            "CALLX",
+        ),
+        ("XCTL P,K;END;PROGRAM SUB;DCL X PARM 1 ZND:3:0", "XCTL"),
+        ("XCTL R;END;PROGRAM SUB", "XCTL"),
+    ],
+};
+
+/// The rest of a caller with two descriptions, and the program that it calls, up to two labels; the log behind the call.
+pub static OFFERED: Table = Table {
+    calls: SERIAL,
+    deck: (
+        "PROGRAM MAIN;DCL Q PTR;DCL P PTR;DCL M CHAR:2;DCL W CHAR:3;DCL F EXCM 2A99 CODE
+DCL E EXCM * EVERY;B START;LABEL CODE;RETEXCPD M;CAT W,'C',M;B TELL
+LABEL EVERY;RETEXCPD M;CAT W,'E',M;LABEL TELL;ENQ Q,*NONE,W;DEQ W,Q,ANY,*NONE,NOWAIT;RTX
+LABEL OUTER;CALLI INNER;ENQ Q,*NONE,'O';RTX;LABEL INNER;CALLX P,Q;ENQ Q,*NONE,'I';RTX
+LABEL START;CRTQ Q,*NONE,QUEUE/00/Q,NONE,FIFO,0,3;CRTPG P,*NONE,PROGRAM/00/SUB,NONE,SUB;",
+        "RTX;LABEL ONE;ENQ Q,*NONE,'1';RTX;LABEL TWO;ENQ Q,*NONE,'2';END;STAGE
+JOB A USER QSECOFR RUN MAIN BUDGET 400;",
+    ),
+    text: (
+        "JOB 1 A USER QSECOFR;1 START OK;2 CRTQ OK S6/00;3 CRTPG OK S7/00;4 CALLX OK;",
+        "",
+    ),
+    status: 0,
+    rows: &[
+        // The caller takes what the called program does not, by the code or as each.
+        (
+            "CALLX P,Q;END;PROGRAM SUB;DCL Q PARM 1 PTR;SIGEXCP 2A99;",
+            "5 ENQ OK;6 DEQ OK C32A99;7 FINISH RETURN;DONE 7;",
+        ),
+        (
+            "CALLX P,Q;END;PROGRAM SUB;DCL Q PARM 1 PTR;SIGEXCP 2A98;",
+            "5 ENQ OK;6 DEQ OK C52A98;7 FINISH RETURN;DONE 7;",
+        ),
+        (
+            "CALLX P,Q;END;PROGRAM SUB;DCL Q PARM 1 PTR;DCL V CHAR:1;DEQ V,Q,ANY,*NONE,NOWAIT;",
+            "5 DEQ 2601 2;6 ENQ OK;7 DEQ OK C52601;8 FINISH RETURN;DONE 8;",
+        ),
+        // What is off in the caller takes nothing.
+        (
+            "MODEXCPD F,OFF;CALLX P,Q;END;PROGRAM SUB;DCL Q PARM 1 PTR;SIGEXCP 2A99;",
+            "5 ENQ OK;6 DEQ OK C52A99;7 FINISH RETURN;DONE 7;",
+        ),
+        (
+            "MODEXCPD F,OFF;MODEXCPD E,OFF;CALLX P,Q;END;PROGRAM SUB;DCL Q PARM 1 PTR;SIGEXCP 2A99;",
+            "5 FINISH UNHANDLED 2A99;DONE 5;",
+        ),
+        // The called program is asked first, and its descriptions in order of declaration.
+        (
+            "CALLX P,Q;DEQ M,Q,ANY,*NONE,NOWAIT;END;PROGRAM SUB;DCL Q PARM 1 PTR;DCL G EXCM 2A98 ONE
+DCL H EXCM * TWO;SIGEXCP 2A98;",
+            "5 ENQ OK;6 DEQ OK F140;7 FINISH RETURN;DONE 7;",
+        ),
+        (
+            "CALLX P,Q;DEQ M,Q,ANY,*NONE,NOWAIT;END;PROGRAM SUB;DCL Q PARM 1 PTR;DCL G EXCM 2A98 ONE
+DCL H EXCM * TWO;SIGEXCP 2A99;",
+            "5 ENQ OK;6 DEQ OK F240;7 FINISH RETURN;DONE 7;",
+        ),
+        (
+            "CALLX P,Q;DEQ M,Q,ANY,*NONE,NOWAIT;END;PROGRAM SUB;DCL Q PARM 1 PTR;DCL H EXCM * TWO
+DCL G EXCM 2A98 ONE;SIGEXCP 2A98;",
+            "5 ENQ OK;6 DEQ OK F240;7 FINISH RETURN;DONE 7;",
+        ),
+        // What is off there takes nothing; each call begins with all on.
+        (
+            "CALLX P,Q;DEQ M,Q,ANY,*NONE,NOWAIT;END;PROGRAM SUB;DCL Q PARM 1 PTR;DCL H EXCM * TWO
+DCL G EXCM 2A98 ONE;MODEXCPD H,OFF;SIGEXCP 2A98;",
+            "5 ENQ OK;6 DEQ OK F140;7 FINISH RETURN;DONE 7;",
+        ),
+        (
+            "CALLX P,Q;END;PROGRAM SUB;DCL Q PARM 1 PTR;DCL H EXCM * TWO;MODEXCPD H,OFF;SIGEXCP 2A99;",
+            "5 ENQ OK;6 DEQ OK C32A99;7 FINISH RETURN;DONE 7;",
+        ),
+        (
+            "CALLX P,Q;CALLX P,Q;END;PROGRAM SUB;DCL Q PARM 1 PTR;DCL H EXCM * OFF;SIGEXCP 2A99
+LABEL OFF;MODEXCPD H,OFF;",
+            "5 CALLX OK;6 FINISH RETURN;DONE 6;",
+        ),
+        // An exception that the caller takes ends its two internal calls; a return ends none.
+        (
+            "CALLI OUTER;ENQ Q,*NONE,'X';END;PROGRAM SUB;DCL Q PARM 1 PTR;SIGEXCP 2A99;",
+            "5 ENQ OK;6 DEQ OK C32A99;7 FINISH RETURN;DONE 7;",
+        ),
+        (
+            "CALLI OUTER;ENQ Q,*NONE,'X';END;PROGRAM SUB;DCL Q PARM 1 PTR;CALLI ONE;",
+            "5 ENQ OK;6 ENQ OK;7 ENQ OK;8 ENQ OK;9 FINISH RETURN;DONE 9;",
+        ),
+        // Two frames up, and by the newest that takes it.
+        (
+            "CALLX P,Q;END;PROGRAM THIRD;SIGEXCP 2A99;END;PROGRAM SUB;DCL Q PARM 1 PTR;DCL T PTR
+CRTPG T,*NONE,PROGRAM/00/THIRD,NONE,THIRD;CALLX T;",
+            "5 CRTPG OK S8/00;6 CALLX OK;7 ENQ OK;8 DEQ OK C32A99;9 FINISH RETURN;DONE 9;",
+        ),
+        (
+            "CALLX P,Q;DEQ M,Q,ANY,*NONE,NOWAIT;END;PROGRAM THIRD;SIGEXCP 2A99;END;PROGRAM SUB
+DCL Q PARM 1 PTR;DCL T PTR;DCL G EXCM * ONE;CRTPG T,*NONE,PROGRAM/00/THIRD,NONE,THIRD;CALLX T;",
+            "5 CRTPG OK S8/00;6 CALLX OK;7 ENQ OK;8 DEQ OK F140;9 FINISH RETURN;DONE 9;",
+        ),
+        // A program that has transferred takes nothing.
+        (
+            "CALLX P,Q;END;PROGRAM THIRD;SIGEXCP 2A99;END;PROGRAM SUB;DCL Q PARM 1 PTR;DCL T PTR
+DCL G EXCM * ONE;CRTPG T,*NONE,PROGRAM/00/THIRD,NONE,THIRD;XCTL T;",
+            "5 CRTPG OK S8/00;6 XCTL OK;7 ENQ OK;8 DEQ OK C32A99;9 FINISH RETURN;DONE 9;",
+        ),
+    ],
+};
+
+/// A program LEND of the security officer that a plain user calls and then puts a message, and the log behind the call.
+pub static ADOPTED: Table = Table {
+    calls: SERIAL,
+    deck: (
+        "PROGRAM PUT;DCL Q PTR;RSLVSP Q,*LIST,QUEUE/00/QLOCKED,NONE;ENQ Q,*NONE,'A';END
+PROGRAM SETUP;DCL C PTR;DCL P PTR;RSLVSP C,*MACHINE,CONTEXT/00/QGPL,NONE
+CRTPG P,C,PROGRAM/00/PUT,RETRIEVE,PUT;CRTPG P,C,PROGRAM/00/LEND,RETRIEVE,LEND
+CRTPG P,C,PROGRAM/00/SHUT,NONE,PUT;END
+PROGRAM USE;DCL P PTR;DCL Q PTR;DCL E EXCM 2A99 BACK;RSLVSP P,*LIST,PROGRAM/00/LEND,NONE
+CALLX P;LABEL BACK;RSLVSP Q,*LIST,QUEUE/00/QLOCKED,NONE;ENQ Q,*NONE,'B';END;PROGRAM LEND",
+        "END;STAGE;JOB S USER QSECOFR RUN SETUP;STAGE;JOB U USER QUSER RUN USE CONTEXTS QGPL;",
+    ),
+    text: (
+        "JOB 1 S USER QSECOFR;1 START OK;2 RSLVSP OK S3/00;3 CRTPG OK S6/00;4 CRTPG OK S7/00
+5 CRTPG OK S8/00;6 FINISH RETURN;JOB 2 U USER QUSER;7 START OK;8 RSLVSP OK S7/00;9 CALLX OK;",
+        "",
+    ),
+    status: 0,
+    rows: &[
+        // An adopting program lends nothing to the program that it calls, unless it propagates.
+        (
+            " ADOPT;DCL P PTR;RSLVSP P,*LIST,PROGRAM/00/PUT,NONE;CALLX P;",
+            "10 RSLVSP OK S6/00;11 CALLX OK;12 RSLVSP OK S5/00;13 ENQ 0A01 1 INSERT
+14 FINISH UNHANDLED 0A01;DONE 14;",
+        ),
+        (
+            " ADOPT PROPAGATE;DCL P PTR;RSLVSP P,*LIST,PROGRAM/00/PUT,NONE;CALLX P;",
+            "10 RSLVSP OK S6/00;11 CALLX OK;12 RSLVSP OK S5/00;13 ENQ OK;14 RSLVSP OK S5/00
+15 ENQ 0A01 1 INSERT;16 FINISH UNHANDLED 0A01;DONE 16;",
+        ),
+        // A transfer ends adoption, and so does an exception that the caller takes.
+        (
+            " ADOPT PROPAGATE;DCL P PTR;RSLVSP P,*LIST,PROGRAM/00/PUT,NONE;XCTL P;",
+            "10 RSLVSP OK S6/00;11 XCTL OK;12 RSLVSP OK S5/00;13 ENQ 0A01 1 INSERT
+14 FINISH UNHANDLED 0A01;DONE 14;",
+        ),
+        (
+            " ADOPT;DCL Q PTR;RSLVSP Q,*LIST,QUEUE/00/QLOCKED,NONE;ENQ Q,*NONE,'A';SIGEXCP 2A99;",
+            "10 RSLVSP OK S5/00;11 ENQ OK;12 RSLVSP OK S5/00;13 ENQ 0A01 1 INSERT
+14 FINISH UNHANDLED 0A01;DONE 14;",
+        ),
+        // A destroyed program goes on, and adopts nobody.
+        (
+            " ADOPT;DCL P PTR;DCL Q PTR;RSLVSP P,*LIST,PROGRAM/00/LEND,NONE;DESPG P
+RSLVSP Q,*LIST,QUEUE/00/QLOCKED,NONE;ENQ Q,*NONE,'A';",
+            "10 RSLVSP OK S7/00;11 DESPG OK;12 RSLVSP OK S5/00;13 ENQ 0A01 1 INSERT
+14 FINISH UNHANDLED 0A01;DONE 14;",
+        ),
+        // A call and a transfer need a right on the program.
+        (
+            ";DCL P PTR;RSLVSP P,*LIST,PROGRAM/00/SHUT,NONE;CALLX P;",
+            "10 RSLVSP OK S8/00;11 CALLX 0A01 1 RETRIEVE;12 FINISH UNHANDLED 0A01;DONE 12;",
+        ),
+        (
+            ";DCL P PTR;RSLVSP P,*LIST,PROGRAM/00/SHUT,NONE;XCTL P;",
+            "10 RSLVSP OK S8/00;11 XCTL 0A01 1 RETRIEVE;12 FINISH UNHANDLED 0A01;DONE 12;",
+        ),
+        (
+            " ADOPT;DCL P PTR;RSLVSP P,*LIST,PROGRAM/00/SHUT,NONE;XCTL P;",
+            "10 RSLVSP OK S8/00;11 XCTL OK;12 RSLVSP OK S5/00;13 ENQ 0A01 1 INSERT
+14 FINISH UNHANDLED 0A01;DONE 14;",
+        ),
+    ],
+};
+
+/// Whole decks, and the text that is written of their runs.
+pub static CALLED: Table = Table {
+    calls: SERIAL,
+    deck: ("", ""),
+    text: ("", ""),
+    status: 0,
+    rows: &[
+        // A program lends its owner's rights to a user as long as it runs.
+        (
+            "PROGRAM PUT ADOPT;DCL Q PTR;RSLVSP Q,*LIST,QUEUE/00/QLOCKED,NONE;ENQ Q,*NONE,'A';RTX;END
+PROGRAM SETUP;DCL C PTR;DCL P PTR;RSLVSP C,*MACHINE,CONTEXT/00/QGPL,NONE
+CRTPG P,C,PROGRAM/00/PUT,RETRIEVE,PUT;RTX;END
+PROGRAM USE;DCL P PTR;DCL Q PTR;RSLVSP P,*LIST,PROGRAM/00/PUT,NONE;CALLX P
+RSLVSP Q,*LIST,QUEUE/00/QLOCKED,NONE;ENQ Q,*NONE,'B';RTX;END
+STAGE;JOB S USER QSECOFR RUN SETUP;STAGE;JOB U USER QUSER RUN USE CONTEXTS QGPL;",
+            "JOB 1 S USER QSECOFR;1 START OK;2 RSLVSP OK S3/00;3 CRTPG OK S6/00;4 FINISH RETURN
+JOB 2 U USER QUSER;5 START OK;6 RSLVSP OK S6/00;7 CALLX OK;8 RSLVSP OK S5/00;9 ENQ OK
+10 RSLVSP OK S5/00;11 ENQ 0A01 1 INSERT;12 FINISH UNHANDLED 0A01;DONE 12;",
+        ),
+        // A template calls itself, 64 frames deep; the next call is refused, and each level goes on with its own values.
+        (
+            "PROGRAM SELF;DCL P PARM 1 PTR;DCL N PARM 2 PKD:5:0;DCL S PARM 3 PKD:5:0;DCL L PKD:5:0
+DCL Q PTR;DCL M CHAR:3;DCL E EXCM 1C03 BACK;CMPPTRT P,SYS,CALL
+CRTPG P,*NONE,PROGRAM/00/SELF,NONE,SELF;LABEL CALL;ADDN N,N,1;CPYNV L,N;CALLX P,P,N,S
+LABEL BACK;ADDN S,S,L;CMPNVB L,1,HI,DONE;CRTQ Q,*NONE,QUEUE/00/Q,NONE,FIFO,0,3
+ENQ Q,*NONE,S;DEQ M,Q,ANY,*NONE,NOWAIT;LABEL DONE;END;STAGE;JOB A USER QSECOFR RUN SELF;",
+            "JOB 1 A USER QSECOFR;1 START OK;2 CRTPG OK S6/00
+3 CALLX OK;4 CALLX OK;5 CALLX OK;6 CALLX OK;7 CALLX OK;8 CALLX OK;9 CALLX OK;10 CALLX OK;11 CALLX OK
+12 CALLX OK;13 CALLX OK;14 CALLX OK;15 CALLX OK;16 CALLX OK;17 CALLX OK;18 CALLX OK;19 CALLX OK
+20 CALLX OK;21 CALLX OK;22 CALLX OK;23 CALLX OK;24 CALLX OK;25 CALLX OK;26 CALLX OK;27 CALLX OK
+28 CALLX OK;29 CALLX OK;30 CALLX OK;31 CALLX OK;32 CALLX OK;33 CALLX OK;34 CALLX OK;35 CALLX OK
+36 CALLX OK;37 CALLX OK;38 CALLX OK;39 CALLX OK;40 CALLX OK;41 CALLX OK;42 CALLX OK;43 CALLX OK
+44 CALLX OK;45 CALLX OK;46 CALLX OK;47 CALLX OK;48 CALLX OK;49 CALLX OK;50 CALLX OK;51 CALLX OK
+52 CALLX OK;53 CALLX OK;54 CALLX OK;55 CALLX OK;56 CALLX OK;57 CALLX OK;58 CALLX OK;59 CALLX OK
+60 CALLX OK;61 CALLX OK;62 CALLX OK;63 CALLX OK;64 CALLX OK;65 CALLX OK
+66 CALLX 1C03 0;67 CRTQ OK S7/00;68 ENQ OK;69 DEQ OK 02080F;70 FINISH RETURN;DONE 70;",
+        ),
+        // The code that was taken last is each invocation's own.
+        (
+            "PROGRAM SUB;DCL Q PARM 1 PTR;DCL M CHAR:2;RETEXCPD M;ENQ Q,*NONE,M;DEQ M,Q,ANY,*NONE,NOWAIT;END
+PROGRAM MAIN;DCL Q PTR;DCL P PTR;DCL M CHAR:2;DCL E EXCM 2A99 BACK
+CRTQ Q,*NONE,QUEUE/00/Q,NONE,FIFO,0,2;CRTPG P,*NONE,PROGRAM/00/SUB,NONE,SUB;SIGEXCP 2A99
+LABEL BACK;CALLX P,Q;RETEXCPD M;ENQ Q,*NONE,M;DEQ M,Q,ANY,*NONE,NOWAIT;END
+STAGE;JOB A USER QSECOFR RUN MAIN;",
+            "JOB 1 A USER QSECOFR;1 START OK;2 CRTQ OK S6/00;3 CRTPG OK S7/00;4 CALLX OK;5 ENQ OK
+6 DEQ OK 0000;7 ENQ OK;8 DEQ OK 2A99;9 FINISH RETURN;DONE 9;",
+        ),
+        // A call and a return count for the budget, which is the job's.
+        (
+            "PROGRAM SUB;END;PROGRAM MAIN;DCL P PTR;CRTPG P,*NONE,PROGRAM/00/SUB,NONE,SUB;CALLX P;END
+STAGE;JOB A USER QSECOFR RUN MAIN BUDGET 4;JOB B USER QSECOFR RUN MAIN BUDGET 5;",
+            "JOB 1 A USER QSECOFR;1 START OK;2 CRTPG OK S6/00;3 CALLX OK;4 FINISH BUDGET
+JOB 2 B USER QSECOFR;5 START OK;6 CRTPG OK S7/00;7 CALLX OK;8 FINISH RETURN;DONE 8;",
+        ),
+    ],
+};
