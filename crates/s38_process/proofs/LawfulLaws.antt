@@ -1,10 +1,10 @@
 -- A process stays lawful: by its local instructions, and by each reply that suits what it asked.
-use Rattle.std.proofs.Common.{◌≡◌, ℕ, zero, suc, ◌+◌, ◌-◌, ◌<◌, ◌≤◌, Bool, true, false, not, ◌&&◌, List, [], ◌∷◌, length, drop, refl, sym, ◌∙◌, ap, subst, arith, nat_le}
+use Rattle.std.proofs.Common.{◌≡◌, ℕ, zero, suc, ◌+◌, ◌-◌, ◌<◌, ◌≤◌, Bool, true, false, not, List, [], ◌∷◌, length, drop, refl, sym, ◌∙◌, ap, subst, arith, nat_le}
 use Rattle.std.proofs.lemmas.Bool.{cond_both}
 use Rattle.std.proofs.lemmas.Bool.Decides.{nat_tests}
 use Rattle.std.proofs.lemmas.List.Elements.{All-nil}
 use Rattle.std.proofs.lemmas.Option.{slice_get_within}
-use Rattle.std.specs.Prelude.{Option, Some, None, slice_get, unwrap_or, nat_lt, if◌then◌else◌}
+use Rattle.std.specs.Prelude.{Result, Ok, Err, OnOk, OnErr, Option, Some, None, slice_get, unwrap_or, nat_lt, if◌then◌else◌}
 use Rattle.std.specs.List.{list_all}
 use Rattle.s38_base.specs.declared.op.Op.{Op}
 use Rattle.s38_base.specs.declared.op.Op.TheVariants.{Callx, Xctl}
@@ -12,8 +12,7 @@ use Rattle.s38_code.specs.Operations.{classes, operand_rule}
 use Rattle.s38_code.specs.declared.class.Class.{Class}
 use Rattle.s38_code.specs.declared.event.EndCause.{EndCause}
 use Rattle.s38_code.specs.declared.event.EndCause.TheVariants as causes
-use Rattle.s38_code.specs.declared.event.Event.{Event}
-use Rattle.s38_code.specs.declared.event.Event.TheVariants.{Start, Act, Finish}
+use Rattle.s38_code.specs.declared.event.Event.TheVariants.{Start, Finish}
 use Rattle.s38_code.specs.declared.made.CreateResult.{CreateResult}
 use Rattle.s38_code.specs.declared.program.Arg.{Arg}
 use Rattle.s38_code.specs.declared.program.Arg.TheVariants as args
@@ -28,7 +27,7 @@ use Rattle.s38_local.specs.declared.local_end.LocalEnd.{LocalEnd}
 use Rattle.s38_local.specs.declared.local_end.LocalEnd.TheVariants.{Next, Jump, Return, Signal}
 use Rattle.s38_local.specs.Frames.{Went, returned_to}
 use Rattle.s38_local.specs.Law.{EndsWithin, IsMet, IsWithin, KeepsLaw, shape_of, shapes_of}
-use Rattle.s38_local.specs.Local.{is_local, run}
+use Rattle.s38_local.specs.Local.{run}
 use Rattle.s38_local.specs.Variables.{place_of}
 use Rattle.s38_odt.specs.OperandRules.{keeps_rule}
 use Rattle.s38_odt.specs.Suited.{AreSuited, IsSuited, lands_in}
@@ -38,10 +37,9 @@ use Rattle.s38_local.proofs.LawLaws.{law_kept, law_kept_past}
 use Rattle.s38_process.specs.declared.invocation.Invocation.{Invocation}
 use Rattle.s38_process.specs.declared.status.Status.{Status}
 use Rattle.s38_process.specs.declared.status.Status.TheVariants.{Fresh, Running, Ending, Ended}
-use Rattle.s38_process.specs.Exceptions.{offered}
-use Rattle.s38_process.specs.Invocations.{Stack, arguments_in, code_in, deepest, depth_of, entered, instruction_of, popped, rows_in}
-use Rattle.s38_process.specs.Lawful.{Either, IsLawful, StandLawful, StandsWell, SuitValues, SuitsBy, SuitsCall, SuitsHere, SuitsInto, SuitsPlace, SuitsReply}
-use Rattle.s38_process.specs.Process.{ProcessState, absorbed, act_of, acts, after_act, after_asked, after_event, after_local, after_run, alone, alone_by, alone_there, asks, ends_there, event_of, fresh, is_local_there, is_return, local_step, local_steps, next_instruction, program_in, ran, returns, runs, settled, went_by, went_into, went_on, with_frame}
+use Rattle.s38_process.specs.Invocations.{Stack, arguments_in, code_in, deepest, depth_of, entered, instruction_of, rows_in}
+use Rattle.s38_process.specs.Lawful.{Either, IsLawful, StandLawful, SuitValues, SuitsBy, SuitsHere, SuitsInto, SuitsPlace, SuitsReply}
+use Rattle.s38_process.specs.Process.{ProcessState, absorbed, act_of, acts, after_act, after_asked, after_event, after_local, after_run, alone, alone_by, alone_there, asks, ends_there, event_of, fresh, is_local_there, is_return, local_step, local_steps, next_instruction, program_in, ran, returns, settled, went_by, went_into, went_on, with_frame}
 use Rattle.s38_process.specs.Replies.{is_taken, label_in, merged, put, received, takes_value}
 use Rattle.s38_process.proofs.LawfulLawsOfCalls.{entered_lawful, exchanged_lawful, first_lawful, invocation_well, popped_lawful, stands_again}
 use Rattle.s38_process.proofs.LawfulLawsOfLists.{all_at, both_true, merged_shape, set_shape, shape_here, shape_there}
@@ -189,7 +187,7 @@ went_on_lawful s i vs stand is suits =
     let at = s.top.frame.at in
     let behind : at + 1 ≤ count = omega (arith, inside_next s.top i is) in
     let next : next_instruction (Some i) vs at ≤ count =
-        cond_both (is_taken vs) (unwrap_or (label_in i.args) (at + 1)) (at + 1) (λ n. n ≤ count) (λ taken. label_within count (at + 1) i.args behind (suited_next s i stand is).jumps) (λ on. behind) in
+    cond_both (is_taken vs) (unwrap_or (label_in i.args) (at + 1)) (at + 1) (λ n. n ≤ count) (λ taken. label_within count (at + 1) i.args behind (suited_next s i stand is).jumps) (λ on. behind) in
     framed_lawful s (received i.op rows homes (classes i.op) i.args vs s.values) (record s.top.frame { at = next_instruction (Some i) vs at }) stand
     (received_shapes i.op rows homes (classes i.op) i.args vs s.values s.values refl suits) refl refl (record { at = next; returns = well.within.returns })
 
@@ -249,7 +247,14 @@ pub absorbed_lawful : (d : ProcessState) (r : Reply) → IsLawful d → SuitsRep
 unfolding absorbed event_of
 absorbed_lawful d r lawful suits = settled_lawful (after_asked d (event_of d) r) (asked_lawful d d.status r lawful suits)
 
+-- so it stays where memory was refused
+pub answered_lawful : {A E : Type 0} (d p e : ProcessState) (r : Reply) (result : Result A E) → p ≡ d → OnOk result (e ≡ after_asked p (event_of p) r) → OnErr result (e ≡ p)
+    → IsLawful d → SuitsReply d r → IsLawful (settled e)
+unfolding event_of
+answered_lawful d p e r (Ok done) same ok err lawful suits = settled_lawful e (subst IsLawful (sym (rw same at ok)) (asked_lawful d d.status r lawful suits))
+answered_lawful d p e r (Err fault) same ok err lawful suits = settled_lawful e (subst IsLawful (sym (err ∙ same)) lawful)
+
 -- ---- its beginning
 
-pub fresh_lawful : (made : CreateResult) (budget : ℕ) → AreSuited (rows_in made) (code_in made) → IsLawful (fresh made budget)
-fresh_lawful made budget suited = first_lawful made suited
+pub begun_lawful : (p : ProcessState) (made : CreateResult) (budget : ℕ) → p ≡ fresh made budget → AreSuited (rows_in made) (code_in made) → IsLawful (settled p)
+begun_lawful p made budget is suited = settled_lawful p (subst IsLawful (sym is) (first_lawful made suited))

@@ -1,5 +1,5 @@
 -- How invocations begin: each variable holds what its declaration says, and each parameter lies where its argument does.
-use Rattle.std.proofs.Common.{◌≡◌, ℕ, zero, suc, ◌+◌, ◌-◌, ◌*◌, ◌^◌, ◌<◌, ◌≤◌, Bool, true, false, ◌&&◌, List, [], ◌∷◌, ◌++◌, map, length, take, drop, ℤ, pos, refl, sym, ◌∙◌, ap, subst, arith, length-append}
+use Rattle.std.proofs.Common.{◌≡◌, ℕ, zero, suc, ◌+◌, ◌-◌, ◌*◌, ◌^◌, ◌<◌, ◌≤◌, true, List, [], ◌∷◌, ◌++◌, length, take, pos, refl, sym, ◌∙◌, ap, subst, arith, length-append}
 use Rattle.std.proofs.lemmas.Bool.{and_from}
 use Rattle.std.proofs.lemmas.Bool.Decides.{nat_tests}
 use Rattle.std.proofs.lemmas.List.{length-map, length-replicate, length-take-le, map-append, take-append-le, take-map}
@@ -8,9 +8,9 @@ use Rattle.std.proofs.lemmas.List.FromFn.{length-map-range_with_len}
 use Rattle.std.proofs.lemmas.List.Sums.{sum_by-cons}
 use Rattle.std.proofs.lemmas.Option.{slice_get_within}
 use Rattle.std.proofs.Math.Nat.{one-le-pow}
-use Rattle.std.proofs.Math.Seq.{take-append_seam, take-length}
-use Rattle.std.specs.Prelude.{Option, Some, None, IsTrue, slice_get, nat_lt, replicate, unwrap_or, ◌==◌, ◌||◌, ◌/◌, if◌then◌else◌}
-use Rattle.std.specs.List.{All, count_by, list_all, range_with_len}
+use Rattle.std.proofs.Math.Seq.{take-append_seam}
+use Rattle.std.specs.Prelude.{Option, Some, None, IsTrue, slice_get, nat_lt, unwrap_or, ◌==◌, ◌||◌, ◌/◌, if◌then◌else◌}
+use Rattle.std.specs.List.{list_all, range_with_len}
 use Rattle.s38_base.specs.declared.attr.Attr.{Attr}
 use Rattle.s38_base.specs.declared.attr.Attr.TheVariants.{Packed, Zoned, Binary, Chars, Pointer}
 use Rattle.s38_base.specs.Scalar.{are_digits, bits_of, digit_at, fits, image_of, is_bounded, length_of, packed_byte, zoned_byte}
@@ -20,18 +20,15 @@ use Rattle.s38_code.specs.declared.program.Arg.{Arg}
 use Rattle.s38_code.specs.declared.program.Arg.TheVariants.{Item}
 use Rattle.s38_code.specs.declared.program.Form.{Form}
 use Rattle.s38_code.specs.declared.program.Form.TheVariants.{Local, Parm, Based, Handler}
-use Rattle.s38_code.specs.declared.program.Instruction.{Instruction}
 use Rattle.s38_code.specs.declared.program.Program.{Program}
 use Rattle.s38_code.specs.declared.program.Row.{Row}
 use Rattle.s38_code.specs.declared.reply.Val.{Val}
-use Rattle.s38_code.specs.declared.reply.Val.TheVariants as vals
-use Rattle.s38_local.specs.declared.frame.Frame.{Frame}
-use Rattle.s38_local.specs.Law.{AreHeld, Holds, IsWithin, Shape, shape_at, shape_for, shape_of, shapes_of}
-use Rattle.s38_local.specs.Law.Shape.{OfBytes, OfPointer}
+use Rattle.s38_local.specs.Law.{Holds, Shape, shape_at, shape_for, shape_of, shapes_of}
+use Rattle.s38_local.specs.Law.Shape.{OfBytes}
 use Rattle.s38_local.specs.Variables.{place_of}
-use Rattle.s38_odt.specs.First.{blank_of, units_held}
-use Rattle.s38_odt.specs.Formed.{AreFormed, IsForm, IsNumbered, IsVariable}
-use Rattle.s38_odt.specs.Suited.{AreSuited, IsSuited}
+use Rattle.s38_odt.specs.First.{units_held}
+use Rattle.s38_odt.specs.Formed.{IsForm, IsVariable}
+use Rattle.s38_odt.specs.Suited.{AreSuited}
 use Rattle.s38_odt.specs.Suits.{form_suits, item_suits}
 use Rattle.s38_odt.specs.Table.{is_parameter, parameter_count}
 use Rattle.s38_process.specs.declared.invocation.Invocation.{Invocation}
@@ -103,9 +100,11 @@ begins_well made before base places suited begins passed =
     record {
       program = suited;
       within = record { at = omega arith; returns = All-nil (λ at. at ≤ length (code_in made)) };
-      held = record { each = λ k row is.
-        rw (home_at base places base rows k (base + k) row is refl)
-        (held_by before firsts base places (length (code_in made)) (take k rows) k row.form begins (suited.formed.each k row is) (passed k row is) (first_at rows k row is)) };
+      held = record {
+        each = λ k row is.
+            rw (home_at base places base rows k (base + k) row is refl)
+            (held_by before firsts base places (length (code_in made)) (take k rows) k row.form begins (suited.formed.each k row is) (passed k row is) (first_at rows k row is));
+      };
       lent = λ k row is. rw (home_at base places base rows k (base + k) row is refl) (lent_by before base places (base + k) row.form begins (passed k row is));
       base = omega (arith, length-append before firsts);
     }
@@ -138,42 +137,45 @@ entered_lawful s program stand inside suits =
     let well = begins_well (Created program) shapes base (places_for s.top base) suits.suited count suits.passed in
     let caller = stands_again shapes s.top (behind_call s.top) s.callers stand refl (behind_well shapes s.top inside (invocation_well shapes s.top s.callers stand)) in
     let before : take base (shapes ++ shapes_of (first_values program.rows)) ≡ shapes =
-        ap (λ n. take n (shapes ++ shapes_of (first_values program.rows))) count ∙ take-append_seam shapes (shapes_of (first_values program.rows)) in
+    ap (λ n. take n (shapes ++ shapes_of (first_values program.rows))) count ∙ take-append_seam shapes (shapes_of (first_values program.rows)) in
     rw (map-append shape_of s.values (first_values program.rows)) (well, rw before caller)
 
 -- ---- a transfer
 
+abbrev AreLent : ℕ → List Row → List ℕ → Type 0
+AreLent base rows homes = (k : ℕ) (row : Row) → slice_get rows k ≡ Some row → IsLent base row.form (slice_get homes k)
+
+-- an argument that lies the same wherever else it would lie, and below the base
+abbrev IsBelow : List ℕ → ℕ → ℕ → Arg → Type 0
+IsBelow homes base far arg = (unwrap_or (place_of homes (Some arg)) far ≡ unwrap_or (place_of homes (Some arg)) base) × (unwrap_or (place_of homes (Some arg)) base < base)
+
 -- a parameter lies below the base, so that it is found whatever else lies nowhere
-parameter_place : (rows : List Row) (homes : List ℕ) (base far : ℕ) → ((k : ℕ) (row : Row) → slice_get rows k ≡ Some row → IsLent base row.form (slice_get homes k))
-    → (i : ℕ) (o : Option Row) → slice_get rows i ≡ o → form_suits is_parameter o ≡ true
-    → (unwrap_or (slice_get homes i) far ≡ unwrap_or (slice_get homes i) base) × (unwrap_or (slice_get homes i) base < base)
-parameter_place rows homes base far lent i None is suits = cc
-parameter_place rows homes base far lent i (Some row) is suits = by row.form (lent i row is) suits
-  where
-    by : (form : Form) → IsLent base form (slice_get homes i) → is_parameter form ≡ true → (unwrap_or (slice_get homes i) far ≡ unwrap_or (slice_get homes i) base) × (unwrap_or (slice_get homes i) base < base)
-    by (Parm k attr) lies suits = (ap (λ o. unwrap_or o far) lies.1.0 ∙ sym (ap (λ o. unwrap_or o base) lies.1.0), rw lies.1.0 lies.1.1)
-    by (Local attr first) lies suits = cc
-    by (Based at offset attr) lies suits = cc
-    by (Handler code at) lies suits = cc
+parameter_below : (homes : List ℕ) (base far i : ℕ) (form : Form) → IsLent base form (slice_get homes i) → is_parameter form ≡ true → IsBelow homes base far (Item i)
+parameter_below homes base far i (Parm k attr) lies suits = (ap (λ o. unwrap_or o far) lies.1.0 ∙ sym (ap (λ o. unwrap_or o base) lies.1.0), rw lies.1.0 lies.1.1)
+parameter_below homes base far i (Local attr first) lies suits = cc
+parameter_below homes base far i (Based at offset attr) lies suits = cc
+parameter_below homes base far i (Handler code at) lies suits = cc
 
-argument_place : (rows : List Row) (homes : List ℕ) (base far : ℕ) → ((k : ℕ) (row : Row) → slice_get rows k ≡ Some row → IsLent base row.form (slice_get homes k))
-    → (arg : Arg) → item_suits is_parameter rows arg ≡ true
-    → (unwrap_or (place_of homes (Some arg)) far ≡ unwrap_or (place_of homes (Some arg)) base) × (unwrap_or (place_of homes (Some arg)) base < base)
-argument_place rows homes base far lent (Item i) suits = parameter_place rows homes base far lent i (slice_get rows i) refl suits
-argument_place rows homes base far lent arg suits = cc
+item_below : (rows : List Row) (homes : List ℕ) (base far i : ℕ) (o : Option Row) → AreLent base rows homes → slice_get rows i ≡ o → form_suits is_parameter o ≡ true → IsBelow homes base far (Item i)
+item_below rows homes base far i None lent is suits = cc
+item_below rows homes base far i (Some row) lent is suits = parameter_below homes base far i row.form (lent i row is) suits
 
-passed_on : (rows : List Row) (homes : List ℕ) (base far : ℕ) → ((k : ℕ) (row : Row) → slice_get rows k ≡ Some row → IsLent base row.form (slice_get homes k))
+argument_below : (rows : List Row) (homes : List ℕ) (base far : ℕ) (arg : Arg) → AreLent base rows homes → item_suits is_parameter rows arg ≡ true → IsBelow homes base far arg
+argument_below rows homes base far (Item i) lent suits = item_below rows homes base far i (slice_get rows i) lent refl suits
+argument_below rows homes base far arg lent suits = cc
+
+passed_on : (rows : List Row) (homes : List ℕ) (base far : ℕ) → AreLent base rows homes
     → (arguments : List Arg) (j place : ℕ) → list_all (item_suits is_parameter rows) arguments ≡ true → slice_get (argument_places homes far arguments) j ≡ Some place
     → (slice_get (argument_places homes base arguments) j ≡ Some place) × (place < base)
 passed_on rows homes base far lent [] j place suits is = cc
 passed_on rows homes base far lent (arg ∷ more) zero place suits is =
-    let there = argument_place rows homes base far lent arg (both_true (item_suits is_parameter rows arg) (list_all (item_suits is_parameter rows) more) suits).0 in
+    let there = argument_below rows homes base far arg lent (both_true (item_suits is_parameter rows arg) (list_all (item_suits is_parameter rows) more) suits).0 in
     let same : unwrap_or (place_of homes (Some arg)) far ≡ place = cc in
     let here : unwrap_or (place_of homes (Some arg)) base ≡ place = cc in
     (ap Some here, subst (λ n. n < base) here there.1)
 passed_on rows homes base far lent (arg ∷ more) (suc j) place suits is = passed_on rows homes base far lent more j place (both_true (item_suits is_parameter rows arg) (list_all (item_suits is_parameter rows) more) suits).1 is
 
-passed_below : (rows : List Row) (homes : List ℕ) (base far : ℕ) (shapes : List Shape) → ((k : ℕ) (row : Row) → slice_get rows k ≡ Some row → IsLent base row.form (slice_get homes k))
+passed_below : (rows : List Row) (homes : List ℕ) (base far : ℕ) (shapes : List Shape) → AreLent base rows homes
     → (arguments : List Arg) → list_all (item_suits is_parameter rows) arguments ≡ true
     → (form : Form) → IsPassed shapes (argument_places homes far arguments) form → IsPassed (take base shapes) (argument_places homes base arguments) form
 passed_below rows homes base far shapes lent arguments suits (Parm k attr) passed =
@@ -203,10 +205,10 @@ exchanged_lawful s program stand parameters suits =
     let old = invocation_well shapes s.top s.callers stand in
     let count : base ≡ length (take base shapes) = sym (length-take-le base shapes old.base) in
     let passed = λ (k : ℕ) (row : Row) (is : slice_get program.rows k ≡ Some row).
-        passed_below (rows_in s.top.made) s.top.frame.homes base (length s.values) shapes old.lent (arguments_in (instruction_of s.top)) parameters row.form (suits.passed k row is) in
+    passed_below (rows_in s.top.made) s.top.frame.homes base (length s.values) shapes old.lent (arguments_in (instruction_of s.top)) parameters row.form (suits.passed k row is) in
     let well = begins_well (Created program) (take base shapes) base (places_for s.top base) suits.suited count passed in
     let made : shapes_of (take base s.values ++ first_values program.rows) ≡ take base shapes ++ firsts =
-        map-append shape_of (take base s.values) (first_values program.rows) ∙ ap (λ xs. xs ++ firsts) (sym (take-map shape_of base s.values)) in
+    map-append shape_of (take base s.values) (first_values program.rows) ∙ ap (λ xs. xs ++ firsts) (sym (take-map shape_of base s.values)) in
     rw made (stands_instead shapes firsts s.top (invoked program base (places_for s.top base)) s.callers stand refl old.base well)
 
 -- ---- an end

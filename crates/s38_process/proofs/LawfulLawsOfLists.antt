@@ -1,19 +1,19 @@
 -- Lists of variables, of their shapes and of their places.
-use Rattle.std.proofs.Common.{◌≡◌, ℕ, zero, suc, ◌+◌, ◌-◌, ◌<◌, ◌≤◌, Bool, true, false, ◌&&◌, List, [], ◌∷◌, ◌++◌, map, length, take, drop, get_or, refl, sym, ◌∙◌, ap, subst, arith, length-append}
+use Rattle.std.proofs.Common.{◌≡◌, ℕ, zero, suc, ◌+◌, ◌<◌, Bool, true, false, ◌&&◌, List, [], ◌∷◌, ◌++◌, length, take, get_or, refl, sym, ◌∙◌, ap, subst, arith, length-append}
 use Rattle.std.proofs.lemmas.List.{length-drop, length-take}
 use Rattle.std.proofs.lemmas.List.FromFn.{get_or-range_with_len, length-range_with_len}
 use Rattle.std.proofs.lemmas.List.Elements.{All-get_or}
 use Rattle.std.proofs.lemmas.Option.{get_or_from_slice_get, slice_get-get_or, slice_get-map, slice_get_within}
-use Rattle.std.specs.Prelude.{Option, Some, None, slice_get, slice_set, if◌then◌else◌}
+use Rattle.std.specs.Prelude.{Some, slice_get, slice_set, if◌then◌else◌}
 use Rattle.std.specs.Option.{option_map}
 use Rattle.std.specs.List.{All, range_with_len}
 use Rattle.s38_base.specs.declared.op.Op.{Op}
 use Rattle.s38_code.specs.declared.reply.Val.{Val}
-use Rattle.s38_code.specs.declared.reply.Val.TheVariants.{Bytes, Ptr, Branch, Code}
+use Rattle.s38_code.specs.declared.reply.Val.TheVariants.{Bytes}
 use Rattle.s38_compute.specs.Computed.{copies_left, copies_right}
 use Rattle.s38_local.specs.Law.{Shape, shape_of, shapes_of}
-use Rattle.s38_local.specs.Law.Shape.{OfBytes, OfPointer, OfNeither}
-use Rattle.s38_process.specs.Replies.{merged, merged_bytes}
+use Rattle.s38_local.specs.Law.Shape.{OfBytes}
+use Rattle.s38_process.specs.Replies.{merged}
 use Rattle.s38_strings.specs.Copies.{copied_left, copied_right}
 
 -- ---- tests

@@ -1,5 +1,5 @@
 -- An exception is taken where the law holds on: its label lies within the code.
-use Rattle.std.proofs.Common.{◌≡◌, ℕ, zero, suc, ◌≤◌, Bool, true, false, ◌&&◌, List, [], ◌∷◌, length, take, refl, sym, ◌∙◌, arith}
+use Rattle.std.proofs.Common.{◌≡◌, ℕ, zero, suc, ◌≤◌, Bool, false, ◌&&◌, List, [], ◌∷◌, length, take, refl, arith}
 use Rattle.std.proofs.lemmas.List.{take-map}
 use Rattle.std.proofs.lemmas.List.Elements.{All-nil}
 use Rattle.std.proofs.lemmas.Option.{cond_some}
@@ -9,13 +9,12 @@ use Rattle.s38_code.specs.declared.program.Form.{Form}
 use Rattle.s38_code.specs.declared.program.Form.TheVariants.{Local, Parm, Based, Handler}
 use Rattle.s38_code.specs.declared.program.Row.{Row}
 use Rattle.s38_code.specs.declared.reply.Val.{Val}
-use Rattle.s38_local.specs.declared.frame.Frame.{Frame}
-use Rattle.s38_local.specs.Law.{IsWithin, shape_of, shapes_of}
+use Rattle.s38_local.specs.Law.{shape_of, shapes_of}
 use Rattle.s38_odt.specs.Formed.{IsForm}
 use Rattle.s38_process.specs.declared.invocation.Invocation.{Invocation}
-use Rattle.s38_process.specs.Exceptions.{Offered, label_by, label_for, names, offered, offered_from, or_else, taken, taken_by, takes}
+use Rattle.s38_process.specs.Exceptions.{Offered, label_by, label_for, names, offered, offered_from, or_else, taken_by, takes}
 use Rattle.s38_process.specs.Invocations.{Stack, code_in, rows_in}
-use Rattle.s38_process.specs.Lawful.{StandFrom, StandLawful, StandsWell}
+use Rattle.s38_process.specs.Lawful.{StandFrom, StandLawful}
 use Rattle.s38_process.proofs.LawfulLawsOfCalls.{invocation_well, stands_again}
 
 -- ---- labels

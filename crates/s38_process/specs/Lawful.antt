@@ -1,6 +1,6 @@
 -- What a process keeps to, whatever its programs do: each of its invocations stands within its program, and each name
 -- stands for a variable that holds what it declares. So no local instruction meets an operand of another class.
-use Rattle.std.specs.Prelude.{◌≡◌, ◌<◌, ◌≤◌, ℕ, ◌-◌, Bool, true, false, List, [], ◌∷◌, length, slice_get, take, Option, Some, None, unwrap_or, if◌then◌else◌}
+use Rattle.std.specs.Prelude.{◌≡◌, ◌<◌, ◌≤◌, ℕ, ◌-◌, Bool, true, false, List, [], ◌∷◌, length, slice_get, take, Option, Some, None}
 use Rattle.s38_base.specs.declared.op.Op.{Op}
 use Rattle.s38_base.specs.declared.op.Op.TheVariants.{Callx, Xctl}
 use Rattle.s38_code.specs.Operations.{classes}
@@ -14,7 +14,7 @@ use Rattle.s38_code.specs.declared.program.Row.{Row}
 use Rattle.s38_code.specs.declared.reply.Reply.{Reply}
 use Rattle.s38_code.specs.declared.reply.Reply.TheVariants as replies
 use Rattle.s38_code.specs.declared.reply.Val.{Val}
-use Rattle.s38_local.specs.Law.{AreHeld, IsWithin, Shape, shape_at, shape_for, shape_of, shapes_of}
+use Rattle.s38_local.specs.Law.{AreHeld, IsWithin, Shape, shape_for, shape_of, shapes_of}
 use Rattle.s38_local.specs.Variables.{place_of}
 use Rattle.s38_odt.specs.Suited.{AreSuited}
 use Rattle.s38_process.specs.declared.invocation.Invocation.{Invocation}
@@ -59,7 +59,7 @@ IsPassed shapes places _ = Unit {0}
 pub record SuitsCall (s : Stack) (arguments : List Arg) (program : Program) : Type 0 where
   pub suited : AreSuited program.rows program.code
   pub passed : (k : ℕ) (row : Row) → slice_get program.rows k ≡ Some row
-    → IsPassed (shapes_of s.values) (argument_places s.top.frame.homes (length s.values) arguments) row.form
+      → IsPassed (shapes_of s.values) (argument_places s.top.frame.homes (length s.values) arguments) row.form
 
 -- a value that goes to a variable is such as the variable holds
 abbrev pub SuitsPlace : Op → List Val → Option ℕ → Val → Type 0

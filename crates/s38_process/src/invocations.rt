@@ -278,12 +278,7 @@ impl Invocations {
         ensures place { IfOk result (λ end. end ≡ LocalEnd.Next → self.old.top.frame.at + 1 < 2 ^ 64) }
         ensures err { OnErr result (self.new ≡ self.old) }
     {
-        run_next(
-            alloc,
-            &self.top.made,
-            &mut self.top.frame,
-            &mut self.values,
-        )
+        run_next(alloc, &self.top.made, &mut self.top.frame, &mut self.values)
     }
 }
 

@@ -37,9 +37,7 @@ fn returns_there(instruction: Option<&Instruction>) -> bool
 fn ends_there(invocations: &Invocations, instruction: Option<&Instruction>) -> bool
     ensures { result ≡ ends_there invocations.now (option_copied instruction.entry) }
 {
-    returns_there(instruction)
-        && invocations.frame().returns.len() == 0
-        && invocations.depth() == 1
+    returns_there(instruction) && invocations.frame().returns.len() == 0 && invocations.depth() == 1
 }
 
 fn is_local_there(rows: &[Row], instruction: Option<&Instruction>) -> bool

@@ -29,7 +29,7 @@ impl Model for Process {
 
 impl Process {
     /// A process that has not started, over what creation made of the job's template.
-    #[tactic(auto, using(crate::proofs::Alone::fresh_settled, crate::proofs::LawfulLaws::fresh_lawful))]
+    #[tactic(auto, using(crate::proofs::Alone::fresh_settled))]
     pub fn begin(alloc: Global, job: &Job, made: CreateResult) -> Result<Process, NoMemory>
         ensures ok { IfOk result (λ process. process ≡ fresh made job.now.budget) }
         ensures lawful { AreSuited (rows_in made) (code_in made) → IfOk result (λ process. IsLawful process) }
