@@ -24,7 +24,7 @@ use Rattle.s38_process.specs.Replies.{merged, takes_value}
 
 -- ---- invocations
 
--- a parameter lies behind no variable of its own invocation
+-- a parameter lies before the variables of its own invocation, among those of its callers
 abbrev pub IsLent : ℕ → Form → Option ℕ → Type 0
 IsLent base (forms.Parm k attr) home = (place : ℕ) × ((home ≡ Some place) × (place < base))
 IsLent base _ home = Unit {0}
