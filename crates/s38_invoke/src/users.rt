@@ -83,19 +83,32 @@ fn adoption_of(last: bool, program: Option<Header>) -> Option<UserNum>
     }
 }
 
-/// The owners that the frames bring join the acting users.
-fn adopt<T: Table>(objects: &T, acting: &mut Acting, frames: &[ObjNum])
-    requires { length acting.old + length frames.now ≤ 65 }
+/// The owners that the frames bring join the acting users. What is said of the program before them is handed on, so
+/// that a program that calls itself is looked up once.
+fn adopt<T: Table>(
+    objects: &T,
+    acting: &mut Acting,
+    frames: &[ObjNum],
+    before: ObjNum,
+    said: Option<Header>,
+)
+    requires few { length acting.old + length frames.now ≤ 65 }
+    requires said { said ≡ frame_header (T.held objects.now) before }
     ensures { acting.new ≡ acting.old ++ adopted (T.held objects.now) frames.now }
 {
     match frames {
         [] => {}
         [frame, more @ ..] => {
-            let owner = adoption_of(more.len() == 0, frame_header(objects, *frame));
+            let program = if *frame == before {
+                said
+            } else {
+                frame_header(objects, *frame)
+            };
+            let owner = adoption_of(more.len() == 0, program);
             if let Some(owner) = owner {
                 acting.add(owner);
             }
-            adopt(objects, acting, more);
+            adopt(objects, acting, more, *frame, program);
         }
     }
 }
@@ -121,6 +134,8 @@ impl<T: Table> World<T> {
             &self.objects,
             &mut acting,
             self.frames_in_use(process, depth),
+            ObjNum(0),
+            None,
         );
         acting
     }
