@@ -73,6 +73,6 @@ pub writes_the_argument : (s : Stack) (program : Program) (row place : ℕ) (v :
 writes_the_argument s program row place v is =
     let more = first_values program.rows in
     let put : put_at (s.values ++ more) (slice_get (entered s program).top.frame.homes row) v ≡ slice_set s.values place v ++ more =
-        ap (λ o. put_at (s.values ++ more) o v) (parameter_home s program row place is) ∙ set_left s.values more place v is.there in
+    ap (λ o. put_at (s.values ++ more) o v) (parameter_home s program row place is) ∙ set_left s.values more place v is.there in
     ap (λ (values : List Val). record { values = values; top = behind_call s.top; callers = s.callers })
     (ap (take (length s.values)) put ∙ cut_back (slice_set s.values place v) more (length s.values) (set_length s.values place v))
