@@ -5,7 +5,7 @@ use Rattle.std.proofs.lemmas.List.Elements.{All-nil, All-push}
 use Rattle.std.specs.Prelude.{Option, Some, None, slice_get, slice_set}
 use Rattle.s38_base.specs.declared.id.ObjNum.{ObjNum}
 use Rattle.s38_base.specs.declared.op.Op.{Op}
-use Rattle.s38_base.specs.declared.op.Op.TheVariants.{Rslvsp, Setsppfp, Setspfp, Setdp, Cpybwp, Crtpg, Callx, Xctl, Crtq, Crts, Mods, Despg, Desq, Dess, Enq, Deq}
+use Rattle.s38_base.specs.declared.op.Op.TheVariants.{Crtctx, Modadr, Rename, Matctx, Desctx, Crtup, Modup, Desup, Grant, Retract, Xfro, Testau, Matau, Matauobj, Rslvsp, Setsppfp, Setspfp, Setdp, Cpybwp, Crtpg, Callx, Xctl, Crtq, Crts, Mods, Despg, Desq, Dess, Enq, Deq}
 use Rattle.s38_code.specs.declared.entry.Entry.{Entry}
 use Rattle.s38_code.specs.declared.event.Event.{Event}
 use Rattle.s38_code.specs.declared.event.Event.TheVariants.{Start, Act, Finish}
@@ -24,6 +24,9 @@ use Rattle.s38_rules.specs.declared.process.Started.{Started}
 use Rattle.s38_rules.specs.declared.verdict.Verdict.{Verdict}
 use Rattle.s38_rules.specs.declared.verdict.Verdict.TheVariants.{Permit, Wait, Refuse}
 use Rattle.s38_rules.specs.Computing.{receiver_at, shift_at}
+use Rattle.s38_rules.specs.Contexts.{contexts_row, crtctx_changes}
+use Rattle.s38_rules.specs.Grants.{grants_row}
+use Rattle.s38_rules.specs.Profiles.{crtup_changes, profiles_row}
 use Rattle.s38_rules.specs.Effect.{effect, effect_of, start_at, end_at}
 use Rattle.s38_rules.specs.Instruction.{AreKept, Instruction, KeepsProcesses, inert, unstacked}
 use Rattle.s38_rules.specs.Invocations.{pushed, replaced, restack, restack_at, restacked, with_stack}
@@ -170,6 +173,32 @@ keeps_queues Enq = record { kept = λ s p d r. same_kept p s.processes }
 keeps_queues Deq = record { kept = λ s p d r. same_kept p s.processes }
 keeps_queues _ = record { kept = λ s p d r. same_kept p s.processes }
 
+keeps_contexts : (op : Op) → KeepsProcesses (contexts_row op)
+unfolding contexts_row crtctx_changes
+keeps_contexts Crtctx = record { kept = λ s p d r. same_kept p s.processes }
+keeps_contexts Desctx = record { kept = λ s p d r. same_kept p s.processes }
+keeps_contexts Modadr = record { kept = λ s p d r. same_kept p s.processes }
+keeps_contexts Rename = record { kept = λ s p d r. same_kept p s.processes }
+keeps_contexts Matctx = record { kept = λ s p d r. same_kept p s.processes }
+keeps_contexts _ = record { kept = λ s p d r. same_kept p s.processes }
+
+keeps_profiles : (op : Op) → KeepsProcesses (profiles_row op)
+unfolding profiles_row crtup_changes
+keeps_profiles Crtup = record { kept = λ s p d r. same_kept p s.processes }
+keeps_profiles Modup = record { kept = λ s p d r. same_kept p s.processes }
+keeps_profiles Desup = record { kept = λ s p d r. same_kept p s.processes }
+keeps_profiles _ = record { kept = λ s p d r. same_kept p s.processes }
+
+keeps_grants : (op : Op) → KeepsProcesses (grants_row op)
+unfolding grants_row
+keeps_grants Grant = record { kept = λ s p d r. same_kept p s.processes }
+keeps_grants Retract = record { kept = λ s p d r. same_kept p s.processes }
+keeps_grants Xfro = record { kept = λ s p d r. same_kept p s.processes }
+keeps_grants Testau = record { kept = λ s p d r. same_kept p s.processes }
+keeps_grants Matau = record { kept = λ s p d r. same_kept p s.processes }
+keeps_grants Matauobj = record { kept = λ s p d r. same_kept p s.processes }
+keeps_grants _ = record { kept = λ s p d r. same_kept p s.processes }
+
 keeps_inert : KeepsProcesses inert
 keeps_inert = record { kept = λ s p d r. same_kept p s.processes }
 
@@ -177,6 +206,9 @@ pub keeps_row : (f : Family) (op : Op) → KeepsProcesses (row_in f op)
 unfolding row_in
 keeps_row families.Computing op = record { kept = λ s p d r. same_kept p s.processes }
 keeps_row families.Resolving op = keeps_resolving op
+keeps_row families.Contexts op = keeps_contexts op
+keeps_row families.Profiles op = keeps_profiles op
+keeps_row families.Grants op = keeps_grants op
 keeps_row families.Programs op = keeps_programs op
 keeps_row families.Spaces op = keeps_spaces op
 keeps_row families.Queues op = keeps_queues op

@@ -1,14 +1,15 @@
 -- How objects are made and destroyed, whatever their kind: the identification is new in its context, the owner may
 -- pay for the object, and a number is left.
-use Rattle.std.specs.Prelude.{ℕ, ◌+◌, Bool, false, ◌||◌, List, [], ◌∷◌, length, Option, Some, None, is_some, nat_le, nat_lt, if◌then◌else◌}
+use Rattle.std.specs.Prelude.{ℕ, ◌+◌, Bool, false, not, ◌||◌, List, [], ◌∷◌, length, Option, Some, None, is_some, nat_le, nat_lt, if◌then◌else◌}
 use Rattle.s38_base.specs.declared.exception.Exception.{Exception}
 use Rattle.s38_base.specs.declared.id.Id.{Id}
 use Rattle.s38_base.specs.declared.id.Kind.{Kind}
+use Rattle.s38_base.specs.declared.id.Kind.TheVariants as kinds
 use Rattle.s38_base.specs.declared.pointer.Pointer.{Pointer}
 use Rattle.s38_base.specs.declared.pointer.Pointer.TheVariants as pointers
 use Rattle.s38_base.specs.declared.words.Category.TheVariants.{Change, Control}
 use Rattle.s38_base.specs.Exceptions as exceptions
-use Rattle.s38_base.specs.Limits.{last_number, most_objects}
+use Rattle.s38_base.specs.Limits.{last_number, machine_context, most_objects}
 use Rattle.s38_base.specs.RightNames as rights
 use Rattle.s38_base.specs.Signals.{fails, first}
 use Rattle.s38_code.specs.declared.operand.Operand.{Operand}
@@ -19,10 +20,11 @@ use Rattle.s38_rules.specs.declared.need.Need.{Need}
 use Rattle.s38_rules.specs.declared.need.Sought.TheVariants.{Of, Container}
 use Rattle.s38_rules.specs.declared.object.Body.{Body}
 use Rattle.s38_rules.specs.declared.object.Object.{Object}
-use Rattle.s38_rules.specs.declared.object.PrivateRow.{PrivateRow}
+use Rattle.s38_rules.specs.declared.rows.PrivateRow.{PrivateRow}
 use Rattle.s38_rules.specs.Headers.{limit_of}
-use Rattle.s38_rules.specs.Held.{Held, charge_in, found, object, with_object, without}
-use Rattle.s38_rules.specs.Needs.{on_object}
+use Rattle.s38_rules.specs.Held.{Held, charge_in, found, has_number, object, with_object, without}
+use Rattle.s38_rules.specs.Needs.{on_implied, on_object}
+use Rattle.s38_rules.specs.PrivateRows.{row_for}
 use Rattle.s38_rules.specs.Operands.{id_at, is_given, rights_at, target}
 
 -- ---- what is made
@@ -43,11 +45,35 @@ in_context kind pages h ops =
       pages = pages;
     }
 
+-- an object of the machine context, with the identification of operand 2
+abbrev pub of_machine : Kind → ℕ → List Operand → Creating
+of_machine kind public ops =
+    record {
+      context = record { 0 = machine_context };
+      id = of_kind kind (id_at ops 2);
+      place = 2;
+      public = record { 0 = public };
+      pages = 1;
+    }
+
+-- INSERT on the machine context
+unfoldable pub machine_needs : List Need
+machine_needs = on_implied machine_context (Of kinds.Context) rights.insert (Some Change)
+
 -- INSERT on the context that the new object is put into, where one is given
 unfoldable pub creation_needs : List Operand → List Need
 creation_needs ops = if is_given ops 2 then on_object 2 Container rights.insert (Some Change) else []
 
 -- ---- when it fails
+
+-- the identification leads to another object than that of the number
+abbrev pub is_another : ℕ → Option Object → Bool
+is_another n None = false
+is_another n (Some o) = not (has_number n o)
+
+-- another object of the context than that of the number has the identification
+abbrev pub is_taken_beside : Held → ℕ → ℕ → Id → Bool
+is_taken_beside h n context id = is_another n (found h context id)
 
 abbrev pub is_taken : Held → ℕ → Option Id → Bool
 is_taken h context None = false
@@ -61,15 +87,15 @@ limit_in None = 0
 limit_in (Some o) = limit_of o.body
 
 -- a user would own more pages than its profile allows
-abbrev pub pages_rule : Held → ℕ → ℕ → Option Exception
-pages_rule h user pages = fails (nat_lt (limit_in (object h user)) pages) exceptions.pages_exceeded 0
+abbrev pub pages_rule : Held → ℕ → ℕ → ℕ → Option Exception
+pages_rule h user pages operand = fails (nat_lt (limit_in (object h user)) pages) exceptions.pages_exceeded operand
 
 abbrev pub number_rule : Held → Option Exception
 number_rule h = fails (nat_le most_objects (length h.objects) || nat_lt last_number h.next) exceptions.limit_exceeded 0
 
 -- the owner pays for it, and a number is left
 unfoldable pub creation_limits : Held → ℕ → ℕ → Option Exception
-creation_limits h owner pages = first (pages_rule h owner (charge_in h.objects owner + pages)) (number_rule h)
+creation_limits h owner pages = first (pages_rule h owner (charge_in h.objects owner + pages) 0) (number_rule h)
 
 -- the identification is new, then the row's own conditions hold, then the limits
 unfoldable pub creation_fails : Held → ℕ → Creating → Option Exception → Option Exception
@@ -87,7 +113,7 @@ creation_gives h made = vals.Ptr (new_pointer h made.id)
 
 -- all eight rights of the user who made an object
 abbrev pub maker_rows : ℕ → List PrivateRow
-maker_rows owner = record { user = record { 0 = owner }; rights = record { 0 = rights.all_rights } } ∷ []
+maker_rows owner = row_for (record { 0 = owner }) (record { 0 = rights.all_rights })
 
 abbrev pub new_object : Held → ℕ → Creating → Id → Body → Object
 new_object h owner made id body =

@@ -1,17 +1,22 @@
 -- What is said of an object beside its name and what it holds: its header, and a user's private row.
-use Rattle.std.specs.Prelude.{ℕ, ◌==◌, Bool, false, List, Option, Some, None, find}
+use Rattle.std.specs.Prelude.{ℕ, Bool, false, List, [], Option, Some, None}
 use Rattle.s38_base.specs.RightNames as rights
 use Rattle.s38_rules.specs.declared.object.Object.{Object}
 use Rattle.s38_rules.specs.declared.object.Body.{Body}
 use Rattle.s38_rules.specs.declared.object.Body.TheVariants as bodies
-use Rattle.s38_rules.specs.declared.object.PrivateRow.{PrivateRow}
+use Rattle.s38_rules.specs.declared.rows.PrivateRow.{PrivateRow}
 use Rattle.s38_rules.specs.declared.table.Header.{Header}
 use Rattle.s38_rules.specs.Held.{kind_of}
+use Rattle.s38_rules.specs.PrivateRows.{row_of}
 
 -- the special authorities of a user, none for other kinds
 abbrev pub special_of : Body → ℕ
 special_of (bodies.Profile special limit) = special.0
 special_of _ = rights.no_rights
+
+abbrev pub special_in : Option Object → ℕ
+special_in None = rights.no_rights
+special_in (Some o) = special_of o.body
 
 -- how many pages a user may own
 abbrev pub limit_of : Body → ℕ
@@ -42,17 +47,16 @@ abbrev pub header_in : Option Object → Option Header
 header_in None = None
 header_in (Some o) = Some (header_of o)
 
+-- the rights of everybody
+abbrev pub public_in : Option Object → ℕ
+public_in None = rights.no_rights
+public_in (Some o) = o.public.0
+
 -- ---- private rows
 
-abbrev pub rights_in : Option PrivateRow → ℕ
-rights_in None = rights.no_rights
-rights_in (Some row) = row.rights.0
-
-abbrev pub is_row : ℕ → PrivateRow → Bool
-is_row user row = row.user.0 == user
-
-abbrev pub row_of : List PrivateRow → ℕ → ℕ
-row_of rows user = rights_in (find (is_row user) rows)
+abbrev pub rows_in : Option Object → List PrivateRow
+rows_in None = []
+rows_in (Some o) = o.rows
 
 -- the rights of a user's private row on an object
 abbrev pub row_in : Option Object → ℕ → ℕ

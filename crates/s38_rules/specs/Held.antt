@@ -1,6 +1,6 @@
 -- The objects of the one address space, and the numbers that were given. They are looked into and changed by the
 -- words below and those of `Parts` alone.
-use Rattle.std.specs.Prelude.{ℕ, ◌+◌, ◌*◌, ◌/◌, ◌==◌, Bool, ◌&&◌, not, List, [], ◌∷◌, ◌++◌, length, filter, sum_by, Option, Some, None, find, nat_lt, if◌then◌else◌}
+use Rattle.std.specs.Prelude.{ℕ, ◌+◌, ◌*◌, ◌/◌, ◌==◌, Bool, ◌&&◌, not, List, [], ◌∷◌, ◌++◌, length, filter, sum_by, Option, Some, None, is_some, find, nat_lt, if◌then◌else◌}
 use Rattle.s38_base.specs.declared.id.Id.{Id}
 use Rattle.s38_base.specs.declared.id.Kind.{Kind}
 use Rattle.s38_base.specs.declared.id.Kind.TheVariants as kinds
@@ -34,19 +34,27 @@ object_in os n = find (has_number n) os
 abbrev pub object : Held → ℕ → Option Object
 object h n = object_in h.objects n
 
--- the object is among a context's contents; one whose context number is 0 is in no context
+-- the object of a number is there
+abbrev pub is_there : Held → ℕ → Bool
+is_there h n = is_some (object h n)
+
+-- the object says that it is in a context; one whose context number is 0 is in no context
 abbrev pub is_in_context : ℕ → Object → Bool
 is_in_context context o = not (context == 0) && (o.context.0 == context)
+
+-- the objects in a context; one that is gone holds nothing
+abbrev pub contents : Held → ℕ → List Object
+contents h context = if is_there h context then filter (is_in_context context) h.objects else []
 
 abbrev pub is_named : ℕ → Id → Object → Bool
 is_named context id o = is_in_context context o && same_id o.id id
 
--- the object of an identification in a context
 abbrev pub found_in : List Object → ℕ → Id → Option Object
 found_in os context id = find (is_named context id) os
 
+-- the object of an identification in a context; in one that is gone nothing is found
 abbrev pub found : Held → ℕ → Id → Option Object
-found h context id = found_in h.objects context id
+found h context id = if is_there h context then found_in h.objects context id else None
 
 abbrev pub number_in : Option Object → Option ObjNum
 number_in None = None
@@ -67,6 +75,11 @@ abbrev pub owner_in : Option Object → ℕ
 owner_in None = 0
 owner_in (Some o) = o.owner.0
 
+-- the context that an object says
+abbrev pub context_in : Option Object → ObjNum
+context_in None = record { 0 = 0 }
+context_in (Some o) = o.context
+
 -- ---- changing
 
 -- the object of a number is another one from now on
@@ -76,6 +89,14 @@ change_in (o ∷ os) n f = if has_number n o then f o ∷ os else o ∷ change_i
 
 abbrev pub change : Held → ℕ → (Object → Object) → Held
 change h n f = record h { objects = change_in h.objects n f }
+
+-- the object of a number has another identification from now on
+abbrev pub renamed : Held → ℕ → Id → Held
+renamed h n id = change h n (λ o. record o { id = id })
+
+-- the object of a number says another context from now on, or none
+abbrev pub moved : Held → ℕ → ObjNum → Held
+moved h n context = change h n (λ o. record o { context = context })
 
 -- the objects without that of a number
 abbrev pub without_in : List Object → ℕ → List Object
@@ -110,6 +131,11 @@ pages_of _ = 1
 
 abbrev pub pages_for : ℕ → Object → ℕ
 pages_for user o = if o.owner.0 == user then pages_of o.body else 0
+
+-- the pages of the object of a number
+abbrev pub pages_in : Option Object → ℕ
+pages_in None = 0
+pages_in (Some o) = pages_of o.body
 
 -- the pages of all objects that a user owns
 unfoldable pub charge_in : List Object → ℕ → ℕ

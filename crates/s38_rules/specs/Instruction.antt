@@ -2,6 +2,7 @@
 -- what it changes. The process, the depth that it has come to and its request are handed to each.
 use Rattle.std.specs.Prelude.{◌≡◌, ◌≢◌, ℕ, ◌-◌, List, [], map, slice_index_or, Option, None}
 use Rattle.s38_base.specs.declared.exception.Exception.{Exception}
+use Rattle.s38_base.specs.RightNames as rights
 use Rattle.s38_code.specs.declared.event.Request.{Request}
 use Rattle.s38_code.specs.declared.reply.Val.{Val}
 use Rattle.s38_rules.specs.declared.need.Need.{Need}
@@ -12,6 +13,8 @@ use Rattle.s38_rules.specs.State.{State}
 pub record Instruction : Type 0 where
   -- of its operands, in their order, and of objects that it implies
   pub needs : State → ℕ → ℕ → Request → List Need
+  -- the special authority that an acting user must have
+  pub special : State → ℕ → ℕ → Request → ℕ
   -- its conditions and limits, the first that fails
   pub fails : State → ℕ → ℕ → Request → Option Exception
   -- the value for its receiver
@@ -33,4 +36,4 @@ pub record KeepsProcesses (i : Instruction) : Type 0 where
 
 -- an instruction that needs nothing and does nothing
 abbrev pub inert : Instruction
-inert = record { needs = λ s p d r. []; fails = λ s p d r. None; gives = λ s p d r. None; changes = λ s p d r. s }
+inert = record { needs = λ s p d r. []; special = λ s p d r. rights.no_rights; fails = λ s p d r. None; gives = λ s p d r. None; changes = λ s p d r. s }

@@ -3,6 +3,7 @@
 use Rattle.std.specs.Prelude.{◌≡◌, ℕ, List, [], Option, Some, None}
 use Rattle.std.specs.Option.{unwrap_or}
 use Rattle.std.proofs.Common.{refl}
+use Rattle.s38_base.specs.declared.rights.Special.{Special}
 use Rattle.s38_memory.specs.declared.cell.Cell.{Cell}
 use Rattle.s38_queues.specs.MessageQueue.{MessageQueue}
 use Rattle.s38_queues.specs.declared.message.Order.TheVariants.{Fifo}
@@ -61,6 +62,14 @@ space_of _ = None
 abbrev pub space_part : Part (List Cell)
 space_part = record { of = space_of; make = bodies.Space }
 
+-- the special authorities of a user, and how many pages it may own
+abbrev pub profile_of : Body → Option (Special × ℕ)
+profile_of (bodies.Profile special limit) = Some (special, limit)
+profile_of _ = None
+
+abbrev pub profile_part : Part (Special × ℕ)
+profile_part = record { of = profile_of; make = λ x. bodies.Profile x.0 x.1 }
+
 -- ---- they are parts
 
 queue_back : (b : Body) (x : MessageQueue) → queue_of b ≡ Some x → b ≡ bodies.Queue x
@@ -103,3 +112,7 @@ on_queue h n f = over_part queue_part h n f
 -- the cells of the space of a number are others from now on
 abbrev pub on_space : Held → ℕ → (List Cell → List Cell) → Held
 on_space h n f = over_part space_part h n f
+
+-- a user has these special authorities and this limit from now on
+abbrev pub set_profile : Held → ℕ → Special → ℕ → Held
+set_profile h n special limit = over_part profile_part h n (λ _. (special, limit))

@@ -106,7 +106,7 @@ unfoldable pub crtpg_changes : State → ℕ → List Operand → State
 crtpg_changes s p ops = created_program s p ops (program_in (template_at s ops))
 
 abbrev pub crtpg : Instruction
-crtpg = record {
+crtpg = record inert {
   needs = λ s p d r. creation_needs r.operands;
   fails = λ s p d r. crtpg_fails s p r.operands;
   gives = λ s p d r. Some (creation_gives s.held (new_program s.held r.operands));
@@ -191,7 +191,7 @@ unfoldable pub xctl_changes : State → ℕ → ℕ → List Operand → State
 xctl_changes s p d ops = restack (replaced d (record { 0 = target s.held ops 1 })) s p
 
 abbrev pub callx : Instruction
-callx = record {
+callx = record inert {
   needs = λ s p d r. call_needs;
   fails = λ s p d r. callx_fails s p d r.operands;
   gives = λ s p d r. call_gives s.held r.operands;
@@ -199,7 +199,7 @@ callx = record {
 }
 
 abbrev pub xctl : Instruction
-xctl = record {
+xctl = record inert {
   needs = λ s p d r. call_needs;
   fails = λ s p d r. xctl_fails s.held r.operands;
   gives = λ s p d r. call_gives s.held r.operands;

@@ -50,7 +50,7 @@ crtq_changes s p ops =
     record s { held = creation_changes s.held (user_of s p) (created_queue s.held ops) (bodies.Queue (new_queue (longest_at ops))) }
 
 abbrev pub crtq : Instruction
-crtq = record {
+crtq = record inert {
   needs = λ s p d r. creation_needs r.operands;
   fails = λ s p d r. crtq_fails s p r.operands;
   gives = λ s p d r. Some (creation_gives s.held (created_queue s.held r.operands));

@@ -1,10 +1,14 @@
--- The row of each instruction, by its family. What is not built needs nothing and does nothing.
+-- The row of each instruction, by its family. One that is not built needs nothing and does nothing: creation takes
+-- none of them.
 use Rattle.s38_base.specs.declared.op.Op.{Op}
 use Rattle.s38_code.specs.declared.family.Family.{Family}
 use Rattle.s38_code.specs.declared.family.Family.TheVariants as families
 use Rattle.s38_code.specs.Operations.{family_of}
 use Rattle.s38_rules.specs.Computing.{computing}
+use Rattle.s38_rules.specs.Contexts.{contexts_row}
+use Rattle.s38_rules.specs.Grants.{grants_row}
 use Rattle.s38_rules.specs.Instruction.{Instruction, inert}
+use Rattle.s38_rules.specs.Profiles.{profiles_row}
 use Rattle.s38_rules.specs.Programs.{programs_row}
 use Rattle.s38_rules.specs.Queues.{queues_row}
 use Rattle.s38_rules.specs.Resolving.{resolving_row}
@@ -13,6 +17,9 @@ use Rattle.s38_rules.specs.Spaces.{spaces_row}
 unfoldable pub row_in : Family → Op → Instruction
 row_in families.Computing op = computing
 row_in families.Resolving op = resolving_row op
+row_in families.Contexts op = contexts_row op
+row_in families.Profiles op = profiles_row op
+row_in families.Grants op = grants_row op
 row_in families.Programs op = programs_row op
 row_in families.Spaces op = spaces_row op
 row_in families.Queues op = queues_row op

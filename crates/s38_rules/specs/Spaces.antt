@@ -70,7 +70,7 @@ crts_changes s p ops =
     record s { held = creation_changes s.held (user_of s p) (new_space s ops) (bodies.Space (resized (length_at s ops 5) [])) }
 
 abbrev pub crts : Instruction
-crts = record {
+crts = record inert {
   needs = λ s p d r. creation_needs r.operands;
   fails = λ s p d r. crts_fails s p r.operands;
   gives = λ s p d r. Some (creation_gives s.held (new_space s r.operands));
@@ -85,7 +85,7 @@ mods_needs = on_object 1 (Of kinds.Space) rights.objmgt (Some Change)
 
 -- the owner of an object pays for so many pages of it
 unfoldable pub owner_pays : Held → ℕ → ℕ → Option Exception
-owner_pays h n pages = pages_rule h (owner_in (object h n)) (charge_beside h.objects n + pages)
+owner_pays h n pages = pages_rule h (owner_in (object h n)) (charge_beside h.objects n + pages) 0
 
 -- the owner of the space pays for its new length
 unfoldable pub mods_fails : State → List Operand → Option Exception

@@ -1,6 +1,6 @@
 -- Whether an event may take effect: the first rule that fails is signalled. Address rules come first, then a needed
 -- special authority, rights, locks, and the conditions and limits of the instruction.
-use Rattle.std.specs.Prelude.{ℕ, ◌+◌, ◌==◌, Bool, true, false, not, ◌&&◌, List, [], ◌∷◌, filter, min, Option, Some, None, if◌then◌else◌}
+use Rattle.std.specs.Prelude.{ℕ, ◌+◌, ◌==◌, Bool, true, false, not, ◌&&◌, List, [], ◌∷◌, filter, min, Option, Some, None, bit_and, bit_or, if◌then◌else◌}
 use Rattle.s38_base.specs.declared.attr.Attr.{Attr}
 use Rattle.s38_base.specs.declared.exception.Exception.{Exception}
 use Rattle.s38_base.specs.declared.id.Id.{Id}
@@ -23,6 +23,8 @@ use Rattle.s38_code.specs.declared.event.Event.TheVariants.{Start, Act, Finish}
 use Rattle.s38_code.specs.declared.event.Request.{Request}
 use Rattle.s38_code.specs.declared.operand.Operand.{Operand}
 use Rattle.s38_code.specs.declared.operand.Operand.TheVariants as operands
+use Rattle.s38_rules.specs.declared.need.Claim.{Claim}
+use Rattle.s38_rules.specs.declared.need.Claim.TheVariants.{Available, Granting, Ownership}
 use Rattle.s38_rules.specs.declared.need.Need.{Need}
 use Rattle.s38_rules.specs.declared.need.Named.{Named}
 use Rattle.s38_rules.specs.declared.need.Named.TheVariants.{Written, Implied}
@@ -34,7 +36,7 @@ use Rattle.s38_rules.specs.declared.object.Object.{Object}
 use Rattle.s38_rules.specs.declared.process.ProcessEntry.{ProcessEntry}
 use Rattle.s38_rules.specs.declared.verdict.Verdict.{Verdict}
 use Rattle.s38_rules.specs.declared.verdict.Verdict.TheVariants.{Permit, Wait, Refuse}
-use Rattle.s38_rules.specs.Authority.{available, missing}
+use Rattle.s38_rules.specs.Authority.{available, is_governed, lacks_special, missing}
 use Rattle.s38_rules.specs.Held.{Held, kind_of, number_found, object}
 use Rattle.s38_rules.specs.Instruction.{Instruction}
 use Rattle.s38_rules.specs.Needs.{first_of}
@@ -132,30 +134,53 @@ address_rules h ops wanted = by_operand (item_rule h) (address_rule h ops) wante
 
 -- ---- rights
 
-abbrev pub available_to : Held → List ℕ → List Operand → Need → Named → ℕ
-available_to h users ops need Written = available h users (target h ops need.place) (carried_in (pointer_at h ops need.place))
-available_to h users ops need (Implied n) = available h users n.0 rights.no_rights
+-- the object that a need speaks of
+abbrev pub subject : Held → List Operand → ℕ → Named → ℕ
+subject h ops k Written = target h ops k
+subject h ops k (Implied n) = n.0
+
+-- the rights that the used pointer carries; none where no operand names the object
+abbrev pub carried_for : Held → List Operand → ℕ → Named → ℕ
+carried_for h ops k Written = carried_in (pointer_at h ops k)
+carried_for h ops k (Implied n) = rights.no_rights
+
+-- the rights that an owner alone gives and takes
+abbrev pub owners_own : ℕ
+owners_own = rights.objctl + rights.objmgt
+
+abbrev pub names_owners : ℕ → Bool
+names_owners r = not (bit_and r owners_own == 0)
+
+-- who neither owns the object nor has all-object authority needs object management and what it gives or takes, and
+-- leaves the owner's own rights alone
+abbrev pub granting_rule : Bool → ℕ → ℕ → ℕ → Option Exception
+granting_rule true k r there = None
+granting_rule false k r there =
+    first (missing k (bit_or rights.objmgt r) there) (fails (names_owners r) exceptions.ownership_required k)
+
+abbrev pub claim_rule : Claim → Held → List ℕ → ℕ → ℕ → ℕ → ℕ → Option Exception
+claim_rule Available h users n carried k r = missing k r (available h users n carried)
+claim_rule Granting h users n carried k r = granting_rule (is_governed h n users) k r (available h users n carried)
+claim_rule Ownership h users n carried k r = fails (not (is_governed h n users)) exceptions.ownership_required k
 
 unfoldable pub rights_rule : Held → List ℕ → List Operand → Need → Option Exception
-rights_rule h users ops need = missing need.place need.rights.0 (available_to h users ops need need.named)
+rights_rule h users ops need =
+    claim_rule need.claim h users (subject h ops need.place need.named) (carried_for h ops need.place need.named) need.place need.rights.0
 
 unfoldable pub rights_rules : State → ℕ → ℕ → List Operand → List Need → Option Exception
 rights_rules s p d ops wanted = first_of (rights_rule s.held (acting s p d) ops) wanted
 
 -- ---- an instruction
 
--- no instruction asks a special authority yet
-abbrev pub special_rules : State → ℕ → ℕ → Option Exception
-special_rules s p d = None
-
 -- no instruction locks an object yet, so nothing is blocked
 abbrev pub lock_rules : State → ℕ → List Operand → List Need → Option Exception
 lock_rules s p ops wanted = None
 
+-- the special authority comes behind the addresses, and before rights and ownership
 abbrev pub refused_with : Instruction → State → ℕ → ℕ → Request → List Need → Option Exception
 refused_with i s p d r wanted =
     first (address_rules s.held r.operands wanted)
-    (first (special_rules s p d)
+    (first (lacks_special s.held (acting s p d) (i.special s p d r))
     (first (rights_rules s p d r.operands wanted)
     (first (lock_rules s p r.operands wanted)
     (i.fails s p d r))))

@@ -4,19 +4,23 @@
 #![tactic(auto)]
 
 mod creating;
+mod listed;
 mod need;
 mod object;
 mod part;
 mod process;
+mod rows;
 mod stack;
 mod table;
 mod verdict;
 
 pub use creating::Creating;
-pub use need::{Located, Named, Need, PointerKind, Sought};
-pub use object::{Body, Object, PrivateRow, RowList};
+pub use listed::Listed;
+pub use need::{Claim, Located, Named, Need, PointerKind, Sought};
+pub use object::{Body, Object};
 pub use part::BodyPart;
 pub use process::{ProcessEntry, Started};
+pub use rows::{PrivateRow, RowList};
 pub use stack::Stack;
 pub use table::{Header, Table, TableRows};
 pub use verdict::Verdict;

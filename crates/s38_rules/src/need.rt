@@ -31,7 +31,19 @@ pub enum Sought {
     Ignored,
 }
 
-/// What an instruction needs of an operand: the kinds of pointer and of object, rights on the object, and
+/// What the acting users must have over an object.
+#[derive(Clone, Copy, PartialEq, Eq, Debug)]
+pub enum Claim {
+    /// The rights are available.
+    Available,
+    /// One of them owns the object or has all-object authority; or object management and the rights are available,
+    /// and neither object management nor object control is among the rights.
+    Granting,
+    /// One of them owns the object or has all-object authority.
+    Ownership,
+}
+
+/// What an instruction needs of an operand: the kinds of pointer and of object, authority over the object, and
 /// what the instruction does to it.
 #[derive(Clone, Copy, PartialEq, Eq, Debug)]
 pub struct Need {
@@ -41,6 +53,7 @@ pub struct Need {
     pub pointer: PointerKind,
     pub sought: Sought,
     pub rights: Rights,
+    pub claim: Claim,
     /// None: locks of others don't block.
     pub category: Option<Category>,
 }

@@ -1,17 +1,8 @@
-use s38_base::{Id, ObjNum, Rights, Seq, Special, UserNum};
+use crate::rows::RowList;
+use s38_base::{Id, ObjNum, Rights, Special, UserNum};
 use s38_code::Code;
 use s38_memory::Tagged;
 use s38_queues::Queue;
-
-/// The rights that a user holds on an object by a row of its own.
-#[derive(Clone, Copy, PartialEq, Eq, Debug)]
-pub struct PrivateRow {
-    pub user: UserNum,
-    pub rights: Rights,
-}
-
-/// The private rows of an object, users strictly rising.
-pub type RowList = Seq<PrivateRow>;
 
 /// What an object holds, by its kind.
 #[derive(Drop)]

@@ -1,9 +1,13 @@
-//! What the objects are to the crates below the object map: headers and private rows, by number.
-ghost use Rattle.std.specs.Prelude.{◌≡◌};
+//! What the objects are to the crates below the object map: headers by number, numbers by name, and what is said of
+//! users.
+ghost use Rattle.std.specs.Prelude.{◌≡◌, IfOk};
 ghost use Rattle.s38_rules.specs.Held.{Held, number_found, object};
-ghost use Rattle.s38_rules.specs.Headers.{header_in, row_in};
+ghost use Rattle.s38_rules.specs.Headers.{header_in};
+ghost use Rattle.s38_rules.specs.Kept.{CanBeKept, Mirrors};
 
-use s38_base::{Id, Kind, ObjNum, Rights, Special, UserNum};
+use s38_base::{Id, Kind, NoMemory, ObjNum, Rights, Special, UserNum};
+use s38_profiles::Profiles;
+use std::alloc::Global;
 
 /// What is said of an object beside its name and what it holds.
 #[derive(Clone, Copy, PartialEq, Eq, Debug)]
@@ -35,9 +39,11 @@ pub trait Table {
         ensures { result ≡ number_found (held self.now) context.0 id.now };
 }
 
-/// The objects, with their private rows.
+/// The objects, with what is said of users.
 pub trait TableRows: Table {
-    /// The rights of a user by its row on an object; none without the object or the row.
-    fn row_of(&self, number: ObjNum, user: UserNum) -> Rights
-        ensures { result.0 ≡ row_in (object (Self.held self.now) number.0) user.0 };
+    /// What is kept of users beside the objects: the rows, each user's special authorities, limit and charge.
+    /// `NoMemory` where memory was refused.
+    fn profiles(&self, alloc: Global) -> Result<Profiles, NoMemory>
+        requires { CanBeKept (Self.held self.now) }
+        ensures { IfOk result (λ profiles. Mirrors profiles (Self.held self.now)) };
 }

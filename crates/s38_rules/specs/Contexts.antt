@@ -1,0 +1,201 @@
+-- Contexts: made and destroyed, their contents listed; the address and the name of an object changed.
+use Rattle.std.specs.Prelude.{ℕ, ◌==◌, Bool, false, not, List, [], ◌∷◌, ◌++◌, length, Option, Some, None, if◌then◌else◌}
+use Rattle.std.specs.List.{flat_map}
+use Rattle.std.specs.Option.{unwrap_or}
+use Rattle.std.specs.Int.{to_be_bytes, w32}
+use Rattle.std.specs.BTreeMap.{insert_entry}
+use Rattle.std.specs.declared.cmp.Ordering.{Ordering}
+use Rattle.s38_base.specs.declared.exception.Exception.{Exception}
+use Rattle.s38_base.specs.declared.id.Id.{Id}
+use Rattle.s38_base.specs.declared.id.Kind.TheVariants as kinds
+use Rattle.s38_base.specs.declared.id.ObjNum.{ObjNum}
+use Rattle.s38_base.specs.declared.op.Op.{Op}
+use Rattle.s38_base.specs.declared.op.Op.TheVariants.{Crtctx, Modadr, Rename, Matctx, Desctx}
+use Rattle.s38_base.specs.declared.words.Category.TheVariants.{Change}
+use Rattle.s38_base.specs.Exceptions as exceptions
+use Rattle.s38_base.specs.Ids.{kind_code, same_kind}
+use Rattle.s38_base.specs.Limits.{machine_context}
+use Rattle.s38_base.specs.RightNames as rights
+use Rattle.s38_base.specs.Signals.{fails, first}
+use Rattle.s38_strings.specs.Ebcdic.{ebcdic_of}
+use Rattle.s38_code.specs.declared.operand.Operand.{Operand}
+use Rattle.s38_code.specs.declared.reply.Val.{Val}
+use Rattle.s38_code.specs.declared.reply.Val.TheVariants as vals
+use Rattle.s38_rules.specs.declared.creating.Creating.{Creating}
+use Rattle.s38_rules.specs.declared.listed.Listed.{Listed}
+use Rattle.s38_rules.specs.contracts.listed.ListedOrd.TheImpl as listed_ord
+use Rattle.s38_rules.specs.declared.need.Named.TheVariants.{Written, Implied}
+use Rattle.s38_rules.specs.declared.need.Need.{Need}
+use Rattle.s38_rules.specs.declared.need.Sought.TheVariants.{Any, Of}
+use Rattle.s38_rules.specs.declared.object.Body.TheVariants as bodies
+use Rattle.s38_rules.specs.declared.object.Object.{Object}
+use Rattle.s38_rules.specs.Creation.{creation_changes, creation_fails, creation_gives, destruction_changes, destruction_needs, is_taken_beside, machine_needs, of_machine}
+use Rattle.s38_rules.specs.Held.{Held, contents, context_in, is_there, kind_of, moved, object, renamed}
+use Rattle.s38_rules.specs.Instruction.{Instruction, inert}
+use Rattle.s38_rules.specs.Needs.{on_implied, on_object}
+use Rattle.s38_rules.specs.Operands.{blank, fitted, id_at, is_given, is_machine, rights_at, room_at, target}
+use Rattle.s38_rules.specs.Resolving.{context_at, context_read}
+use Rattle.s38_rules.specs.State.{State}
+use Rattle.s38_rules.specs.Users.{user_of}
+
+-- ---- CRTCTX
+
+abbrev pub new_context : List Operand → Creating
+new_context ops = of_machine kinds.Context (rights_at ops 3) ops
+
+unfoldable pub crtctx_fails : State → ℕ → List Operand → Option Exception
+crtctx_fails s p ops = creation_fails s.held (user_of s p) (new_context ops) None
+
+unfoldable pub crtctx_changes : State → ℕ → List Operand → State
+crtctx_changes s p ops = record s { held = creation_changes s.held (user_of s p) (new_context ops) bodies.Context }
+
+abbrev pub crtctx : Instruction
+crtctx = record inert {
+  needs = λ s p d r. machine_needs;
+  fails = λ s p d r. crtctx_fails s p r.operands;
+  gives = λ s p d r. Some (creation_gives s.held (new_context r.operands));
+  changes = λ s p d r. crtctx_changes s p r.operands;
+}
+
+-- ---- DESCTX
+
+-- the machine context stays
+unfoldable pub desctx_fails : Held → List Operand → Option Exception
+desctx_fails h ops = fails (target h ops 1 == machine_context) exceptions.object_in_use 1
+
+abbrev pub desctx : Instruction
+desctx = record inert {
+  needs = λ s p d r. destruction_needs kinds.Context;
+  fails = λ s p d r. desctx_fails s.held r.operands;
+  changes = λ s p d r. record s { held = destruction_changes s.held r.operands };
+}
+
+-- ---- the context that an object is in
+
+-- a right on it; an object that says a context which is gone is in none
+abbrev pub own_context : Held → ℕ → ℕ → List Need
+own_context h context rights = if is_there h context then on_implied context (Of kinds.Context) rights (Some Change) else []
+
+-- ---- MODADR
+
+-- INSERT on the new context, where one is given
+abbrev pub new_address : List Operand → List Need
+new_address ops = if is_given ops 2 then on_object 2 (Of kinds.Context) rights.insert (Some Change) else []
+
+-- object management on the object, INSERT on the new context, DELETE on the present one
+unfoldable pub modadr_needs : Held → List Operand → List Need
+modadr_needs h ops =
+    on_object 1 Any rights.objmgt (Some Change)
+    ++ (new_address ops ++ own_context h (context_in (object h (target h ops 1))).0 rights.delete)
+
+-- contexts and profiles stay in the machine context
+abbrev pub is_at_home : Option Object → Bool
+is_at_home None = false
+is_at_home (Some o) = same_kind kinds.Context (kind_of o.body) || same_kind kinds.Profile (kind_of o.body)
+
+abbrev pub is_name_beside : Held → ℕ → ℕ → Option Object → Bool
+is_name_beside h n context None = false
+is_name_beside h n context (Some o) = is_taken_beside h n context o.id
+
+-- the object may leave the machine context, nothing else enters it, and the identification is new there
+unfoldable pub modadr_fails : Held → List Operand → Option Exception
+modadr_fails h ops =
+    first (fails (is_at_home (object h (target h ops 1))) exceptions.object_type_invalid 1)
+    (first (fails (target h ops 2 == machine_context) exceptions.object_type_invalid 2)
+    (fails (is_name_beside h (target h ops 1) (target h ops 2) (object h (target h ops 1))) exceptions.duplicate_identification 1))
+
+-- the object is in the new context, or in none
+unfoldable pub modadr_changes : Held → List Operand → Held
+modadr_changes h ops = moved h (target h ops 1) (record { 0 = target h ops 2 })
+
+abbrev pub modadr : Instruction
+modadr = record inert {
+  needs = λ s p d r. modadr_needs s.held r.operands;
+  fails = λ s p d r. modadr_fails s.held r.operands;
+  changes = λ s p d r. record s { held = modadr_changes s.held r.operands };
+}
+
+-- ---- RENAME
+
+-- object management on the object, UPDATE on its context
+unfoldable pub rename_needs : Held → List Operand → List Need
+rename_needs h ops =
+    on_object 1 Any rights.objmgt (Some Change) ++ own_context h (context_in (object h (target h ops 1))).0 rights.update
+
+abbrev pub is_other_kind : Option Object → Id → Bool
+is_other_kind None id = false
+is_other_kind (Some o) id = not (same_kind id.kind (kind_of o.body))
+
+abbrev pub rename_rule : Held → ℕ → Option Id → Option Exception
+rename_rule h n None = None
+rename_rule h n (Some id) =
+    first (fails (is_other_kind (object h n) id) exceptions.object_type_invalid 2)
+    (fails (is_taken_beside h n (context_in (object h n)).0 id) exceptions.duplicate_identification 2)
+
+-- the kind stays, and the identification is new in the object's context
+unfoldable pub rename_fails : Held → List Operand → Option Exception
+rename_fails h ops = rename_rule h (target h ops 1) (id_at ops 2)
+
+abbrev pub renamed_by : Held → ℕ → Option Id → Held
+renamed_by h n None = h
+renamed_by h n (Some id) = renamed h n id
+
+unfoldable pub rename_changes : Held → List Operand → Held
+rename_changes h ops = renamed_by h (target h ops 1) (id_at ops 2)
+
+abbrev pub rename : Instruction
+rename = record inert {
+  needs = λ s p d r. rename_needs s.held r.operands;
+  fails = λ s p d r. rename_fails s.held r.operands;
+  changes = λ s p d r. record s { held = rename_changes s.held r.operands };
+}
+
+-- ---- MATCTX
+
+-- RETRIEVE on the context
+unfoldable pub matctx_needs : List Operand → List Need
+matctx_needs ops = if is_machine ops 2 then context_read (Implied (record { 0 = machine_context })) else context_read Written
+
+-- under what an object stands in a list of names
+abbrev pub listed : Object → Listed
+listed o = record { kind = kind_code o.id.kind; sub = o.id.sub; name = o.id.name }
+
+-- the order of such a list: kind, subtype, name
+abbrev pub listed_cmp : Listed → Listed → Ordering
+listed_cmp = (listed_ord.ghosts).cmp
+
+-- a list of names, with the objects entered one after another, each at its place
+abbrev pub entered : List (Listed × ObjNum) → List Object → List (Listed × ObjNum)
+entered names [] = names
+entered names (o ∷ os) = entered (insert_entry listed_cmp names (listed o) o.number) os
+
+-- a character of a name
+abbrev pub character : ℕ → ℕ
+character c = unwrap_or (ebcdic_of c) blank
+
+-- kind, subtype, and the name filled with blanks
+abbrev pub name_image : Listed → List ℕ
+name_image x = x.kind ∷ x.sub ∷ fitted 30 blank (map character x.name)
+
+abbrev pub names_image : List (Listed × ObjNum) → List ℕ
+names_image names = to_be_bytes w32 (length names) ++ flat_map (λ (x : Listed × ObjNum). name_image x.0) names
+
+-- the number of the objects in the context, and their identifications in order
+unfoldable pub matctx_gives : Held → List Operand → Val
+matctx_gives h ops = vals.Bytes (fitted (room_at ops 1) 0 (names_image (entered [] (contents h (context_at h ops)))))
+
+abbrev pub matctx : Instruction
+matctx = record inert {
+  needs = λ s p d r. matctx_needs r.operands;
+  gives = λ s p d r. Some (matctx_gives s.held r.operands);
+}
+
+-- ---- the family
+
+unfoldable pub contexts_row : Op → Instruction
+contexts_row Crtctx = crtctx
+contexts_row Desctx = desctx
+contexts_row Modadr = modadr
+contexts_row Rename = rename
+contexts_row Matctx = matctx
+contexts_row _ = inert

@@ -1,0 +1,59 @@
+-- The private rows of an object: users rise, and each has a right.
+use Rattle.std.specs.Prelude.{◌≢◌, ℕ, ◌+◌, ◌==◌, Bool, false, All, List, [], ◌∷◌, ◌++◌, map, Option, Some, None, find, nat_lt, slice_get, if◌then◌else◌}
+use Rattle.std.specs.List.Sorted.{IsStrictlyIncreasing}
+use Rattle.s38_base.specs.declared.id.ObjNum.{ObjNum}
+use Rattle.s38_base.specs.declared.rights.Rights.{Rights}
+use Rattle.s38_base.specs.RightNames as rights
+use Rattle.s38_rules.specs.declared.rows.PrivateRow.{PrivateRow}
+
+abbrev pub user_of : PrivateRow → ℕ
+user_of row = row.user.0
+
+abbrev pub has_right : PrivateRow → Type 0
+has_right row = row.rights.0 ≢ 0
+
+pub record AreRows (rows : List PrivateRow) : Type 0 where
+  pub rising : IsStrictlyIncreasing (map user_of rows)
+  pub held : All has_right rows
+
+-- ---- looking
+
+abbrev pub rights_in : Option PrivateRow → ℕ
+rights_in None = rights.no_rights
+rights_in (Some row) = row.rights.0
+
+abbrev pub is_row : ℕ → PrivateRow → Bool
+is_row user row = row.user.0 == user
+
+abbrev pub row_of : List PrivateRow → ℕ → ℕ
+row_of rows user = rights_in (find (is_row user) rows)
+
+-- ---- changing
+
+-- the row of a user with these rights: none without a right
+abbrev pub row_for : ObjNum → Rights → List PrivateRow
+row_for user r = if r.0 == rights.no_rights then [] else record { user = user; rights = r } ∷ []
+
+abbrev pub beside : ObjNum → PrivateRow → List PrivateRow → List PrivateRow
+beside user row rows = if row.user.0 == user.0 then rows else row ∷ rows
+
+-- the rows, with these rights of a user at the user's place
+abbrev pub with_row : List PrivateRow → ObjNum → Rights → List PrivateRow
+with_row [] user r = row_for user r
+with_row (row ∷ rows) user r =
+    if nat_lt row.user.0 user.0 then row ∷ with_row rows user r else row_for user r ++ beside user row rows
+
+-- ---- places
+
+-- how many rows stand before that of a user
+abbrev pub count_before : List PrivateRow → ObjNum → ℕ
+count_before [] user = 0
+count_before (row ∷ rows) user = if nat_lt row.user.0 user.0 then count_before rows user + 1 else 0
+
+abbrev pub is_of : ObjNum → Option PrivateRow → Bool
+is_of user None = false
+is_of user (Some row) = row.user.0 == user.0
+
+-- the row at a place is the user's
+abbrev pub is_at : List PrivateRow → ℕ → ObjNum → Bool
+is_at rows at user = is_of user (slice_get rows at)
