@@ -1,0 +1,138 @@
+-- What is kept of users stays what the objects say: a law for each change of the objects.
+use Rattle.std.proofs.Common.{◌≡◌, ℕ, ◌+◌, ◌-◌, ◌<◌, ◌≤◌, ◌==◌, Bool, true, false, cond, List, [], ◌∷◌, ◌++◌, length, refl, sym, ◌∙◌, ap, subst, arith}
+use Rattle.std.proofs.lemmas.Bool.Decides.{nat_tests}
+use Rattle.std.specs.Prelude.{◌&&◌, All, Option, Some, None, IsSome}
+use Rattle.std.specs.Option.{option_map}
+use Rattle.s38_base.specs.declared.id.Id.{Id}
+use Rattle.s38_base.specs.declared.id.ObjNum.{ObjNum}
+use Rattle.s38_base.specs.declared.rights.Rights.{Rights}
+use Rattle.s38_base.specs.declared.rights.Special.{Special}
+use Rattle.s38_memory.specs.declared.cell.Cell.{Cell}
+use Rattle.s38_queues.specs.MessageQueue.{MessageQueue}
+use Rattle.s38_profiles.specs.declared.profile.Profile.{Profile}
+use Rattle.s38_profiles.specs.ProfileMaps.{ProfileMaps}
+use Rattle.s38_profiles.specs.Rows.{Rows, SetsRow, row_at, row_key, row_with}
+use Rattle.s38_profiles.specs.Users.{SetsUser, Users, charge_in as charge_of, entered, user_at}
+use Rattle.s38_rules.specs.declared.object.Body.{Body}
+use Rattle.s38_rules.specs.declared.object.Body.TheVariants as bodies
+use Rattle.s38_rules.specs.declared.object.Object.{Object}
+use Rattle.s38_rules.specs.Headers.{row_in}
+use Rattle.s38_rules.specs.Held.{Held, change, change_in, charge_beside, charge_in, moved, object, object_in, pages_for, pages_of, renamed, space_pages, with_object, without, without_in}
+use Rattle.s38_rules.specs.Keeping.{AreKeptRows, AreUsers, IsUser, paid, paying}
+use Rattle.s38_rules.specs.Kept.{Mirrors, kept_profile, profile_by}
+use Rattle.s38_rules.specs.Parts.{cells_at, on_queue, on_space, over_object, queue_part, set_profile, space_part}
+use Rattle.s38_rules.specs.PrivateRows.{AreRows, row_for, row_of, with_row}
+use Rattle.s38_rules.specs.Standing.{granted, open_to_all, owned_by, restand, standing_of, with_standing}
+use Rattle.s38_rules.proofs.ChargeLaws.{AreRising, KeepsNumber, beside_found, change_absent, charge_changed, charge_last, charge_without, number_of, object_above, object_changed, object_last, object_without, own_pages, pages_within, some_page}
+use Rattle.s38_rules.proofs.RowSetLaws.{row_set}
+use Rattle.s38_rules.proofs.UserLaws.{charge_kept, is_user, kept_paid, row_kept, rows_left, rows_of, user_paid, user_set, user_some, user_there, users_by, users_of}
+
+-- the numbers that were not given are those of no object
+abbrev pub AreGiven : Held → Type 0
+AreGiven h = (n : ℕ) → h.next ≤ n → object h n ≡ None
+
+pub given_by : (h : Held) → All (λ o. number_of o < h.next) h.objects → AreGiven h
+given_by h all n high = object_above n h.next h.objects all high
+
+nat_same : (a b : ℕ) → (a == b) ≡ true → a ≡ b
+nat_same a b h = grind (arith, nat_tests)
+
+some_none : (x : Object) → Some x ≡ None → ⊥
+some_none x h = cc
+
+-- ---- one object is another one
+
+-- what is found once the object of a number was changed
+pub found_changed : (n m : ℕ) (f : Object → Object) (o : Object) (os : List Object) → KeepsNumber f → object_in os n ≡ Some o
+    → object_in (change_in os n f) m ≡ cond (n == m) (Some (f o)) (object_in os m)
+found_changed n m f o os keeps found =
+    object_changed n m f os keeps
+    ∙ elim (n == m) as (λ c. (n == m) ≡ c → cond c (option_map f (object_in os m)) (object_in os m) ≡ cond c (Some (f o)) (object_in os m)) [
+      | true ↦ λ q. ap (λ (k : ℕ). option_map f (object_in os k)) (sym (nat_same n m q)) ∙ ap (option_map f) found
+      | false ↦ λ q. refl
+    ] refl
+
+-- what says the same of the changed object says the same of each
+pub says_same : {T : Type 0} (g : Option Object → T) (n m : ℕ) (f : Object → Object) (o : Object) (os : List Object) → KeepsNumber f → object_in os n ≡ Some o → g (Some (f o)) ≡ g (Some o)
+    → g (object_in (change_in os n f) m) ≡ g (object_in os m)
+says_same g n m f o os keeps found same =
+    ap g (found_changed n m f o os keeps found)
+    ∙ elim (n == m) as (λ c. (n == m) ≡ c → g (cond c (Some (f o)) (object_in os m)) ≡ g (object_in os m)) [
+      | true ↦ λ q. same ∙ sym (ap g found) ∙ ap (λ (k : ℕ). g (object_in os k)) (nat_same n m q)
+      | false ↦ λ q. refl
+    ] refl
+
+-- a change of an object that leaves all that is kept of users
+pub record Leaves (f : Object → Object) (o : Object) : Type 0 where
+  pub owner : (f o).owner ≡ o.owner
+  pub rows : (f o).rows ≡ o.rows
+  pub pages : pages_of (f o).body ≡ pages_of o.body
+  pub profile : (charge : ℕ) → profile_by (f o).body charge ≡ profile_by o.body charge
+
+pays_same : (user : ℕ) (f : Object → Object) (o : Object) → (f o).owner ≡ o.owner → pages_of (f o).body ≡ pages_of o.body → pages_for user (f o) ≡ pages_for user o
+pays_same user f o owner pages =
+    ap (λ (k : ObjNum). cond (k.0 == user) (pages_of (f o).body) 0) owner ∙ ap (λ (p : ℕ). cond (o.owner.0 == user) p 0) pages
+
+left_found : (maps : ProfileMaps) (h : Held) (n : ℕ) (f : Object → Object) (o : Object) → KeepsNumber f → object h n ≡ Some o → Leaves f o → Mirrors maps h → Mirrors maps (change h n f)
+left_found maps h n f o keeps found leaves m =
+    let charges = λ (user : ℕ).
+    let same : pages_for user (f o) ≡ pages_for user o = pays_same user f o leaves.owner leaves.pages in
+    let e : charge_in (change_in h.objects n f) user ≡ charge_in h.objects user = omega (arith, charge_changed user n f o h.objects found, same) in e in
+    record {
+      rows = rows_of maps.rows h.objects (change_in h.objects n f) m.rows
+          (λ user k. says_same (λ (r : Option Object). row_in r user) n k f o h.objects keeps found (ap (λ r. row_of r user) leaves.rows));
+      users = users_by maps.users (change_in h.objects n f) (charge_in h.objects) (charge_in (change_in h.objects n f))
+          (users_of maps.users h.objects (change_in h.objects n f) (charge_in h.objects) m.users
+          (λ user charge. says_same (λ (r : Option Object). kept_profile r charge) n user f o h.objects keeps found (leaves.profile charge)))
+          (λ user there. sym (charges user));
+      unowned = λ user high. charges user ∙ m.unowned user high;
+    }
+
+-- what leaves all that is kept of users keeps it
+pub left : (maps : ProfileMaps) (h : Held) (n : ℕ) (f : Object → Object) → KeepsNumber f → ((o : Object) → object h n ≡ Some o → Leaves f o) → Mirrors maps h → Mirrors maps (change h n f)
+left maps h n f keeps leaves m =
+    elim (object h n) as (λ r. object h n ≡ r → Mirrors maps (change h n f)) [
+      | None ↦ λ q. subst (λ (os : List Object). Mirrors maps (record h { objects = os })) (sym (change_absent n f h.objects q)) m
+      | Some o ↦ λ q. left_found maps h n f o keeps q (leaves o q) m
+    ] refl
+
+pub renamed_kept : (maps : ProfileMaps) (h : Held) (n : ℕ) (id : Id) → Mirrors maps h → Mirrors maps (renamed h n id)
+renamed_kept maps h n id m =
+    left maps h n (λ o. record o { id = id }) (λ o. refl) (λ o there. record { owner = refl; rows = refl; pages = refl; profile = λ charge. refl }) m
+
+pub moved_kept : (maps : ProfileMaps) (h : Held) (n : ℕ) (context : ObjNum) → Mirrors maps h → Mirrors maps (moved h n context)
+moved_kept maps h n context m =
+    left maps h n (λ o. record o { context = context }) (λ o. refl) (λ o there. record { owner = refl; rows = refl; pages = refl; profile = λ charge. refl }) m
+
+pub public_kept : (maps : ProfileMaps) (h : Held) (n : ℕ) (r : Rights) → Mirrors maps h → Mirrors maps (restand h n (open_to_all r))
+public_kept maps h n r m =
+    left maps h n (λ o. with_standing (open_to_all r (standing_of o)) o) (λ o. refl) (λ o there. record { owner = refl; rows = refl; pages = refl; profile = λ charge. refl }) m
+
+queue_leaves : (f : MessageQueue → MessageQueue) (o : Object) (b : Body) → o.body ≡ b → Leaves (over_object queue_part f) o
+queue_leaves f o (bodies.Queue q) e = record { owner = refl; rows = refl; pages = rw e refl; profile = λ charge. rw e refl }
+queue_leaves f o (bodies.Space cells) e = record { owner = refl; rows = refl; pages = rw e refl; profile = λ charge. rw e refl }
+queue_leaves f o (bodies.Context) e = record { owner = refl; rows = refl; pages = rw e refl; profile = λ charge. rw e refl }
+queue_leaves f o (bodies.Program code) e = record { owner = refl; rows = refl; pages = rw e refl; profile = λ charge. rw e refl }
+queue_leaves f o (bodies.Profile special limit) e = record { owner = refl; rows = refl; pages = rw e refl; profile = λ charge. rw e refl }
+
+-- the messages of a queue are others
+pub queue_kept : (maps : ProfileMaps) (h : Held) (n : ℕ) (f : MessageQueue → MessageQueue) → Mirrors maps h → Mirrors maps (on_queue h n f)
+queue_kept maps h n f m = left maps h n (over_object queue_part f) (λ o. refl) (λ o there. queue_leaves f o o.body refl) m
+
+space_leaves : (h : Held) (n : ℕ) (f : List Cell → List Cell) (o : Object) (b : Body) → length (f (cells_at h n)) ≡ length (cells_at h n) → object h n ≡ Some o → o.body ≡ b → Leaves (over_object space_part f) o
+space_leaves h n f o (bodies.Space cells) many there e =
+    let here : cells_at h n ≡ cells = rw (there, e) refl in
+    let same : length (f cells) ≡ length cells = ap (λ (c : List Cell). length (f c)) (sym here) ∙ many ∙ ap (λ (c : List Cell). length c) here in
+    record { owner = refl; rows = refl; pages = rw e (ap (λ (k : ℕ). 1 + space_pages k) same); profile = λ charge. rw e refl }
+space_leaves h n f o (bodies.Queue q) many there e = record { owner = refl; rows = refl; pages = rw e refl; profile = λ charge. rw e refl }
+space_leaves h n f o (bodies.Context) many there e = record { owner = refl; rows = refl; pages = rw e refl; profile = λ charge. rw e refl }
+space_leaves h n f o (bodies.Program code) many there e = record { owner = refl; rows = refl; pages = rw e refl; profile = λ charge. rw e refl }
+space_leaves h n f o (bodies.Profile special limit) many there e = record { owner = refl; rows = refl; pages = rw e refl; profile = λ charge. rw e refl }
+
+-- the cells of a space are others, and as many
+pub cells_kept : (maps : ProfileMaps) (h : Held) (n : ℕ) (f : List Cell → List Cell) → length (f (cells_at h n)) ≡ length (cells_at h n) → Mirrors maps h → Mirrors maps (on_space h n f)
+cells_kept maps h n f many m = left maps h n (over_object space_part f) (λ o. refl) (λ o there. space_leaves h n f o o.body many there refl) m
+
+-- more numbers were given
+pub raised_kept : (maps : ProfileMaps) (h : Held) (next ceiling : ℕ) → h.next ≤ next → Mirrors maps h → Mirrors maps (record h { next = next; ceiling = ceiling })
+raised_kept maps h next ceiling more m = record { rows = m.rows; users = m.users; unowned = λ user high. m.unowned user (omega (arith, more, high)) }
