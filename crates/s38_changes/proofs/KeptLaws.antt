@@ -1,7 +1,7 @@
 -- What is kept of users stays what the objects say: a law for each change of the objects.
 use Rattle.std.proofs.Common.{◌≡◌, ℕ, ◌+◌, ◌-◌, ◌<◌, ◌≤◌, ◌==◌, Bool, true, false, cond, List, [], ◌∷◌, ◌++◌, length, refl, sym, ◌∙◌, ap, subst, arith}
 use Rattle.std.proofs.lemmas.Bool.Decides.{nat_tests}
-use Rattle.std.specs.Prelude.{◌&&◌, All, Option, Some, None, IsSome}
+use Rattle.std.specs.Prelude.{◌&&◌, All, Option, Some, None, IsSome, nat_lt}
 use Rattle.std.specs.Option.{option_map}
 use Rattle.s38_base.specs.declared.id.Id.{Id}
 use Rattle.s38_base.specs.declared.id.ObjNum.{ObjNum}
@@ -23,7 +23,7 @@ use Rattle.s38_rules.specs.Kept.{Mirrors, kept_profile, profile_by}
 use Rattle.s38_rules.specs.Parts.{cells_at, on_queue, on_space, over_object, queue_part, set_profile, space_part}
 use Rattle.s38_rules.specs.PrivateRows.{AreRows, row_for, row_of, with_row}
 use Rattle.s38_rules.specs.Standing.{granted, open_to_all, owned_by, restand, standing_of, with_standing}
-use Rattle.s38_rules.proofs.ChargeLaws.{AreRising, KeepsNumber, beside_found, change_absent, charge_changed, charge_last, charge_without, number_of, object_above, object_changed, object_last, object_without, own_pages, pages_within, some_page}
+use Rattle.s38_rules.proofs.ChargeLaws.{AreRising, KeepsNumber, beside_found, change_absent, charge_changed, charge_last, charge_same, charge_without, number_of, object_above, object_changed, object_last, object_without, own_pages, pages_within, some_page}
 use Rattle.s38_rules.proofs.RowSetLaws.{row_set}
 use Rattle.s38_rules.proofs.UserLaws.{charge_kept, is_user, kept_paid, row_kept, rows_left, rows_of, user_paid, user_set, user_some, user_there, users_by, users_of}
 
@@ -136,3 +136,102 @@ cells_kept maps h n f many m = left maps h n (over_object space_part f) (λ o. r
 -- more numbers were given
 pub raised_kept : (maps : ProfileMaps) (h : Held) (next ceiling : ℕ) → h.next ≤ next → Mirrors maps h → Mirrors maps (record h { next = next; ceiling = ceiling })
 raised_kept maps h next ceiling more m = record { rows = m.rows; users = m.users; unowned = λ user high. m.unowned user (omega (arith, more, high)) }
+
+-- ---- a row is set
+
+-- the rights of one user on the object are others
+row_found : (n k user : ℕ) (r : Rights) (f : Object → Object) (o : Object) (os : List Object) (other : ℕ) → KeepsNumber f → object_in os n ≡ Some o
+    → row_of (f o).rows other ≡ cond (user == other) r.0 (row_of o.rows other)
+    → row_in (object_in (change_in os n f) k) other ≡ cond ((user == other) && (n == k)) r.0 (row_in (object_in os k) other)
+row_found n k user r f o os other keeps found set =
+    ap (λ (x : Option Object). row_in x other) (found_changed n k f o os keeps found)
+    ∙ elim (n == k) as (λ c. (n == k) ≡ c → row_in (cond c (Some (f o)) (object_in os k)) other ≡ cond ((user == other) && c) r.0 (row_in (object_in os k) other)) [
+      | true ↦ λ q.
+          let here : row_in (object_in os k) other ≡ row_of o.rows other = ap (λ (m : ℕ). row_in (object_in os m) other) (sym (nat_same n k q)) ∙ ap (λ (x : Option Object). row_in x other) found in
+          set ∙ elim (user == other) as (λ d. cond d r.0 (row_of o.rows other) ≡ cond (d && true) r.0 (row_in (object_in os k) other)) [
+            | true ↦ refl
+            | false ↦ sym here
+          ]
+      | false ↦ λ q. elim (user == other) as (λ d. row_in (object_in os k) other ≡ cond (d && false) r.0 (row_in (object_in os k) other)) [ true ↦ refl | false ↦ refl ]
+    ] refl
+
+-- the rights of a user on an object that is there are set
+pub granted_kept : (maps after : ProfileMaps) (h : Held) (n : ℕ) (o : Object) (user : ObjNum) (r : Rights) → object h n ≡ Some o → AreRows o.rows
+    → SetsRow maps.rows (row_key user.0 n) (row_with r) after.rows → after.users ≡ maps.users → Mirrors maps h → Mirrors after (restand h n (granted user r))
+granted_kept maps after h n o user r found are set users m =
+    let f = λ (x : Object). with_standing (granted user r (standing_of x)) x in
+    let charges = λ (u : ℕ). let e : charge_in (change_in h.objects n f) u ≡ charge_in h.objects u = charge_same u n f h.objects (λ x. refl) in e in
+    record {
+      rows = row_kept maps.rows after.rows h.objects (change_in h.objects n f) user.0 n r m.rows
+          (λ other k. row_found n k user.0 r f o h.objects other (λ x. refl) found (row_set o.rows user r other are)) set;
+      users = subst (λ (us : Users). AreUsers us (change_in h.objects n f) (charge_in (change_in h.objects n f))) (sym users)
+          (users_by maps.users (change_in h.objects n f) (charge_in h.objects) (charge_in (change_in h.objects n f))
+            (users_of maps.users h.objects (change_in h.objects n f) (charge_in h.objects) m.users
+              (λ u charge. says_same (λ (x : Option Object). kept_profile x charge) n u f o h.objects (λ x. refl) found refl))
+            (λ u there. sym (charges u)));
+      unowned = λ u high. charges u ∙ m.unowned u high;
+    }
+
+-- ---- who pays
+
+-- the user of a profile was given its number
+user_given : (h : Held) (user : ℕ) → AreGiven h → IsUser h.objects user → user < h.next
+user_given h user given there =
+    elim (nat_lt user h.next) as (λ b. nat_lt user h.next ≡ b → user < h.next) [
+      | true ↦ λ q. grind (arith, nat_tests)
+      | false ↦ λ q.
+          let none : object h user ≡ None = given user (grind (arith, nat_tests)) in
+          let here : IsSome (kept_profile (object_in h.objects user) 0) = there in
+          absurd (nobody (subst (λ (x : Option Object). IsSome (kept_profile x 0)) none here))
+    ] refl
+  where
+    nobody : IsSome (kept_profile None 0) → ⊥
+    nobody h = cc
+
+-- an owner who pays for so many pages more than before
+owner_pays : (user n : ℕ) (f : Object → Object) (o : Object) (os : List Object) → object_in os n ≡ Some o → (f o).owner ≡ o.owner
+    → charge_in (change_in os n f) user + cond (o.owner.0 == user) (pages_of o.body) 0 ≡ charge_in os user + cond (o.owner.0 == user) (pages_of (f o).body) 0
+owner_pays user n f o os found owner =
+    let e : pages_for user (f o) ≡ cond (o.owner.0 == user) (pages_of (f o).body) 0 = ap (λ (k : ObjNum). cond (k.0 == user) (pages_of (f o).body) 0) owner in
+    omega (arith, charge_changed user n f o os found, e)
+
+-- the object pays otherwise for what it holds, and its owner, rows and profile stay; pages is what the owner pays for from now on
+pub body_kept : (maps after : ProfileMaps) (h : Held) (n : ℕ) (f : Object → Object) (o : Object) (pages : ℕ) → KeepsNumber f → object h n ≡ Some o
+    → (f o).owner ≡ o.owner → (f o).rows ≡ o.rows → ((charge : ℕ) → profile_by (f o).body charge ≡ profile_by o.body charge)
+    → (IsSome (user_at maps.users o.owner.0) → pages + pages_of o.body ≡ charge_of (user_at maps.users o.owner.0) + pages_of (f o).body)
+    → SetsUser maps.users o.owner.0 (paid pages (user_at maps.users o.owner.0)) after.users → after.rows ≡ maps.rows → Mirrors maps h → Mirrors after (change h n f)
+body_kept maps after h n f o pages keeps found owner rows profile paying_for set same m =
+    let os = h.objects in
+    let more = change_in h.objects n f in
+    let charges = λ (u : ℕ) (there : IsUser os u).
+      let e : paying o.owner.0 pages (charge_in os) u ≡ charge_in more u =
+          elim (o.owner.0 == u) as (λ c. (o.owner.0 == u) ≡ c → cond c pages (charge_in os u) ≡ charge_in more u) [
+            | true ↦ λ q.
+                let own : o.owner.0 ≡ u = nat_same o.owner.0 u q in
+                let is : IsUser os o.owner.0 = subst (λ (k : ℕ). IsUser os k) (sym own) there in
+                let now = paying_for (user_there maps.users os (charge_in os) o.owner.0 m.users is) in
+                let kept = charge_kept maps.users os (charge_in os) o.owner.0 m.users is in
+                let step : charge_in more u + pages_of o.body ≡ charge_in os u + pages_of (f o).body = rw q at (owner_pays u n f o os found owner) in
+                let at : charge_in os o.owner.0 ≡ charge_in os u = ap (charge_in os) own in
+                omega (arith, now, kept, step, at)
+            | false ↦ λ q.
+                let step : charge_in more u + 0 ≡ charge_in os u + 0 = rw q at (owner_pays u n f o os found owner) in omega (arith, step)
+          ] refl in e in
+    record {
+      rows = subst (λ (rs : Rows). AreKeptRows rs more) (sym same)
+          (rows_of maps.rows os more m.rows
+            (λ user k. says_same (λ (r : Option Object). row_in r user) n k f o os keeps found (ap (λ r. row_of r user) rows)));
+      users = users_by after.users more (paying o.owner.0 pages (charge_in os)) (charge_in more)
+          (users_of after.users os more (paying o.owner.0 pages (charge_in os)) (user_paid maps.users after.users os (charge_in os) o.owner.0 pages m.users set)
+            (λ user charge. says_same (λ (r : Option Object). kept_profile r charge) n user f o os keeps found (profile charge)))
+          (λ u there. charges u (subst (λ (x : Option Profile). IsSome x) (says_same (λ (r : Option Object). kept_profile r 0) n u f o os keeps found (profile 0)) there));
+      unowned = λ u high.
+          let was = m.unowned u high in
+          let own : pages_for u o ≤ charge_in os u = pages_within n u o os found in
+          elim (o.owner.0 == u) as (λ c. (o.owner.0 == u) ≡ c → charge_in more u ≡ 0) [
+            | true ↦ λ q.
+                let pays : pages_of o.body ≤ charge_in os u = rw q at own in
+                absurd (omega (arith, was, pays, some_page o.body))
+            | false ↦ λ q. let step : charge_in more u + 0 ≡ charge_in os u + 0 = rw q at (owner_pays u n f o os found owner) in omega (arith, step, was)
+          ] refl;
+    }
