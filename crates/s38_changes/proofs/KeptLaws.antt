@@ -20,11 +20,11 @@ use Rattle.s38_rules.specs.Headers.{row_in}
 use Rattle.s38_rules.specs.Held.{Held, change, change_in, charge_beside, charge_in, moved, object, object_in, pages_for, pages_of, renamed, space_pages, with_object, without, without_in}
 use Rattle.s38_rules.specs.Keeping.{AreKeptRows, AreUsers, IsUser, paid, paying}
 use Rattle.s38_rules.specs.Kept.{Mirrors, kept_profile, profile_by}
-use Rattle.s38_rules.specs.Parts.{cells_at, on_queue, on_space, over_object, queue_part, set_profile, space_part}
+use Rattle.s38_rules.specs.Parts.{cells_at, on_queue, on_space, over_object, profile_part, queue_part, set_profile, space_part}
 use Rattle.s38_rules.specs.PrivateRows.{AreRows, row_for, row_of, with_row}
 use Rattle.s38_rules.specs.Standing.{granted, open_to_all, owned_by, restand, standing_of, with_standing}
 use Rattle.s38_rules.proofs.ChargeLaws.{AreRising, KeepsNumber, beside_found, change_absent, charge_changed, charge_last, charge_same, charge_without, number_of, object_above, object_changed, object_last, object_without, own_pages, pages_within, some_page}
-use Rattle.s38_rules.proofs.RowSetLaws.{row_set}
+use Rattle.s38_rules.proofs.RowSetLaws.{row_alone, row_set}
 use Rattle.s38_rules.proofs.UserLaws.{charge_kept, is_user, kept_paid, row_kept, rows_left, rows_of, user_paid, user_set, user_some, user_there, users_by, users_of}
 
 -- the numbers that were not given are those of no object
@@ -233,5 +233,110 @@ body_kept maps after h n f o pages keeps found owner rows profile paying_for set
                 let pays : pages_of o.body ≤ charge_in os u = rw q at own in
                 absurd (omega (arith, was, pays, some_page o.body))
             | false ↦ λ q. let step : charge_in more u + 0 ≡ charge_in os u + 0 = rw q at (owner_pays u n f o os found owner) in omega (arith, step, was)
+          ] refl;
+    }
+
+-- a space has others for its cells, as many or not
+pub resized_kept : (maps after : ProfileMaps) (h : Held) (n : ℕ) (f : List Cell → List Cell) (o : Object) (cells : List Cell) (pages : ℕ) → object h n ≡ Some o → o.body ≡ bodies.Space cells
+    → (IsSome (user_at maps.users o.owner.0) → pages + pages_of o.body ≡ charge_of (user_at maps.users o.owner.0) + (1 + space_pages (length (f cells))))
+    → SetsUser maps.users o.owner.0 (paid pages (user_at maps.users o.owner.0)) after.users → after.rows ≡ maps.rows → Mirrors maps h → Mirrors after (on_space h n f)
+resized_kept maps after h n f o cells pages found e paying_for set same m =
+    let now : pages_of (over_object space_part f o).body ≡ 1 + space_pages (length (f cells)) = rw e refl in
+    body_kept maps after h n (over_object space_part f) o pages (λ x. refl) found refl refl (λ charge. rw e refl)
+    (λ there. let step = paying_for there in omega (arith, step, now)) set same m
+
+-- a profile has other specials and another limit
+pub profile_kept : (maps after : ProfileMaps) (h : Held) (n : ℕ) (o : Object) (special was_special : Special) (limit was_limit : ℕ) → object h n ≡ Some o → o.body ≡ bodies.Profile was_special was_limit
+    → SetsUser maps.users n (Some (entered special limit (user_at maps.users n))) after.users → after.rows ≡ maps.rows → Mirrors maps h → Mirrors after (set_profile h n special limit)
+profile_kept maps after h n o special was_special limit was_limit found e set same m =
+    let os = h.objects in
+    let f = over_object profile_part (λ _. (special, limit)) in
+    let more = change_in os n f in
+    let is : IsUser os n = rw (found, e) refl in
+    let kept : charge_of (user_at maps.users n) ≡ charge_in os n = charge_kept maps.users os (charge_in os) n m.users is in
+    let pays = λ (u : ℕ).
+      let one : pages_of (f o).body ≡ pages_of o.body = rw e refl in
+      let step : pages_for u (f o) ≡ pages_for u o = ap (λ (p : ℕ). cond (o.owner.0 == u) p 0) one in
+      let r : charge_in more u ≡ charge_in os u = omega (arith, step, charge_changed u n f o os found) in r in
+    record {
+      rows = subst (λ (rs : Rows). AreKeptRows rs more) (sym same)
+          (rows_of maps.rows os more m.rows (λ user k. says_same (λ (r : Option Object). row_in r user) n k f o os (λ x. refl) found refl));
+      users = users_by after.users more (charge_in os) (charge_in more)
+          (user_set maps.users after.users os more (charge_in os) n (Some (entered special limit (user_at maps.users n))) m.users
+            (λ u. ap (λ (x : Option Object). kept_profile x (charge_in os u)) (found_changed n u f o os (λ x. refl) found)
+              ∙ elim (n == u) as (λ c. (n == u) ≡ c → kept_profile (cond c (Some (f o)) (object_in os u)) (charge_in os u) ≡ cond c (Some (entered special limit (user_at maps.users n))) (kept_profile (object_in os u) (charge_in os u))) [
+                | true ↦ λ q.
+                    let body : profile_by (f o).body (charge_in os u) ≡ Some (record { special = special; limit = limit; charge = charge_in os u }) = rw e refl in
+                    body ∙ ap (λ (k : ℕ). Some (record { special = special; limit = limit; charge = k })) (ap (charge_in os) (sym (nat_same n u q)) ∙ sym kept)
+                | false ↦ λ q. refl
+              ] refl)
+            set)
+          (λ u there. sym (pays u));
+      unowned = λ u high. pays u ∙ m.unowned u high;
+    }
+
+-- ---- another owner
+
+-- an object has another owner, who pays for it in the place of the one before, and has a row
+pub given_kept : (maps after : ProfileMaps) (mid : Users) (h : Held) (n : ℕ) (o : Object) (user : ObjNum) (r : Rights) → AreGiven h → object h n ≡ Some o → AreRows o.rows
+    → IsSome (user_at maps.users user.0)
+    → SetsUser maps.users o.owner.0 (paid (charge_of (user_at maps.users o.owner.0) - pages_of o.body) (user_at maps.users o.owner.0)) mid
+    → SetsUser mid user.0 (paid (charge_of (user_at mid user.0) + pages_of o.body) (user_at mid user.0)) after.users
+    → SetsRow maps.rows (row_key user.0 n) (row_with r) after.rows → Mirrors maps h → Mirrors after (restand h n (λ s. owned_by user (granted user r s)))
+given_kept maps after mid h n o user r given found are there less more_paid set m =
+    let os = h.objects in
+    let f = λ (x : Object). with_standing (owned_by user (granted user r (standing_of x))) x in
+    let more = change_in os n f in
+    let a : ℕ = o.owner.0 in
+    let b : ℕ = user.0 in
+    let pages : ℕ = pages_of o.body in
+    let c = λ (u : ℕ). charge_in os u in
+    let p : ℕ = charge_of (user_at maps.users a) - pages in
+    let q : ℕ = charge_of (user_at mid b) + pages in
+    let lessened = user_paid maps.users mid os c a p m.users less in
+    let is : IsUser os b = is_user maps.users os c b m.users there in
+    let kept : charge_of (user_at mid b) ≡ paying a p c b = charge_kept mid os (paying a p c) b lessened is in
+    let within : pages ≤ c a = let w = pages_within n a o os found in omega (arith, w, own_pages o) in
+    let pays = λ (u : ℕ). charge_changed u n f o os found in
+    let charges = λ (u : ℕ) (user_u : IsUser os u).
+      let e : paying b q (paying a p c) u ≡ charge_in more u =
+          elim (b == u) as (λ y. (b == u) ≡ y → cond y q (cond (a == u) p (c u)) ≡ charge_in more u) [
+            | true ↦ λ qb. elim (a == u) as (λ x. (a == u) ≡ x → q ≡ charge_in more u) [
+                | true ↦ λ qa.
+                    let both : (a == b) ≡ true = grind (arith, nat_tests) in
+                    let at : c a ≡ c u = ap c (nat_same a u qa) in
+                    let was : charge_of (user_at maps.users a) ≡ c a = charge_kept maps.users os c a m.users (subst (λ (k : ℕ). IsUser os k) (sym (nat_same a u qa)) user_u) in
+                    let now : charge_of (user_at mid b) ≡ p = kept ∙ rw both refl in
+                    let step : charge_in more u + pages ≡ c u + pages = rw (qa, qb) at (pays u) in
+                    omega (arith, at, was, now, step, within)
+                | false ↦ λ qa.
+                    let apart : (a == b) ≡ false = grind (arith, nat_tests) in
+                    let at : c b ≡ c u = ap c (nat_same b u qb) in
+                    let now : charge_of (user_at mid b) ≡ c b = kept ∙ rw apart refl in
+                    let step : charge_in more u + 0 ≡ c u + pages = rw (qa, qb) at (pays u) in
+                    omega (arith, at, now, step)
+              ] refl
+            | false ↦ λ qb. elim (a == u) as (λ x. (a == u) ≡ x → cond x p (c u) ≡ charge_in more u) [
+                | true ↦ λ qa.
+                    let at : c a ≡ c u = ap c (nat_same a u qa) in
+                    let was : charge_of (user_at maps.users a) ≡ c a = charge_kept maps.users os c a m.users (subst (λ (k : ℕ). IsUser os k) (sym (nat_same a u qa)) user_u) in
+                    let step : charge_in more u + pages ≡ c u + 0 = rw (qa, qb) at (pays u) in
+                    omega (arith, at, was, step, within)
+                | false ↦ λ qa. let step : charge_in more u + 0 ≡ c u + 0 = rw (qa, qb) at (pays u) in omega (arith, step)
+              ] refl
+          ] refl in e in
+    record {
+      rows = row_kept maps.rows after.rows os more b n r m.rows
+          (λ other k. row_found n k b r f o os other (λ x. refl) found (row_set o.rows user r other are)) set;
+      users = users_of after.users os more (charge_in more)
+          (users_by after.users os (paying b q (paying a p c)) (charge_in more) (user_paid mid after.users os (paying a p c) b q lessened more_paid) charges)
+          (λ u charge. says_same (λ (x : Option Object). kept_profile x charge) n u f o os (λ x. refl) found refl);
+      unowned = λ u high.
+          let none = m.unowned u high in
+          let new : b < h.next = user_given h b given is in
+          let other : (b == u) ≡ false = grind (arith, nat_tests) in
+          elim (a == u) as (λ x. (a == u) ≡ x → charge_in more u ≡ 0) [
+            | true ↦ λ qa. let at : c a ≡ c u = ap c (nat_same a u qa) in absurd (omega (arith, none, at, within, some_page o.body))
+            | false ↦ λ qa. let step : charge_in more u + 0 ≡ c u + 0 = rw (qa, other) at (pays u) in omega (arith, step, none)
           ] refl;
     }

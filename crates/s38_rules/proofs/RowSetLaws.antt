@@ -83,3 +83,8 @@ row_after (row ∷ rows) user r other sorted =
 -- the rights of a user are set, and no other user's change
 pub row_set : (rows : List PrivateRow) (user : ObjNum) (r : Rights) (other : ℕ) → AreRows rows → row_of (with_row rows user r) other ≡ cond (user.0 == other) r.0 (row_of rows other)
 row_set rows user r other h = row_after rows user r other (sorted_from_strictly_increasing (map user_of rows) h.rising)
+
+-- the only row is that of a user
+pub row_alone : (user : ObjNum) (r : Rights) (other : ℕ) → row_of (row_for user r) other ≡ cond (user.0 == other) r.0 0
+unfolding IsStrictlySortedBy
+row_alone user r other = row_after [] user r other tt
