@@ -25,7 +25,7 @@ use Rattle.s38_rules.specs.PrivateRows.{AreRows, row_for, row_of, with_row}
 use Rattle.s38_rules.specs.Standing.{granted, open_to_all, owned_by, restand, standing_of, with_standing}
 use Rattle.s38_rules.proofs.ChargeLaws.{AreRising, KeepsNumber, beside_found, change_absent, charge_changed, charge_last, charge_same, charge_without, number_of, object_above, object_changed, object_last, object_without, own_pages, pages_within, some_page}
 use Rattle.s38_rules.proofs.RowSetLaws.{row_alone, row_set}
-use Rattle.s38_rules.proofs.UserLaws.{charge_kept, is_user, kept_paid, row_kept, rows_left, rows_of, user_paid, user_set, user_some, user_there, users_by, users_of}
+use Rattle.s38_rules.proofs.UserLaws.{charge_kept, is_user, kept_paid, left_unset, row_kept, rows_left, rows_of, user_paid, user_set, user_some, user_there, users_by, users_of}
 
 -- the numbers that were not given are those of no object
 abbrev pub AreGiven : Held → Type 0
@@ -174,6 +174,9 @@ granted_kept maps after h n o user r found are set users m =
 
 -- ---- who pays
 
+no_user : IsSome (kept_profile None 0) → ⊥
+no_user h = cc
+
 -- the user of a profile was given its number
 user_given : (h : Held) (user : ℕ) → AreGiven h → IsUser h.objects user → user < h.next
 user_given h user given there =
@@ -182,11 +185,8 @@ user_given h user given there =
       | false ↦ λ q.
           let none : object h user ≡ None = given user (grind (arith, nat_tests)) in
           let here : IsSome (kept_profile (object_in h.objects user) 0) = there in
-          absurd (nobody (subst (λ (x : Option Object). IsSome (kept_profile x 0)) none here))
+          absurd (no_user (subst (λ (x : Option Object). IsSome (kept_profile x 0)) none here))
     ] refl
-  where
-    nobody : IsSome (kept_profile None 0) → ⊥
-    nobody h = cc
 
 -- an owner who pays for so many pages more than before
 owner_pays : (user n : ℕ) (f : Object → Object) (o : Object) (os : List Object) → object_in os n ≡ Some o → (f o).owner ≡ o.owner
@@ -340,3 +340,134 @@ given_kept maps after mid h n o user r given found are there less more_paid set 
             | false ↦ λ qa. let step : charge_in more u + 0 ≡ c u + 0 = rw (qa, other) at (pays u) in omega (arith, step, none)
           ] refl;
     }
+
+-- ---- a new object
+
+body_entered : (b : Body) (pages : ℕ) → pages ≡ 0 → profile_by b pages ≡ profile_by b 0
+body_entered b pages none = ap (profile_by b) none
+
+-- what is kept of the number of a new object before it is there
+pub none_yet : (maps : ProfileMaps) (h : Held) → AreGiven h → Mirrors maps h → user_at maps.users h.next ≡ None
+none_yet maps h given m =
+    m.users h.next ∙ ap (λ (x : Option Object). kept_profile x (charge_in h.objects h.next)) (given h.next (omega arith))
+
+-- a new object stands behind the others: its owner pays for it and has a row, and a profile is entered
+pub added_kept : (maps after : ProfileMaps) (mid : Users) (h : Held) (o : Object) (r : Rights) → AreGiven h → o.number.0 ≡ h.next → o.owner.0 < h.next → o.rows ≡ row_for o.owner r
+    → SetsUser maps.users h.next (profile_by o.body 0) mid
+    → SetsUser mid o.owner.0 (paid (charge_of (user_at mid o.owner.0) + pages_of o.body) (user_at mid o.owner.0)) after.users
+    → SetsRow maps.rows (row_key o.owner.0 h.next) (row_with r) after.rows → Mirrors maps h → Mirrors after (with_object h o)
+added_kept maps after mid h o r given number owner rows enter paying_for set m =
+    let os = h.objects in
+    let more = h.objects ++ o ∷ [] in
+    let n : ℕ = h.next in
+    let a : ℕ = o.owner.0 in
+    let c = λ (u : ℕ). charge_in os u in
+    let q : ℕ = charge_of (user_at mid a) + pages_of o.body in
+    let absent : object_in os o.number.0 ≡ None = given o.number.0 (omega (arith, number)) in
+    let found = λ (k : ℕ).
+      let e : object_in more k ≡ cond (n == k) (Some o) (object_in os k) = object_last k o os absent ∙ ap (λ (i : ℕ). cond (i == k) (Some o) (object_in os k)) number in e in
+    let unowned : charge_in os n ≡ 0 = m.unowned n (omega arith) in
+    let entered_users : AreUsers mid more c =
+      user_set maps.users mid os more c n (profile_by o.body 0) m.users
+      (λ u. ap (λ (x : Option Object). kept_profile x (c u)) (found u)
+        ∙ elim (n == u) as (λ b. (n == u) ≡ b → kept_profile (cond b (Some o) (object_in os u)) (c u) ≡ cond b (profile_by o.body 0) (kept_profile (object_in os u) (c u))) [
+          | true ↦ λ e. body_entered o.body (c u) (ap c (sym (nat_same n u e)) ∙ unowned)
+          | false ↦ λ e. refl
+        ] refl)
+      enter in
+    let charges = λ (u : ℕ) (is : IsUser more u).
+      let e : paying a q c u ≡ charge_in more u =
+          elim (a == u) as (λ b. (a == u) ≡ b → cond b q (c u) ≡ charge_in more u) [
+            | true ↦ λ e.
+                let at : c a ≡ c u = ap c (nat_same a u e) in
+                let kept : charge_of (user_at mid a) ≡ c a = charge_kept mid more c a entered_users (subst (λ (k : ℕ). IsUser more k) (sym (nat_same a u e)) is) in
+                let step : charge_in more u ≡ c u + pages_of o.body = rw e at (charge_last u o os) in
+                omega (arith, at, kept, step)
+            | false ↦ λ e. let step : charge_in more u ≡ c u + 0 = rw e at (charge_last u o os) in omega (arith, step)
+          ] refl in e in
+    record {
+      rows = row_kept maps.rows after.rows os more a n r m.rows
+          (λ other k. ap (λ (x : Option Object). row_in x other) (found k)
+            ∙ elim (n == k) as (λ b. (n == k) ≡ b → row_in (cond b (Some o) (object_in os k)) other ≡ cond ((a == other) && b) r.0 (row_in (object_in os k) other)) [
+              | true ↦ λ e.
+                  let none : row_in (object_in os k) other ≡ 0 = ap (λ (i : ℕ). row_in (object_in os i) other) (sym (nat_same n k e)) ∙ ap (λ (x : Option Object). row_in x other) (given n (omega arith)) in
+                  ap (λ rs. row_of rs other) rows ∙ row_alone o.owner r other
+                  ∙ elim (a == other) as (λ d. cond d r.0 0 ≡ cond (d && true) r.0 (row_in (object_in os k) other)) [
+                    | true ↦ refl
+                    | false ↦ sym none
+                  ]
+              | false ↦ λ e. elim (a == other) as (λ d. row_in (object_in os k) other ≡ cond (d && false) r.0 (row_in (object_in os k) other)) [ true ↦ refl | false ↦ refl ]
+            ] refl)
+          set;
+      users = users_by after.users more (paying a q c) (charge_in more) (user_paid mid after.users more c a q entered_users paying_for) charges;
+      unowned = λ u high.
+          let none : charge_in os u ≡ 0 = m.unowned u (omega (arith, high)) in
+          let other : (a == u) ≡ false = grind (arith, nat_tests) in
+          let step : charge_in more u ≡ c u + 0 = rw other at (charge_last u o os) in
+          omega (arith, none, step);
+    }
+
+-- a body that is no profile enters none
+pub unentered : (maps : ProfileMaps) (h : Held) (b : Body) → AreGiven h → profile_by b 0 ≡ None → Mirrors maps h → SetsUser maps.users h.next (profile_by b 0) maps.users
+unentered maps h b given none m =
+    subst (λ (p : Option Profile). SetsUser maps.users h.next p maps.users) (sym none) (left_unset maps.users h.next (none_yet maps h given m))
+
+-- ---- an object is there no more
+
+-- who is a user without an object was one with it
+still_user : (n u : ℕ) (os : List Object) → IsUser (without_in os n) u → IsUser os u
+still_user n u os is =
+    let here : IsSome (kept_profile (cond (n == u) None (object_in os u)) 0) = subst (λ (x : Option Object). IsSome (kept_profile x 0)) (object_without n u os) is in
+    elim (n == u) as (λ b. IsSome (kept_profile (cond b None (object_in os u)) 0) → IsUser os u) [
+      | true ↦ λ none. absurd (no_user none)
+      | false ↦ λ some. some
+    ] here
+
+-- an object is there no more: none of its rows is kept, its owner does not pay for it, and a profile is left
+pub gone_kept : (maps after : ProfileMaps) (mid : Users) (h : Held) (n : ℕ) (o : Object) → AreRising h.objects → object h n ≡ Some o
+    → ((user m : ℕ) → row_at after.rows (row_key user m) ≡ cond (n == m) None (row_at maps.rows (row_key user m)))
+    → SetsUser maps.users o.owner.0 (paid (charge_of (user_at maps.users o.owner.0) - pages_of o.body) (user_at maps.users o.owner.0)) mid
+    → SetsUser mid n None after.users → Mirrors maps h → Mirrors after (without h n)
+gone_kept maps after mid h n o rising found rows less leave m =
+    let os = h.objects in
+    let more = without_in h.objects n in
+    let a : ℕ = o.owner.0 in
+    let pages : ℕ = pages_of o.body in
+    let c = λ (u : ℕ). charge_in os u in
+    let p : ℕ = charge_of (user_at maps.users a) - pages in
+    let lessened = user_paid maps.users mid os c a p m.users less in
+    let within : pages ≤ c a = let w = pages_within n a o os found in omega (arith, w, own_pages o) in
+    let pays = λ (u : ℕ). charge_without u n o os rising found in
+    let charges = λ (u : ℕ) (is : IsUser more u).
+      let e : paying a p c u ≡ charge_in more u =
+          elim (a == u) as (λ b. (a == u) ≡ b → cond b p (c u) ≡ charge_in more u) [
+            | true ↦ λ e.
+                let at : c a ≡ c u = ap c (nat_same a u e) in
+                let own : IsUser os a = subst (λ (k : ℕ). IsUser os k) (sym (nat_same a u e)) (still_user n u os is) in
+                let was : charge_of (user_at maps.users a) ≡ c a = charge_kept maps.users os c a m.users own in
+                let step : charge_in more u + pages ≡ c u = rw e at (pays u) in
+                omega (arith, at, was, step, within)
+            | false ↦ λ e. let step : charge_in more u + 0 ≡ c u = rw e at (pays u) in omega (arith, step)
+          ] refl in e in
+    record {
+      rows = rows_left maps.rows after.rows os more n m.rows
+          (λ user k. ap (λ (x : Option Object). row_in x user) (object_without n k os)
+            ∙ elim (n == k) as (λ b. row_in (cond b None (object_in os k)) user ≡ cond b 0 (row_in (object_in os k) user)) [ true ↦ refl | false ↦ refl ])
+          rows;
+      users = users_by after.users more (paying a p c) (charge_in more)
+          (user_set mid after.users os more (paying a p c) n None lessened
+            (λ u. ap (λ (x : Option Object). kept_profile x (paying a p c u)) (object_without n u os)
+              ∙ elim (n == u) as (λ b. kept_profile (cond b None (object_in os u)) (paying a p c u) ≡ cond b None (kept_profile (object_in os u) (paying a p c u))) [ true ↦ refl | false ↦ refl ])
+            leave)
+          charges;
+      unowned = λ u high. let none = m.unowned u high in let step = pays u in omega (arith, none, step);
+    }
+
+-- the object that is there no more was no profile: none is left
+pub unleft : (maps : ProfileMaps) (h : Held) (mid : Users) (n pages : ℕ) (o : Object) (user : ℕ) → object h n ≡ Some o → profile_by o.body 0 ≡ None
+    → SetsUser maps.users user (paid pages (user_at maps.users user)) mid → Mirrors maps h → SetsUser mid n None mid
+unleft maps h mid n pages o user found none less m =
+    let lessened = user_paid maps.users mid h.objects (charge_in h.objects) user pages m.users less in
+    left_unset mid n
+    (lessened n ∙ sym (kept_paid (object_in h.objects n) 0 (paying user pages (charge_in h.objects) n))
+      ∙ ap (paid (paying user pages (charge_in h.objects) n)) (ap (λ (x : Option Object). kept_profile x 0) found ∙ none))
