@@ -1,3 +1,4 @@
+pub mod KeptLaws
 pub mod NumberLaws
 pub mod NameLaws
 pub mod ChargeLaws

@@ -4,6 +4,7 @@
 
 mod body;
 mod charges;
+mod kept;
 mod name_key;
 mod names;
 mod numbered;

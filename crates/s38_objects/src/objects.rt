@@ -21,6 +21,7 @@ use s38_queues::Queue;
 use s38_rules::{BodyPart, Object};
 use std::alloc::{AllocFailed, Global};
 use std::collections::BTreeMap;
+use std::collections::btree_map::Values;
 use std::marker::Model;
 
 /// The object map. Contracts see it as the objects in rising order of number, the next number and the
@@ -75,6 +76,14 @@ impl Objects {
         ensures { IsTrue result ↔ (length self.now.objects ≡ 0) }
     {
         self.by_number.is_empty()
+    }
+
+    /// The objects, in rising order of number.
+    pub fn all(&self) -> Values<'_, u64, Object>
+        ensures all { result ≡ self.now.objects }
+        ensures lawful { IsLawful self.now }
+    {
+        self.by_number.values()
     }
 
     /// The least number that may still be given.
