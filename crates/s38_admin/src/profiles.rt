@@ -38,10 +38,10 @@ fn limit_at(operands: &[Operand], k: usize) -> u32
 
 // ---- CRTUP
 
-fn new_profile(operands: &[Operand]) -> Creating
-    ensures { result ≡ new_profile operands.now }
+fn new_profile(objects: &Objects, operands: &[Operand]) -> Creating
+    ensures { result ≡ new_profile objects.now operands.now }
 {
-    of_machine(Kind::Profile, Rights(0), operands)
+    of_machine(Kind::Profile, Rights(0), objects, operands)
 }
 
 fn profile_body(operands: &[Operand]) -> Body
@@ -57,7 +57,8 @@ fn profile_body(operands: &[Operand]) -> Body
 fn crtup_fails(world: &World<Objects>, process: u32, operands: &[Operand]) -> Option<Exception>
     ensures { result ≡ crtup_fails world.now process operands.now }
 {
-    creation_fails(world, world.user_of(process), &new_profile(operands), None)
+    let created = new_profile(&world.objects, operands);
+    creation_fails(world, world.user_of(process), &created, None)
 }
 
 #[tactic(auto, using(crate::proofs::CreationLaws::crtup_created), unfolding(s38_rules::specs::Profiles::crtup_changes))]
@@ -72,13 +73,8 @@ fn crtup(
     ensures err { OnErr result (world.new ≡ world.old) }
 {
     let owner = world.user_of(process);
-    creation_changes(
-        alloc,
-        world,
-        owner,
-        &new_profile(operands),
-        profile_body(operands),
-    )
+    let created = new_profile(&world.objects, operands);
+    creation_changes(alloc, world, owner, &created, profile_body(operands))
 }
 
 // ---- MODUP
@@ -213,7 +209,7 @@ pub fn value(
     let _ = depth;
     let operands = request.operands.as_slice();
     match request.op {
-        Op::Crtup => Ok(Some(creation_gives(&world.objects, &new_profile(operands)))),
+        Op::Crtup => Ok(Some(creation_gives(&world.objects, &new_profile(&world.objects, operands)))),
         _ => Ok(None),
     }
 }
