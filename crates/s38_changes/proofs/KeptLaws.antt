@@ -24,7 +24,7 @@ use Rattle.s38_rules.specs.Parts.{cells_at, on_queue, on_space, over_object, pro
 use Rattle.s38_rules.specs.PrivateRows.{AreRows, row_for, row_of, with_row}
 use Rattle.s38_rules.specs.Standing.{granted, open_to_all, owned_by, restand, standing_of, with_standing}
 use Rattle.s38_rules.proofs.ChargeLaws.{AreRising, KeepsNumber, beside_found, change_absent, charge_changed, charge_last, charge_same, charge_without, number_of, object_above, object_changed, object_last, object_without, own_pages, pages_within, some_page}
-use Rattle.s38_rules.proofs.RowSetLaws.{row_alone, row_set}
+use Rattle.s38_rules.proofs.RowLaws.{row_alone, row_read}
 use Rattle.s38_rules.proofs.UserLaws.{charge_kept, is_user, kept_paid, left_unset, row_kept, rows_left, rows_of, user_paid, user_set, user_some, user_there, users_by, users_of}
 
 -- the numbers that were not given are those of no object
@@ -163,7 +163,7 @@ granted_kept maps after h n o user r found are set users m =
     let charges = λ (u : ℕ). let e : charge_in (change_in h.objects n f) u ≡ charge_in h.objects u = charge_same u n f h.objects (λ x. refl) in e in
     record {
       rows = row_kept maps.rows after.rows h.objects (change_in h.objects n f) user.0 n r m.rows
-          (λ other k. row_found n k user.0 r f o h.objects other (λ x. refl) found (row_set o.rows user r other are)) set;
+          (λ other k. row_found n k user.0 r f o h.objects other (λ x. refl) found (row_read o.rows user r other are)) set;
       users = subst (λ (us : Users). AreUsers us (change_in h.objects n f) (charge_in (change_in h.objects n f))) (sym users)
           (users_by maps.users (change_in h.objects n f) (charge_in h.objects) (charge_in (change_in h.objects n f))
             (users_of maps.users h.objects (change_in h.objects n f) (charge_in h.objects) m.users
@@ -327,7 +327,7 @@ given_kept maps after mid h n o user r given found are there less more_paid set 
           ] refl in e in
     record {
       rows = row_kept maps.rows after.rows os more b n r m.rows
-          (λ other k. row_found n k b r f o os other (λ x. refl) found (row_set o.rows user r other are)) set;
+          (λ other k. row_found n k b r f o os other (λ x. refl) found (row_read o.rows user r other are)) set;
       users = users_of after.users os more (charge_in more)
           (users_by after.users os (paying b q (paying a p c)) (charge_in more) (user_paid mid after.users os (paying a p c) b q lessened more_paid) charges)
           (λ u charge. says_same (λ (x : Option Object). kept_profile x charge) n u f o os (λ x. refl) found refl);

@@ -38,6 +38,10 @@ object h n = object_in h.objects n
 abbrev pub is_there : Held → ℕ → Bool
 is_there h n = is_some (object h n)
 
+-- a context that is there, or none: what is put into one that is not there is in no context
+abbrev pub home : Held → ℕ → ObjNum
+home h context = record { 0 = if is_there h context then context else 0 }
+
 -- the object says that it is in a context; one whose context number is 0 is in no context
 abbrev pub is_in_context : ℕ → Object → Bool
 is_in_context context o = not (context == 0) && (o.context.0 == context)
@@ -131,11 +135,6 @@ pages_of _ = 1
 
 abbrev pub pages_for : ℕ → Object → ℕ
 pages_for user o = if o.owner.0 == user then pages_of o.body else 0
-
--- the pages of the object of a number
-abbrev pub pages_in : Option Object → ℕ
-pages_in None = 0
-pages_in (Some o) = pages_of o.body
 
 -- the pages of all objects that a user owns
 unfoldable pub charge_in : List Object → ℕ → ℕ

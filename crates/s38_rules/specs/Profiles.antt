@@ -44,24 +44,24 @@ limit_at ops k = min (whole_at ops k) 4294967295
 
 -- ---- CRTUP
 
-abbrev pub new_profile : List Operand → Creating
-new_profile ops = of_machine kinds.Profile rights.no_rights ops
+abbrev pub new_profile : Held → List Operand → Creating
+new_profile h ops = of_machine kinds.Profile rights.no_rights h ops
 
 abbrev pub profile_body : List Operand → Body
 profile_body ops = bodies.Profile (specials_at ops 3) (limit_at ops 4)
 
 unfoldable pub crtup_fails : State → ℕ → List Operand → Option Exception
-crtup_fails s p ops = creation_fails s.held (user_of s p) (new_profile ops) None
+crtup_fails s p ops = creation_fails s.held (user_of s p) (new_profile s.held ops) None
 
 unfoldable pub crtup_changes : State → ℕ → List Operand → State
-crtup_changes s p ops = record s { held = creation_changes s.held (user_of s p) (new_profile ops) (profile_body ops) }
+crtup_changes s p ops = record s { held = creation_changes s.held (user_of s p) (new_profile s.held ops) (profile_body ops) }
 
 abbrev pub crtup : Instruction
 crtup = record inert {
   needs = λ s p d r. machine_needs;
   special = λ s p d r. rights.profile;
   fails = λ s p d r. crtup_fails s p r.operands;
-  gives = λ s p d r. Some (creation_gives s.held (new_profile r.operands));
+  gives = λ s p d r. Some (creation_gives s.held (new_profile s.held r.operands));
   changes = λ s p d r. crtup_changes s p r.operands;
 }
 
