@@ -1,5 +1,3 @@
 pub mod NumberLaws
 pub mod NameLaws
-pub mod ChargeLaws
 pub mod IndexLaws
-pub mod BodyLaws

@@ -1,15 +1,14 @@
-//! The object map: the machine's objects by number and by name, the numbers that were given, and what each
-//! user pays for.
+//! The object map: the machine's objects by number and by name, the numbers that were given.
 #![tactic(auto)]
 
 mod body;
-mod charges;
 mod name_key;
 mod names;
 mod numbered;
 mod objects;
 mod table;
 
+pub use body::pages;
 pub use objects::Objects;
 pub use table::kind_of;
 

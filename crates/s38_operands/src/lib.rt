@@ -2,6 +2,7 @@
 //! computations, creation and destruction, needs.
 #![tactic(auto)]
 
+mod cells;
 mod computing;
 mod creation;
 mod destruction;
@@ -15,6 +16,7 @@ mod reads;
 mod storage;
 mod values;
 
+pub use cells::{copy_cells, resize_cells, set_cells, write_cells};
 pub use computing::{
     AtOperands, computing_fails, computing_gives, computing_needs, receiver_at, shift_at,
 };
