@@ -7,13 +7,14 @@ use crate::calls::{call_gives, call_needs, callx, callx_fails, xctl, xctl_fails}
 use crate::templates::{is_larger, program_in, template_in, template_rule};
 use s38_base::exceptions::LIMIT_EXCEEDED;
 use s38_base::{Exception, Kind, NoMemory, Op, TryClone};
+use s38_changes::{
+    creation_changes, creation_fails, creation_gives, creation_needs, destruction_changes,
+    destruction_needs, in_context,
+};
 use s38_code::{CheckedTemplate, Code, Operand, Request, Val};
 use s38_invoke::World;
 use s38_objects::Objects;
-use s38_operands::{
-    Needs, creation_changes, creation_fails, creation_gives, creation_needs, destruction_changes,
-    destruction_needs, fails, in_context, place,
-};
+use s38_operands::{Needs, fails, place};
 use s38_rules::{Body, Creating};
 use std::alloc::Global;
 
@@ -41,7 +42,7 @@ fn crtpg_fails(world: &World<Objects>, process: u32, operands: &[Operand]) -> Op
     let template = template_at(world, operands);
     let created = new_program(objects, operands);
     let owner = world.user_of(process);
-    if let Some(failure) = creation_fails(objects, owner, &created, template_rule(template)) {
+    if let Some(failure) = creation_fails(world, owner, &created, template_rule(template)) {
         return Some(failure);
     }
     fails(is_larger(template, world.limit), LIMIT_EXCEEDED, 0)
@@ -76,13 +77,7 @@ fn crtpg(
     let owner = world.user_of(process);
     let created = new_program(&world.objects, operands);
     match program_copy(alloc, world, operands) {
-        Ok(Some(code)) => creation_changes(
-            alloc,
-            &mut world.objects,
-            owner,
-            &created,
-            Body::Program(code),
-        ),
+        Ok(Some(code)) => creation_changes(alloc, world, owner, &created, Body::Program(code)),
         Ok(None) => Ok(()),
         Err(fault) => Err(fault),
     }
@@ -169,7 +164,7 @@ pub fn apply(
             Ok(())
         }
         Op::Despg => {
-            destruction_changes(&mut world.objects, operands);
+            destruction_changes(world, operands);
             Ok(())
         }
         _ => Ok(()),

@@ -32,7 +32,7 @@ fn may_search(world: &World<Objects>, process: u32, users: &[UserNum], context: 
     is_context_in(world.objects.get(context))
         && has_rights(
             Rights::RETRIEVE,
-            available(&world.objects, users, context, Rights(0)),
+            available(world, users, context, Rights(0)),
         )
 }
 
@@ -66,7 +66,7 @@ fn search_in(
 // ---- what an identification stands for
 
 /// The context that operand 2 names: the machine's, or that of the pointer.
-fn context_at(objects: &Objects, operands: &[Operand]) -> ObjNum
+pub fn context_at(objects: &Objects, operands: &[Operand]) -> ObjNum
     ensures { result.0 ≡ context_at objects.now operands.now }
 {
     if is_machine(operands, 2) {
@@ -133,7 +133,7 @@ fn resolved(
 // ---- RSLVSP
 
 /// The context in which the object is found is read.
-fn context_read(named: Named) -> Needs
+pub fn context_read(named: Named) -> Needs
     ensures { result ≡ context_read named }
 {
     need(
@@ -169,12 +169,12 @@ fn rslvsp_needs(world: &World<Objects>, process: u32, depth: u16, operands: &[Op
 }
 
 fn carried_rights(
-    objects: &Objects,
+    world: &World<Objects>,
     users: &[UserNum],
     word: Rights,
     located: Option<Located>,
 ) -> Option<Exception>
-    ensures { result ≡ carried_rights objects.now (map (λ u. u.0) users.now) word.0 located }
+    ensures { result ≡ carried_rights world.now.held (map (λ u. u.0) users.now) word.0 located }
 {
     match located {
         None => Some(Exception::plain(OBJECT_NOT_FOUND, 3)),
@@ -186,7 +186,7 @@ fn carried_rights(
             missing(
                 0,
                 needed,
-                available(objects, users, located.object, Rights(0)),
+                available(world, users, located.object, Rights(0)),
             )
         }
     }
@@ -205,7 +205,7 @@ fn rslvsp_fails(
     let users = world.acting(process, depth);
     let located = resolved(world, process, depth, operands);
     carried_rights(
-        &world.objects,
+        world,
         users.as_slice(),
         rights_at(operands, 4),
         located,

@@ -10,15 +10,17 @@ ghost use Rattle.s38_rules.specs.Spaces.{cells_put, cpybwp_changes, cpybwp_fails
 
 use s38_base::exceptions::{BOUNDARY_ALIGNMENT, DECIMAL_DATA, LENGTH_INVALID, SPACE_ADDRESSING};
 use s38_base::{Category, Exception, Kind, NoMemory, ObjNum, Op, Pointer, Rights, UserNum};
+use s38_changes::{
+    creation_changes, creation_fails, creation_gives, creation_needs, destruction_changes,
+    destruction_needs, in_context, owner_pays, put_cells, resize,
+};
 use s38_code::{Operand, Request, Val};
 use s38_invoke::World;
 use s38_memory::{Cell, Tagged};
 use s38_objects::Objects;
 use s38_operands::{
-    Needs, attr_at, count_at, creation_changes, creation_fails, creation_gives, creation_needs,
-    destruction_changes, destruction_needs, fails, first_pointer, in_context, is_aligned,
-    is_in_space, is_within, need, number_at, on_object, pages_rule, place, pointer_at,
-    source_cells, target,
+    Needs, attr_at, count_at, fails, first_pointer, is_aligned, is_in_space, is_within, need,
+    number_at, on_object, place, pointer_at, source_cells, target,
 };
 use s38_rules::{Body, Creating, Named, Object, PointerKind, Sought};
 use std::alloc::Global;
@@ -78,7 +80,7 @@ fn crts_fails(world: &World<Objects>, process: u32, operands: &[Operand]) -> Opt
 {
     let created = new_space(world, operands);
     let own = length_rule(world, operands, 5);
-    creation_fails(&world.objects, world.user_of(process), &created, own)
+    creation_fails(world, world.user_of(process), &created, own)
 }
 
 /// The greatest length of a space.
@@ -130,13 +132,7 @@ fn create_space(
 {
     let owner = world.user_of(process);
     let created = new_space(world, operands);
-    creation_changes(
-        alloc,
-        &mut world.objects,
-        owner,
-        &created,
-        Body::Space(space),
-    )
+    creation_changes(alloc, world, owner, &created, Body::Space(space))
 }
 
 /// A space of zero bytes.
@@ -159,24 +155,6 @@ fn crts(
 
 // ---- MODS
 
-fn owner_in(object_used: Option<&Object>) -> UserNum
-    ensures { result.0 ≡ owner_in (option_copied object_used.entry) }
-{
-    match object_used {
-        None => ObjNum(0),
-        Some(object_used) => object_used.owner,
-    }
-}
-
-/// The owner of an object pays for so many pages of it.
-#[tactic(auto, unfolding(s38_rules::specs::Spaces::owner_pays))]
-fn owner_pays(objects: &Objects, space: ObjNum, pages: u64) -> Option<Exception>
-    ensures { result ≡ owner_pays objects.now space.0 pages }
-{
-    let others = objects.charge_beside(space);
-    pages_rule(objects, owner_in(objects.get(space)), others, pages)
-}
-
 /// The owner of the space pays for its new length.
 #[tactic(auto, unfolding(s38_rules::specs::Spaces::mods_fails))]
 fn mods_fails(world: &World<Objects>, operands: &[Operand]) -> Option<Exception>
@@ -187,17 +165,7 @@ fn mods_fails(world: &World<Objects>, operands: &[Operand]) -> Option<Exception>
     }
     let space = target(&world.objects, operands, 1);
     let pages = pages_for_length(length_at(world, operands, 2));
-    owner_pays(&world.objects, space, pages)
-}
-
-/// A space of this length, cut or lengthened by zero bytes.
-fn resize(objects: &mut Objects, limit: u32, space: ObjNum, len: u32) -> Result<(), NoMemory>
-    requires long { is_space_length limit len ≡ true }
-    requires small { limit ≤ furthest }
-    ensures ok { OnOk result (objects.new ≡ on_space objects.old space.0 (resized len)) }
-    ensures err { OnErr result (objects.new ≡ objects.old) }
-{
-    objects.resize(space, len)
+    owner_pays(world, space, pages)
 }
 
 /// The space is cut, or lengthened by zero bytes.
@@ -209,8 +177,7 @@ fn mods(world: &mut World<Objects>, operands: &[Operand]) -> Result<(), NoMemory
 {
     let len = length_at(world, operands, 2);
     let space = target(&world.objects, operands, 1);
-    let limit = limit_of(world);
-    resize(&mut world.objects, limit, space, len)
+    resize(world, space, len)
 }
 
 // ---- pointers into spaces
@@ -293,28 +260,15 @@ fn cpybwp_gives(
     Ok(Some(Val::Ptr(first_pointer(cells.as_slice()))))
 }
 
-fn put_cells(objects: &mut Objects, receiver: Option<&Operand>, cells: &[Cell])
-    requires { All IsCell cells.now }
-    ensures { objects.new ≡ cells_put objects.old (option_copied receiver.entry) cells.now }
-{
-    match receiver {
-        Some(Operand::InSpace { base, offset, .. }) => {
-            let at = Pointer::start(*base, *offset);
-            objects.copy_in(Pointer::target(*base), at, cells);
-        }
-        _ => {}
-    }
-}
-
 /// Cells go with their tags into the space.
 #[tactic(auto, unfolding(s38_rules::specs::Spaces::cpybwp_changes))]
-fn cpybwp(alloc: Global, objects: &mut Objects, operands: &[Operand]) -> Result<(), NoMemory>
-    ensures ok { OnOk result (objects.new ≡ cpybwp_changes objects.old operands.now) }
-    ensures err { OnErr result (objects.new ≡ objects.old) }
+fn cpybwp(alloc: Global, world: &mut World<Objects>, operands: &[Operand]) -> Result<(), NoMemory>
+    ensures ok { OnOk result (world.new ≡ record world.old { held = cpybwp_changes world.old.held operands.now }) }
+    ensures err { OnErr result (world.new ≡ world.old) }
 {
-    match source_cells(alloc, objects, operands, 2) {
+    match source_cells(alloc, &world.objects, operands, 2) {
         Ok(cells) => {
-            put_cells(objects, place(operands, 1), cells.as_slice());
+            put_cells(world, place(operands, 1), cells.as_slice());
             Ok(())
         }
         Err(fault) => Err(fault),
@@ -409,11 +363,11 @@ pub fn apply(
 {
     let operands = request.operands.as_slice();
     match request.op {
-        Op::Cpybwp => cpybwp(alloc, &mut world.objects, operands),
+        Op::Cpybwp => cpybwp(alloc, world, operands),
         Op::Crts => crts(alloc, world, process, operands),
         Op::Mods => mods(world, operands),
         Op::Dess => {
-            destruction_changes(&mut world.objects, operands);
+            destruction_changes(world, operands);
             Ok(())
         }
         _ => Ok(()),

@@ -6,13 +6,16 @@ ghost use Rattle.s38_rules.specs.Queues.{created_queue, crtq_changes, crtq_fails
 
 use s38_base::exceptions::{LENGTH_INVALID, LIMIT_EXCEEDED, NO_MESSAGE};
 use s38_base::{Category, Exception, Kind, NoMemory, ObjNum, Op, Relation, Rights};
+use s38_changes::{
+    creation_changes, creation_fails, creation_gives, creation_needs, destruction_changes,
+    destruction_needs, in_context,
+};
 use s38_code::{Operand, Request, Val};
 use s38_invoke::World;
 use s38_objects::Objects;
 use s38_operands::{
-    Needs, QueueFacts, bytes_at, creation_changes, creation_fails, creation_gives, creation_needs,
-    destruction_changes, destruction_needs, fails, fitted, in_context, is_given, oldest, on_object,
-    queue_facts, room_at, size_at, target, whole_at, word_at,
+    Needs, QueueFacts, bytes_at, fails, fitted, is_given, oldest, on_object, queue_facts, room_at,
+    size_at, target, whole_at, word_at,
 };
 use s38_queues::{Order, Queue};
 use s38_rules::{Body, Creating, Sought};
@@ -34,7 +37,7 @@ fn crtq_fails(world: &World<Objects>, process: u32, operands: &[Operand]) -> Opt
     ensures { result ≡ crtq_fails world.now process operands.now }
 {
     let created = created_queue(&world.objects, operands);
-    creation_fails(&world.objects, world.user_of(process), &created, None)
+    creation_fails(world, world.user_of(process), &created, None)
 }
 
 /// How long the messages of a new queue may be.
@@ -58,13 +61,7 @@ fn crtq(
     let owner = world.user_of(process);
     let created = created_queue(&world.objects, operands);
     let queue = Queue::new(alloc, Order::Fifo, 0, longest_at(operands));
-    creation_changes(
-        alloc,
-        &mut world.objects,
-        owner,
-        &created,
-        Body::Queue(queue),
-    )
+    creation_changes(alloc, world, owner, &created, Body::Queue(queue))
 }
 
 // ---- ENQ
@@ -271,7 +268,7 @@ pub fn apply(
     match request.op {
         Op::Crtq => crtq(alloc, world, process, operands),
         Op::Desq => {
-            destruction_changes(&mut world.objects, operands);
+            destruction_changes(world, operands);
             Ok(())
         }
         Op::Enq => enq(alloc, &mut world.objects, operands),

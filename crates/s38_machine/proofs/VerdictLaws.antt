@@ -6,9 +6,11 @@ use Rattle.s38_code.specs.declared.event.Event.{Event}
 use Rattle.s38_code.specs.declared.event.Event.TheVariants.{Act}
 use Rattle.s38_code.specs.declared.event.Request.{Request}
 use Rattle.s38_rules.specs.declared.verdict.Verdict.TheVariants.{Permit}
+use Rattle.s38_rules.specs.Authority.{lacks_special}
 use Rattle.s38_rules.specs.Rows.{row}
 use Rattle.s38_rules.specs.State.{State}
-use Rattle.s38_rules.specs.Verdict.{address_rules, awake_verdict, lock_rules, of_failure, refused_by, rights_rules, special_rules}
+use Rattle.s38_rules.specs.Users.{acting}
+use Rattle.s38_rules.specs.Verdict.{address_rules, awake_verdict, lock_rules, of_failure, refused_by, rights_rules}
 use Rattle.s38_rules.proofs.RuleLaws.{first_none}
 
 of_failure_permit : (s : State) (p : ℕ) (e : Event) (x : Option Exception) → of_failure s p e x ≡ Permit → x ≡ None
@@ -22,9 +24,10 @@ permitted_conditions s p depth request h =
     let i = row request.op in
     let wanted = i.needs s p depth request in
     let locks = lock_rules s p request.operands wanted in
+    let special = lacks_special s.held (acting s p depth) (i.special s p depth request) in
     let granted = rights_rules s p depth request.operands wanted in
     let none = of_failure_permit s p (Act depth request) (refused_by i s p depth request) h in
-    let behind_address = (first_none (address_rules s.held request.operands wanted) (first (special_rules s p depth) (first granted (first locks (i.fails s p depth request)))) none).1 in
-    let behind_special = (first_none (special_rules s p depth) (first granted (first locks (i.fails s p depth request))) behind_address).1 in
+    let behind_address = (first_none (address_rules s.held request.operands wanted) (first special (first granted (first locks (i.fails s p depth request)))) none).1 in
+    let behind_special = (first_none special (first granted (first locks (i.fails s p depth request))) behind_address).1 in
     let behind_rights = (first_none granted (first locks (i.fails s p depth request)) behind_special).1 in
     (first_none locks (i.fails s p depth request) behind_rights).1

@@ -5,10 +5,11 @@ ghost use Rattle.s38_rules.specs.State.{State};
 ghost use Rattle.s38_rules.specs.Operands.{delivered};
 
 use s38_base::{NoMemory, Pointer, Seq};
+use s38_changes::put_value;
 use s38_code::{Operand, Val, Vals};
 use s38_invoke::World;
 use s38_objects::Objects;
-use s38_operands::{is_in_space, put_value};
+use s38_operands::is_in_space;
 use std::alloc::Global;
 
 fn one(alloc: Global, value: Val) -> Result<Vals, NoMemory>
@@ -48,7 +49,7 @@ pub fn put(world: &mut World<Objects>, shift: u16, receiver: Option<&Operand>, v
         Some(value) => match receiver {
             Some(Operand::InSpace { base, offset, .. }) => {
                 let at = Pointer::start(*base, *offset) + u64::from(shift);
-                put_value(&mut world.objects, Pointer::target(*base), at, &value);
+                put_value(world, Pointer::target(*base), at, &value);
             }
             _ => {}
         },

@@ -4,12 +4,12 @@ ghost use Rattle.s38_base.specs.NameText.{is_name};
 ghost use Rattle.s38_rules.specs.Opening.{general_context, held_first, locked_queue, machine_context, named, officer, officer_rows, opened, opening, owned, plain_user, process_entries};
 
 use s38_base::limits::BODY_LIMIT;
-use s38_base::{Id, Kind, Name, NoMemory, ObjNum, Rights, Seq, Special, TryClone};
+use s38_base::{Id, Kind, Name, NoMemory, ObjNum, Rights, Special, TryClone};
 use s38_code::{Checked, Job};
 use s38_invoke::World;
 use s38_objects::Objects;
 use s38_queues::{Order, Queue};
-use s38_rules::{Body, Object, PrivateRow, ProcessEntry, RowList};
+use s38_rules::{Body, Object, ProcessEntry, RowList};
 use std::alloc::Global;
 
 fn named(kind: Kind, name: &[u8]) -> Id
@@ -25,12 +25,7 @@ fn named(kind: Kind, name: &[u8]) -> Id
 fn officer_rows(alloc: Global) -> Result<RowList, NoMemory>
     ensures { IfOk result (λ rows. rows ≡ officer_rows) }
 {
-    let mut rows = Seq::new(alloc);
-    rows.push(PrivateRow {
-        user: ObjNum(2),
-        rights: Rights(255),
-    })?;
-    Ok(rows)
+    RowList::of(alloc, ObjNum(2), Rights(255))
 }
 
 fn owned(
@@ -148,11 +143,5 @@ pub fn opened(alloc: Global, templates: Checked, jobs: &[Job]) -> Result<World<O
 {
     let objects = opening(alloc)?;
     let processes = process_entries(alloc, jobs)?;
-    Ok(World {
-        objects,
-        limit: BODY_LIMIT,
-        templates,
-        processes,
-        waiting: Vec::new(alloc),
-    })
+    World::new(alloc, objects, BODY_LIMIT, templates, processes)
 }

@@ -1,78 +1,119 @@
-//! The rule of rights: what an instruction needs of each object is available.
+//! The rule of authority: what an instruction claims of each object is there.
 ghost use Rattle.std.specs.Prelude.{◌≡◌, map};
 ghost use Rattle.s38_rules.specs.Needs.{first_of};
-ghost use Rattle.s38_rules.specs.Verdict.{available_to, rights_rule, rights_rules};
+ghost use Rattle.s38_rules.specs.Verdict.{carried_for, claim_rule, granting_rule, names_owners, rights_rule, subject};
 
-use s38_authority::{available, missing};
-use s38_base::{Exception, Pointer, Rights, UserNum};
+use s38_authority::{available, is_governed, missing};
+use s38_base::exceptions::OWNERSHIP_REQUIRED;
+use s38_base::{Exception, ObjNum, Pointer, Rights, UserNum};
 use s38_code::Operand;
 use s38_invoke::World;
 use s38_objects::Objects;
-use s38_operands::{pointer_at, target};
-use s38_rules::{Named, Need};
+use s38_operands::{fails, pointer_at, target};
+use s38_rules::{Claim, Named, Need};
 
-fn available_to(objects: &Objects, users: &[UserNum], operands: &[Operand], need: &Need) -> Rights
-    ensures { result.0 ≡ available_to objects.now (map (λ u. u.0) users.now) operands.now need.now need.now.named }
+/// The object that a need speaks of.
+fn subject(objects: &Objects, operands: &[Operand], need: &Need) -> ObjNum
+    ensures { result.0 ≡ subject objects.now operands.now need.now.place need.now.named }
 {
     match need.named {
-        Named::Written => {
-            let carried = Pointer::carried(pointer_at(objects, operands, need.place as usize));
-            available(
-                objects,
-                users,
-                target(objects, operands, need.place as usize),
-                carried,
-            )
-        }
-        Named::Implied(number) => available(objects, users, number, Rights(0)),
+        Named::Written => target(objects, operands, need.place as usize),
+        Named::Implied(number) => number,
     }
 }
 
-/// The needed rights are available.
+/// The rights that the used pointer carries; none where no operand names the object.
+fn carried_for(objects: &Objects, operands: &[Operand], need: &Need) -> Rights
+    ensures { result.0 ≡ carried_for objects.now operands.now need.now.place need.now.named }
+{
+    match need.named {
+        Named::Written => Pointer::carried(pointer_at(objects, operands, need.place as usize)),
+        Named::Implied(_) => Rights(0),
+    }
+}
+
+/// Whether the rights are some that an owner alone gives and takes.
+fn names_owners(rights: Rights) -> bool
+    ensures { result ≡ names_owners rights.0 }
+{
+    rights.0 & (Rights::OBJCTL.0 + Rights::OBJMGT.0) != 0
+}
+
+/// Who neither owns the object nor has all-object authority needs object management and what it gives or takes, and
+/// leaves the owner's own rights alone.
+fn granting_rule(owns: bool, operand: u8, rights: Rights, there: Rights) -> Option<Exception>
+    ensures { result ≡ granting_rule owns operand rights.0 there.0 }
+{
+    if owns {
+        return None;
+    }
+    let needed = Rights(Rights::OBJMGT.0 | rights.0);
+    if let Some(failure) = missing(operand, needed, there) {
+        return Some(failure);
+    }
+    fails(names_owners(rights), OWNERSHIP_REQUIRED, operand)
+}
+
+/// What is claimed of an object is there for these users.
+fn claim_rule(
+    world: &World<Objects>,
+    users: &[UserNum],
+    number: ObjNum,
+    carried: Rights,
+    need: &Need,
+) -> Option<Exception>
+    ensures { result ≡ claim_rule need.now.claim world.now.held (map (λ u. u.0) users.now) number.0 carried.0 need.now.place need.now.rights.0 }
+{
+    let place = need.place;
+    match need.claim {
+        Claim::Available => missing(
+            place,
+            need.rights,
+            available(world, users, number, carried),
+        ),
+        Claim::Granting => granting_rule(
+            is_governed(world, users, number),
+            place,
+            need.rights,
+            available(world, users, number, carried),
+        ),
+        Claim::Ownership => fails(
+            !is_governed(world, users, number),
+            OWNERSHIP_REQUIRED,
+            place,
+        ),
+    }
+}
+
+/// What a need claims is there.
 #[tactic(auto, unfolding(s38_rules::specs::Verdict::rights_rule))]
 fn rights_rule(
-    objects: &Objects,
+    world: &World<Objects>,
     users: &[UserNum],
     operands: &[Operand],
     need: &Need,
 ) -> Option<Exception>
-    ensures { result ≡ rights_rule objects.now (map (λ u. u.0) users.now) operands.now need.now }
+    ensures { result ≡ rights_rule world.now.held (map (λ u. u.0) users.now) operands.now need.now }
 {
-    missing(
-        need.place,
-        need.rights,
-        available_to(objects, users, operands, need),
-    )
+    let number = subject(&world.objects, operands, need);
+    let carried = carried_for(&world.objects, operands, need);
+    claim_rule(world, users, number, carried, need)
 }
 
-fn first_missing(
-    objects: &Objects,
+/// The first claim that the acting users don't meet.
+pub fn first_unmet(
+    world: &World<Objects>,
     users: &[UserNum],
     operands: &[Operand],
     needs: &[Need],
 ) -> Option<Exception>
-    ensures { result ≡ first_of (rights_rule objects.now (map (λ u. u.0) users.now) operands.now) needs.now }
+    ensures { result ≡ first_of (rights_rule world.now.held (map (λ u. u.0) users.now) operands.now) needs.now }
 {
     match needs {
         [] => None,
-        [need, more @ ..] => match rights_rule(objects, users, operands, need) {
-            None => first_missing(objects, users, operands, more),
+        [need, more @ ..] => match rights_rule(world, users, operands, need) {
+            None => first_unmet(world, users, operands, more),
             Some(failure) => Some(failure),
         },
     }
-}
-
-/// The first right that is missing to the acting users.
-#[tactic(auto, unfolding(s38_rules::specs::Verdict::rights_rules))]
-pub fn rights_rules(
-    world: &World<Objects>,
-    process: u32,
-    depth: u16,
-    operands: &[Operand],
-    needs: &[Need],
-) -> Option<Exception>
-    ensures { result ≡ rights_rules world.now process depth operands.now needs.now }
-{
-    let users = world.acting(process, depth);
-    first_missing(&world.objects, users.as_slice(), operands, needs)
 }

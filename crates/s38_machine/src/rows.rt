@@ -2,8 +2,8 @@
 ghost use Rattle.std.specs.Prelude.{◌≡◌, None, IfOk, OnOk, OnErr};
 ghost use Rattle.s38_rules.specs.Rows.{row};
 
-use s38_admin::{programs, resolving, spaces};
-use s38_base::{Exception, NoMemory};
+use s38_admin::{contexts, grants, profiles, programs, resolving, spaces};
+use s38_base::{Exception, NoMemory, Special};
 use s38_code::{Family, Request, Val, family_of};
 use s38_data::queues;
 use s38_invoke::World;
@@ -19,10 +19,25 @@ pub fn needs(world: &World<Objects>, process: u32, depth: u16, request: &Request
     match family_of(request.op) {
         Family::Computing => computing_needs(request.op),
         Family::Resolving => resolving::needs(world, process, depth, request),
+        Family::Contexts => contexts::needs(world, process, depth, request),
+        Family::Profiles => profiles::needs(world, process, depth, request),
+        Family::Grants => grants::needs(world, process, depth, request),
         Family::Programs => programs::needs(world, process, depth, request),
         Family::Spaces => spaces::needs(world, process, depth, request),
         Family::Queues => queues::needs(world, process, depth, request),
         _ => Needs::none(),
+    }
+}
+
+/// The special authority that an acting user must have.
+#[tactic(auto, using(s38_rules::proofs::Laws::unspecial_contexts, s38_rules::proofs::Laws::unspecial_programs, s38_rules::proofs::Laws::unspecial_queues, s38_rules::proofs::Laws::unspecial_resolving, s38_rules::proofs::Laws::unspecial_spaces), unfolding(s38_rules::specs::Rows::row_in))]
+pub fn special(world: &World<Objects>, process: u32, depth: u16, request: &Request) -> Special
+    ensures { result.0 ≡ (row request.now.op).special world.now process depth request.now }
+{
+    match family_of(request.op) {
+        Family::Profiles => profiles::special(world, process, depth, request),
+        Family::Grants => grants::special(world, process, depth, request),
+        _ => Special(0),
     }
 }
 
@@ -39,6 +54,9 @@ pub fn conditions(
     match family_of(request.op) {
         Family::Computing => computing_fails(&world.objects, request),
         Family::Resolving => resolving::conditions(world, process, depth, request),
+        Family::Contexts => contexts::conditions(world, process, depth, request),
+        Family::Profiles => profiles::conditions(world, process, depth, request),
+        Family::Grants => grants::conditions(world, process, depth, request),
         Family::Programs => programs::conditions(world, process, depth, request),
         Family::Spaces => spaces::conditions(world, process, depth, request),
         Family::Queues => queues::conditions(world, process, depth, request),
@@ -60,6 +78,9 @@ pub fn value(
     match family_of(request.op) {
         Family::Computing => computing_gives(alloc, &world.objects, request),
         Family::Resolving => resolving::value(alloc, world, process, depth, request),
+        Family::Contexts => contexts::value(alloc, world, process, depth, request),
+        Family::Profiles => profiles::value(alloc, world, process, depth, request),
+        Family::Grants => grants::value(alloc, world, process, depth, request),
         Family::Programs => programs::value(alloc, world, process, depth, request),
         Family::Spaces => spaces::value(alloc, world, process, depth, request),
         Family::Queues => queues::value(alloc, world, process, depth, request),
@@ -81,6 +102,9 @@ pub fn apply(
     ensures err { OnErr result (world.new ≡ world.old) }
 {
     match family_of(request.op) {
+        Family::Contexts => contexts::apply(alloc, world, process, depth, request),
+        Family::Profiles => profiles::apply(alloc, world, process, depth, request),
+        Family::Grants => grants::apply(alloc, world, process, depth, request),
         Family::Programs => programs::apply(alloc, world, process, depth, request),
         Family::Spaces => spaces::apply(alloc, world, process, depth, request),
         Family::Queues => queues::apply(alloc, world, process, depth, request),

@@ -1,19 +1,44 @@
 //! What becomes of an event: the first rule that fails.
 ghost use Rattle.std.specs.Prelude.{◌≡◌};
 ghost use Rattle.std.specs.Option.{option_copied};
+ghost use Rattle.s38_base.specs.Signals.{first};
+ghost use Rattle.s38_rules.specs.Authority.{lacks_special};
 ghost use Rattle.s38_rules.specs.Rows.{row};
-ghost use Rattle.s38_rules.specs.Verdict.{awake_verdict, of_failure, refused_by, start_verdict, verdict_of};
+ghost use Rattle.s38_rules.specs.Users.{acting};
+ghost use Rattle.s38_rules.specs.Verdict.{awake_verdict, of_failure, refused_by, rights_rules, start_verdict, verdict_of};
 
 use crate::addresses::address_rules;
-use crate::rights::rights_rules;
+use crate::rights::first_unmet;
 use crate::rows;
+use s38_authority::lacks_special;
 use s38_base::Exception;
 use s38_code::{Event, Request};
 use s38_invoke::{World, start_failure};
 use s38_objects::Objects;
-use s38_rules::{ProcessEntry, Verdict};
+use s38_rules::{Need, ProcessEntry, Verdict};
 
-/// The first rule that an instruction fails: address rules, then rights, then its conditions and limits.
+/// The special authority, and then the authority over each object, that an instruction needs of the acting users.
+#[tactic(auto, unfolding(s38_rules::specs::Verdict::rights_rules))]
+fn authority_rules(
+    world: &World<Objects>,
+    process: u32,
+    depth: u16,
+    request: &Request,
+    needs: &[Need],
+) -> Option<Exception>
+    ensures { result ≡ first (lacks_special world.now.held (acting world.now process depth) ((row request.now.op).special world.now process depth request.now))
+        (rights_rules world.now process depth request.now.operands needs.now) }
+{
+    let users = world.acting(process, depth);
+    let special = rows::special(world, process, depth, request);
+    if let Some(failure) = lacks_special(world, users.as_slice(), special) {
+        return Some(failure);
+    }
+    first_unmet(world, users.as_slice(), request.operands.as_slice(), needs)
+}
+
+/// The first rule that an instruction fails: address rules, then a special authority, then authority over objects,
+/// then its conditions and limits.
 #[tactic(auto, unfolding(s38_rules::specs::Verdict::refused_by))]
 fn refused_by(
     world: &World<Objects>,
@@ -28,7 +53,7 @@ fn refused_by(
     if let Some(failure) = address_rules(&world.objects, operands, needs.as_slice()) {
         return Some(failure);
     }
-    if let Some(failure) = rights_rules(world, process, depth, operands, needs.as_slice()) {
+    if let Some(failure) = authority_rules(world, process, depth, request, needs.as_slice()) {
         return Some(failure);
     }
     rows::conditions(world, process, depth, request)

@@ -1,11 +1,9 @@
 //! What stands at an operand, over the objects that are there, and what families of instructions share: readings of
-//! computations, creation and destruction, needs.
+//! computations, values, needs.
 #![tactic(auto)]
 
 mod cells;
 mod computing;
-mod creation;
-mod destruction;
 mod failures;
 mod hex;
 mod needs;
@@ -20,13 +18,8 @@ pub use cells::{copy_cells, resize_cells, set_cells, write_cells};
 pub use computing::{
     AtOperands, computing_fails, computing_gives, computing_needs, receiver_at, shift_at,
 };
-pub use creation::{
-    creation_changes, creation_fails, creation_gives, creation_limits, creation_needs, in_context,
-    name_rule, pages_rule,
-};
-pub use destruction::{destruction_changes, destruction_needs};
 pub use failures::fails;
-pub use needs::{Needs, need, on_object};
+pub use needs::{Needs, claimed, governed, need, on_implied, on_object};
 pub use numbers::{count_at, number_at};
 pub use operands::{
     attr_at, id_at, is_given, is_in_space, is_list, is_machine, place, rights_at, room_at,
@@ -35,7 +28,7 @@ pub use operands::{
 pub use queues::{QueueFacts, oldest, queue_facts};
 pub use reads::{bytes_at, piece_at, pointer_at, size_at, source_cells, target};
 pub use storage::{first_pointer, is_aligned, is_within};
-pub use values::{fitted, put_value};
+pub use values::fitted;
 
 /// What is sent between threads.
 fn sends<T: Send + Sync>() {}

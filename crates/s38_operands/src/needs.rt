@@ -1,9 +1,9 @@
 //! What an instruction needs of its operands, in a list that takes no memory.
-ghost use Rattle.std.specs.Prelude.{◌≡◌, [], ◌∷◌};
-ghost use Rattle.s38_rules.specs.Needs.{need, on_object};
+ghost use Rattle.std.specs.Prelude.{◌≡◌, ◌+◌, ◌<◌, ◌≤◌, [], ◌∷◌, ◌++◌, length};
+ghost use Rattle.s38_rules.specs.Needs.{claimed, governed, need, on_implied, on_object};
 
-use s38_base::{Category, Rights};
-use s38_rules::{Named, Need, PointerKind, Sought};
+use s38_base::{Category, ObjNum, Rights};
+use s38_rules::{Claim, Named, Need, PointerKind, Sought};
 use std::marker::Model;
 
 /// How many needs an instruction has at most.
@@ -33,6 +33,7 @@ const NOTHING: Need = Need {
     pointer: PointerKind::Any,
     sought: Sought::Any,
     rights: Rights(0),
+    claim: Claim::Available,
     category: None,
 };
 
@@ -57,12 +58,56 @@ impl Needs {
         }
     }
 
+    /// One need more, behind the others.
+    fn add(&mut self, need: Need)
+        requires { length self.old < 6 }
+        ensures { self.new ≡ self.old ++ need ∷ [] }
+    {
+        self.held[self.count] = need;
+        self.count += 1;
+    }
+
+    /// These needs, and others behind them; there is room for all.
+    pub fn and(self, others: Needs) -> Needs
+        requires { length self + length others ≤ 6 }
+        ensures { result ≡ self ++ others }
+    {
+        let mut all = self;
+        for need in others.as_slice() {
+            all.add(*need);
+        }
+        all
+    }
+
     /// The needs.
     pub fn as_slice(&self) -> &[Need]
         ensures { result.now ≡ self.now }
     {
         &self.held[..self.count]
     }
+}
+
+/// One claim on an operand.
+pub fn claimed(
+    claim: Claim,
+    place: u8,
+    named: Named,
+    pointer: PointerKind,
+    sought: Sought,
+    rights: Rights,
+    category: Option<Category>,
+) -> Needs
+    ensures { result ≡ claimed claim place named pointer sought rights.0 category }
+{
+    Needs::one(Need {
+        place,
+        named,
+        pointer,
+        sought,
+        rights,
+        claim,
+        category,
+    })
 }
 
 /// One need of an operand.
@@ -76,14 +121,15 @@ pub fn need(
 ) -> Needs
     ensures { result ≡ need place named pointer sought rights.0 category }
 {
-    Needs::one(Need {
+    claimed(
+        Claim::Available,
         place,
         named,
         pointer,
         sought,
         rights,
         category,
-    })
+    )
 }
 
 /// Rights on the object of a system pointer, which is read, changed or controlled.
@@ -97,5 +143,39 @@ pub fn on_object(place: u8, sought: Sought, rights: Rights, category: Option<Cat
         sought,
         rights,
         category,
+    )
+}
+
+/// Rights on the object of a number that no operand names.
+pub fn on_implied(
+    number: ObjNum,
+    sought: Sought,
+    rights: Rights,
+    category: Option<Category>,
+) -> Needs
+    ensures { result ≡ on_implied number.0 sought rights.0 category }
+{
+    need(
+        0,
+        Named::Implied(number),
+        PointerKind::System,
+        sought,
+        rights,
+        category,
+    )
+}
+
+/// An object that is given away, or authority over it.
+pub fn governed(claim: Claim, place: u8, rights: Rights) -> Needs
+    ensures { result ≡ governed claim place rights.0 }
+{
+    claimed(
+        claim,
+        place,
+        Named::Written,
+        PointerKind::System,
+        Sought::Any,
+        rights,
+        Some(Category::Change),
     )
 }

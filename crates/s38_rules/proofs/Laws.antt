@@ -214,7 +214,52 @@ keeps_row families.Spaces op = keeps_spaces op
 keeps_row families.Queues op = keeps_queues op
 keeps_row _ op = keeps_inert
 
--- nor does its effect
+-- ---- no row of these families needs a special authority
+
+pub unspecial_contexts : (op : Op) (s : State) (p d : ℕ) (r : Request) → (contexts_row op).special s p d r ≡ 0
+unfolding contexts_row
+unspecial_contexts Crtctx s p d r = refl
+unspecial_contexts Desctx s p d r = refl
+unspecial_contexts Modadr s p d r = refl
+unspecial_contexts Rename s p d r = refl
+unspecial_contexts Matctx s p d r = refl
+unspecial_contexts _ s p d r = refl
+
+pub unspecial_resolving : (op : Op) (s : State) (p d : ℕ) (r : Request) → (resolving_row op).special s p d r ≡ 0
+unfolding resolving_row
+unspecial_resolving Rslvsp s p d r = refl
+unspecial_resolving Setspfp s p d r = refl
+unspecial_resolving _ s p d r = refl
+
+pub unspecial_programs : (op : Op) (s : State) (p d : ℕ) (r : Request) → (programs_row op).special s p d r ≡ 0
+unfolding programs_row
+unspecial_programs Crtpg s p d r = refl
+unspecial_programs Callx s p d r = refl
+unspecial_programs Xctl s p d r = refl
+unspecial_programs Despg s p d r = refl
+unspecial_programs _ s p d r = refl
+
+pub unspecial_spaces : (op : Op) (s : State) (p d : ℕ) (r : Request) → (spaces_row op).special s p d r ≡ 0
+unfolding spaces_row
+unspecial_spaces Setsppfp s p d r = refl
+unspecial_spaces Setdp s p d r = refl
+unspecial_spaces Cpybwp s p d r = refl
+unspecial_spaces Crts s p d r = refl
+unspecial_spaces Mods s p d r = refl
+unspecial_spaces Dess s p d r = refl
+unspecial_spaces _ s p d r = refl
+
+pub unspecial_queues : (op : Op) (s : State) (p d : ℕ) (r : Request) → (queues_row op).special s p d r ≡ 0
+unfolding queues_row
+unspecial_queues Crtq s p d r = refl
+unspecial_queues Desq s p d r = refl
+unspecial_queues Enq s p d r = refl
+unspecial_queues Deq s p d r = refl
+unspecial_queues _ s p d r = refl
+
+-- ---- effects
+
+-- an effect keeps the processes as its row does
 pub act_keeps : (i : Instruction) (s : State) (p d : ℕ) (r : Request) → KeepsProcesses i → AreKept p s.processes (effect i s p d r).state.processes
 unfolding effect
 act_keeps i s p d r keeps =

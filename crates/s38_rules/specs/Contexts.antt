@@ -1,8 +1,7 @@
 -- Contexts: made and destroyed, their contents listed; the address and the name of an object changed.
-use Rattle.std.specs.Prelude.{ℕ, ◌==◌, Bool, false, not, List, [], ◌∷◌, ◌++◌, length, Option, Some, None, if◌then◌else◌}
+use Rattle.std.specs.Prelude.{ℕ, ◌==◌, Bool, false, not, ◌||◌, List, [], ◌∷◌, ◌++◌, length, map, Option, Some, None, if◌then◌else◌}
 use Rattle.std.specs.List.{flat_map}
 use Rattle.std.specs.Option.{unwrap_or}
-use Rattle.std.specs.Int.{to_be_bytes, w32}
 use Rattle.std.specs.BTreeMap.{insert_entry}
 use Rattle.std.specs.declared.cmp.Ordering.{Ordering}
 use Rattle.s38_base.specs.declared.exception.Exception.{Exception}
@@ -33,7 +32,7 @@ use Rattle.s38_rules.specs.Creation.{creation_changes, creation_fails, creation_
 use Rattle.s38_rules.specs.Held.{Held, contents, context_in, is_there, kind_of, moved, object, renamed}
 use Rattle.s38_rules.specs.Instruction.{Instruction, inert}
 use Rattle.s38_rules.specs.Needs.{on_implied, on_object}
-use Rattle.s38_rules.specs.Operands.{blank, fitted, id_at, is_given, is_machine, rights_at, room_at, target}
+use Rattle.s38_rules.specs.Operands.{blank, count_image, fitted, id_at, is_given, is_machine, rights_at, room_at, target}
 use Rattle.s38_rules.specs.Resolving.{context_at, context_read}
 use Rattle.s38_rules.specs.State.{State}
 use Rattle.s38_rules.specs.Users.{user_of}
@@ -178,7 +177,7 @@ abbrev pub name_image : Listed → List ℕ
 name_image x = x.kind ∷ x.sub ∷ fitted 30 blank (map character x.name)
 
 abbrev pub names_image : List (Listed × ObjNum) → List ℕ
-names_image names = to_be_bytes w32 (length names) ++ flat_map (λ (x : Listed × ObjNum). name_image x.0) names
+names_image names = count_image (length names) ++ flat_map (λ (x : Listed × ObjNum). name_image x.0) names
 
 -- the number of the objects in the context, and their identifications in order
 unfoldable pub matctx_gives : Held → List Operand → Val

@@ -1,6 +1,6 @@
 -- How objects are made and destroyed, whatever their kind: the identification is new in its context, the owner may
 -- pay for the object, and a number is left.
-use Rattle.std.specs.Prelude.{ℕ, ◌+◌, Bool, false, not, ◌||◌, List, [], ◌∷◌, length, Option, Some, None, is_some, nat_le, nat_lt, if◌then◌else◌}
+use Rattle.std.specs.Prelude.{ℕ, ◌+◌, Bool, false, not, ◌||◌, List, [], length, Option, Some, None, is_some, nat_le, nat_lt, if◌then◌else◌}
 use Rattle.s38_base.specs.declared.exception.Exception.{Exception}
 use Rattle.s38_base.specs.declared.id.Id.{Id}
 use Rattle.s38_base.specs.declared.id.Kind.{Kind}

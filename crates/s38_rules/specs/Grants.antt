@@ -1,14 +1,12 @@
 -- Authority over objects: granted and retracted, an object given to another owner, and what is available looked at.
-use Rattle.std.specs.Prelude.{ℕ, ◌+◌, ◌==◌, Bool, not, ◌&&◌, ◌||◌, List, [], ◌∷◌, ◌++◌, filter, length, Option, Some, None, bit_and, bit_or, nat_le, if◌then◌else◌}
+use Rattle.std.specs.Prelude.{ℕ, ◌+◌, ◌==◌, Bool, true, false, not, ◌&&◌, ◌||◌, List, [], ◌∷◌, ◌++◌, filter, length, Option, Some, None, bit_or, nat_le, if◌then◌else◌}
 use Rattle.std.specs.List.{flat_map, list_any}
-use Rattle.std.specs.Int.{to_be_bytes, w32, w64}
 use Rattle.bitflags.specs.Sets.{without}
 use Rattle.s38_base.specs.declared.exception.Exception.{Exception}
 use Rattle.s38_base.specs.declared.id.Kind.TheVariants as kinds
 use Rattle.s38_base.specs.declared.id.ObjNum.{ObjNum}
 use Rattle.s38_base.specs.declared.op.Op.{Op}
 use Rattle.s38_base.specs.declared.op.Op.TheVariants.{Grant, Retract, Xfro, Testau, Matau, Matauobj}
-use Rattle.s38_base.specs.declared.rights.Rights.{Rights}
 use Rattle.s38_base.specs.declared.words.Category.TheVariants.{Read}
 use Rattle.s38_base.specs.Exceptions as exceptions
 use Rattle.s38_base.specs.Limits.{most_rows}
@@ -25,10 +23,10 @@ use Rattle.s38_rules.specs.declared.object.Object.{Object}
 use Rattle.s38_rules.specs.Authority.{available, has_rights}
 use Rattle.s38_rules.specs.Creation.{pages_rule}
 use Rattle.s38_rules.specs.Headers.{public_in, row_in, rows_in}
-use Rattle.s38_rules.specs.Held.{Held, charge_in, object, owner_in, pages_in, without_in}
+use Rattle.s38_rules.specs.Held.{Held, charge_in, object, owner_in, pages_of, without_in}
 use Rattle.s38_rules.specs.Instruction.{Instruction, inert}
 use Rattle.s38_rules.specs.Needs.{governed, on_object}
-use Rattle.s38_rules.specs.Operands.{fitted, is_given, pointer_at, rights_at, room_at, target}
+use Rattle.s38_rules.specs.Operands.{count_image, fitted, is_given, number_image, pointer_at, rights_at, room_at, target}
 use Rattle.s38_rules.specs.PrivateRows.{row_of}
 use Rattle.s38_rules.specs.Standing.{Standing, granted, open_to_all, owned_by, restand}
 use Rattle.s38_rules.specs.State.{State}
@@ -97,10 +95,15 @@ retract = record inert {
 unfoldable pub xfro_needs : List Need
 xfro_needs = governed Ownership 1 rights.no_rights ++ on_object 2 (Of kinds.Profile) rights.no_rights None
 
--- the new owner may own the object's pages beside its others, and a row is left for it
+-- a user may own the pages of the object of a number beside its others
+abbrev pub taker_rule : Held → ℕ → ℕ → Option Object → Option Exception
+taker_rule h n user None = None
+taker_rule h n user (Some o) = pages_rule h user (charge_in (without_in h.objects n) user + pages_of o.body) 2
+
+-- the new owner may own the object's pages, and a row is left for it
 unfoldable pub xfro_fails : Held → List Operand → Option Exception
 xfro_fails h ops =
-    first (pages_rule h (target h ops 2) (charge_in (without_in h.objects (target h ops 1)) (target h ops 2) + pages_in (object h (target h ops 1))) 2)
+    first (taker_rule h (target h ops 1) (target h ops 2) (object h (target h ops 1)))
     (row_rule h (target h ops 1) (target h ops 2) rights.all_rights)
 
 -- the new owner has all eight rights by a row; the row of the one before stays
@@ -147,7 +150,7 @@ row_or_public true o user = row_in o user
 row_or_public false o user = public_in o
 
 abbrev pub authority_image : Option Object → ℕ → List ℕ
-authority_image o r = to_be_bytes w64 (owner_in o) ++ public_in o ∷ r ∷ []
+authority_image o r = number_image (owner_in o) ++ public_in o ∷ r ∷ []
 
 -- the owner, the rights of everybody, and those of the user's row
 unfoldable pub matau_gives : Held → List Operand → Val
@@ -177,10 +180,10 @@ concerns user o = (o.owner.0 == user) || not (row_of o.rows user == rights.no_ri
 
 -- its number, whether the user owns it, and the rights of the user's row
 abbrev pub concern_image : ℕ → Object → List ℕ
-concern_image user o = to_be_bytes w64 o.number.0 ++ (if o.owner.0 == user then 1 else 0) ∷ row_of o.rows user ∷ []
+concern_image user o = number_image o.number.0 ++ (if o.owner.0 == user then 1 else 0) ∷ row_of o.rows user ∷ []
 
 abbrev pub concerns_image : ℕ → List Object → List ℕ
-concerns_image user os = to_be_bytes w32 (length os) ++ flat_map (concern_image user) os
+concerns_image user os = count_image (length os) ++ flat_map (concern_image user) os
 
 -- the number of these objects, and each in order of number
 unfoldable pub matauobj_gives : Held → List Operand → Val

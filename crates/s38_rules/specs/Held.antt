@@ -132,11 +132,6 @@ pages_of _ = 1
 abbrev pub pages_for : ℕ → Object → ℕ
 pages_for user o = if o.owner.0 == user then pages_of o.body else 0
 
--- the pages of the object of a number
-abbrev pub pages_in : Option Object → ℕ
-pages_in None = 0
-pages_in (Some o) = pages_of o.body
-
 -- the pages of all objects that a user owns
 unfoldable pub charge_in : List Object → ℕ → ℕ
 charge_in os user = sum_by (pages_for user) os

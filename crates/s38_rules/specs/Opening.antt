@@ -16,6 +16,7 @@ use Rattle.s38_rules.specs.declared.object.Body.TheVariants as bodies
 use Rattle.s38_rules.specs.declared.rows.PrivateRow.{PrivateRow}
 use Rattle.s38_rules.specs.declared.process.ProcessEntry.{ProcessEntry}
 use Rattle.s38_rules.specs.Held.{Held}
+use Rattle.s38_rules.specs.PrivateRows.{row_for}
 use Rattle.s38_rules.specs.State.{State}
 
 abbrev pub num : ℕ → ObjNum
@@ -23,7 +24,7 @@ num n = record { 0 = n }
 
 -- all eight rights of the security officer, who is user 2
 abbrev pub officer_rows : List PrivateRow
-officer_rows = record { user = num 2; rights = record { 0 = rights.all_rights } } ∷ []
+officer_rows = row_for (num 2) (record { 0 = rights.all_rights })
 
 abbrev pub named : Kind → List ℕ → Id
 named kind name = record { kind = kind; sub = 0; name = name }

@@ -1,6 +1,7 @@
 -- What stands at an operand, over the objects that are there. Operands are numbered from 1; what an instruction does
 -- not have reads as nothing.
-use Rattle.std.specs.Prelude.{ℕ, ◌+◌, ◌-◌, ◌/◌, ◌%◌, ◌^◌, ◌==◌, Bool, true, false, ℤ, pos, List, [], ◌∷◌, ◌++◌, take, replicate, Option, Some, None, bit_and, length, slice_get, if◌then◌else◌}
+use Rattle.std.specs.Prelude.{ℕ, ◌+◌, ◌-◌, ◌/◌, ◌%◌, ◌^◌, ◌==◌, Bool, true, false, ℤ, pos, List, [], ◌∷◌, ◌++◌, drop, take, replicate, Option, Some, None, bit_and, length, slice_get, if◌then◌else◌}
+use Rattle.std.specs.Int.{to_be_bytes, w64}
 use Rattle.s38_base.specs.declared.attr.Attr.{Attr}
 use Rattle.s38_base.specs.declared.attr.Attr.TheVariants as attrs
 use Rattle.s38_base.specs.declared.id.Id.{Id}
@@ -156,6 +157,14 @@ blank = 0x40
 -- bytes cut to a length, or filled to it on the right
 abbrev pub fitted : ℕ → ℕ → List ℕ → List ℕ
 fitted len fill bytes = take len bytes ++ replicate (len - length bytes) fill
+
+-- a number in eight bytes, high byte first
+abbrev pub number_image : ℕ → List ℕ
+number_image n = to_be_bytes w64 n
+
+-- a count, of which the four low bytes are given
+abbrev pub count_image : ℕ → List ℕ
+count_image n = drop 4 (number_image n)
 
 -- ---- targets
 

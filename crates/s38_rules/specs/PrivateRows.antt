@@ -1,20 +1,18 @@
 -- The private rows of an object: users rise, and each has a right.
-use Rattle.std.specs.Prelude.{◌≢◌, ℕ, ◌+◌, ◌==◌, Bool, false, All, List, [], ◌∷◌, ◌++◌, map, Option, Some, None, find, nat_lt, slice_get, if◌then◌else◌}
-use Rattle.std.specs.List.Sorted.{IsStrictlyIncreasing}
+use Rattle.std.specs.Prelude.{◌≢◌, ◌<◌, ℕ, ◌==◌, Bool, false, List, [], ◌∷◌, ◌++◌, Option, Some, None, find, nat_lt, slice_get, suc, if◌then◌else◌}
 use Rattle.s38_base.specs.declared.id.ObjNum.{ObjNum}
 use Rattle.s38_base.specs.declared.rights.Rights.{Rights}
 use Rattle.s38_base.specs.RightNames as rights
 use Rattle.s38_rules.specs.declared.rows.PrivateRow.{PrivateRow}
 
-abbrev pub user_of : PrivateRow → ℕ
-user_of row = row.user.0
+-- the first of them, where there is one, is of a greater user
+abbrev pub IsAbove : ℕ → List PrivateRow → Type 0
+IsAbove user [] = Unit {0}
+IsAbove user (row ∷ rows) = user < row.user.0
 
-abbrev pub has_right : PrivateRow → Type 0
-has_right row = row.rights.0 ≢ 0
-
-pub record AreRows (rows : List PrivateRow) : Type 0 where
-  pub rising : IsStrictlyIncreasing (map user_of rows)
-  pub held : All has_right rows
+abbrev pub AreRows : List PrivateRow → Type 0
+AreRows [] = Unit {0}
+AreRows (row ∷ rows) = (row.rights.0 ≢ 0) × IsAbove row.user.0 rows × AreRows rows
 
 -- ---- looking
 
@@ -48,7 +46,7 @@ with_row (row ∷ rows) user r =
 -- how many rows stand before that of a user
 abbrev pub count_before : List PrivateRow → ObjNum → ℕ
 count_before [] user = 0
-count_before (row ∷ rows) user = if nat_lt row.user.0 user.0 then count_before rows user + 1 else 0
+count_before (row ∷ rows) user = if nat_lt row.user.0 user.0 then suc (count_before rows user) else 0
 
 abbrev pub is_of : ObjNum → Option PrivateRow → Bool
 is_of user None = false

@@ -1,5 +1,6 @@
-ghost use Rattle.std.specs.Prelude.{◌≡◌, ◌≢◌, ◌≤◌, ◌==◌, ◌++◌, ◌∷◌, ℕ, drop, false, take, vec_len, IfOk, OnErr, OnOk, if◌then◌else◌};
-ghost use Rattle.s38_rules.specs.PrivateRows.{AreRows, count_before, is_at, row_for, row_of, with_row};
+ghost use Rattle.std.specs.Prelude.{◌≡◌, ◌≢◌, ◌≤◌, ◌<◌, ◌==◌, ◌++◌, ◌∷◌, ℕ, Some, drop, false, find, length, slice_get, slice_set, take, true, vec_len, IfOk, OnErr, OnOk, if◌then◌else◌};
+ghost use Rattle.std.specs.Option.{option_copied};
+ghost use Rattle.s38_rules.specs.PrivateRows.{AreRows, count_before, is_at, is_row, rights_in, row_for, row_of, with_row};
 
 use s38_base::{NoMemory, Rights, UserNum};
 use std::alloc::Global;
@@ -32,10 +33,19 @@ impl Model for RowList {
 
 /// How many rows stand before that of a user.
 fn place_of(rows: &[PrivateRow], user: UserNum) -> usize
-    requires { AreRows rows.now }
-    ensures { result ≡ count_before rows.now user }
+    ensures place { result ≡ count_before rows.now user }
+    ensures within { result ≤ length rows.now }
 {
-    rows.partition_point(|row| row.user.0 < user.0)
+    match rows {
+        [] => 0,
+        [row, more @ ..] => {
+            if row.user.0 < user.0 {
+                1 + place_of(more, user)
+            } else {
+                0
+            }
+        }
+    }
 }
 
 fn is_at(rows: &[PrivateRow], at: usize, user: UserNum) -> bool
@@ -44,6 +54,21 @@ fn is_at(rows: &[PrivateRow], at: usize, user: UserNum) -> bool
     match rows.get(at) {
         None => false,
         Some(row) => row.user.0 == user.0,
+    }
+}
+
+fn find_row(rows: &[PrivateRow], user: UserNum) -> Option<&PrivateRow>
+    ensures { option_copied result ≡ find (is_row user.0) rows.now }
+{
+    rows.iter().find(|row| row.user.0 == user.0)
+}
+
+fn rights_in(row: Option<&PrivateRow>) -> Rights
+    ensures { result.0 ≡ rights_in (option_copied row.entry) }
+{
+    match row {
+        None => Rights(0),
+        Some(row) => row.rights,
     }
 }
 
@@ -58,26 +83,38 @@ fn insert(rows: &mut Vec<PrivateRow>, at: usize, row: PrivateRow) -> Result<(), 
     }
 }
 
-/// The rows with these rights of a user, whose row stands at a place, or belongs there.
-fn set_at(rows: &mut Vec<PrivateRow>, at: usize, user: UserNum, rights: Rights) -> Result<(), NoMemory>
+/// The row of a user, which stands at a place, has these rights, or is taken out.
+#[tactic(auto, using(crate::proofs::RowLaws::row_removed, crate::proofs::RowLaws::row_there, crate::proofs::RowLaws::row_replaced))]
+fn change_row(rows: &mut Vec<PrivateRow>, at: usize, user: UserNum, rights: Rights)
     requires place { at ≡ count_before rows.old.items user }
-    ensures ok { OnOk result (rows.new.items ≡ with_row rows.old.items user rights) }
-    ensures added { OnErr result ((is_at rows.old.items at user ≡ false) × (rights.0 ≢ 0)) }
-    ensures err { OnErr result (rows.new.items ≡ rows.old.items) }
+    requires there { is_at rows.old.items at user ≡ true }
+    ensures { rows.new.items ≡ with_row rows.old.items user rights }
 {
-    if !is_at(rows.as_slice(), at, user) {
-        if rights.0 == 0 {
-            return Ok(());
-        }
-        return insert(rows, at, PrivateRow { user, rights });
-    }
     if rights.0 == 0 {
         let _row = rows.remove(at);
     } else {
-        let row = &mut rows[at];
-        row.rights = rights;
+        rows[at] = PrivateRow { user, rights };
     }
-    Ok(())
+}
+
+/// A user without a row, which belongs at a place, has these rights.
+#[tactic(auto, using(crate::proofs::RowLaws::row_absent, crate::proofs::RowLaws::row_inserted, crate::proofs::RowLaws::place_within))]
+fn add_row(
+    rows: &mut Vec<PrivateRow>,
+    at: usize,
+    user: UserNum,
+    rights: Rights,
+) -> Result<(), NoMemory>
+    requires place { at ≡ count_before rows.old.items user }
+    requires absent { is_at rows.old.items at user ≡ false }
+    ensures ok { OnOk result (rows.new.items ≡ with_row rows.old.items user rights) }
+    ensures added { OnErr result (rights.0 ≢ 0) }
+    ensures err { OnErr result (rows.new.items ≡ rows.old.items) }
+{
+    if rights.0 == 0 {
+        return Ok(());
+    }
+    insert(rows, at, PrivateRow { user, rights })
 }
 
 impl RowList {
@@ -100,8 +137,30 @@ impl RowList {
         self.rows.as_slice()
     }
 
+    /// How many rows there are.
+    pub fn len(&self) -> usize
+        ensures { result ≡ length self.now }
+    {
+        self.rows.len()
+    }
+
+    /// Whether there is no row.
+    pub fn is_empty(&self) -> bool
+        ensures { result ≡ (length self.now == 0) }
+    {
+        self.rows.is_empty()
+    }
+
+    /// The rights of a user by its row; none without a row.
+    pub fn rights_of(&self, user: UserNum) -> Rights
+        ensures { result.0 ≡ row_of self.now user.0 }
+    {
+        rights_in(find_row(self.rows.as_slice(), user))
+    }
+
     /// Sets the rights of a user; a row without a right is taken out. Memory can be refused only where a row is
     /// added, and nothing changed then.
+    #[tactic(auto, using(crate::proofs::RowLaws::rows_kept, crate::proofs::RowLaws::row_read, crate::proofs::RowLaws::none_at))]
     pub fn set(&mut self, user: UserNum, rights: Rights) -> Result<(), NoMemory>
         ensures ok { OnOk result (self.new ≡ with_row self.old user rights) }
         ensures others { OnOk result ((other : ℕ) → row_of self.new other ≡ (if user.0 == other then rights.0 else row_of self.old other)) }
@@ -109,6 +168,10 @@ impl RowList {
         ensures err { OnErr result (self.new ≡ self.old) }
     {
         let at = place_of(self.rows.as_slice(), user);
-        set_at(&mut self.rows, at, user, rights)
+        if is_at(self.rows.as_slice(), at, user) {
+            change_row(&mut self.rows, at, user, rights);
+            return Ok(());
+        }
+        add_row(&mut self.rows, at, user, rights)
     }
 }

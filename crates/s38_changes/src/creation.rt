@@ -28,6 +28,32 @@ fn of_kind(kind: Kind, id: Option<&Id>) -> Option<Id>
     }
 }
 
+/// An object of the machine context, with the identification of operand 2.
+pub fn of_machine(kind: Kind, public: Rights, operands: &[Operand]) -> Creating
+    ensures { result ≡ of_machine kind public.0 operands.now }
+{
+    Creating {
+        context: MACHINE_CONTEXT,
+        id: of_kind(kind, id_at(operands, 2)),
+        place: 2,
+        public,
+        pages: 1,
+    }
+}
+
+/// INSERT on the machine context.
+#[tactic(auto, unfolding(s38_rules::specs::Creation::machine_needs))]
+pub fn machine_needs() -> Needs
+    ensures { result ≡ machine_needs }
+{
+    on_implied(
+        MACHINE_CONTEXT,
+        Sought::Of(Kind::Context),
+        Rights::INSERT,
+        Some(Category::Change),
+    )
+}
+
 /// An object in the context of operand 2, with the identification of operand 3 and the public rights of operand 4.
 pub fn in_context(kind: Kind, pages: u64, objects: &Objects, operands: &[Operand]) -> Creating
     ensures { result ≡ in_context kind pages objects.now operands.now }
@@ -53,6 +79,22 @@ pub fn creation_needs(operands: &[Operand]) -> Needs
     }
 }
 
+fn is_another(number: ObjNum, found: Option<&Object>) -> bool
+    ensures { result ≡ is_another number.0 (option_copied found.entry) }
+{
+    match found {
+        None => false,
+        Some(object) => object.number.0 != number.0,
+    }
+}
+
+/// Another object of the context than that of the number has the identification.
+pub fn is_taken_beside(objects: &Objects, number: ObjNum, context: ObjNum, id: &Id) -> bool
+    ensures { result ≡ is_taken_beside objects.now number.0 context.0 id.now }
+{
+    is_another(number, objects.find_object(context, id))
+}
+
 fn is_taken(objects: &Objects, context: ObjNum, id: Option<Id>) -> bool
     ensures { result ≡ is_taken objects.now context.0 id }
 {
@@ -63,42 +105,13 @@ fn is_taken(objects: &Objects, context: ObjNum, id: Option<Id>) -> bool
 }
 
 /// Another object of the context has the identification.
-pub fn name_rule(objects: &Objects, made: &Creating) -> Option<Exception>
+fn name_rule(objects: &Objects, made: &Creating) -> Option<Exception>
     ensures { result ≡ name_rule objects.now made.now }
 {
     fails(
         is_taken(objects, made.context, made.id),
         DUPLICATE_IDENTIFICATION,
         made.place,
-    )
-}
-
-/// How many pages a user may own.
-fn limit_of(objects: &Objects, user: UserNum) -> u32
-    ensures { result ≡ limit_in (object objects.now user.0) }
-{
-    match objects.header(user) {
-        None => 0,
-        Some(header) => header.limit,
-    }
-}
-
-/// Whether so many pages beside a charge pass a limit.
-fn passes(limit: u32, charge: u128, pages: u64) -> bool
-    ensures { result ≡ nat_lt limit (charge + pages) }
-{
-    let limit = u128::from(limit);
-    limit < charge || limit - charge < u128::from(pages)
-}
-
-/// A user would own more pages than its profile allows: those of a charge, and so many more.
-pub fn pages_rule(objects: &Objects, user: UserNum, charge: u128, pages: u64) -> Option<Exception>
-    ensures { result ≡ pages_rule objects.now user.0 (charge + pages) }
-{
-    fails(
-        passes(limit_of(objects, user), charge, pages),
-        PAGES_EXCEEDED,
-        0,
     )
 }
 
@@ -114,30 +127,32 @@ fn number_rule(objects: &Objects) -> Option<Exception>
 
 /// The owner pays for it, and a number is left.
 #[tactic(auto, unfolding(s38_rules::specs::Creation::creation_limits))]
-pub fn creation_limits(objects: &Objects, owner: UserNum, pages: u64) -> Option<Exception>
-    ensures { result ≡ creation_limits objects.now owner.0 pages }
+fn creation_limits(world: &World<Objects>, owner: UserNum, pages: u64) -> Option<Exception>
+    requires { 1 ≤ pages }
+    ensures { result ≡ creation_limits world.now.held owner.0 pages }
 {
-    if let Some(failure) = pages_rule(objects, owner, objects.charge(owner), pages) {
+    if let Some(failure) = pays_more(world, owner, pages) {
         return Some(failure);
     }
-    number_rule(objects)
+    number_rule(&world.objects)
 }
 
 /// The identification is new, then the row's own conditions hold, then the limits.
 #[tactic(auto, unfolding(s38_rules::specs::Creation::creation_fails))]
 pub fn creation_fails(
-    objects: &Objects,
+    world: &World<Objects>,
     owner: UserNum,
     made: &Creating,
     own: Option<Exception>,
 ) -> Option<Exception>
-    ensures { result ≡ creation_fails objects.now owner.0 made.now own }
+    requires { 1 ≤ made.now.pages }
+    ensures { result ≡ creation_fails world.now.held owner.0 made.now own }
 {
-    if let Some(failure) = name_rule(objects, made) {
+    if let Some(failure) = name_rule(&world.objects, made) {
         return Some(failure);
     }
     match own {
-        None => creation_limits(objects, owner, made.pages),
+        None => creation_limits(world, owner, made.pages),
         Some(failure) => Some(failure),
     }
 }
@@ -166,12 +181,7 @@ pub fn creation_gives(objects: &Objects, made: &Creating) -> Val
 fn maker_rows(alloc: Global, owner: UserNum) -> Result<RowList, NoMemory>
     ensures { IfOk result (λ rows. rows ≡ maker_rows owner.0) }
 {
-    let mut rows = Seq::new(alloc);
-    rows.push(PrivateRow {
-        user: owner,
-        rights: Rights(0xff),
-    })?;
-    Ok(rows)
+    RowList::of(alloc, owner, Rights(0xff))
 }
 
 fn new_object(

@@ -1,0 +1,364 @@
+//! Authority over objects: granted and retracted, an object given to another owner, and what is available looked at.
+ghost use Rattle.std.specs.Prelude.{◌≡◌, None, IfOk, OnOk, OnErr, map};
+ghost use Rattle.std.specs.List.{list_any};
+ghost use Rattle.std.specs.Option.{option_copied};
+ghost use Rattle.s38_rules.specs.Grants.{grant_changes, grant_fails, grant_needs, grants_row, matau_gives, matau_needs, matauobj_gives, matauobj_needs, matauobj_special, retract_changes, row_or_public, row_rule, testau_gives, testau_needs, truth, user_needs, xfro_changes, xfro_fails, xfro_needs};
+ghost use Rattle.s38_rules.specs.Headers.{public_in, row_in};
+ghost use Rattle.s38_rules.specs.Held.{object};
+
+use crate::images::{authority_image, concerns_image};
+use s38_authority::{available, has_rights};
+use s38_base::exceptions::LIMIT_EXCEEDED;
+use s38_base::limits::MOST_ROWS;
+use s38_base::{
+    Bytes, Category, Exception, Kind, NoMemory, ObjNum, Op, Pointer, Rights, Seq, Special, UserNum,
+};
+use s38_changes::{give_to, set_public, set_row, taker_rule};
+use s38_code::{Operand, Request, Val};
+use s38_invoke::World;
+use s38_objects::Objects;
+use s38_operands::{
+    Needs, fails, fitted, governed, is_given, on_object, pointer_at, rights_at, room_at, target,
+};
+use s38_rules::{Claim, Object, Sought};
+use std::alloc::Global;
+
+// ---- whose authority
+
+/// A profile at an operand, of which no right is asked; everybody needs none.
+fn user_needs(operands: &[Operand], k: u8) -> Needs
+    ensures { result ≡ user_needs operands.now k }
+{
+    if !is_given(operands, k as usize) {
+        return Needs::none();
+    }
+    on_object(k, Sought::Of(Kind::Profile), Rights(0), None)
+}
+
+/// The rights of a user by its row on an object, whether the user is there or not.
+fn row_in(found: Option<&Object>, user: UserNum) -> Rights
+    ensures { result.0 ≡ row_in (option_copied found.entry) user.0 }
+{
+    match found {
+        None => Rights(0),
+        Some(object) => object.rows.rights_of(user),
+    }
+}
+
+fn public_in(found: Option<&Object>) -> Rights
+    ensures { result.0 ≡ public_in (option_copied found.entry) }
+{
+    match found {
+        None => Rights(0),
+        Some(object) => object.public,
+    }
+}
+
+fn rows_of(found: Option<&Object>) -> usize
+    ensures { result ≡ length (rows_in (option_copied found.entry)) }
+{
+    match found {
+        None => 0,
+        Some(object) => object.rows.len(),
+    }
+}
+
+/// A new row is needed, and the object has as many as it may have.
+fn row_rule(objects: &Objects, number: ObjNum, user: UserNum, rights: Rights) -> Option<Exception>
+    ensures { result ≡ row_rule objects.now number.0 user.0 rights.0 }
+{
+    let found = objects.get(number);
+    let full = rights.0 != 0 && row_in(found, user).0 == 0 && MOST_ROWS <= rows_of(found);
+    fails(full, LIMIT_EXCEEDED, 1)
+}
+
+// ---- GRANT and RETRACT
+
+/// The rule of granting on the object, and a profile or everybody.
+#[tactic(auto, unfolding(s38_rules::specs::Grants::grant_needs))]
+fn grant_needs(operands: &[Operand]) -> Needs
+    ensures { result ≡ grant_needs operands.now }
+{
+    governed(Claim::Granting, 1, rights_at(operands, 3)).and(user_needs(operands, 2))
+}
+
+#[tactic(auto, unfolding(s38_rules::specs::Grants::grant_fails))]
+fn grant_fails(objects: &Objects, operands: &[Operand]) -> Option<Exception>
+    ensures { result ≡ grant_fails objects.now operands.now }
+{
+    if !is_given(operands, 2) {
+        return None;
+    }
+    row_rule(
+        objects,
+        target(objects, operands, 1),
+        target(objects, operands, 2),
+        rights_at(operands, 3),
+    )
+}
+
+/// The rights are added; where memory is refused nothing changes.
+#[tactic(auto, unfolding(s38_rules::specs::Grants::grant_changes))]
+fn grant(world: &mut World<Objects>, operands: &[Operand]) -> Result<(), NoMemory>
+    ensures ok { OnOk result (world.new ≡ record world.old { held = grant_changes world.old.held operands.now }) }
+    ensures err { OnErr result (world.new ≡ world.old) }
+{
+    let number = target(&world.objects, operands, 1);
+    let rights = rights_at(operands, 3);
+    if is_given(operands, 2) {
+        let user = target(&world.objects, operands, 2);
+        let present = row_in(world.objects.get(number), user);
+        return set_row(world, number, user, Rights(present.0 | rights.0));
+    }
+    let present = public_in(world.objects.get(number));
+    set_public(world, number, Rights(present.0 | rights.0));
+    Ok(())
+}
+
+/// The rights are taken away; what pointers carry stays.
+#[tactic(auto, unfolding(s38_rules::specs::Grants::retract_changes))]
+fn retract(world: &mut World<Objects>, operands: &[Operand]) -> Result<(), NoMemory>
+    ensures ok { OnOk result (world.new ≡ record world.old { held = retract_changes world.old.held operands.now }) }
+    ensures err { OnErr result (world.new ≡ world.old) }
+{
+    let number = target(&world.objects, operands, 1);
+    let rights = rights_at(operands, 3);
+    if is_given(operands, 2) {
+        let user = target(&world.objects, operands, 2);
+        let present = row_in(world.objects.get(number), user);
+        return set_row(world, number, user, Rights(present.0 & (255 - rights.0)));
+    }
+    let present = public_in(world.objects.get(number));
+    set_public(world, number, Rights(present.0 & (255 - rights.0)));
+    Ok(())
+}
+
+// ---- XFRO
+
+/// Ownership of the object, and a profile.
+#[tactic(auto, unfolding(s38_rules::specs::Grants::xfro_needs))]
+fn xfro_needs() -> Needs
+    ensures { result ≡ xfro_needs }
+{
+    let taker = on_object(2, Sought::Of(Kind::Profile), Rights(0), None);
+    governed(Claim::Ownership, 1, Rights(0)).and(taker)
+}
+
+/// The new owner may own the object's pages, and a row is left for it.
+#[tactic(auto, unfolding(s38_rules::specs::Grants::xfro_fails))]
+fn xfro_fails(world: &World<Objects>, operands: &[Operand]) -> Option<Exception>
+    ensures { result ≡ xfro_fails world.now.held operands.now }
+{
+    let number = target(&world.objects, operands, 1);
+    let user = target(&world.objects, operands, 2);
+    if let Some(failure) = taker_rule(world, number, user) {
+        return Some(failure);
+    }
+    row_rule(&world.objects, number, user, Rights(0xff))
+}
+
+/// The new owner has all eight rights by a row; the row of the one before stays.
+#[tactic(auto, using(crate::proofs::GrantLaws::xfro_taken), unfolding(s38_rules::specs::Grants::xfro_changes))]
+fn xfro(world: &mut World<Objects>, operands: &[Operand]) -> Result<(), NoMemory>
+    requires { xfro_fails world.old.held operands.now ≡ None }
+    ensures ok { OnOk result (world.new ≡ record world.old { held = xfro_changes world.old.held operands.now }) }
+    ensures err { OnErr result (world.new ≡ world.old) }
+{
+    let number = target(&world.objects, operands, 1);
+    let user = target(&world.objects, operands, 2);
+    give_to(world, number, user)
+}
+
+// ---- TESTAU
+
+/// A binary number of two bytes.
+fn truth(alloc: Global, holds: bool) -> Result<Bytes, NoMemory>
+    ensures { IfOk result (λ bytes. bytes ≡ truth holds) }
+{
+    Seq::from_slice(alloc, &[0, u8::from(holds)])
+}
+
+/// 1 where all the rights are available.
+#[tactic(auto, unfolding(s38_rules::specs::Grants::testau_gives))]
+fn testau_gives(
+    alloc: Global,
+    world: &World<Objects>,
+    process: u32,
+    depth: u16,
+    operands: &[Operand],
+) -> Result<Val, NoMemory>
+    ensures { IfOk result (λ value. value ≡ testau_gives world.now process depth operands.now) }
+{
+    let users = world.acting(process, depth);
+    let number = target(&world.objects, operands, 2);
+    let carried = Pointer::carried(pointer_at(&world.objects, operands, 2));
+    let there = available(world, users.as_slice(), number, carried);
+    Ok(Val::Bytes(truth(
+        alloc,
+        has_rights(rights_at(operands, 3), there),
+    )?))
+}
+
+// ---- MATAU
+
+/// Object management on the object, and a profile or everybody.
+#[tactic(auto, unfolding(s38_rules::specs::Grants::matau_needs))]
+fn matau_needs(operands: &[Operand]) -> Needs
+    ensures { result ≡ matau_needs operands.now }
+{
+    on_object(2, Sought::Any, Rights::OBJMGT, Some(Category::Read)).and(user_needs(operands, 3))
+}
+
+/// The owner, the rights of everybody, and those of the user's row.
+#[tactic(auto, unfolding(s38_rules::specs::Grants::matau_gives))]
+fn matau_gives(alloc: Global, objects: &Objects, operands: &[Operand]) -> Result<Val, NoMemory>
+    ensures { IfOk result (λ value. value ≡ matau_gives objects.now operands.now) }
+{
+    let found = objects.get(target(objects, operands, 2));
+    let rights = if is_given(operands, 3) {
+        row_in(found, target(objects, operands, 3))
+    } else {
+        public_in(found)
+    };
+    let image = authority_image(alloc, found, rights)?;
+    let bytes = fitted(alloc, room_at(operands, 1), 0, image.as_slice())?;
+    Ok(Val::Bytes(bytes))
+}
+
+// ---- MATAUOBJ
+
+fn acts(users: &[UserNum], user: UserNum) -> bool
+    ensures { result ≡ list_any (λ acting. acting == user.0) (map (λ u. u.0) users.now) }
+{
+    users.iter().any(|acting| acting.0 == user.0)
+}
+
+/// The special authority over profiles, but for one's own.
+#[tactic(auto, unfolding(s38_rules::specs::Grants::matauobj_special))]
+fn matauobj_special(
+    world: &World<Objects>,
+    process: u32,
+    depth: u16,
+    operands: &[Operand],
+) -> Special
+    ensures { result.0 ≡ matauobj_special world.now process depth operands.now }
+{
+    let users = world.acting(process, depth);
+    if acts(users.as_slice(), target(&world.objects, operands, 2)) {
+        Special(0)
+    } else {
+        Special::PROFILE
+    }
+}
+
+/// The number of the objects that the user owns or has a row on, and each in order of number.
+#[tactic(auto, unfolding(s38_rules::specs::Grants::matauobj_gives))]
+fn matauobj_gives(alloc: Global, objects: &Objects, operands: &[Operand]) -> Result<Val, NoMemory>
+    ensures { IfOk result (λ value. value ≡ matauobj_gives objects.now operands.now) }
+{
+    let image = concerns_image(alloc, objects, target(objects, operands, 2))?;
+    let bytes = fitted(alloc, room_at(operands, 1), 0, image.as_slice())?;
+    Ok(Val::Bytes(bytes))
+}
+
+// ---- the family
+
+/// What an instruction of authority needs.
+#[tactic(auto, unfolding(s38_rules::specs::Grants::grants_row, s38_rules::specs::Grants::testau_needs, s38_rules::specs::Grants::matauobj_needs))]
+pub fn needs(world: &World<Objects>, process: u32, depth: u16, request: &Request) -> Needs
+    ensures { result ≡ (grants_row request.now.op).needs world.now process depth request.now }
+{
+    let _ = world;
+    let _ = process;
+    let _ = depth;
+    let operands = request.operands.as_slice();
+    match request.op {
+        Op::Grant | Op::Retract => grant_needs(operands),
+        Op::Xfro => xfro_needs(),
+        Op::Testau => on_object(2, Sought::Any, Rights(0), None),
+        Op::Matau => matau_needs(operands),
+        Op::Matauobj => on_object(
+            2,
+            Sought::Of(Kind::Profile),
+            Rights(0),
+            Some(Category::Read),
+        ),
+        _ => Needs::none(),
+    }
+}
+
+/// The special authority that an acting user must have.
+#[tactic(auto, unfolding(s38_rules::specs::Grants::grants_row))]
+pub fn special(world: &World<Objects>, process: u32, depth: u16, request: &Request) -> Special
+    ensures { result.0 ≡ (grants_row request.now.op).special world.now process depth request.now }
+{
+    match request.op {
+        Op::Matauobj => matauobj_special(world, process, depth, request.operands.as_slice()),
+        _ => Special(0),
+    }
+}
+
+/// The first of its conditions and limits that fails.
+#[tactic(auto, unfolding(s38_rules::specs::Grants::grants_row))]
+pub fn conditions(
+    world: &World<Objects>,
+    process: u32,
+    depth: u16,
+    request: &Request,
+) -> Option<Exception>
+    ensures { result ≡ (grants_row request.now.op).fails world.now process depth request.now }
+{
+    let _ = process;
+    let _ = depth;
+    let operands = request.operands.as_slice();
+    match request.op {
+        Op::Grant => grant_fails(&world.objects, operands),
+        Op::Xfro => xfro_fails(world, operands),
+        _ => None,
+    }
+}
+
+/// The value for its receiver.
+#[tactic(auto, unfolding(s38_rules::specs::Grants::grants_row))]
+pub fn value(
+    alloc: Global,
+    world: &World<Objects>,
+    process: u32,
+    depth: u16,
+    request: &Request,
+) -> Result<Option<Val>, NoMemory>
+    ensures { IfOk result (λ value. value ≡ (grants_row request.now.op).gives world.now process depth request.now) }
+{
+    let operands = request.operands.as_slice();
+    match request.op {
+        Op::Testau => Ok(Some(testau_gives(alloc, world, process, depth, operands)?)),
+        Op::Matau => Ok(Some(matau_gives(alloc, &world.objects, operands)?)),
+        Op::Matauobj => Ok(Some(matauobj_gives(alloc, &world.objects, operands)?)),
+        _ => Ok(None),
+    }
+}
+
+/// What it changes, where it doesn't fail; where memory is refused nothing changes.
+#[tactic(auto, unfolding(s38_rules::specs::Grants::grants_row))]
+pub fn apply(
+    alloc: Global,
+    world: &mut World<Objects>,
+    process: u32,
+    depth: u16,
+    request: &Request,
+) -> Result<(), NoMemory>
+    requires { (grants_row request.now.op).fails world.old process depth request.now ≡ None }
+    ensures ok { OnOk result (world.new ≡ (grants_row request.now.op).changes world.old process depth request.now) }
+    ensures err { OnErr result (world.new ≡ world.old) }
+{
+    let _ = alloc;
+    let _ = process;
+    let _ = depth;
+    let operands = request.operands.as_slice();
+    match request.op {
+        Op::Grant => grant(world, operands),
+        Op::Retract => retract(world, operands),
+        Op::Xfro => xfro(world, operands),
+        _ => Ok(()),
+    }
+}

@@ -1,0 +1,248 @@
+//! User profiles: made, changed and destroyed. Each needs the special authority over profiles.
+ghost use Rattle.std.specs.Prelude.{◌≡◌, None, IfOk, OnOk, OnErr};
+ghost use Rattle.std.specs.List.{list_any};
+ghost use Rattle.std.specs.Option.{option_copied};
+ghost use Rattle.s38_rules.specs.Profiles.{crtup_changes, crtup_fails, desup_fails, is_live, is_needed, is_user, limit_at, modup_changes, modup_fails, modup_needs, new_profile, owns, profile_body, profiles_row, specials_at};
+
+use s38_base::exceptions::OBJECT_IN_USE;
+use s38_base::{Category, Exception, Kind, NoMemory, Op, Rights, Special, UserNum};
+use s38_changes::{
+    creation_changes, creation_fails, creation_gives, destruction_changes, destruction_needs,
+    machine_needs, of_machine, owns_any, set_profile,
+};
+use s38_code::{Operand, Request, Val};
+use s38_invoke::World;
+use s38_objects::Objects;
+use s38_operands::{Needs, fails, on_object, target, whole_at, word_at};
+use s38_rules::{Body, Creating, ProcessEntry, Sought, Started};
+use std::alloc::Global;
+
+/// The security officer.
+const OFFICER: u64 = 2;
+
+// ---- what is said of a user
+
+/// A word of special authorities: its two bits.
+fn specials_at(operands: &[Operand], k: usize) -> Special
+    ensures { result ≡ specials_at operands.now k }
+{
+    Special(word_at(operands, k) as u8 & (Special::ALLOBJ.0 + Special::PROFILE.0))
+}
+
+/// How many pages a user may own.
+fn limit_at(operands: &[Operand], k: usize) -> u32
+    ensures { result ≡ limit_at operands.now k }
+{
+    whole_at(operands, k).min(4_294_967_295) as u32
+}
+
+// ---- CRTUP
+
+fn new_profile(operands: &[Operand]) -> Creating
+    ensures { result ≡ new_profile operands.now }
+{
+    of_machine(Kind::Profile, Rights(0), operands)
+}
+
+fn profile_body(operands: &[Operand]) -> Body
+    ensures { result ≡ profile_body operands.now }
+{
+    Body::Profile {
+        special: specials_at(operands, 3),
+        limit: limit_at(operands, 4),
+    }
+}
+
+#[tactic(auto, unfolding(s38_rules::specs::Profiles::crtup_fails))]
+fn crtup_fails(world: &World<Objects>, process: u32, operands: &[Operand]) -> Option<Exception>
+    ensures { result ≡ crtup_fails world.now process operands.now }
+{
+    creation_fails(world, world.user_of(process), &new_profile(operands), None)
+}
+
+#[tactic(auto, using(crate::proofs::CreationLaws::crtup_created), unfolding(s38_rules::specs::Profiles::crtup_changes))]
+fn crtup(
+    alloc: Global,
+    world: &mut World<Objects>,
+    process: u32,
+    operands: &[Operand],
+) -> Result<(), NoMemory>
+    requires { crtup_fails world.old process operands.now ≡ None }
+    ensures ok { OnOk result (world.new ≡ crtup_changes world.old process operands.now) }
+    ensures err { OnErr result (world.new ≡ world.old) }
+{
+    let owner = world.user_of(process);
+    creation_changes(
+        alloc,
+        world,
+        owner,
+        &new_profile(operands),
+        profile_body(operands),
+    )
+}
+
+// ---- MODUP
+
+/// The security officer stays as it is.
+#[tactic(auto, unfolding(s38_rules::specs::Profiles::modup_fails))]
+fn modup_fails(objects: &Objects, operands: &[Operand]) -> Option<Exception>
+    ensures { result ≡ modup_fails objects.now operands.now }
+{
+    fails(target(objects, operands, 1).0 == OFFICER, OBJECT_IN_USE, 1)
+}
+
+/// Both special authorities and limit.
+#[tactic(auto, unfolding(s38_rules::specs::Profiles::modup_changes))]
+fn modup(world: &mut World<Objects>, operands: &[Operand])
+    ensures { world.new ≡ record world.old { held = modup_changes world.old.held operands.now } }
+{
+    let number = target(&world.objects, operands, 1);
+    set_profile(
+        world,
+        number,
+        specials_at(operands, 2),
+        limit_at(operands, 3),
+    );
+}
+
+// ---- DESUP
+
+fn is_user(user: UserNum, started: Option<&Started>) -> bool
+    ensures { result ≡ is_user user.0 (option_copied started.entry) }
+{
+    match started {
+        None => false,
+        Some(started) => started.user.0 == user.0,
+    }
+}
+
+/// Whether a process has started for the user, and not ended.
+fn is_live(user: UserNum, entry: &ProcessEntry) -> bool
+    ensures { result ≡ is_live user.0 entry.now }
+{
+    !entry.ended && is_user(user, entry.started.as_ref())
+}
+
+fn has_process(entries: &[ProcessEntry], user: UserNum) -> bool
+    ensures { result ≡ list_any (is_live user.0) entries.now }
+{
+    entries.iter().any(|entry| is_live(user, entry))
+}
+
+/// The security officer stays, and so does a user that owns an object or has a live process.
+fn is_needed(world: &World<Objects>, user: UserNum) -> bool
+    ensures { result ≡ is_needed world.now user.0 }
+{
+    user.0 == OFFICER || owns_any(world, user) || has_process(world.processes.as_slice(), user)
+}
+
+#[tactic(auto, unfolding(s38_rules::specs::Profiles::desup_fails))]
+fn desup_fails(world: &World<Objects>, operands: &[Operand]) -> Option<Exception>
+    ensures { result ≡ desup_fails world.now operands.now }
+{
+    let user = target(&world.objects, operands, 1);
+    fails(is_needed(world, user), OBJECT_IN_USE, 1)
+}
+
+// ---- the family
+
+/// What an instruction of profiles needs.
+#[tactic(auto, unfolding(s38_rules::specs::Profiles::profiles_row, s38_rules::specs::Profiles::modup_needs))]
+pub fn needs(world: &World<Objects>, process: u32, depth: u16, request: &Request) -> Needs
+    ensures { result ≡ (profiles_row request.now.op).needs world.now process depth request.now }
+{
+    let _ = world;
+    let _ = process;
+    let _ = depth;
+    let profile = Sought::Of(Kind::Profile);
+    match request.op {
+        Op::Crtup => machine_needs(),
+        Op::Modup => on_object(1, profile, Rights(0), Some(Category::Change)),
+        Op::Desup => destruction_needs(Kind::Profile),
+        _ => Needs::none(),
+    }
+}
+
+/// The special authority over profiles.
+#[tactic(auto, unfolding(s38_rules::specs::Profiles::profiles_row))]
+pub fn special(world: &World<Objects>, process: u32, depth: u16, request: &Request) -> Special
+    ensures { result.0 ≡ (profiles_row request.now.op).special world.now process depth request.now }
+{
+    let _ = world;
+    let _ = process;
+    let _ = depth;
+    match request.op {
+        Op::Crtup | Op::Modup | Op::Desup => Special::PROFILE,
+        _ => Special(0),
+    }
+}
+
+/// The first of its conditions and limits that fails.
+#[tactic(auto, unfolding(s38_rules::specs::Profiles::profiles_row))]
+pub fn conditions(
+    world: &World<Objects>,
+    process: u32,
+    depth: u16,
+    request: &Request,
+) -> Option<Exception>
+    ensures { result ≡ (profiles_row request.now.op).fails world.now process depth request.now }
+{
+    let _ = depth;
+    let operands = request.operands.as_slice();
+    match request.op {
+        Op::Crtup => crtup_fails(world, process, operands),
+        Op::Modup => modup_fails(&world.objects, operands),
+        Op::Desup => desup_fails(world, operands),
+        _ => None,
+    }
+}
+
+/// The value for its receiver.
+#[tactic(auto, unfolding(s38_rules::specs::Profiles::profiles_row))]
+pub fn value(
+    alloc: Global,
+    world: &World<Objects>,
+    process: u32,
+    depth: u16,
+    request: &Request,
+) -> Result<Option<Val>, NoMemory>
+    ensures { IfOk result (λ value. value ≡ (profiles_row request.now.op).gives world.now process depth request.now) }
+{
+    let _ = alloc;
+    let _ = process;
+    let _ = depth;
+    let operands = request.operands.as_slice();
+    match request.op {
+        Op::Crtup => Ok(Some(creation_gives(&world.objects, &new_profile(operands)))),
+        _ => Ok(None),
+    }
+}
+
+/// What it changes, where it doesn't fail; where memory is refused nothing changes.
+#[tactic(auto, unfolding(s38_rules::specs::Profiles::profiles_row))]
+pub fn apply(
+    alloc: Global,
+    world: &mut World<Objects>,
+    process: u32,
+    depth: u16,
+    request: &Request,
+) -> Result<(), NoMemory>
+    requires { (profiles_row request.now.op).fails world.old process depth request.now ≡ None }
+    ensures ok { OnOk result (world.new ≡ (profiles_row request.now.op).changes world.old process depth request.now) }
+    ensures err { OnErr result (world.new ≡ world.old) }
+{
+    let _ = depth;
+    let operands = request.operands.as_slice();
+    match request.op {
+        Op::Crtup => crtup(alloc, world, process, operands),
+        Op::Modup => {
+            modup(world, operands);
+            Ok(())
+        }
+        Op::Desup => {
+            destruction_changes(world, operands);
+            Ok(())
+        }
+        _ => Ok(()),
+    }
+}

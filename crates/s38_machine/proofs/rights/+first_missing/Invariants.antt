@@ -1,5 +1,0 @@
-use Rattle.std.proofs.Common.{length}
-use Rattle.s38_machine.proofs.rights.+first_missing.Given as goal
-
-abbrev pub decreases-first_missing : goal.decreases-first_missing
-decreases-first_missing l = length l.needs.now
