@@ -1,3 +1,4 @@
 pub mod NumberLaws
 pub mod NameLaws
 pub mod IndexLaws
+pub mod PlaceLaws

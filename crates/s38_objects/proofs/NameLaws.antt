@@ -53,7 +53,7 @@ and_right : (a b : Bool) → (a && b) ≡ true → b ≡ true
 and_right true b h = h
 and_right false b h = absurd (cc)
 
-nat_same : (a b : ℕ) → (a == b) ≡ true → a ≡ b
+pub nat_same : (a b : ℕ) → (a == b) ≡ true → a ≡ b
 nat_same a b h = grind (arith, nat_tests)
 
 texts_same : (xs ys : List ℕ) → pointwise nat_eq xs ys ≡ true → xs ≡ ys
@@ -76,7 +76,7 @@ id_like a b c h =
     rw (kinds, subs, names) refl
 
 -- an object that is named is named by its own context and identification, as all others are that are named so
-named_like : (o x : Object) (context : ℕ) (id : Id) → is_named context id o ≡ true → is_named context id x ≡ is_named o.context.0 o.id x
+pub named_like : (o x : Object) (context : ℕ) (id : Id) → is_named context id o ≡ true → is_named context id x ≡ is_named o.context.0 o.id x
 named_like o x context id h =
     let inside = and_left (is_in_context context o) (same_id o.id id) h in
     let contexts : o.context.0 ≡ context = nat_same _ _ (and_right (not (context == 0)) (o.context.0 == context) inside) in
@@ -104,11 +104,11 @@ never_found here a there b h = grind (arith, nat_tests)
 
 -- ---- one more object
 
-none_first : (b : Bool) (x : Object) (r : Option Object) → cond b (Some x) r ≡ None → b ≡ false
+pub none_first : (b : Bool) (x : Object) (r : Option Object) → cond b (Some x) r ≡ None → b ≡ false
 none_first true x r h = absurd (cc)
 none_first false x r h = refl
 
-none_rest : (b : Bool) (x : Object) (r : Option Object) → cond b (Some x) r ≡ None → r ≡ None
+pub none_rest : (b : Bool) (x : Object) (r : Option Object) → cond b (Some x) r ≡ None → r ≡ None
 none_rest true x r h = absurd (cc)
 none_rest false x r h = h
 
@@ -136,7 +136,7 @@ id_itself a = rw (text_itself a.name) (grind (arith, nat_tests))
 named_itself : (o : Object) (context : ℕ) (id : Id) → is_named context id o ≡ true → is_named o.context.0 o.id o ≡ true
 named_itself o context id h = sym (named_like o o context id h) ∙ h
 
-named_other_way : (o x : Object) → is_named x.context.0 x.id o ≡ true → is_named o.context.0 o.id x ≡ true
+pub named_other_way : (o x : Object) → is_named x.context.0 x.id o ≡ true → is_named o.context.0 o.id x ≡ true
 named_other_way o x h =
     let inside = and_left (is_in_context x.context.0 o) (same_id o.id x.id) h in
     let some : not (x.context.0 == 0) ≡ true = and_left (not (x.context.0 == 0)) (o.context.0 == x.context.0) inside in
@@ -200,7 +200,7 @@ not_both e o context id true q named h = let wrong : is_named e.context.0 e.id o
 not_both e o context id false q named h = refl
 
 -- what is named in a context says it
-in_that_context : (o : Object) (context : ℕ) (id : Id) → is_named context id o ≡ true → o.context.0 ≡ context
+pub in_that_context : (o : Object) (context : ℕ) (id : Id) → is_named context id o ≡ true → o.context.0 ≡ context
 in_that_context o context id h =
     nat_same _ _ (and_right (not (context == 0)) (o.context.0 == context) (and_left (is_in_context context o) (same_id o.id id) h))
 
@@ -252,7 +252,7 @@ names_changed n f context id (o ∷ os) keeps =
       | false ↦ elim (is_named context id o) as (λ b. option_map number_of (cond b (Some o) (found_in (change_in os n f) context id)) ≡ option_map number_of (cond b (Some o) (found_in os context id))) [ true ↦ refl | false ↦ rest ]
     ]
 
-no_number : (r : Option Object) → option_map number_of r ≡ None → r ≡ None
+pub no_number : (r : Option Object) → option_map number_of r ≡ None → r ≡ None
 no_number None h = refl
 no_number (Some x) h = absurd (cc)
 

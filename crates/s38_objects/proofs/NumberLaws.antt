@@ -241,7 +241,7 @@ open_last next k o os high h =
 
 -- ---- an object that is found otherwise
 
-found_above : (next low : ℕ) (p : Object → Bool) (o : Object) (es : List (ℕ × Object)) → AreNumbered next es → AllByRecursion (λ k. nat_cmp low k ≡ Less) (keys_of es) → find p (values_of es) ≡ Some o → nat_cmp low (number_of o) ≡ Less
+pub found_above : (next low : ℕ) (p : Object → Bool) (o : Object) (es : List (ℕ × Object)) → AreNumbered next es → AllByRecursion (λ k. nat_cmp low k ≡ Less) (keys_of es) → find p (values_of es) ≡ Some o → nat_cmp low (number_of o) ≡ Less
 found_above next low p o [] h above found = cc
 found_above next low p o (e ∷ es) h above found =
     let rest = found_above next low p o es h.3 above.1 in

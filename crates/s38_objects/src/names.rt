@@ -38,3 +38,33 @@ pub fn leave(names: &mut BTreeMap<NameKey, u64>, object: &Object)
         names.remove(&key(object.context.0, &object.id));
     }
 }
+
+/// Whether an object is found by an identification in a context.
+fn is_found_by(object: &Object, context: ObjNum, id: &Id) -> bool
+    ensures { result ≡ is_found_by object.now.context.0 object.now.id context.0 id.now }
+{
+    context.0 != 0 && object.context.0 == context.0 && object.id.is(id)
+}
+
+/// An object gets another name: the one before leads to it no more. Nothing changes where memory was refused.
+pub fn change(
+    names: &mut BTreeMap<NameKey, u64>,
+    object: &Object,
+    context: ObjNum,
+    id: &Id,
+) -> Result<(), NoMemory>
+    ensures ok { OnOk result ((there : ℕ) (b : Id) → get name_cmp names.new (key there b)
+        ≡ (if is_found_by context.0 id.now there b then Some object.now.number.0
+            else (if is_named there b object.now then None else get name_cmp names.old (key there b)))) }
+    ensures err { OnErr result (IsUnchanged names.old names.new) }
+{
+    match enter(names, context, id, object.number) {
+        Ok(()) => {}
+        Err(e) => return Err(e),
+    }
+    if is_found_by(object, context, id) {
+        return Ok(());
+    }
+    leave(names, object);
+    Ok(())
+}

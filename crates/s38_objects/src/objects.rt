@@ -1,16 +1,21 @@
-ghost use Rattle.std.specs.Prelude.{◌≡◌, ◌≤◌, ◌<◌, ◌^◌, ◌↔◌, length, None, IfOk, IfErr, IsTrue, OnOk, OnErr, true};
+ghost use Rattle.std.specs.Prelude.{◌≡◌, ◌≢◌, ◌≤◌, ◌<◌, ◌^◌, ◌==◌, ◌&&◌, ◌↔◌, ℕ, length, None, IfOk, IfErr, IsTrue, OnOk, OnErr, false, true, if◌then◌else◌};
 ghost use Rattle.std.specs.Borrow.{sem};
 ghost use Rattle.std.specs.Option.{option_copied, option_copied_mut};
 ghost use Rattle.s38_memory.specs.contracts.tagged.Tagged.{the_row as tagged_row};
 ghost use Rattle.s38_queues.specs.contracts.queue.Queue.{the_row as queue_row};
-ghost use Rattle.s38_rules.specs.Held.{found, is_there, nothing, number_found, object, with_added, without};
-ghost use Rattle.s38_rules.specs.Parts.{part_at, queue_part, space_part};
-ghost use Rattle.s38_objects.specs.Lawful.{IsLawful, is_place_of};
+ghost use Rattle.s38_rules.specs.Contexts.{is_name_beside};
+ghost use Rattle.s38_rules.specs.Creation.{is_taken_beside};
+ghost use Rattle.s38_rules.specs.Headers.{row_in};
+ghost use Rattle.s38_rules.specs.Held.{change, context_in, found, is_there, moved, nothing, number_found, object, renamed, with_added, without};
+ghost use Rattle.s38_rules.specs.Parts.{part_at, queue_part, set_profile, space_part};
+ghost use Rattle.s38_rules.specs.Standing.{granted, open_to_all, owned_by, restand};
+ghost use Rattle.s38_objects.specs.Changes.{placed};
+ghost use Rattle.s38_objects.specs.Lawful.{IsLawful, is_place, is_place_of};
 ghost use Rattle.s38_objects.specs.Lending.{LendsHeld};
 
 use crate::name_key::{NameKey, key};
-use crate::{names, numbered};
-use s38_base::{Id, ObjNum};
+use crate::{body, names, numbered};
+use s38_base::{Id, NoMemory, ObjNum, Rights, Special, UserNum};
 use s38_memory::Tagged;
 use s38_queues::Queue;
 use s38_rules::{BodyPart, Object};
@@ -217,6 +222,103 @@ impl Objects {
         ensures value { option_copied_mut result ≡ part_at space_part self.old number.0 }
     {
         self.part_mut::<Tagged>(number)
+    }
+
+    /// The object of a number is in this context from now on, or in none, and has this identification. `NoMemory` where
+    /// memory was refused, and nothing changed.
+    fn place(&mut self, number: ObjNum, context: ObjNum, id: &Id) -> Result<(), NoMemory>
+        requires given { context.0 < self.old.next }
+        requires unnamed { is_taken_beside self.old number.0 context.0 id.now ≡ false }
+        ensures ok { OnOk result (self.new ≡ change self.old number.0 (placed context id.now)) }
+        ensures err { OnErr result (self.new ≡ self.old) }
+    {
+        match self.by_number.get_mut(&number.0) {
+            None => Ok(()),
+            Some(object) => match names::change(&mut self.by_name, object, context, id) {
+                Err(e) => Err(e),
+                Ok(()) => {
+                    object.context = context;
+                    object.id = *id;
+                    Ok(())
+                }
+            },
+        }
+    }
+
+    /// The object of a number has another identification from now on, that no other object in its context has.
+    /// `NoMemory` where memory was refused, and nothing changed.
+    pub fn rename(&mut self, number: ObjNum, id: Id) -> Result<(), NoMemory>
+        requires { is_taken_beside self.old number.0 (context_in (object self.old number.0)).0 id ≡ false }
+        ensures ok { OnOk result (self.new ≡ renamed self.old number.0 id) }
+        ensures err { OnErr result (self.new ≡ self.old) }
+    {
+        match self.by_number.get(&number.0) {
+            None => Ok(()),
+            Some(object) => {
+                let context = object.context;
+                self.place(number, context, &id)
+            }
+        }
+    }
+
+    /// The object of a number is in another context from now on, or in none; no other object there has its
+    /// identification. `NoMemory` where memory was refused, and nothing changed.
+    pub fn move_to(&mut self, number: ObjNum, context: ObjNum) -> Result<(), NoMemory>
+        requires placed { is_place self.old context.0 ≡ true }
+        requires unnamed { is_name_beside self.old number.0 context.0 (object self.old number.0) ≡ false }
+        ensures ok { OnOk result (self.new ≡ moved self.old number.0 context) }
+        ensures err { OnErr result (self.new ≡ self.old) }
+    {
+        match self.by_number.get(&number.0) {
+            None => Ok(()),
+            Some(object) => {
+                let id = object.id;
+                self.place(number, context, &id)
+            }
+        }
+    }
+
+    /// Sets the rights of a user by a private row on the object of a number; a row without a right is taken out. Memory
+    /// can be refused only where a row is added, and nothing changed then.
+    pub fn set_row(&mut self, number: ObjNum, user: UserNum, rights: Rights) -> Result<(), NoMemory>
+        ensures ok { OnOk result (self.new ≡ restand self.old number.0 (granted user rights)) }
+        ensures others { OnOk result ((n u : ℕ) → row_in (object self.new n) u
+            ≡ (if is_there self.old number.0 && ((number.0 == n) && (user.0 == u)) then rights.0 else row_in (object self.old n) u)) }
+        ensures added { OnErr result ((row_in (object self.old number.0) user.0 ≡ 0) × (rights.0 ≢ 0)) }
+        ensures err { OnErr result (self.new ≡ self.old) }
+    {
+        match self.by_number.get_mut(&number.0) {
+            None => Ok(()),
+            Some(object) => object.rows.set(user, rights),
+        }
+    }
+
+    /// The object of a number belongs to a user from now on.
+    pub fn set_owner(&mut self, number: ObjNum, user: UserNum)
+        ensures { self.new ≡ restand self.old number.0 (owned_by user) }
+    {
+        if let Some(object) = self.by_number.get_mut(&number.0) {
+            object.owner = user;
+        }
+    }
+
+    /// Everybody has these rights on the object of a number from now on.
+    pub fn set_public(&mut self, number: ObjNum, rights: Rights)
+        ensures { self.new ≡ restand self.old number.0 (open_to_all rights) }
+    {
+        if let Some(object) = self.by_number.get_mut(&number.0) {
+            object.public = rights;
+        }
+    }
+
+    /// The user of a number has these special authorities and this limit from now on. Nothing changes where there is
+    /// no such object or it is no user.
+    pub fn set_profile(&mut self, number: ObjNum, special: Special, limit: u32)
+        ensures { self.new ≡ set_profile self.old number.0 special limit }
+    {
+        if let Some(object) = self.by_number.get_mut(&number.0) {
+            body::set_profile(&mut object.body, special, limit);
+        }
     }
 
     /// Raises the next number, and sets the ceiling.
