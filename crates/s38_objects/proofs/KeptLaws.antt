@@ -3,7 +3,7 @@ use Rattle.std.proofs.Common.{◌≡◌, ℕ, ◌+◌, ◌<◌, ◌≤◌, ◌==
 use Rattle.std.proofs.lemmas.Bool.Decides.{nat_tests}
 use Rattle.std.proofs.lemmas.List.{map-append, take-append-drop, take_more}
 use Rattle.std.proofs.lemmas.Map.Iter.{iter_end, rest_more, rest_so_far}
-use Rattle.std.proofs.lemmas.Map.Keys.{sorted_from_strictly_increasing, sorted_head, sorted_tail}
+use Rattle.std.proofs.lemmas.Map.Keys.{sorted_head, sorted_tail}
 use Rattle.std.specs.Prelude.{◌&&◌, Option, Some, None, IsSome, find, is_some}
 use Rattle.std.specs.Borrow.{Bor}
 use Rattle.std.specs.Iterator.{Yields}
@@ -11,7 +11,7 @@ use Rattle.std.specs.Map.Iter.{TakesFirst, deref}
 use Rattle.std.specs.Ordering.{nat_cmp}
 use Rattle.std.specs.declared.cmp.Ordering.TheVariants.{Less}
 use Rattle.std.specs.List.{AllByRecursion}
-use Rattle.std.specs.List.Sorted.{IsStrictlyIncreasing, IsStrictlySortedBy}
+use Rattle.std.specs.List.Sorted.{IsStrictlyIncreasing}
 use Rattle.s38_base.specs.declared.rights.Rights.{Rights}
 use Rattle.s38_profiles.specs.declared.profile.Profile.{Profile}
 use Rattle.s38_profiles.specs.Rows.{Rows, SetsRow, row_at, row_key, row_with}
@@ -24,7 +24,7 @@ use Rattle.s38_rules.specs.Headers.{row_in}
 use Rattle.s38_rules.specs.Held.{charge_in, object_in, pages_for, pages_of}
 use Rattle.s38_rules.specs.Keeping.{AreKeptRows, AreUsers, IsUser, paid, paying}
 use Rattle.s38_rules.specs.Kept.{kept_profile, kept_row, profile_by}
-use Rattle.s38_rules.specs.PrivateRows.{AreRows, is_row, rights_in, row_of, user_of}
+use Rattle.s38_rules.specs.PrivateRows.{AreRows, IsAbove, is_row, rights_in, row_of}
 use Rattle.s38_rules.proofs.ChargeLaws.{AreRising, charge_both, charge_first, charge_last, charge_none, number_of, object_last, own_pages, rising_by}
 use Rattle.s38_rules.proofs.UserLaws.{charge_kept, user_paid, user_set, users_by}
 
@@ -116,23 +116,23 @@ charge_fits users os gone rest o all h =
 
 -- ---- rows
 
-last_above : (low : ℕ) (rows : List PrivateRow) (row : PrivateRow) → AllByRecursion (λ k. nat_cmp low k ≡ Less) (map user_of (rows ++ row ∷ [])) → nat_cmp low row.user.0 ≡ Less
-last_above low [] row above = above.0
-last_above low (x ∷ rows) row above = last_above low rows row above.1
+last_above : (low : ℕ) (rows : List PrivateRow) (row : PrivateRow) → IsAbove low (rows ++ row ∷ []) → AreRows (rows ++ row ∷ []) → low < row.user.0
+last_above low [] row above are = above
+last_above low (x ∷ rows) row above are = let rest = last_above x.user.0 rows row are.1 are.2 in omega (arith, above, rest)
 
--- one row more, where the users rise
-pub row_last : (rows : List PrivateRow) (row : PrivateRow) (user : ℕ) → IsStrictlySortedBy nat_cmp (map user_of (rows ++ row ∷ [])) → row_of (rows ++ row ∷ []) user ≡ cond (row.user.0 == user) row.rights.0 (row_of rows user)
-row_last [] row user rising = elim (row.user.0 == user) as (λ c. rights_in (cond c (Some row) None) ≡ cond c row.rights.0 0) [ true ↦ refl | false ↦ refl ]
-row_last (x ∷ rows) row user rising =
-    let rest = row_last rows row user (sorted_tail nat_cmp x.user.0 (map user_of (rows ++ row ∷ [])) rising) in
-    let less : nat_cmp x.user.0 row.user.0 ≡ Less = last_above x.user.0 rows row (sorted_head nat_cmp x.user.0 (map user_of (rows ++ row ∷ [])) rising) in
+-- one row more
+row_last : (rows : List PrivateRow) (row : PrivateRow) (user : ℕ) → AreRows (rows ++ row ∷ []) → row_of (rows ++ row ∷ []) user ≡ cond (row.user.0 == user) row.rights.0 (row_of rows user)
+row_last [] row user are = elim (row.user.0 == user) as (λ c. rights_in (cond c (Some row) None) ≡ cond c row.rights.0 0) [ true ↦ refl | false ↦ refl ]
+row_last (x ∷ rows) row user are =
+    let rest = row_last rows row user are.2 in
+    let less : x.user.0 < row.user.0 = last_above x.user.0 rows row are.1 are.2 in
     elim (x.user.0 == user) as (λ c. (x.user.0 == user) ≡ c → rights_in (cond c (Some x) (find (is_row user) (rows ++ row ∷ []))) ≡ cond (row.user.0 == user) row.rights.0 (rights_in (cond c (Some x) (find (is_row user) rows)))) [
       | true ↦ λ q. let off : (row.user.0 == user) ≡ false = grind (arith, nat_tests) in rw off refl
       | false ↦ λ q. rest
     ] refl
 
 -- one row more of the object of a number
-row_more : (maps was after : Rows) (gone : List PrivateRow) (row : PrivateRow) (number : ℕ) → IsStrictlySortedBy nat_cmp (map user_of (gone ++ row ∷ []))
+row_more : (maps was after : Rows) (gone : List PrivateRow) (row : PrivateRow) (number : ℕ) → AreRows (gone ++ row ∷ [])
     → ((user n : ℕ) → row_at maps (row_key user n) ≡ cond (number == n) (kept_row (row_of gone user)) (row_at was (row_key user n)))
     → SetsRow maps (row_key row.user.0 number) (row_with row.rights) after
     → (user n : ℕ) → row_at after (row_key user n) ≡ cond (number == n) (kept_row (row_of (gone ++ row ∷ []) user)) (row_at was (row_key user n))
@@ -158,14 +158,13 @@ rows_more rows after gone o none h set user n =
 pub no_rows_yet : (rows : Rows) (gone : List Object) (o : Object) → object_in gone o.number.0 ≡ None → AreKeptRows rows gone → (user : ℕ) → row_at rows (row_key user o.number.0) ≡ None
 no_rows_yet rows gone o none h user = h user o.number.0 ∙ ap (λ (x : Option Object). kept_row (row_in x user)) none
 
-all_prefix : (low : ℕ) (rows more : List PrivateRow) → AllByRecursion (λ k. nat_cmp low k ≡ Less) (map user_of (rows ++ more)) → AllByRecursion (λ k. nat_cmp low k ≡ Less) (map user_of rows)
-all_prefix low [] more above = tt
-all_prefix low (x ∷ rows) more above = (above.0, all_prefix low rows more above.1)
+above_prefix : (low : ℕ) (rows more : List PrivateRow) → IsAbove low (rows ++ more) → IsAbove low rows
+above_prefix low [] more above = tt
+above_prefix low (x ∷ rows) more above = above
 
-sorted_prefix : (rows more : List PrivateRow) → IsStrictlySortedBy nat_cmp (map user_of (rows ++ more)) → IsStrictlySortedBy nat_cmp (map user_of rows)
-unfolding IsStrictlySortedBy
-sorted_prefix [] more rising = tt
-sorted_prefix (x ∷ rows) more rising = (all_prefix x.user.0 rows more rising.0, sorted_prefix rows more rising.1)
+rows_prefix : (rows more : List PrivateRow) → AreRows (rows ++ more) → AreRows rows
+rows_prefix [] more are = tt
+rows_prefix (x ∷ rows) more are = (are.0, above_prefix x.user.0 rows more are.1, rows_prefix rows more are.2)
 
 -- the next row of the object of a number
 pub row_next : (maps was after : Rows) (rows : List PrivateRow) (k number : ℕ) (d : PrivateRow) → AreRows rows → k < length rows
@@ -174,8 +173,7 @@ pub row_next : (maps was after : Rows) (rows : List PrivateRow) (k number : ℕ)
     → (user n : ℕ) → row_at after (row_key user n) ≡ cond (number == n) (kept_row (row_of (take (k + 1) rows) user)) (row_at was (row_key user n))
 row_next maps was after rows k number d are within h set user n =
     let more : take (k + 1) rows ≡ take k rows ++ get_or rows k d ∷ [] = take_more rows k d within in
-    let sorted : IsStrictlySortedBy nat_cmp (map user_of rows) = sorted_from_strictly_increasing (map user_of rows) are.rising in
-    let whole : IsStrictlySortedBy nat_cmp (map user_of (take (k + 1) rows ++ drop (k + 1) rows)) = subst (λ (l : List PrivateRow). IsStrictlySortedBy nat_cmp (map user_of l)) (sym (take-append-drop (k + 1) rows)) sorted in
-    let rising : IsStrictlySortedBy nat_cmp (map user_of (take k rows ++ get_or rows k d ∷ [])) = subst (λ (l : List PrivateRow). IsStrictlySortedBy nat_cmp (map user_of l)) more (sorted_prefix (take (k + 1) rows) (drop (k + 1) rows) whole) in
+    let whole : AreRows (take (k + 1) rows ++ drop (k + 1) rows) = subst (λ (l : List PrivateRow). AreRows l) (sym (take-append-drop (k + 1) rows)) are in
+    let rising : AreRows (take k rows ++ get_or rows k d ∷ []) = subst (λ (l : List PrivateRow). AreRows l) more (rows_prefix (take (k + 1) rows) (drop (k + 1) rows) whole) in
     row_more maps was after (take k rows) (get_or rows k d) number rising h set user n
     ∙ ap (λ (l : List PrivateRow). cond (number == n) (kept_row (row_of l user)) (row_at was (row_key user n))) (sym more)

@@ -1,11 +1,11 @@
 //! What is kept of users beside the objects, made from all of them: whoever is a profile is a user, each owner pays
 //! for its objects, and each row of an object is the user's.
-ghost use Rattle.std.specs.Prelude.{◌≡◌, ◌<◌, ◌^◌, ◌==◌, ℕ, [], None, OnOk, is_some, if◌then◌else◌};
+ghost use Rattle.std.specs.Prelude.{◌≡◌, ◌+◌, ◌<◌, ◌^◌, ◌==◌, ℕ, [], None, OnErr, OnOk, if◌then◌else◌};
 ghost use Rattle.s38_profiles.specs.Rows.{row_at, row_key};
-ghost use Rattle.s38_profiles.specs.Users.{SetsUser, user_at};
-ghost use Rattle.s38_rules.specs.Held.{charge_in, object};
+ghost use Rattle.s38_profiles.specs.Users.{SetsUser, charge_in, user_at};
+ghost use Rattle.s38_rules.specs.Held.{charge_in as charges_in};
 ghost use Rattle.s38_rules.specs.Keeping.{AreKeptRows, AreUsers, paid};
-ghost use Rattle.s38_rules.specs.Kept.{kept_profile, kept_row, profile_by};
+ghost use Rattle.s38_rules.specs.Kept.{kept_row, profile_by};
 ghost use Rattle.s38_rules.specs.PrivateRows.{AreRows, row_of};
 
 use crate::body::pages;
@@ -15,14 +15,16 @@ use s38_profiles::Profiles;
 use s38_rules::{Body, Object, PrivateRow, TableRows};
 use std::alloc::Global;
 
-/// Enters the user of an object that is a profile; it pays for nothing yet.
-fn enter(profiles: &mut Profiles, object: &Object) -> Result<(), NoMemory>
-    requires { user_at profiles.old.users object.now.number.0 ≡ None }
-    ensures users { OnOk result (SetsUser profiles.old.users object.now.number.0 (profile_by object.now.body 0) profiles.new.users) }
-    ensures rows { OnOk result (profiles.new.rows ≡ profiles.old.rows) }
+/// An object that is a profile is a user, who pays for nothing yet. Where memory is refused nothing changes.
+#[tactic(auto, using(s38_rules::proofs::UserLaws::left_unset))]
+pub fn enter(profiles: &mut Profiles, number: ObjNum, body: &Body) -> Result<(), NoMemory>
+    requires { user_at profiles.old.users number.0 ≡ None }
+    ensures users { OnOk result (SetsUser profiles.old.users number.0 (profile_by body.now 0) profiles.new.users) }
+    ensures rows { profiles.new.rows ≡ profiles.old.rows }
+    ensures err { OnErr result (profiles.new ≡ profiles.old) }
 {
-    match object.body {
-        Body::Profile { special, limit } => profiles.enter(object.number, special, limit),
+    match body {
+        Body::Profile { special, limit } => profiles.enter(number, *special, *limit),
         _ => Ok(()),
     }
 }
@@ -34,42 +36,40 @@ fn enter_all(profiles: &mut Profiles, objects: &Objects) -> Result<(), NoMemory>
     ensures rows { OnOk result (profiles.new.rows ≡ profiles.old.rows) }
 {
     for object in objects.all() {
-        enter(profiles, object)?;
+        enter(profiles, object.number, &object.body)?;
     }
     Ok(())
 }
 
-/// Whether a user is among the objects.
-fn is_user(objects: &Objects, user: UserNum) -> bool
-    ensures { result ≡ is_some (kept_profile (object objects.now user.0) 0) }
-{
-    match objects.get(user) {
-        Some(object) => matches!(object.body, Body::Profile { .. }),
-        None => false,
-    }
-}
-
-/// Sets how many pages a user pays for; of one that is not there nothing is kept.
-fn set_charge(profiles: &mut Profiles, objects: &Objects, user: UserNum, pages: u64)
-    requires { is_some (user_at profiles.old.users user.0) ≡ is_some (kept_profile (object objects.now user.0) 0) }
+/// A user pays for so many pages; one that is not there pays for nothing.
+pub fn pay(profiles: &mut Profiles, user: UserNum, pages: u64)
     ensures users { SetsUser profiles.old.users user.0 (paid pages (user_at profiles.old.users user.0)) profiles.new.users }
     ensures rows { profiles.new.rows ≡ profiles.old.rows }
 {
-    if is_user(objects, user) {
+    if profiles.has(user) {
         profiles.set_charge(user, pages);
     }
+}
+
+/// A user pays for so many pages more.
+pub fn pay_more(profiles: &mut Profiles, user: UserNum, pages: u64)
+    requires { charge_in (user_at profiles.old.users user.0) + pages < 2 ^ 64 }
+    ensures users { SetsUser profiles.old.users user.0 (paid (charge_in (user_at profiles.old.users user.0) + pages) (user_at profiles.old.users user.0)) profiles.new.users }
+    ensures rows { profiles.new.rows ≡ profiles.old.rows }
+{
+    let charge = profiles.charge(user) + pages;
+    pay(profiles, user, charge);
 }
 
 /// Has each user pay for its objects.
 fn charge_all(profiles: &mut Profiles, objects: &Objects)
     requires users { AreUsers profiles.old.users objects.now.objects (λ user. 0) }
-    requires counted { (user : ℕ) → charge_in objects.now.objects user < 2 ^ 64 }
-    ensures users { AreUsers profiles.new.users objects.now.objects (charge_in objects.now.objects) }
+    requires counted { (user : ℕ) → charges_in objects.now.objects user < 2 ^ 64 }
+    ensures users { AreUsers profiles.new.users objects.now.objects (charges_in objects.now.objects) }
     ensures rows { profiles.new.rows ≡ profiles.old.rows }
 {
     for object in objects.all() {
-        let charge = profiles.charge(object.owner) + pages(&object.body);
-        set_charge(profiles, objects, object.owner, charge);
+        pay_more(profiles, object.owner, pages(&object.body));
     }
 }
 

@@ -1,9 +1,7 @@
-//! The object map: the machine's objects by number and by name, the numbers that were given, and what each
-//! user pays for.
+//! The object map: the machine's objects by number and by name, the numbers that were given.
 #![tactic(auto)]
 
 mod body;
-mod charges;
 mod kept;
 mod name_key;
 mod names;
@@ -11,6 +9,8 @@ mod numbered;
 mod objects;
 mod table;
 
+pub use body::pages;
+pub use kept::{enter, pay, pay_more};
 pub use objects::Objects;
 pub use table::kind_of;
 

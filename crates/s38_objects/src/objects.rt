@@ -1,22 +1,22 @@
-ghost use Rattle.std.specs.Prelude.{◌≡◌, ◌≤◌, ◌<◌, ◌%◌, ◌^◌, ◌↔◌, length, None, All, IfOk, IfErr, IsTrue, OnOk, OnErr};
+ghost use Rattle.std.specs.Prelude.{◌≡◌, ◌≢◌, ◌≤◌, ◌<◌, ◌^◌, ◌==◌, ◌&&◌, ◌↔◌, ℕ, length, None, IfOk, IfErr, IsTrue, OnOk, OnErr, false, true, if◌then◌else◌};
 ghost use Rattle.std.specs.Borrow.{sem};
 ghost use Rattle.std.specs.Option.{option_copied, option_copied_mut};
-ghost use Rattle.s38_memory.specs.Cell.{IsCell};
-ghost use Rattle.s38_memory.specs.Tagged.{resized};
-ghost use Rattle.s38_rules.specs.Cells.{with_bytes, with_cells, with_pointer};
+ghost use Rattle.s38_memory.specs.contracts.tagged.Tagged.{the_row as tagged_row};
 ghost use Rattle.s38_queues.specs.contracts.queue.Queue.{the_row as queue_row};
-ghost use Rattle.s38_rules.specs.declared.object.Body.{Body};
-ghost use Rattle.s38_rules.specs.Held.{charge_beside, charge_in, found, nothing, number_found, object, pages_of, with_added, without};
-ghost use Rattle.s38_rules.specs.Parts.{on_space, over_body, part_at, queue_part, space_part};
-ghost use Rattle.s38_objects.specs.Lawful.{IsLawful, contents_in};
+ghost use Rattle.s38_rules.specs.Contexts.{is_name_beside};
+ghost use Rattle.s38_rules.specs.Creation.{is_taken_beside};
+ghost use Rattle.s38_rules.specs.Headers.{row_in};
+ghost use Rattle.s38_rules.specs.Held.{change, context_in, found, is_there, moved, nothing, number_found, object, renamed, with_added, without};
+ghost use Rattle.s38_rules.specs.Parts.{part_at, queue_part, set_profile, space_part};
+ghost use Rattle.s38_rules.specs.Standing.{granted, open_to_all, owned_by, restand};
+ghost use Rattle.s38_objects.specs.Changes.{placed};
+ghost use Rattle.s38_objects.specs.Lawful.{IsLawful, is_place, is_place_of};
 ghost use Rattle.s38_objects.specs.Lending.{LendsHeld};
 
-use crate::body::pages;
-use crate::charges::{charge_of, make_room, set_charge};
 use crate::name_key::{NameKey, key};
-use crate::{names, numbered};
-use s38_base::{Id, NoMemory, ObjNum, Pointer, UserNum};
-use s38_memory::{Cell, Tagged};
+use crate::{body, names, numbered};
+use s38_base::{Id, NoMemory, ObjNum, Rights, Special, UserNum};
+use s38_memory::Tagged;
 use s38_queues::Queue;
 use s38_rules::{BodyPart, Object};
 use std::alloc::{AllocFailed, Global};
@@ -31,7 +31,6 @@ pub struct Objects {
     alloc: Global,
     by_number: BTreeMap<u64, Object>,
     by_name: BTreeMap<NameKey, u64>,
-    charges: BTreeMap<u64, u128>,
     next: u64,
     ceiling: u64,
 }
@@ -45,7 +44,7 @@ impl Model for Objects {
 
     ghost view = { λ m. record { objects = values m.by_number; next = m.next; ceiling = m.ceiling } };
 
-    ghost invariant = { λ m. IsIndexed m.by_number m.by_name m.charges m.next };
+    ghost invariant = { λ m. IsIndexed m.by_number m.by_name m.next };
 }
 
 impl Objects {
@@ -57,7 +56,6 @@ impl Objects {
             alloc,
             by_number: BTreeMap::new(alloc),
             by_name: BTreeMap::new(alloc),
-            charges: BTreeMap::new(alloc),
             next: 1,
             ceiling: 0,
         }
@@ -107,10 +105,24 @@ impl Objects {
         self.by_number.get(&number.0)
     }
 
-    /// The number of the object of an identification in a context, in logarithmic time.
+    /// Whether the object of a number is there, in logarithmic time.
+    fn is_there(&self, number: ObjNum) -> bool
+        ensures { result ≡ is_there self.now number.0 }
+    {
+        match self.get(number) {
+            Some(_) => true,
+            None => false,
+        }
+    }
+
+    /// The number of the object of an identification in a context, in logarithmic time. In a context that is gone
+    /// nothing is found.
     pub fn find(&self, context: ObjNum, id: &Id) -> Option<ObjNum>
         ensures { result ≡ number_found self.now context.0 id.now }
     {
+        if !self.is_there(context) {
+            return None;
+        }
         self.by_name.get(&key(context.0, id)).map(|n| ObjNum(*n))
     }
 
@@ -118,51 +130,19 @@ impl Objects {
     pub fn find_object(&self, context: ObjNum, id: &Id) -> Option<&Object>
         ensures { option_copied result ≡ found self.now context.0 id.now }
     {
-        match self.by_name.get(&key(context.0, id)) {
-            Some(number) => self.by_number.get(number),
+        match self.find(context, id) {
+            Some(number) => self.by_number.get(&number.0),
             None => None,
         }
     }
 
-    /// The identifications of the objects in a context, in rising order of number. `NoMemory` where memory
-    /// was refused.
-    pub fn contents(&self, context: ObjNum) -> Result<Vec<Id>, NoMemory>
-        ensures { IfOk result (λ ids. ids.items ≡ contents_in self.now.objects context.0) }
-    {
-        match self
-            .by_number
-            .values()
-            .filter(|object| context.0 != 0 && object.context.0 == context.0)
-            .map(|object| object.id)
-            .collect(self.alloc)
-        {
-            Ok(ids) => Ok(ids),
-            Err(_) => Err(NoMemory),
-        }
-    }
-
-    /// The pages of all objects that a user owns, in logarithmic time.
-    pub fn charge(&self, user: UserNum) -> u128
-        ensures { result ≡ charge_in self.now.objects user.0 }
-    {
-        charge_of(&self.charges, user.0)
-    }
-
-    /// The pages of the other objects of an object's owner, in logarithmic time.
-    pub fn charge_beside(&self, number: ObjNum) -> u128
-        ensures { result ≡ charge_beside self.now.objects number.0 }
-    {
-        match self.by_number.get(&number.0) {
-            Some(object) => charge_of(&self.charges, object.owner.0) - pages(&object.body) as u128,
-            None => charge_of(&self.charges, 0),
-        }
-    }
-
-    /// Adds an object behind the others. Its number was never given, and no object in its context has its
-    /// identification. Where memory was refused the object comes back and nothing changed.
+    /// Adds an object behind the others. Its number was never given, its context is there, or itself, or none, and no
+    /// object in its context has its identification. Where memory was refused the object comes back and nothing
+    /// changed.
     pub fn add(&mut self, object: Object) -> Result<ObjNum, AllocFailed<Object>>
         requires unused { self.old.next ≤ object.number.0 }
         requires small { object.number.0 < 2 ^ 63 }
+        requires placed { is_place_of self.old object ≡ true }
         requires unnamed { found self.old object.context.0 object.id ≡ None }
         ensures number { IfOk result (λ n. n ≡ object.number) }
         ensures ok { OnOk result (self.new ≡ with_added self.old object) }
@@ -170,14 +150,9 @@ impl Objects {
         ensures err { OnErr result (self.new ≡ self.old) }
     {
         let number = object.number;
-        let owner = object.owner;
-        if make_room(&mut self.charges, owner.0).is_err() {
+        if names::enter(&mut self.by_name, object.context, &object.id, number).is_err() {
             return Err(AllocFailed { value: object });
         }
-        if names::enter(&mut self.by_name, &object).is_err() {
-            return Err(AllocFailed { value: object });
-        }
-        let charge = charge_of(&self.charges, owner.0) + pages(&object.body) as u128;
         match numbered::add(&mut self.by_number, object) {
             Ok(()) => {}
             Err(refused) => {
@@ -185,13 +160,12 @@ impl Objects {
                 return Err(refused);
             }
         }
-        set_charge(&mut self.charges, owner.0, charge);
         self.next = number.0 + 1;
         Ok(number)
     }
 
     /// Takes the object of a number out, in logarithmic time and without memory. Its number is never given
-    /// again.
+    /// again. What says it as its context is in no context from then on.
     pub fn remove(&mut self, number: ObjNum) -> Option<Object>
         ensures object { result ≡ object self.old number.0 }
         ensures rest { self.new ≡ without self.old number.0 }
@@ -199,8 +173,6 @@ impl Objects {
         match self.by_number.remove(&number.0) {
             Some(object) => {
                 names::leave(&mut self.by_name, &object);
-                let charge = charge_of(&self.charges, object.owner.0) - pages(&object.body) as u128;
-                set_charge(&mut self.charges, object.owner.0, charge);
                 Some(object)
             }
             None => None,
@@ -231,10 +203,9 @@ impl Objects {
         self.part::<Tagged>(number)
     }
 
-    /// What the object of a number holds, to be written. Kinds whose pages change with it are not lent so. A further
-    /// kind is a `BodyPart` and calls like `queue` and `queue_mut`, with the one line that says that its pages stay.
+    /// What the object of a number holds, to be written. A further kind is a `BodyPart` and calls like `queue` and
+    /// `queue_mut`.
     fn part_mut<P: BodyPart>(&mut self, number: ObjNum) -> Option<&mut P>
-        requires { (x : P) (b : Body) → pages_of (over_body P.part (λ _. x) b) ≡ pages_of b }
         ensures* writes_back { sem 𝓛 (LendsHeld P.row P.part self.entry number.0 result) }
         ensures value { option_copied_mut result ≡ part_at P.part self.old number.0 }
     {
@@ -246,12 +217,117 @@ impl Objects {
 
     /// The queue of a number, to be written, in logarithmic time; None exactly where there is no such object or
     /// it is no queue.
-    #[tactic(auto, using(crate::proofs::BodyLaws::queue_pages))]
     pub fn queue_mut(&mut self, number: ObjNum) -> Option<&mut Queue>
         ensures* writes_back { sem 𝓛 (LendsHeld queue_row queue_part self.entry number.0 result) }
         ensures value { option_copied_mut result ≡ part_at queue_part self.old number.0 }
     {
         self.part_mut::<Queue>(number)
+    }
+
+    /// The space of a number, to be written, in logarithmic time; None exactly where there is no such object or
+    /// it is no space.
+    pub fn space_mut(&mut self, number: ObjNum) -> Option<&mut Tagged>
+        ensures* writes_back { sem 𝓛 (LendsHeld tagged_row space_part self.entry number.0 result) }
+        ensures value { option_copied_mut result ≡ part_at space_part self.old number.0 }
+    {
+        self.part_mut::<Tagged>(number)
+    }
+
+    /// The object of a number is in this context from now on, or in none, and has this identification. `NoMemory` where
+    /// memory was refused, and nothing changed.
+    fn place(&mut self, number: ObjNum, context: ObjNum, id: &Id) -> Result<(), NoMemory>
+        requires given { context.0 < self.old.next }
+        requires unnamed { is_taken_beside self.old number.0 context.0 id.now ≡ false }
+        ensures ok { OnOk result (self.new ≡ change self.old number.0 (placed context id.now)) }
+        ensures err { OnErr result (self.new ≡ self.old) }
+    {
+        match self.by_number.get_mut(&number.0) {
+            None => Ok(()),
+            Some(object) => match names::change(&mut self.by_name, object, context, id) {
+                Err(e) => Err(e),
+                Ok(()) => {
+                    object.context = context;
+                    object.id = *id;
+                    Ok(())
+                }
+            },
+        }
+    }
+
+    /// The object of a number has another identification from now on, that no other object in its context has.
+    /// `NoMemory` where memory was refused, and nothing changed.
+    pub fn rename(&mut self, number: ObjNum, id: Id) -> Result<(), NoMemory>
+        requires { is_taken_beside self.old number.0 (context_in (object self.old number.0)).0 id ≡ false }
+        ensures ok { OnOk result (self.new ≡ renamed self.old number.0 id) }
+        ensures err { OnErr result (self.new ≡ self.old) }
+    {
+        match self.by_number.get(&number.0) {
+            None => Ok(()),
+            Some(object) => {
+                let context = object.context;
+                self.place(number, context, &id)
+            }
+        }
+    }
+
+    /// The object of a number is in another context from now on, or in none; no other object there has its
+    /// identification. `NoMemory` where memory was refused, and nothing changed.
+    pub fn move_to(&mut self, number: ObjNum, context: ObjNum) -> Result<(), NoMemory>
+        requires placed { is_place self.old context.0 ≡ true }
+        requires unnamed { is_name_beside self.old number.0 context.0 (object self.old number.0) ≡ false }
+        ensures ok { OnOk result (self.new ≡ moved self.old number.0 context) }
+        ensures err { OnErr result (self.new ≡ self.old) }
+    {
+        match self.by_number.get(&number.0) {
+            None => Ok(()),
+            Some(object) => {
+                let id = object.id;
+                self.place(number, context, &id)
+            }
+        }
+    }
+
+    /// Sets the rights of a user by a private row on the object of a number; a row without a right is taken out. Memory
+    /// can be refused only where a row is added, and nothing changed then.
+    pub fn set_row(&mut self, number: ObjNum, user: UserNum, rights: Rights) -> Result<(), NoMemory>
+        ensures ok { OnOk result (self.new ≡ restand self.old number.0 (granted user rights)) }
+        ensures others { OnOk result ((n u : ℕ) → row_in (object self.new n) u
+            ≡ (if is_there self.old number.0 && ((number.0 == n) && (user.0 == u)) then rights.0 else row_in (object self.old n) u)) }
+        ensures added { OnErr result ((row_in (object self.old number.0) user.0 ≡ 0) × (rights.0 ≢ 0)) }
+        ensures err { OnErr result (self.new ≡ self.old) }
+    {
+        match self.by_number.get_mut(&number.0) {
+            None => Ok(()),
+            Some(object) => object.rows.set(user, rights),
+        }
+    }
+
+    /// The object of a number belongs to a user from now on.
+    pub fn set_owner(&mut self, number: ObjNum, user: UserNum)
+        ensures { self.new ≡ restand self.old number.0 (owned_by user) }
+    {
+        if let Some(object) = self.by_number.get_mut(&number.0) {
+            object.owner = user;
+        }
+    }
+
+    /// Everybody has these rights on the object of a number from now on.
+    pub fn set_public(&mut self, number: ObjNum, rights: Rights)
+        ensures { self.new ≡ restand self.old number.0 (open_to_all rights) }
+    {
+        if let Some(object) = self.by_number.get_mut(&number.0) {
+            object.public = rights;
+        }
+    }
+
+    /// The user of a number has these special authorities and this limit from now on. Nothing changes where there is
+    /// no such object or it is no user.
+    pub fn set_profile(&mut self, number: ObjNum, special: Special, limit: u32)
+        ensures { self.new ≡ set_profile self.old number.0 special limit }
+    {
+        if let Some(object) = self.by_number.get_mut(&number.0) {
+            body::set_profile(&mut object.body, special, limit);
+        }
     }
 
     /// Raises the next number, and sets the ceiling.
@@ -261,55 +337,5 @@ impl Objects {
     {
         self.next = next;
         self.ceiling = ceiling;
-    }
-
-    /// Writes bytes over a piece of the space of a number. Nothing changes where there is no such space or the
-    /// piece leaves it.
-    pub fn write(&mut self, number: ObjNum, at: u64, bytes: &[u8])
-        ensures { self.new ≡ on_space self.old number.0 (with_bytes at bytes.now) }
-    {
-        numbered::write(&mut self.by_number, number.0, at, bytes);
-    }
-
-    /// Puts a pointer into the cell of the space of a number that begins at a byte; no pointer is sixteen zero
-    /// bytes. Nothing changes where there is no such space or cell, or the pointer is one to an item that is a
-    /// pointer.
-    pub fn set_pointer(&mut self, number: ObjNum, at: u64, pointer: Option<Pointer>)
-        ensures { self.new ≡ on_space self.old number.0 (with_pointer at pointer) }
-    {
-        numbered::set_pointer(&mut self.by_number, number.0, at, pointer);
-    }
-
-    /// Copies cells with their tags over those of the space of a number that begin at a byte. Nothing changes
-    /// where there is no such space, the cells leave it, or no cell begins there.
-    pub fn copy_in(&mut self, number: ObjNum, at: u64, piece: &[Cell])
-        requires { All IsCell piece.now }
-        ensures { self.new ≡ on_space self.old number.0 (with_cells at piece.now) }
-    {
-        numbered::copy_in(&mut self.by_number, number.0, at, piece);
-    }
-
-    /// Cuts the space of a number, or fills it up with zero bytes. `NoMemory` where memory was refused, and
-    /// nothing changed.
-    pub fn resize(&mut self, number: ObjNum, len: u32) -> Result<(), NoMemory>
-        requires whole { len % 16 ≡ 0 }
-        requires some { 16 ≤ len }
-        requires most { len ≤ 16777216 }
-        ensures ok { OnOk result (self.new ≡ on_space self.old number.0 (resized len)) }
-        ensures err { OnErr result (self.new ≡ self.old) }
-    {
-        let beside = self.charge_beside(number);
-        match numbered::resize(&mut self.by_number, number.0, len) {
-            Ok(()) => {}
-            Err(e) => return Err(e),
-        }
-        if let Some(object) = self.by_number.get(&number.0) {
-            set_charge(
-                &mut self.charges,
-                object.owner.0,
-                beside + pages(&object.body) as u128,
-            );
-        }
-        Ok(())
     }
 }

@@ -1,12 +1,11 @@
-//! What the objects are to crates that know no object map: headers and private rows, by number.
-ghost use Rattle.std.specs.Prelude.{◌≡◌, find};
-ghost use Rattle.std.specs.Option.{option_copied};
-ghost use Rattle.s38_rules.specs.Headers.{adopts, header_of, is_row, limit_of, propagates, row_of, special_of};
+//! What the objects are to crates that know no object map: headers by number, and numbers by name.
+ghost use Rattle.std.specs.Prelude.{◌≡◌};
+ghost use Rattle.s38_rules.specs.Headers.{adopts, header_of, limit_of, propagates, special_of};
 ghost use Rattle.s38_rules.specs.Held.{kind_of};
 
 use crate::objects::Objects;
-use s38_base::{Id, Kind, ObjNum, Rights, Special, UserNum};
-use s38_rules::{Body, Header, Object, PrivateRow, Table, TableRows};
+use s38_base::{Id, Kind, ObjNum, Special};
+use s38_rules::{Body, Header, Object, Table};
 
 /// The kind of object that a body makes.
 pub fn kind_of(body: &Body) -> Kind
@@ -73,21 +72,6 @@ fn header_of(object: &Object) -> Header
     }
 }
 
-fn find_row(rows: &[PrivateRow], user: UserNum) -> Option<&PrivateRow>
-    ensures { option_copied result ≡ find (is_row user.0) rows.now }
-{
-    rows.iter().find(|row| row.user.0 == user.0)
-}
-
-fn row_of(rows: &[PrivateRow], user: UserNum) -> Rights
-    ensures { result.0 ≡ row_of rows.now user.0 }
-{
-    match find_row(rows, user) {
-        None => Rights(0),
-        Some(row) => row.rights,
-    }
-}
-
 impl Table for Objects {
     ghost held = { λ h. h };
 
@@ -100,14 +84,5 @@ impl Table for Objects {
 
     fn number_of(&self, context: ObjNum, id: &Id) -> Option<ObjNum> {
         self.find(context, id)
-    }
-}
-
-impl TableRows for Objects {
-    fn row_of(&self, number: ObjNum, user: UserNum) -> Rights {
-        match self.get(number) {
-            None => Rights(0),
-            Some(object) => row_of(object.rows.as_slice(), user),
-        }
     }
 }

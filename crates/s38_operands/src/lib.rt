@@ -2,6 +2,7 @@
 //! computations, values, needs.
 #![tactic(auto)]
 
+mod cells;
 mod computing;
 mod failures;
 mod hex;
@@ -13,6 +14,7 @@ mod reads;
 mod storage;
 mod values;
 
+pub use cells::{copy_cells, resize_cells, set_cells, write_cells};
 pub use computing::{
     AtOperands, computing_fails, computing_gives, computing_needs, receiver_at, shift_at,
 };

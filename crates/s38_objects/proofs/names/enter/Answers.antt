@@ -4,5 +4,4 @@ use Rattle.s38_objects.proofs.names.enter.Goals as goal
 
 pub returns-in-Ok-clause-ok : goal.returns-in-Ok-clause-ok
 returns-in-Ok-clause-ok c =
-    let o = c.args.object.now in
-    names_updated o c.key.result (Some o.number.0) c.args.names.now c.insert.new.self c.key.ensures c.if-object-eq0.false c.in-Ok.ensures.updates.0
+    names_updated c.args.context.0 c.args.id.now c.key.result (Some c.args.number.0) c.args.names.now c.insert.new.self c.key.ensures c.if-context-eq0.false c.in-Ok.ensures.updates.0

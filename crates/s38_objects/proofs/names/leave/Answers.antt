@@ -4,4 +4,5 @@ use Rattle.s38_objects.proofs.names.leave.Goals as goal
 
 pub returns-then-object-ne0 : goal.returns-then-object-ne0
 returns-then-object-ne0 c =
-    names_updated c.args.object.now c.key.result None c.args.names.now c.remove.new.self c.key.ensures c.if-object-ne0.true c.remove.ensures.updates.0
+    let o = c.args.object.now in
+    names_updated o.context.0 o.id c.key.result None c.args.names.now c.remove.new.self c.key.ensures c.if-object-ne0.true c.remove.ensures.updates.0

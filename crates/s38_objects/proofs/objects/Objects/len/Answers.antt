@@ -7,4 +7,4 @@ use Rattle.s38_objects.proofs.objects.Objects.len.Goals as goal
 pub returns-clause-lawful : goal.returns-clause-lawful
 returns-clause-lawful c =
     let m = c.self.inside in
-    subst (λ (h : Held). IsLawful h) c.self.view_is (lawful m.by_number m.by_name m.charges m.next m.ceiling c.self.invariant)
+    subst (λ (h : Held). IsLawful h) c.self.view_is (lawful m.by_number m.by_name m.next m.ceiling c.self.invariant)

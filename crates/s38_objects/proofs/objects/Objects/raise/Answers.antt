@@ -7,4 +7,4 @@ pub invariant_of-self : goal.invariant_of-self
 invariant_of-self c =
     let m = c.self.inside in
     let high : m.next ≤ c.args.next = subst (λ (h : Held). h.next ≤ c.args.next) (sym c.self.view_is) c.requires in
-    indexed_raised m.by_number m.by_name m.charges m.next c.args.next c.self.invariant high
+    indexed_raised m.by_number m.by_name m.next c.args.next c.self.invariant high
