@@ -8,7 +8,7 @@ use s38_base::exceptions::OBJECT_IN_USE;
 use s38_base::{Category, Exception, Kind, NoMemory, Op, Rights, Special, UserNum};
 use s38_changes::{
     creation_changes, creation_fails, creation_gives, destruction_changes, destruction_needs,
-    machine_needs, of_machine, owns_any, set_profile,
+    is_owner, machine_needs, of_machine, set_profile,
 };
 use s38_code::{Operand, Request, Val};
 use s38_invoke::World;
@@ -129,7 +129,7 @@ fn has_process(entries: &[ProcessEntry], user: UserNum) -> bool
 fn is_needed(world: &World<Objects>, user: UserNum) -> bool
     ensures { result ≡ is_needed world.now user.0 }
 {
-    user.0 == OFFICER || owns_any(world, user) || has_process(world.processes.as_slice(), user)
+    user.0 == OFFICER || is_owner(world, user) || has_process(world.processes.as_slice(), user)
 }
 
 #[tactic(auto, unfolding(s38_rules::specs::Profiles::desup_fails))]

@@ -19,8 +19,9 @@ use Rattle.s38_rules.specs.declared.object.Body.TheVariants as bodies
 use Rattle.s38_rules.specs.declared.object.Object.{Object}
 use Rattle.s38_rules.specs.declared.process.ProcessEntry.{ProcessEntry}
 use Rattle.s38_rules.specs.declared.process.Started.{Started}
+use Rattle.s38_rules.specs.Authority.{is_profile}
 use Rattle.s38_rules.specs.Creation.{creation_changes, creation_fails, creation_gives, destruction_changes, destruction_needs, machine_needs, of_machine}
-use Rattle.s38_rules.specs.Held.{Held}
+use Rattle.s38_rules.specs.Held.{Held, object}
 use Rattle.s38_rules.specs.Instruction.{Instruction, inert}
 use Rattle.s38_rules.specs.Needs.{on_object}
 use Rattle.s38_rules.specs.Operands.{target, whole_at, word_at}
@@ -92,6 +93,14 @@ modup = record inert {
 abbrev pub owns : ℕ → Object → Bool
 owns user o = o.owner.0 == user
 
+abbrev pub is_profile_in : Option Object → Bool
+is_profile_in None = false
+is_profile_in (Some o) = is_profile o.body
+
+-- it is a user, and owns an object
+abbrev pub is_owner : Held → ℕ → Bool
+is_owner h user = is_profile_in (object h user) && list_any (owns user) h.objects
+
 abbrev pub is_user : ℕ → Option Started → Bool
 is_user user None = false
 is_user user (Some p) = p.user.0 == user
@@ -102,7 +111,7 @@ is_live user x = not x.ended && is_user user x.started
 
 -- the security officer stays, and so does a user that owns an object or has a live process
 abbrev pub is_needed : State → ℕ → Bool
-is_needed s user = (user == officer) || (list_any (owns user) s.held.objects || list_any (is_live user) s.processes)
+is_needed s user = (user == officer) || (is_owner s.held user || list_any (is_live user) s.processes)
 
 unfoldable pub desup_fails : State → List Operand → Option Exception
 desup_fails s ops = fails (is_needed s (target s.held ops 1)) exceptions.object_in_use 1
