@@ -25,7 +25,7 @@ use Rattle.s38_rules.specs.PrivateRows.{AreRows, row_for, row_of, with_row}
 use Rattle.s38_rules.specs.Standing.{granted, open_to_all, owned_by, restand, standing_of, with_standing}
 use Rattle.s38_rules.proofs.ChargeLaws.{AreRising, KeepsNumber, beside_found, change_absent, charge_changed, charge_last, charge_same, charge_without, number_of, object_above, object_changed, object_last, object_without, own_pages, pages_within, some_page}
 use Rattle.s38_rules.proofs.RowLaws.{row_alone, row_read}
-use Rattle.s38_rules.proofs.UserLaws.{charge_kept, is_user, kept_paid, left_unset, row_kept, rows_left, rows_of, user_paid, user_set, user_some, user_there, users_by, users_of}
+use Rattle.s38_rules.proofs.UserLaws.{charge_kept, is_user, kept_by, kept_paid, left_unset, row_kept, rows_left, rows_of, user_paid, user_set, user_some, user_there, users_by, users_of}
 
 -- the numbers that were not given are those of no object
 abbrev pub AreGiven : Held → Type 0
@@ -166,9 +166,9 @@ granted_kept maps after h n o user r found are set users m =
           (λ other k. row_found n k user.0 r f o h.objects other (λ x. refl) found (row_read o.rows user r other are)) set;
       users = subst (λ (us : Users). AreUsers us (change_in h.objects n f) (charge_in (change_in h.objects n f))) (sym users)
           (users_by maps.users (change_in h.objects n f) (charge_in h.objects) (charge_in (change_in h.objects n f))
-            (users_of maps.users h.objects (change_in h.objects n f) (charge_in h.objects) m.users
-              (λ u charge. says_same (λ (x : Option Object). kept_profile x charge) n u f o h.objects (λ x. refl) found refl))
-            (λ u there. sym (charges u)));
+          (users_of maps.users h.objects (change_in h.objects n f) (charge_in h.objects) m.users
+          (λ u charge. says_same (λ (x : Option Object). kept_profile x charge) n u f o h.objects (λ x. refl) found refl))
+          (λ u there. sym (charges u)));
       unowned = λ u high. charges u ∙ m.unowned u high;
     }
 
@@ -204,26 +204,26 @@ body_kept maps after h n f o pages keeps found owner rows profile paying_for set
     let os = h.objects in
     let more = change_in h.objects n f in
     let charges = λ (u : ℕ) (there : IsUser os u).
-      let e : paying o.owner.0 pages (charge_in os) u ≡ charge_in more u =
-          elim (o.owner.0 == u) as (λ c. (o.owner.0 == u) ≡ c → cond c pages (charge_in os u) ≡ charge_in more u) [
-            | true ↦ λ q.
-                let own : o.owner.0 ≡ u = nat_same o.owner.0 u q in
-                let is : IsUser os o.owner.0 = subst (λ (k : ℕ). IsUser os k) (sym own) there in
-                let now = paying_for (user_there maps.users os (charge_in os) o.owner.0 m.users is) in
-                let kept = charge_kept maps.users os (charge_in os) o.owner.0 m.users is in
-                let step : charge_in more u + pages_of o.body ≡ charge_in os u + pages_of (f o).body = rw q at (owner_pays u n f o os found owner) in
-                let at : charge_in os o.owner.0 ≡ charge_in os u = ap (charge_in os) own in
-                omega (arith, now, kept, step, at)
-            | false ↦ λ q.
-                let step : charge_in more u + 0 ≡ charge_in os u + 0 = rw q at (owner_pays u n f o os found owner) in omega (arith, step)
-          ] refl in e in
+    let e : paying o.owner.0 pages (charge_in os) u ≡ charge_in more u =
+    elim (o.owner.0 == u) as (λ c. (o.owner.0 == u) ≡ c → cond c pages (charge_in os u) ≡ charge_in more u) [
+      | true ↦ λ q.
+          let own : o.owner.0 ≡ u = nat_same o.owner.0 u q in
+          let is : IsUser os o.owner.0 = subst (λ (k : ℕ). IsUser os k) (sym own) there in
+          let now = paying_for (user_there maps.users os (charge_in os) o.owner.0 m.users is) in
+          let kept = charge_kept maps.users os (charge_in os) o.owner.0 m.users is in
+          let step : charge_in more u + pages_of o.body ≡ charge_in os u + pages_of (f o).body = rw q at (owner_pays u n f o os found owner) in
+          let at : charge_in os o.owner.0 ≡ charge_in os u = ap (charge_in os) own in
+          omega (arith, now, kept, step, at)
+      | false ↦ λ q.
+          let step : charge_in more u + 0 ≡ charge_in os u + 0 = rw q at (owner_pays u n f o os found owner) in omega (arith, step)
+    ] refl in e in
     record {
       rows = subst (λ (rs : Rows). AreKeptRows rs more) (sym same)
           (rows_of maps.rows os more m.rows
-            (λ user k. says_same (λ (r : Option Object). row_in r user) n k f o os keeps found (ap (λ r. row_of r user) rows)));
+          (λ user k. says_same (λ (r : Option Object). row_in r user) n k f o os keeps found (ap (λ r. row_of r user) rows)));
       users = users_by after.users more (paying o.owner.0 pages (charge_in os)) (charge_in more)
           (users_of after.users os more (paying o.owner.0 pages (charge_in os)) (user_paid maps.users after.users os (charge_in os) o.owner.0 pages m.users set)
-            (λ user charge. says_same (λ (r : Option Object). kept_profile r charge) n user f o os keeps found (profile charge)))
+          (λ user charge. says_same (λ (r : Option Object). kept_profile r charge) n user f o os keeps found (profile charge)))
           (λ u there. charges u (subst (λ (x : Option Profile). IsSome x) (says_same (λ (r : Option Object). kept_profile r 0) n u f o os keeps found (profile 0)) there));
       unowned = λ u high.
           let was = m.unowned u high in
@@ -255,22 +255,22 @@ profile_kept maps after h n o special was_special limit was_limit found e set sa
     let is : IsUser os n = rw (found, e) refl in
     let kept : charge_of (user_at maps.users n) ≡ charge_in os n = charge_kept maps.users os (charge_in os) n m.users is in
     let pays = λ (u : ℕ).
-      let one : pages_of (f o).body ≡ pages_of o.body = rw e refl in
-      let step : pages_for u (f o) ≡ pages_for u o = ap (λ (p : ℕ). cond (o.owner.0 == u) p 0) one in
-      let r : charge_in more u ≡ charge_in os u = omega (arith, step, charge_changed u n f o os found) in r in
+    let one : pages_of (f o).body ≡ pages_of o.body = rw e refl in
+    let step : pages_for u (f o) ≡ pages_for u o = ap (λ (p : ℕ). cond (o.owner.0 == u) p 0) one in
+    let r : charge_in more u ≡ charge_in os u = omega (arith, step, charge_changed u n f o os found) in r in
     record {
       rows = subst (λ (rs : Rows). AreKeptRows rs more) (sym same)
           (rows_of maps.rows os more m.rows (λ user k. says_same (λ (r : Option Object). row_in r user) n k f o os (λ x. refl) found refl));
       users = users_by after.users more (charge_in os) (charge_in more)
           (user_set maps.users after.users os more (charge_in os) n (Some (entered special limit (user_at maps.users n))) m.users
-            (λ u. ap (λ (x : Option Object). kept_profile x (charge_in os u)) (found_changed n u f o os (λ x. refl) found)
-              ∙ elim (n == u) as (λ c. (n == u) ≡ c → kept_profile (cond c (Some (f o)) (object_in os u)) (charge_in os u) ≡ cond c (Some (entered special limit (user_at maps.users n))) (kept_profile (object_in os u) (charge_in os u))) [
-                | true ↦ λ q.
-                    let body : profile_by (f o).body (charge_in os u) ≡ Some (record { special = special; limit = limit; charge = charge_in os u }) = rw e refl in
-                    body ∙ ap (λ (k : ℕ). Some (record { special = special; limit = limit; charge = k })) (ap (charge_in os) (sym (nat_same n u q)) ∙ sym kept)
-                | false ↦ λ q. refl
-              ] refl)
-            set)
+          (λ u. ap (λ (x : Option Object). kept_profile x (charge_in os u)) (found_changed n u f o os (λ x. refl) found)
+          ∙ elim (n == u) as (λ c. (n == u) ≡ c → kept_profile (cond c (Some (f o)) (object_in os u)) (charge_in os u) ≡ cond c (Some (entered special limit (user_at maps.users n))) (kept_profile (object_in os u) (charge_in os u))) [
+            | true ↦ λ q.
+                let body : profile_by (f o).body (charge_in os u) ≡ Some (record { special = special; limit = limit; charge = charge_in os u }) = rw e refl in
+                body ∙ ap (λ (k : ℕ). Some (record { special = special; limit = limit; charge = k })) (ap (charge_in os) (sym (nat_same n u q)) ∙ sym kept)
+            | false ↦ λ q. refl
+          ] refl)
+          set)
           (λ u there. sym (pays u));
       unowned = λ u high. pays u ∙ m.unowned u high;
     }
@@ -299,32 +299,32 @@ given_kept maps after mid h n o user r given found are there less more_paid set 
     let within : pages ≤ c a = let w = pages_within n a o os found in omega (arith, w, own_pages o) in
     let pays = λ (u : ℕ). charge_changed u n f o os found in
     let charges = λ (u : ℕ) (user_u : IsUser os u).
-      let e : paying b q (paying a p c) u ≡ charge_in more u =
-          elim (b == u) as (λ y. (b == u) ≡ y → cond y q (cond (a == u) p (c u)) ≡ charge_in more u) [
-            | true ↦ λ qb. elim (a == u) as (λ x. (a == u) ≡ x → q ≡ charge_in more u) [
-                | true ↦ λ qa.
-                    let both : (a == b) ≡ true = grind (arith, nat_tests) in
-                    let at : c a ≡ c u = ap c (nat_same a u qa) in
-                    let was : charge_of (user_at maps.users a) ≡ c a = charge_kept maps.users os c a m.users (subst (λ (k : ℕ). IsUser os k) (sym (nat_same a u qa)) user_u) in
-                    let now : charge_of (user_at mid b) ≡ p = kept ∙ rw both refl in
-                    let step : charge_in more u + pages ≡ c u + pages = rw (qa, qb) at (pays u) in
-                    omega (arith, at, was, now, step, within)
-                | false ↦ λ qa.
-                    let apart : (a == b) ≡ false = grind (arith, nat_tests) in
-                    let at : c b ≡ c u = ap c (nat_same b u qb) in
-                    let now : charge_of (user_at mid b) ≡ c b = kept ∙ rw apart refl in
-                    let step : charge_in more u + 0 ≡ c u + pages = rw (qa, qb) at (pays u) in
-                    omega (arith, at, now, step)
-              ] refl
-            | false ↦ λ qb. elim (a == u) as (λ x. (a == u) ≡ x → cond x p (c u) ≡ charge_in more u) [
-                | true ↦ λ qa.
-                    let at : c a ≡ c u = ap c (nat_same a u qa) in
-                    let was : charge_of (user_at maps.users a) ≡ c a = charge_kept maps.users os c a m.users (subst (λ (k : ℕ). IsUser os k) (sym (nat_same a u qa)) user_u) in
-                    let step : charge_in more u + pages ≡ c u + 0 = rw (qa, qb) at (pays u) in
-                    omega (arith, at, was, step, within)
-                | false ↦ λ qa. let step : charge_in more u + 0 ≡ c u + 0 = rw (qa, qb) at (pays u) in omega (arith, step)
-              ] refl
-          ] refl in e in
+    let e : paying b q (paying a p c) u ≡ charge_in more u =
+    elim (b == u) as (λ y. (b == u) ≡ y → cond y q (cond (a == u) p (c u)) ≡ charge_in more u) [
+      | true ↦ λ qb. elim (a == u) as (λ x. (a == u) ≡ x → q ≡ charge_in more u) [
+        | true ↦ λ qa.
+            let both : (a == b) ≡ true = grind (arith, nat_tests) in
+            let at : c a ≡ c u = ap c (nat_same a u qa) in
+            let was : charge_of (user_at maps.users a) ≡ c a = charge_kept maps.users os c a m.users (subst (λ (k : ℕ). IsUser os k) (sym (nat_same a u qa)) user_u) in
+            let now : charge_of (user_at mid b) ≡ p = kept ∙ rw both refl in
+            let step : charge_in more u + pages ≡ c u + pages = rw (qa, qb) at (pays u) in
+            omega (arith, at, was, now, step, within)
+        | false ↦ λ qa.
+            let apart : (a == b) ≡ false = grind (arith, nat_tests) in
+            let at : c b ≡ c u = ap c (nat_same b u qb) in
+            let now : charge_of (user_at mid b) ≡ c b = kept ∙ rw apart refl in
+            let step : charge_in more u + 0 ≡ c u + pages = rw (qa, qb) at (pays u) in
+            omega (arith, at, now, step)
+      ] refl
+      | false ↦ λ qb. elim (a == u) as (λ x. (a == u) ≡ x → cond x p (c u) ≡ charge_in more u) [
+        | true ↦ λ qa.
+            let at : c a ≡ c u = ap c (nat_same a u qa) in
+            let was : charge_of (user_at maps.users a) ≡ c a = charge_kept maps.users os c a m.users (subst (λ (k : ℕ). IsUser os k) (sym (nat_same a u qa)) user_u) in
+            let step : charge_in more u + pages ≡ c u + 0 = rw (qa, qb) at (pays u) in
+            omega (arith, at, was, step, within)
+        | false ↦ λ qa. let step : charge_in more u + 0 ≡ c u + 0 = rw (qa, qb) at (pays u) in omega (arith, step)
+      ] refl
+    ] refl in e in
     record {
       rows = row_kept maps.rows after.rows os more b n r m.rows
           (λ other k. row_found n k b r f o os other (λ x. refl) found (row_read o.rows user r other are)) set;
@@ -365,39 +365,39 @@ added_kept maps after mid h o r given number owner rows enter paying_for set m =
     let q : ℕ = charge_of (user_at mid a) + pages_of o.body in
     let absent : object_in os o.number.0 ≡ None = given o.number.0 (omega (arith, number)) in
     let found = λ (k : ℕ).
-      let e : object_in more k ≡ cond (n == k) (Some o) (object_in os k) = object_last k o os absent ∙ ap (λ (i : ℕ). cond (i == k) (Some o) (object_in os k)) number in e in
+    let e : object_in more k ≡ cond (n == k) (Some o) (object_in os k) = object_last k o os absent ∙ ap (λ (i : ℕ). cond (i == k) (Some o) (object_in os k)) number in e in
     let unowned : charge_in os n ≡ 0 = m.unowned n (omega arith) in
     let entered_users : AreUsers mid more c =
-      user_set maps.users mid os more c n (profile_by o.body 0) m.users
-      (λ u. ap (λ (x : Option Object). kept_profile x (c u)) (found u)
-        ∙ elim (n == u) as (λ b. (n == u) ≡ b → kept_profile (cond b (Some o) (object_in os u)) (c u) ≡ cond b (profile_by o.body 0) (kept_profile (object_in os u) (c u))) [
-          | true ↦ λ e. body_entered o.body (c u) (ap c (sym (nat_same n u e)) ∙ unowned)
-          | false ↦ λ e. refl
-        ] refl)
-      enter in
+    user_set maps.users mid os more c n (profile_by o.body 0) m.users
+    (λ u. ap (λ (x : Option Object). kept_profile x (c u)) (found u)
+    ∙ elim (n == u) as (λ b. (n == u) ≡ b → kept_profile (cond b (Some o) (object_in os u)) (c u) ≡ cond b (profile_by o.body 0) (kept_profile (object_in os u) (c u))) [
+      | true ↦ λ e. body_entered o.body (c u) (ap c (sym (nat_same n u e)) ∙ unowned)
+      | false ↦ λ e. refl
+    ] refl)
+    enter in
     let charges = λ (u : ℕ) (is : IsUser more u).
-      let e : paying a q c u ≡ charge_in more u =
-          elim (a == u) as (λ b. (a == u) ≡ b → cond b q (c u) ≡ charge_in more u) [
-            | true ↦ λ e.
-                let at : c a ≡ c u = ap c (nat_same a u e) in
-                let kept : charge_of (user_at mid a) ≡ c a = charge_kept mid more c a entered_users (subst (λ (k : ℕ). IsUser more k) (sym (nat_same a u e)) is) in
-                let step : charge_in more u ≡ c u + pages_of o.body = rw e at (charge_last u o os) in
-                omega (arith, at, kept, step)
-            | false ↦ λ e. let step : charge_in more u ≡ c u + 0 = rw e at (charge_last u o os) in omega (arith, step)
-          ] refl in e in
+    let e : paying a q c u ≡ charge_in more u =
+    elim (a == u) as (λ b. (a == u) ≡ b → cond b q (c u) ≡ charge_in more u) [
+      | true ↦ λ e.
+          let at : c a ≡ c u = ap c (nat_same a u e) in
+          let kept : charge_of (user_at mid a) ≡ c a = charge_kept mid more c a entered_users (subst (λ (k : ℕ). IsUser more k) (sym (nat_same a u e)) is) in
+          let step : charge_in more u ≡ c u + pages_of o.body = rw e at (charge_last u o os) in
+          omega (arith, at, kept, step)
+      | false ↦ λ e. let step : charge_in more u ≡ c u + 0 = rw e at (charge_last u o os) in omega (arith, step)
+    ] refl in e in
     record {
       rows = row_kept maps.rows after.rows os more a n r m.rows
           (λ other k. ap (λ (x : Option Object). row_in x other) (found k)
-            ∙ elim (n == k) as (λ b. (n == k) ≡ b → row_in (cond b (Some o) (object_in os k)) other ≡ cond ((a == other) && b) r.0 (row_in (object_in os k) other)) [
-              | true ↦ λ e.
-                  let none : row_in (object_in os k) other ≡ 0 = ap (λ (i : ℕ). row_in (object_in os i) other) (sym (nat_same n k e)) ∙ ap (λ (x : Option Object). row_in x other) (given n (omega arith)) in
-                  ap (λ rs. row_of rs other) rows ∙ row_alone o.owner r other
-                  ∙ elim (a == other) as (λ d. cond d r.0 0 ≡ cond (d && true) r.0 (row_in (object_in os k) other)) [
-                    | true ↦ refl
-                    | false ↦ sym none
-                  ]
-              | false ↦ λ e. elim (a == other) as (λ d. row_in (object_in os k) other ≡ cond (d && false) r.0 (row_in (object_in os k) other)) [ true ↦ refl | false ↦ refl ]
-            ] refl)
+          ∙ elim (n == k) as (λ b. (n == k) ≡ b → row_in (cond b (Some o) (object_in os k)) other ≡ cond ((a == other) && b) r.0 (row_in (object_in os k) other)) [
+            | true ↦ λ e.
+                let none : row_in (object_in os k) other ≡ 0 = ap (λ (i : ℕ). row_in (object_in os i) other) (sym (nat_same n k e)) ∙ ap (λ (x : Option Object). row_in x other) (given n (omega arith)) in
+                ap (λ rs. row_of rs other) rows ∙ row_alone o.owner r other
+                ∙ elim (a == other) as (λ d. cond d r.0 0 ≡ cond (d && true) r.0 (row_in (object_in os k) other)) [
+                  | true ↦ refl
+                  | false ↦ sym none
+                ]
+            | false ↦ λ e. elim (a == other) as (λ d. row_in (object_in os k) other ≡ cond (d && false) r.0 (row_in (object_in os k) other)) [ true ↦ refl | false ↦ refl ]
+          ] refl)
           set;
       users = users_by after.users more (paying a q c) (charge_in more) (user_paid mid after.users more c a q entered_users paying_for) charges;
       unowned = λ u high.
@@ -414,60 +414,44 @@ unentered maps h b given none m =
 
 -- ---- an object is there no more
 
--- who is a user without an object was one with it
-still_user : (n u : ℕ) (os : List Object) → IsUser (without_in os n) u → IsUser os u
-still_user n u os is =
-    let here : IsSome (kept_profile (cond (n == u) None (object_in os u)) 0) = subst (λ (x : Option Object). IsSome (kept_profile x 0)) (object_without n u os) is in
-    elim (n == u) as (λ b. IsSome (kept_profile (cond b None (object_in os u)) 0) → IsUser os u) [
-      | true ↦ λ none. absurd (no_user none)
-      | false ↦ λ some. some
-    ] here
-
 -- an object is there no more: none of its rows is kept, its owner does not pay for it, and a profile is left
-pub gone_kept : (maps after : ProfileMaps) (mid : Users) (h : Held) (n : ℕ) (o : Object) → AreRising h.objects → object h n ≡ Some o
+pub gone_kept : (maps after : ProfileMaps) (h : Held) (n : ℕ) (o : Object) → AreRising h.objects → object h n ≡ Some o
     → ((user m : ℕ) → row_at after.rows (row_key user m) ≡ cond (n == m) None (row_at maps.rows (row_key user m)))
-    → SetsUser maps.users o.owner.0 (paid (charge_of (user_at maps.users o.owner.0) - pages_of o.body) (user_at maps.users o.owner.0)) mid
-    → SetsUser mid n None after.users → Mirrors maps h → Mirrors after (without h n)
-gone_kept maps after mid h n o rising found rows less leave m =
+    → ((user : ℕ) → user_at after.users user ≡ cond (n == user) None (cond (o.owner.0 == user) (paid (charge_of (user_at maps.users o.owner.0) - pages_of o.body) (user_at maps.users o.owner.0)) (user_at maps.users user)))
+    → Mirrors maps h → Mirrors after (without h n)
+gone_kept maps after h n o rising found rows users m =
     let os = h.objects in
     let more = without_in h.objects n in
     let a : ℕ = o.owner.0 in
     let pages : ℕ = pages_of o.body in
     let c = λ (u : ℕ). charge_in os u in
     let p : ℕ = charge_of (user_at maps.users a) - pages in
-    let lessened = user_paid maps.users mid os c a p m.users less in
     let within : pages ≤ c a = let w = pages_within n a o os found in omega (arith, w, own_pages o) in
     let pays = λ (u : ℕ). charge_without u n o os rising found in
-    let charges = λ (u : ℕ) (is : IsUser more u).
-      let e : paying a p c u ≡ charge_in more u =
-          elim (a == u) as (λ b. (a == u) ≡ b → cond b p (c u) ≡ charge_in more u) [
-            | true ↦ λ e.
-                let at : c a ≡ c u = ap c (nat_same a u e) in
-                let own : IsUser os a = subst (λ (k : ℕ). IsUser os k) (sym (nat_same a u e)) (still_user n u os is) in
-                let was : charge_of (user_at maps.users a) ≡ c a = charge_kept maps.users os c a m.users own in
-                let step : charge_in more u + pages ≡ c u = rw e at (pays u) in
-                omega (arith, at, was, step, within)
-            | false ↦ λ e. let step : charge_in more u + 0 ≡ c u = rw e at (pays u) in omega (arith, step)
-          ] refl in e in
+    let others = λ (u : ℕ).
+    let e : cond (a == u) (paid p (user_at maps.users a)) (user_at maps.users u) ≡ kept_profile (object_in os u) (charge_in more u) =
+    elim (a == u) as (λ b. (a == u) ≡ b → cond b (paid p (user_at maps.users a)) (user_at maps.users u) ≡ kept_profile (object_in os u) (charge_in more u)) [
+      | true ↦ λ e.
+          let at : c a ≡ c u = ap c (nat_same a u e) in
+          let step : charge_in more u + pages ≡ c u = rw e at (pays u) in
+          let own : IsUser os a → p ≡ charge_in more u = λ is. (let was = charge_kept maps.users os c a m.users is in omega (arith, at, was, step, within)) in
+          ap (paid p) (m.users a) ∙ kept_paid (object_in os a) (c a) p
+          ∙ kept_by (object_in os a) p (charge_in more u) own
+          ∙ ap (λ (k : ℕ). kept_profile (object_in os k) (charge_in more u)) (nat_same a u e)
+      | false ↦ λ e.
+          let step : charge_in more u + 0 ≡ c u = rw e at (pays u) in
+          let same : c u ≡ charge_in more u = omega (arith, step) in
+          m.users u ∙ ap (λ (k : ℕ). kept_profile (object_in os u) k) same
+    ] refl in e in
     record {
       rows = rows_left maps.rows after.rows os more n m.rows
           (λ user k. ap (λ (x : Option Object). row_in x user) (object_without n k os)
-            ∙ elim (n == k) as (λ b. row_in (cond b None (object_in os k)) user ≡ cond b 0 (row_in (object_in os k) user)) [ true ↦ refl | false ↦ refl ])
+          ∙ elim (n == k) as (λ b. row_in (cond b None (object_in os k)) user ≡ cond b 0 (row_in (object_in os k) user)) [ true ↦ refl | false ↦ refl ])
           rows;
-      users = users_by after.users more (paying a p c) (charge_in more)
-          (user_set mid after.users os more (paying a p c) n None lessened
-            (λ u. ap (λ (x : Option Object). kept_profile x (paying a p c u)) (object_without n u os)
-              ∙ elim (n == u) as (λ b. kept_profile (cond b None (object_in os u)) (paying a p c u) ≡ cond b None (kept_profile (object_in os u) (paying a p c u))) [ true ↦ refl | false ↦ refl ])
-            leave)
-          charges;
+      users = λ u.
+          users u
+          ∙ ap (λ (x : Option Profile). cond (n == u) None x) (others u)
+          ∙ elim (n == u) as (λ b. cond b None (kept_profile (object_in os u) (charge_in more u)) ≡ kept_profile (cond b None (object_in os u)) (charge_in more u)) [ true ↦ refl | false ↦ refl ]
+          ∙ sym (ap (λ (x : Option Object). kept_profile x (charge_in more u)) (object_without n u os));
       unowned = λ u high. let none = m.unowned u high in let step = pays u in omega (arith, none, step);
     }
-
--- the object that is there no more was no profile: none is left
-pub unleft : (maps : ProfileMaps) (h : Held) (mid : Users) (n pages : ℕ) (o : Object) (user : ℕ) → object h n ≡ Some o → profile_by o.body 0 ≡ None
-    → SetsUser maps.users user (paid pages (user_at maps.users user)) mid → Mirrors maps h → SetsUser mid n None mid
-unleft maps h mid n pages o user found none less m =
-    let lessened = user_paid maps.users mid h.objects (charge_in h.objects) user pages m.users less in
-    left_unset mid n
-    (lessened n ∙ sym (kept_paid (object_in h.objects n) 0 (paying user pages (charge_in h.objects) n))
-      ∙ ap (paid (paying user pages (charge_in h.objects) n)) (ap (λ (x : Option Object). kept_profile x 0) found ∙ none))

@@ -1,1 +1,3 @@
+pub mod CreationLaws
 pub mod KeptLaws
+pub mod RowLaws

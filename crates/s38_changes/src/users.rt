@@ -1,10 +1,11 @@
 //! What is kept of users, as objects come, go and change hands.
-ghost use Rattle.std.specs.Prelude.{◌≡◌, ◌+◌, ◌-◌, ◌<◌, ◌≤◌, ◌^◌, ℕ, IsSome, None, OnErr, OnOk, Some};
+ghost use Rattle.std.specs.Prelude.{◌≡◌, ◌+◌, ◌-◌, ◌<◌, ◌≤◌, ◌^◌, ◌==◌, ℕ, IsSome, None, OnErr, OnOk, Some, if◌then◌else◌};
 ghost use Rattle.s38_profiles.specs.Rows.{SetsRow, row_at, row_key};
 ghost use Rattle.s38_profiles.specs.Users.{SetsUser, charge_in, user_at};
 ghost use Rattle.s38_rules.specs.Held.{pages_of};
 ghost use Rattle.s38_rules.specs.Keeping.{paid};
-ghost use Rattle.s38_rules.specs.Kept.{profile_by};
+ghost use Rattle.s38_rules.specs.Kept.{kept_row, profile_by};
+ghost use Rattle.s38_rules.specs.PrivateRows.{AreRows, row_of};
 
 use crate::charges::pages_of;
 use s38_base::{NoMemory, ObjNum, Rights, UserNum};
@@ -109,14 +110,23 @@ pub fn take_back(profiles: &mut Profiles, number: ObjNum, owner: UserNum)
 }
 
 /// The rows of an object are out.
-fn take_rows(profiles: &mut Profiles, number: ObjNum, rows: &[PrivateRow]) {
+fn take_rows(profiles: &mut Profiles, number: ObjNum, rows: &[PrivateRow])
+    requires rising { AreRows rows.now }
+    requires kept { (user : ℕ) → row_at profiles.old.rows (row_key user number.0) ≡ kept_row (row_of rows.now user) }
+    ensures rows { (user n : ℕ) → row_at profiles.new.rows (row_key user n) ≡ (if number.0 == n then None else row_at profiles.old.rows (row_key user n)) }
+    ensures users { profiles.new.users ≡ profiles.old.users }
+{
     for row in rows {
         take_row(profiles, row.user, number);
     }
 }
 
 /// An object is gone: its rows, its pages, and the user that it was.
-pub fn forget(profiles: &mut Profiles, object: &Object) {
+pub fn forget(profiles: &mut Profiles, object: &Object)
+    requires { (user : ℕ) → row_at profiles.old.rows (row_key user object.now.number.0) ≡ kept_row (row_of object.now.rows user) }
+    ensures rows { (user n : ℕ) → row_at profiles.new.rows (row_key user n) ≡ (if object.now.number.0 == n then None else row_at profiles.old.rows (row_key user n)) }
+    ensures users { (user : ℕ) → user_at profiles.new.users user ≡ (if object.now.number.0 == user then None else if object.now.owner.0 == user then paid (charge_in (user_at profiles.old.users object.now.owner.0) - pages_of object.now.body) (user_at profiles.old.users object.now.owner.0) else user_at profiles.old.users user) }
+{
     take_rows(profiles, object.number, object.rows.as_slice());
     pay_less(profiles, object.owner, pages_of(&object.body));
     leave(profiles, object.number);

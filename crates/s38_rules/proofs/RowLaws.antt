@@ -77,7 +77,7 @@ other_user : (user : ℕ) (row : PrivateRow) → user < row.user.0 → (row.user
 other_user user row h = grind (arith, nat_tests)
 
 -- a user below all rows has none
-none_below : (rows : List PrivateRow) (user : ℕ) → AreRows rows → IsAbove user rows → row_of rows user ≡ 0
+pub none_below : (rows : List PrivateRow) (user : ℕ) → AreRows rows → IsAbove user rows → row_of rows user ≡ 0
 none_below [] user h g = refl
 none_below (row ∷ rows) user h g = rw (other_user user row g) (none_below rows user h.2 (above_later user row rows g h.1))
 

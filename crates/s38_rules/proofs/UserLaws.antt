@@ -94,7 +94,8 @@ user_paid users after os charges user pages h set other =
       | false ↦ λ q. h other
     ] refl
 
-kept_by : (o : Option Object) (a b : ℕ) → (IsSome (kept_profile o 0) → a ≡ b) → kept_profile o a ≡ kept_profile o b
+-- of one that is no user the charge does not matter
+pub kept_by : (o : Option Object) (a b : ℕ) → (IsSome (kept_profile o 0) → a ≡ b) → kept_profile o a ≡ kept_profile o b
 kept_by o a b same =
     elim (kept_profile o 0) as (λ (p : Option Profile). kept_profile o 0 ≡ p → (IsSome p → a ≡ b) → kept_profile o a ≡ kept_profile o b) [
       | None ↦ λ q s. sym (kept_paid o 0 a) ∙ none_paid (kept_profile o 0) a q ∙ sym (none_paid (kept_profile o 0) b q) ∙ kept_paid o 0 b
