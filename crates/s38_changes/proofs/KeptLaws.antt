@@ -1,5 +1,5 @@
 -- What is kept of users stays what the objects say: a law for each change of the objects.
-use Rattle.std.proofs.Common.{◌≡◌, ℕ, ◌+◌, ◌-◌, ◌<◌, ◌≤◌, ◌==◌, Bool, true, false, cond, List, [], ◌∷◌, ◌++◌, length, refl, sym, ◌∙◌, ap, subst, arith}
+use Rattle.std.proofs.Common.{◌≡◌, ℕ, ◌+◌, ◌-◌, ◌<◌, ◌≤◌, ◌==◌, true, false, cond, List, [], ◌∷◌, ◌++◌, length, refl, sym, ◌∙◌, ap, subst, arith}
 use Rattle.std.proofs.lemmas.Bool.Decides.{nat_tests}
 use Rattle.std.specs.Prelude.{◌&&◌, All, Option, Some, None, IsSome, nat_lt}
 use Rattle.std.specs.Option.{option_map}
@@ -17,15 +17,15 @@ use Rattle.s38_rules.specs.declared.object.Body.{Body}
 use Rattle.s38_rules.specs.declared.object.Body.TheVariants as bodies
 use Rattle.s38_rules.specs.declared.object.Object.{Object}
 use Rattle.s38_rules.specs.Headers.{row_in}
-use Rattle.s38_rules.specs.Held.{Held, change, change_in, charge_beside, charge_in, moved, object, object_in, pages_for, pages_of, renamed, space_pages, with_object, without, without_in}
+use Rattle.s38_rules.specs.Held.{Held, change, change_in, charge_in, moved, object, object_in, pages_for, pages_of, renamed, space_pages, with_object, without, without_in}
 use Rattle.s38_rules.specs.Keeping.{AreKeptRows, AreUsers, IsUser, paid, paying}
-use Rattle.s38_rules.specs.Kept.{Mirrors, kept_profile, profile_by}
+use Rattle.s38_rules.specs.Kept.{Mirrors, kept_profile, kept_row, profile_by}
 use Rattle.s38_rules.specs.Parts.{cells_at, on_queue, on_space, over_object, profile_part, queue_part, set_profile, space_part}
-use Rattle.s38_rules.specs.PrivateRows.{AreRows, row_for, row_of, with_row}
+use Rattle.s38_rules.specs.PrivateRows.{AreRows, row_for, row_of}
 use Rattle.s38_rules.specs.Standing.{granted, open_to_all, owned_by, restand, standing_of, with_standing}
-use Rattle.s38_rules.proofs.ChargeLaws.{AreRising, KeepsNumber, beside_found, change_absent, charge_changed, charge_last, charge_same, charge_without, number_of, object_above, object_changed, object_last, object_without, own_pages, pages_within, some_page}
+use Rattle.s38_rules.proofs.ChargeLaws.{AreRising, KeepsNumber, change_absent, charge_changed, charge_last, charge_same, charge_without, number_of, object_above, object_changed, object_last, object_without, own_pages, pages_within, some_page}
 use Rattle.s38_rules.proofs.RowLaws.{row_alone, row_read}
-use Rattle.s38_rules.proofs.UserLaws.{charge_kept, is_user, kept_by, kept_paid, left_unset, row_kept, rows_left, rows_of, user_paid, user_set, user_some, user_there, users_by, users_of}
+use Rattle.s38_rules.proofs.UserLaws.{charge_kept, charge_most, is_user, kept_by, kept_paid, left_unset, row_kept, rows_left, rows_of, user_paid, user_set, user_there, users_by, users_of}
 
 -- the numbers that were not given are those of no object
 abbrev pub AreGiven : Held → Type 0
@@ -455,3 +455,42 @@ gone_kept maps after h n o rising found rows users m =
           ∙ sym (ap (λ (x : Option Object). kept_profile x (charge_in more u)) (object_without n u os));
       unowned = λ u high. let none = m.unowned u high in let step = pays u in omega (arith, none, step);
     }
+
+-- ---- what is read
+
+-- what reads the same says the same
+pub read_kept : (maps after : ProfileMaps) (h : Held) → ((user n : ℕ) → row_at after.rows (row_key user n) ≡ row_at maps.rows (row_key user n)) → ((user : ℕ) → user_at after.users user ≡ user_at maps.users user)
+    → Mirrors maps h → Mirrors after h
+read_kept maps after h rows users m = record { rows = λ user n. rows user n ∙ m.rows user n; users = λ user. users user ∙ m.users user; unowned = m.unowned }
+
+-- a row that is set to what it was before
+pub row_back : (rows mid after : Rows) (user n : ℕ) (row was : Option Rights) → SetsRow rows (row_key user n) row mid → SetsRow mid (row_key user n) was after → row_at rows (row_key user n) ≡ was
+    → (other m : ℕ) → row_at after (row_key other m) ≡ row_at rows (row_key other m)
+row_back rows mid after user n row was set back same other m =
+    back other m
+    ∙ ap (λ (x : Option Rights). cond ((user == other) && (n == m)) was x) (set other m)
+    ∙ elim (user == other) as (λ c. (user == other) ≡ c → cond (c && (n == m)) was (cond (c && (n == m)) row (row_at rows (row_key other m))) ≡ row_at rows (row_key other m)) [
+      | true ↦ λ p. elim (n == m) as (λ d. (n == m) ≡ d → cond (true && d) was (cond (true && d) row (row_at rows (row_key other m))) ≡ row_at rows (row_key other m)) [
+        | true ↦ λ q. sym same ∙ ap (λ (k : ℕ). row_at rows (row_key k n)) (nat_same user other p) ∙ ap (λ (k : ℕ). row_at rows (row_key other k)) (nat_same n m q)
+        | false ↦ λ q. refl
+      ] refl
+      | false ↦ λ p. refl
+    ] refl
+
+-- the rows of an object that is there
+pub rows_read : (maps : ProfileMaps) (h : Held) (n : ℕ) (o : Object) → object h n ≡ Some o → Mirrors maps h → (user : ℕ) → row_at maps.rows (row_key user n) ≡ kept_row (row_of o.rows user)
+rows_read maps h n o found m user = m.rows user n ∙ ap (λ (x : Option Object). kept_row (row_in x user)) found
+
+-- a number that was not given has no row
+pub no_row_yet : (maps : ProfileMaps) (h : Held) (user : ℕ) → AreGiven h → Mirrors maps h → row_at maps.rows (row_key user h.next) ≡ None
+no_row_yet maps h user given m = m.rows user h.next ∙ ap (λ (x : Option Object). kept_row (row_in x user)) (given h.next (omega arith))
+
+-- a profile that is there is a user
+pub profile_there : (maps : ProfileMaps) (h : Held) (n : ℕ) (o : Object) (special : Special) (limit : ℕ) → object h n ≡ Some o → o.body ≡ bodies.Profile special limit → Mirrors maps h → IsSome (user_at maps.users n)
+profile_there maps h n o special limit found e m =
+    let is : IsUser h.objects n = rw (found, e) refl in
+    user_there maps.users h.objects (charge_in h.objects) n m.users is
+
+-- what is kept of a user's charge is no more than what it pays for
+pub charge_read : (maps : ProfileMaps) (h : Held) (user : ℕ) → Mirrors maps h → charge_of (user_at maps.users user) ≤ charge_in h.objects user
+charge_read maps h user m = let e = ap charge_of (m.users user) in omega (arith, e, charge_most (object h user) (charge_in h.objects user))

@@ -1,10 +1,10 @@
 -- What is kept of users while it is made, object after object.
-use Rattle.std.proofs.Common.{◌≡◌, ℕ, ◌+◌, ◌<◌, ◌≤◌, ◌==◌, Bool, true, false, cond, List, [], ◌∷◌, ◌++◌, drop, get_or, length, map, take, refl, sym, ◌∙◌, ap, subst, arith}
+use Rattle.std.proofs.Common.{◌≡◌, ℕ, ◌+◌, ◌<◌, ◌≤◌, ◌==◌, true, false, cond, List, [], ◌∷◌, ◌++◌, drop, get_or, length, map, take, refl, sym, ◌∙◌, ap, subst, arith}
 use Rattle.std.proofs.lemmas.Bool.Decides.{nat_tests}
 use Rattle.std.proofs.lemmas.List.{map-append, take-append-drop, take_more}
 use Rattle.std.proofs.lemmas.Map.Iter.{iter_end, rest_more, rest_so_far}
 use Rattle.std.proofs.lemmas.Map.Keys.{sorted_head, sorted_tail}
-use Rattle.std.specs.Prelude.{◌&&◌, Option, Some, None, IsSome, find, is_some}
+use Rattle.std.specs.Prelude.{◌&&◌, Option, Some, None, find}
 use Rattle.std.specs.Borrow.{Bor}
 use Rattle.std.specs.Iterator.{Yields}
 use Rattle.std.specs.Map.Iter.{TakesFirst, deref}
@@ -13,20 +13,17 @@ use Rattle.std.specs.declared.cmp.Ordering.TheVariants.{Less}
 use Rattle.std.specs.List.{AllByRecursion}
 use Rattle.std.specs.List.Sorted.{IsStrictlyIncreasing}
 use Rattle.s38_base.specs.declared.rights.Rights.{Rights}
-use Rattle.s38_profiles.specs.declared.profile.Profile.{Profile}
 use Rattle.s38_profiles.specs.Rows.{Rows, SetsRow, row_at, row_key, row_with}
 use Rattle.s38_profiles.specs.Users.{SetsUser, Users, charge_in as charge_of, user_at}
-use Rattle.s38_rules.specs.declared.object.Body.{Body}
-use Rattle.s38_rules.specs.declared.object.Body.TheVariants as bodies
 use Rattle.s38_rules.specs.declared.object.Object.{Object}
 use Rattle.s38_rules.specs.declared.rows.PrivateRow.{PrivateRow}
 use Rattle.s38_rules.specs.Headers.{row_in}
-use Rattle.s38_rules.specs.Held.{charge_in, object_in, pages_for, pages_of}
+use Rattle.s38_rules.specs.Held.{charge_in, object_in, pages_of}
 use Rattle.s38_rules.specs.Keeping.{AreKeptRows, AreUsers, IsUser, paid, paying}
 use Rattle.s38_rules.specs.Kept.{kept_profile, kept_row, profile_by}
 use Rattle.s38_rules.specs.PrivateRows.{AreRows, IsAbove, is_row, rights_in, row_of}
 use Rattle.s38_rules.proofs.ChargeLaws.{AreRising, charge_both, charge_first, charge_last, charge_none, number_of, object_last, own_pages, rising_by}
-use Rattle.s38_rules.proofs.UserLaws.{charge_kept, user_paid, user_set, users_by}
+use Rattle.s38_rules.proofs.UserLaws.{charge_kept, charge_most, user_paid, user_set, users_by}
 
 nat_same : (a b : ℕ) → (a == b) ≡ true → a ≡ b
 nat_same a b h = grind (arith, nat_tests)
@@ -93,18 +90,6 @@ charged_more users after os gone o pages h paying_for set =
           omega (arith, at, kept, step, paying_for)
       | false ↦ λ e. let step : charge_in (gone ++ o ∷ []) u ≡ charge_in gone u + 0 = rw e at (charge_last u o gone) in omega (arith, step)
     ] refl)
-
-body_most : (b : Body) (charge : ℕ) → charge_of (profile_by b charge) ≤ charge
-body_most (bodies.Profile special limit) charge = omega arith
-body_most (bodies.Space cells) charge = omega arith
-body_most (bodies.Context) charge = omega arith
-body_most (bodies.Program code) charge = omega arith
-body_most (bodies.Queue q) charge = omega arith
-
--- what is kept of a user is no more than its charge
-charge_most : (o : Option Object) (charge : ℕ) → charge_of (kept_profile o charge) ≤ charge
-charge_most None charge = omega arith
-charge_most (Some o) charge = body_most o.body charge
 
 -- what an owner pays for with one object more is no more than for all
 pub charge_fits : (users : Users) (os gone rest : List Object) (o : Object) → os ≡ gone ++ o ∷ rest → AreUsers users os (charge_in gone)

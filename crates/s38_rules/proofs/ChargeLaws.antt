@@ -69,6 +69,16 @@ pages_within n user o (x ∷ os) h =
       | false ↦ λ q. omega (arith, charge_first user x os, rest q)
     ] h
 
+-- what is found by a number has it
+pub found_number : (n : ℕ) (o : Object) (os : List Object) → object_in os n ≡ Some o → o.number.0 ≡ n
+found_number n o [] h = absurd (some_none o (sym h))
+found_number n o (x ∷ os) h =
+    let rest = found_number n o os in
+    elim (x.number.0 == n) as (λ a. (x.number.0 == n) ≡ a → cond a (Some x) (object_in os n) ≡ Some o → o.number.0 ≡ n) [
+      | true ↦ λ p q. let here : x.number.0 ≡ n = grind (arith, nat_tests) in subst (λ (y : Object). y.number.0 ≡ n) (some_same x o q) here
+      | false ↦ λ p q. rest q
+    ] refl h
+
 -- ---- one object is another one
 
 pub object_changed : (n m : ℕ) (f : Object → Object) (os : List Object) → KeepsNumber f

@@ -1,5 +1,5 @@
 -- What is kept of users and of their rows, after one of them was set.
-use Rattle.std.proofs.Common.{◌≡◌, ℕ, ◌==◌, Bool, true, false, cond, List, refl, sym, ◌∙◌, ap, subst, arith}
+use Rattle.std.proofs.Common.{◌≡◌, ℕ, ◌≤◌, ◌==◌, Bool, true, false, cond, List, refl, sym, ◌∙◌, ap, subst, arith}
 use Rattle.std.proofs.lemmas.Bool.Decides.{nat_tests}
 use Rattle.std.specs.Prelude.{◌&&◌, Option, Some, None, IsSome}
 use Rattle.s38_base.specs.declared.rights.Rights.{Rights}
@@ -82,6 +82,18 @@ user_there users os charges user h there =
 pub charge_kept : (users : Users) (os : List Object) (charges : ℕ → ℕ) (user : ℕ) → AreUsers users os charges → IsUser os user → charge_of (user_at users user) ≡ charges user
 charge_kept users os charges user h there =
     ap charge_of (h user ∙ sym (kept_paid (object_in os user) 0 (charges user))) ∙ charge_paid (kept_profile (object_in os user) 0) (charges user) there
+
+body_most : (b : Body) (charge : ℕ) → charge_of (profile_by b charge) ≤ charge
+body_most (bodies.Profile special limit) charge = omega arith
+body_most (bodies.Space cells) charge = omega arith
+body_most (bodies.Context) charge = omega arith
+body_most (bodies.Program code) charge = omega arith
+body_most (bodies.Queue q) charge = omega arith
+
+-- what is kept of a user is no more than its charge
+pub charge_most : (o : Option Object) (charge : ℕ) → charge_of (kept_profile o charge) ≤ charge
+charge_most None charge = omega arith
+charge_most (Some o) charge = body_most o.body charge
 
 -- a charge is set
 pub user_paid : (users after : Users) (os : List Object) (charges : ℕ → ℕ) (user pages : ℕ) → AreUsers users os charges
