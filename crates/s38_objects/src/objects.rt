@@ -14,7 +14,7 @@ ghost use Rattle.s38_objects.specs.Lawful.{IsLawful, is_place, is_place_of};
 ghost use Rattle.s38_objects.specs.Lending.{LendsHeld};
 
 use crate::name_key::{NameKey, key};
-use crate::{body, names, numbered};
+use crate::{names, numbered};
 use s38_base::{Id, NoMemory, ObjNum, Rights, Special, UserNum};
 use s38_memory::Tagged;
 use s38_queues::Queue;
@@ -232,17 +232,15 @@ impl Objects {
         ensures ok { OnOk result (self.new ≡ change self.old number.0 (placed context id.now)) }
         ensures err { OnErr result (self.new ≡ self.old) }
     {
-        match self.by_number.get_mut(&number.0) {
-            None => Ok(()),
+        match self.by_number.get(&number.0) {
+            None => return Ok(()),
             Some(object) => match names::change(&mut self.by_name, object, context, id) {
-                Err(e) => Err(e),
-                Ok(()) => {
-                    object.context = context;
-                    object.id = *id;
-                    Ok(())
-                }
+                Ok(()) => {}
+                Err(e) => return Err(e),
             },
         }
+        numbered::place(&mut self.by_number, number.0, context, *id);
+        Ok(())
     }
 
     /// The object of a number has another identification from now on, that no other object in its context has.
@@ -287,28 +285,21 @@ impl Objects {
         ensures added { OnErr result ((row_in (object self.old number.0) user.0 ≡ 0) × (rights.0 ≢ 0)) }
         ensures err { OnErr result (self.new ≡ self.old) }
     {
-        match self.by_number.get_mut(&number.0) {
-            None => Ok(()),
-            Some(object) => object.rows.set(user, rights),
-        }
+        numbered::set_row(&mut self.by_number, number.0, user, rights)
     }
 
     /// The object of a number belongs to a user from now on.
     pub fn set_owner(&mut self, number: ObjNum, user: UserNum)
         ensures { self.new ≡ restand self.old number.0 (owned_by user) }
     {
-        if let Some(object) = self.by_number.get_mut(&number.0) {
-            object.owner = user;
-        }
+        numbered::set_owner(&mut self.by_number, number.0, user);
     }
 
     /// Everybody has these rights on the object of a number from now on.
     pub fn set_public(&mut self, number: ObjNum, rights: Rights)
         ensures { self.new ≡ restand self.old number.0 (open_to_all rights) }
     {
-        if let Some(object) = self.by_number.get_mut(&number.0) {
-            object.public = rights;
-        }
+        numbered::set_public(&mut self.by_number, number.0, rights);
     }
 
     /// The user of a number has these special authorities and this limit from now on. Nothing changes where there is
@@ -316,9 +307,7 @@ impl Objects {
     pub fn set_profile(&mut self, number: ObjNum, special: Special, limit: u32)
         ensures { self.new ≡ set_profile self.old number.0 special limit }
     {
-        if let Some(object) = self.by_number.get_mut(&number.0) {
-            body::set_profile(&mut object.body, special, limit);
-        }
+        numbered::set_profile(&mut self.by_number, number.0, special, limit);
     }
 
     /// Raises the next number, and sets the ceiling.
