@@ -2,6 +2,7 @@
 #![tactic(auto)]
 
 mod body;
+mod listing;
 mod name_key;
 mod names;
 mod numbered;

@@ -1,12 +1,12 @@
-ghost use Rattle.std.specs.Prelude.{◌≡◌, ◌≢◌, ◌≤◌, ◌<◌, ◌^◌, ◌==◌, ◌&&◌, ◌↔◌, ℕ, length, None, IfOk, IfErr, IsTrue, OnOk, OnErr, false, true, if◌then◌else◌};
+ghost use Rattle.std.specs.Prelude.{◌≡◌, ◌≢◌, [], ◌≤◌, ◌<◌, ◌^◌, ◌==◌, ◌&&◌, ◌↔◌, ℕ, length, None, IfOk, IfErr, IsTrue, OnOk, OnErr, false, true, if◌then◌else◌};
 ghost use Rattle.std.specs.Borrow.{sem};
 ghost use Rattle.std.specs.Option.{option_copied, option_copied_mut};
 ghost use Rattle.s38_memory.specs.contracts.tagged.Tagged.{the_row as tagged_row};
 ghost use Rattle.s38_queues.specs.contracts.queue.Queue.{the_row as queue_row};
-ghost use Rattle.s38_rules.specs.Contexts.{is_name_beside};
+ghost use Rattle.s38_rules.specs.Contexts.{entered, is_name_beside};
 ghost use Rattle.s38_rules.specs.Creation.{is_taken_beside};
 ghost use Rattle.s38_rules.specs.Headers.{row_in};
-ghost use Rattle.s38_rules.specs.Held.{change, context_in, found, is_there, moved, nothing, number_found, object, renamed, with_added, without};
+ghost use Rattle.s38_rules.specs.Held.{change, contents, context_in, found, is_there, moved, nothing, number_found, object, renamed, with_added, without};
 ghost use Rattle.s38_rules.specs.Parts.{part_at, queue_part, set_profile, space_part};
 ghost use Rattle.s38_rules.specs.Standing.{granted, open_to_all, owned_by, restand};
 ghost use Rattle.s38_objects.specs.Changes.{placed};
@@ -14,11 +14,11 @@ ghost use Rattle.s38_objects.specs.Lawful.{IsLawful, is_place, is_place_of};
 ghost use Rattle.s38_objects.specs.Lending.{LendsHeld};
 
 use crate::name_key::{NameKey, key};
-use crate::{names, numbered};
+use crate::{listing, names, numbered};
 use s38_base::{Id, NoMemory, ObjNum, Rights, Special, UserNum};
 use s38_memory::Tagged;
 use s38_queues::Queue;
-use s38_rules::{BodyPart, Object};
+use s38_rules::{BodyPart, Listed, Object};
 use std::alloc::{AllocFailed, Global};
 use std::collections::BTreeMap;
 use std::marker::Model;
@@ -125,6 +125,21 @@ impl Objects {
             Some(number) => self.by_number.get(&number.0),
             None => None,
         }
+    }
+
+    /// The objects in a context under their identifications, in the order of kind, subtype and name; none in a context
+    /// that is gone. `NoMemory` where memory was refused.
+    pub fn names(
+        &self,
+        alloc: Global,
+        context: ObjNum,
+    ) -> Result<BTreeMap<Listed, ObjNum>, NoMemory>
+        ensures { IfOk result (λ names. names.entries ≡ entered [] (contents self.now context.0)) }
+    {
+        if !self.is_there(context) {
+            return Ok(BTreeMap::new(alloc));
+        }
+        listing::names(alloc, &self.by_number, context)
     }
 
     /// Adds an object behind the others. Its number was never given, its context is there, or itself, or none, and no
