@@ -3,8 +3,9 @@ use Rattle.std.proofs.Common.{◌≡◌, ℕ, ◌<◌, ◌==◌, Bool, true, fal
 use Rattle.std.proofs.lemmas.Bool.Decides.{nat_tests}
 use Rattle.std.specs.Prelude.{Option, Some, None, Result, Ok, Err, OnOk, OnErr, ◌&&◌, ◌||◌, is_some}
 use Rattle.std.specs.Option.{option_map}
+use Rattle.std.specs.Result.{is_err}
 use Rattle.std.specs.Ordering.{nat_cmp}
-use Rattle.std.specs.Map.{lookup, values_of}
+use Rattle.std.specs.Map.{lookup}
 use Rattle.std.specs.BTreeMap.{BTreeMap, is_at, values}
 use Rattle.s38_rules.specs.declared.object.Object.{Object}
 use Rattle.s38_rules.specs.Headers.{row_in}
@@ -12,10 +13,7 @@ use Rattle.s38_rules.specs.Held.{Held, change, change_in, has_number, object, ob
 use Rattle.s38_objects.specs.declared.name_key.NameKey.{NameKey}
 use Rattle.s38_objects.specs.Lawful.{is_place, number_of}
 use Rattle.s38_objects.specs.Indexed.{AreNumbered, IsIndexed}
-use Rattle.s38_objects.proofs.NumberLaws.{given_there, lookup_object}
-
-nat_same : (a b : ℕ) → (a == b) ≡ true → a ≡ b
-nat_same a b h = grind (arith, nat_tests)
+use Rattle.s38_objects.proofs.NumberLaws.{given_there, lookup_object, nat_same}
 
 absent_in : (n : ℕ) (f : Object → Object) (os : List Object) → object_in os n ≡ None → change_in os n f ≡ os
 absent_in n f [] h = refl
@@ -119,3 +117,7 @@ either (Err e) p q f g = g q
 pub on_ok_both : {T E P Q R : Type 0} (r : Result T E) → OnOk r P → OnOk r Q → (P → Q → R) → OnOk r R
 on_ok_both (Ok x) p q f = f p q
 on_ok_both (Err e) p q f = tt
+
+pub from_ok : {T E P : Type 0} (r : Result T E) → is_err r ≡ false → OnOk r P → P
+from_ok (Ok x) h p = p
+from_ok (Err e) h p = absurd (cc)

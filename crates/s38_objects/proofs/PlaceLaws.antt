@@ -1,5 +1,5 @@
 -- An object that gets another name: what the names lead to then.
-use Rattle.std.proofs.Common.{◌≡◌, ℕ, ◌+◌, ◌<◌, ◌==◌, Bool, true, false, cond, not, List, [], ◌∷◌, refl, sym, ◌∙◌, ap, subst, arith}
+use Rattle.std.proofs.Common.{◌≡◌, ℕ, ◌<◌, Bool, true, false, cond, not, List, [], ◌∷◌, refl, sym, ◌∙◌, ap, subst, arith}
 use Rattle.std.proofs.lemmas.Bool.Decides.{nat_tests}
 use Rattle.std.proofs.lemmas.Map.Keys.{sorted_head, sorted_tail}
 use Rattle.std.specs.Prelude.{Option, Some, None, ◌||◌, is_some, nat_le}
@@ -19,8 +19,8 @@ use Rattle.s38_objects.specs.Changes.{changed_at, placed}
 use Rattle.s38_objects.specs.Lawful.{AreApart, number_of}
 use Rattle.s38_objects.specs.Indexed.{AreNames, AreNumbered, IsIndexed, is_open}
 use Rattle.s38_objects.specs.NameOrder.{is_found_by, key, name_cmp}
-use Rattle.s38_objects.proofs.NameLaws.{apart_fewer, found_like, in_that_context, named_like, named_other_way, nat_same, no_number, none_first, none_rest}
-use Rattle.s38_objects.proofs.NumberLaws.{found_above, keys_changed, lookup_object, numbered_changed, open_changed, values_changed}
+use Rattle.s38_objects.proofs.NameLaws.{apart_fewer, found_like, in_that_context, named_like, named_other_way, no_number, none_first, none_rest}
+use Rattle.s38_objects.proofs.NumberLaws.{found_above, keys_changed, lookup_object, nat_same, numbered_changed, open_changed, values_changed}
 
 -- ---- the map from names to numbers
 

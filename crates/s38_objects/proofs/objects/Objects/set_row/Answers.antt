@@ -1,11 +1,11 @@
-use Rattle.std.proofs.Common.{◌≡◌, ◌∙◌, ℕ, ◌==◌, List, cond, ap, refl, sym, subst}
+use Rattle.std.proofs.Common.{◌≡◌, ◌∙◌, ℕ, ◌==◌, List, cond, ap, refl, subst}
 use Rattle.std.specs.Prelude.{Option, ◌≢◌, ◌&&◌, is_some}
 use Rattle.std.specs.Option.{option_map}
 use Rattle.std.specs.BTreeMap.{values}
 use Rattle.std.proofs.lemmas.Result.{on_err_weaker, on_ok_weaker}
 use Rattle.s38_rules.specs.declared.object.Object.{Object}
 use Rattle.s38_rules.specs.Headers.{row_in}
-use Rattle.s38_rules.specs.Held.{Held, object, object_in}
+use Rattle.s38_rules.specs.Held.{Held, object_in}
 use Rattle.s38_rules.specs.Standing.{granted}
 use Rattle.s38_objects.specs.Changes.{restood}
 use Rattle.s38_objects.proofs.IndexLaws.{indexed_changed, indexed_same, values_changed_to}
