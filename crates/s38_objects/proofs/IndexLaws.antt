@@ -1,10 +1,7 @@
 -- The two maps belong together after each change.
 use Rattle.std.proofs.Common.{◌≡◌, ℕ, ◌+◌, ◌<◌, ◌≤◌, ◌==◌, Bool, true, false, cond, List, [], ◌∷◌, ◌++◌, map, refl, sym, ◌∙◌, ap, subst, arith}
-use Rattle.std.proofs.lemmas.Bool.Decides.{nat_tests}
-use Rattle.std.specs.Prelude.{Option, Some, None, All, ◌||◌, is_some, nat_le}
+use Rattle.std.specs.Prelude.{Option, Some, None, All, ◌||◌, is_some}
 use Rattle.std.specs.Option.{option_map}
-use Rattle.std.specs.Prelude.{Result, Ok, Err, OnOk}
-use Rattle.std.specs.Result.{is_err}
 use Rattle.std.specs.Ordering.{nat_cmp}
 use Rattle.std.proofs.lemmas.Map.Keys.{IsStrictlyIncreasing-from_sorted}
 use Rattle.std.proofs.lemmas.List.Elements.{All-cons, All-nil}
@@ -19,7 +16,7 @@ use Rattle.s38_objects.specs.Changes.{KeepsName, changed_at}
 use Rattle.s38_objects.specs.Lawful.{IsLawful, is_place_of, number_of}
 use Rattle.s38_objects.specs.Indexed.{AreNames, AreNumbered, IsIndexed, is_open}
 use Rattle.s38_objects.specs.NameOrder.{key, name_cmp}
-use Rattle.s38_objects.proofs.NumberLaws.{found_by_number, given_there, insert_last, keys_changed, none_ahead, numbered_changed, numbered_last, numbered_raised, numbered_without, open_changed, open_last, open_raised, open_there, open_without, values_changed, values_last, values_without}
+use Rattle.s38_objects.proofs.NumberLaws.{found_by_number, given_there, insert_last, keys_changed, none_ahead, numbered_changed, numbered_last, numbered_raised, numbered_without, nat_same, open_changed, open_last, open_raised, open_there, open_without, values_changed, values_last, values_without}
 use Rattle.s38_objects.proofs.NameLaws.{apart_changed, apart_fewer, apart_last, apart_without, found_like, names_changed, names_last, names_without}
 
 pub indexed_none : (m : BTreeMap ℕ Object) (names : BTreeMap NameKey ℕ) (next : ℕ) → m.entries ≡ [] → names.entries ≡ [] → IsOrdered nat_cmp m → IsIndexed m names next
@@ -39,15 +36,6 @@ indexed_raised m names next more h high =
       apart = apart_fewer (is_open next (values m)) (is_open more (values m)) (values m) less h.apart;
       named = record { lead = λ context id there. h.named.lead context id (less context there) };
     }
-
-was_some : {A B : Type 0} (g : A → B) (r : Option A) (x : B) → option_map g r ≡ Some x → (o : A) × (r ≡ Some o) × (g o ≡ x)
-was_some g None x h = absurd (cc)
-was_some g (Some o) x h = (o, refl, cc)
-
--- in a context that is there the names lead to what is found
-pub lead_there : (m : BTreeMap ℕ Object) (names : BTreeMap NameKey ℕ) (next context : ℕ) (id : Id) → IsIndexed m names next → is_some (object_in (values m) context) ≡ true →
-    get name_cmp names (key context id) ≡ option_map number_of (found_in (values m) context id)
-lead_there m names next context id h there = h.named.lead context id (open_there next (values m) context there)
 
 -- what is found by name is found by its number
 pub found_object : (m : BTreeMap ℕ Object) (names : BTreeMap NameKey ℕ) (next ceiling context : ℕ) (id : Id) (n : ObjNum) → IsIndexed m names next →
@@ -69,9 +57,6 @@ pub values_added : (m n : BTreeMap ℕ Object) (names : BTreeMap NameKey ℕ) (n
     n.entries ≡ insert_entry nat_cmp m.entries (number_of o) o → values n ≡ values m ++ o ∷ []
 values_added m n names next o h high e = rw (e, insert_last next (number_of o) o m.entries h.numbered high) (values_last (number_of o) o m.entries)
 
-same_back : (a b : ℕ) → (a == b) ≡ true → a ≡ b
-same_back a b h = grind (arith, nat_tests)
-
 -- the context of a new object was given, or is the object
 pub near : (m : BTreeMap ℕ Object) (names : BTreeMap NameKey ℕ) (next ceiling : ℕ) (o : Object) → IsIndexed m names next → next ≤ number_of o →
     is_place_of (record { objects = values m; next = next; ceiling = ceiling }) o ≡ true → o.context.0 ≤ number_of o
@@ -79,9 +64,9 @@ near m names next ceiling o h high placed =
     by_cases (o.context.0 == 0) (is_some (object_in (values m) o.context.0)) (o.context.0 == number_of o) refl refl refl placed
   where
     by_cases : (a b c : Bool) → (o.context.0 == 0) ≡ a → is_some (object_in (values m) o.context.0) ≡ b → (o.context.0 == number_of o) ≡ c → ((a || b) || c) ≡ true → o.context.0 ≤ number_of o
-    by_cases true b c p q r all = omega (arith, same_back o.context.0 0 p)
+    by_cases true b c p q r all = omega (arith, nat_same o.context.0 0 p)
     by_cases false true c p q r all = omega (arith, given_there next o.context.0 m.entries h.numbered q)
-    by_cases false false true p q r all = omega (arith, same_back o.context.0 (number_of o) r)
+    by_cases false false true p q r all = omega (arith, nat_same o.context.0 (number_of o) r)
     by_cases false false false p q r all = absurd (cc)
 
 nowhere : (id : Id) (os : List Object) → found_in os 0 id ≡ None
@@ -97,9 +82,9 @@ fresh m names next ceiling o h high placed unnamed =
   where
     by_cases : (a b c : Bool) → (o.context.0 == 0) ≡ a → is_some (object_in (values m) o.context.0) ≡ b → (o.context.0 == number_of o) ≡ c → ((a || b) || c) ≡ true → cond b (found_in (values m) o.context.0 o.id) None ≡ None →
         found_in (values m) o.context.0 o.id ≡ None
-    by_cases true b c p q r all none = subst (λ (k : ℕ). found_in (values m) k o.id ≡ None) (sym (same_back o.context.0 0 p)) (nowhere o.id (values m))
+    by_cases true b c p q r all none = subst (λ (k : ℕ). found_in (values m) k o.id ≡ None) (sym (nat_same o.context.0 0 p)) (nowhere o.id (values m))
     by_cases false true c p q r all none = none
-    by_cases false false true p q r all none = none_ahead next o.context.0 o.id m.entries h.numbered (omega (arith, same_back o.context.0 (number_of o) r, high))
+    by_cases false false true p q r all none = none_ahead next o.context.0 o.id m.entries h.numbered (omega (arith, nat_same o.context.0 (number_of o) r, high))
     by_cases false false false p q r all none = absurd (cc)
 
 pub indexed_added : (m n : BTreeMap ℕ Object) (names more : BTreeMap NameKey ℕ) (next : ℕ) (o : Object) → IsIndexed m names next → next ≤ number_of o → o.context.0 ≤ number_of o →
@@ -221,7 +206,3 @@ lawful m names next ceiling h = record {
   given = all_given next m.entries h.numbered;
   apart = apart_fewer (is_open next (values m)) (λ k. is_some (object_in (values m) k)) (values m) (λ k there. open_there next (values m) k there) h.apart;
 }
-
-pub from_ok : {T E P : Type 0} (r : Result T E) → is_err r ≡ false → OnOk r P → P
-from_ok (Ok x) h p = p
-from_ok (Err e) h p = absurd (cc)

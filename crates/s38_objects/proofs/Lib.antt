@@ -3,3 +3,4 @@ pub mod NumberLaws
 pub mod NameLaws
 pub mod IndexLaws
 pub mod PlaceLaws
+pub mod ObjectLaws

@@ -19,6 +19,7 @@ use Rattle.s38_objects.specs.Changes.{KeepsName}
 use Rattle.s38_objects.specs.declared.name_key.NameKey.{NameKey}
 use Rattle.s38_objects.specs.Lawful.{AreApart, number_of}
 use Rattle.s38_objects.specs.NameOrder.{is_found_by, key, name_cmp}
+use Rattle.s38_objects.proofs.NumberLaws.{nat_same}
 
 -- ---- keys and names
 
@@ -52,9 +53,6 @@ and_left false b h = h
 and_right : (a b : Bool) → (a && b) ≡ true → b ≡ true
 and_right true b h = h
 and_right false b h = absurd (cc)
-
-pub nat_same : (a b : ℕ) → (a == b) ≡ true → a ≡ b
-nat_same a b h = grind (arith, nat_tests)
 
 texts_same : (xs ys : List ℕ) → pointwise nat_eq xs ys ≡ true → xs ≡ ys
 texts_same [] [] h = refl

@@ -20,7 +20,7 @@ use Rattle.s38_objects.specs.Indexed.{AreNumbered, is_open}
 
 -- ---- what stands at a number
 
-nat_same : (a b : ℕ) → (a == b) ≡ true → a ≡ b
+pub nat_same : (a b : ℕ) → (a == b) ≡ true → a ≡ b
 nat_same a b h = grind (arith, nat_tests)
 
 some_same : (x y : Object) → Some x ≡ Some y → y ≡ x

@@ -1,5 +1,5 @@
 -- An object that gets another name: what the names lead to then.
-use Rattle.std.proofs.Common.{◌≡◌, ℕ, ◌+◌, ◌<◌, ◌==◌, Bool, true, false, cond, not, List, [], ◌∷◌, refl, sym, ◌∙◌, ap, subst, arith}
+use Rattle.std.proofs.Common.{◌≡◌, ℕ, ◌<◌, Bool, true, false, cond, not, List, [], ◌∷◌, refl, sym, ◌∙◌, ap, subst, arith}
 use Rattle.std.proofs.lemmas.Bool.Decides.{nat_tests}
 use Rattle.std.proofs.lemmas.Map.Keys.{sorted_head, sorted_tail}
 use Rattle.std.specs.Prelude.{Option, Some, None, ◌||◌, is_some, nat_le}
@@ -19,8 +19,8 @@ use Rattle.s38_objects.specs.Changes.{changed_at, placed}
 use Rattle.s38_objects.specs.Lawful.{AreApart, number_of}
 use Rattle.s38_objects.specs.Indexed.{AreNames, AreNumbered, IsIndexed, is_open}
 use Rattle.s38_objects.specs.NameOrder.{is_found_by, key, name_cmp}
-use Rattle.s38_objects.proofs.NameLaws.{apart_fewer, found_like, in_that_context, named_like, named_other_way, nat_same, no_number, none_first, none_rest}
-use Rattle.s38_objects.proofs.NumberLaws.{found_above, keys_changed, lookup_object, numbered_changed, open_changed, values_changed}
+use Rattle.s38_objects.proofs.NameLaws.{apart_fewer, found_like, in_that_context, named_like, named_other_way, no_number, none_first, none_rest}
+use Rattle.s38_objects.proofs.NumberLaws.{found_above, keys_changed, lookup_object, nat_same, numbered_changed, open_changed, values_changed}
 
 -- ---- the map from names to numbers
 
@@ -113,11 +113,11 @@ names_placed contexts n c id o (x ∷ os) context b apart there free found =
       | false ↦ λ q e. elim (is_named context b x) as (λ t. is_named context b x ≡ t →
           option_map number_of (cond t (Some x) (found_in (change_in os n (placed c id)) context b))
           ≡ cond (is_found_by c.0 id context b) (Some n) (cond (is_named context b o) None (option_map number_of (cond t (Some x) (found_in os context b))))) [
-        | true ↦ λ named. let off : is_found_by c.0 id context b ≡ false = not_given contexts n c id x context b (found_in os c.0 id) there free q named in
-            let beside : is_named context b o ≡ false = named_like x o context b named ∙ not_named_in n x.context.0 x.id o os e (apart.0 (rw (in_that_context x context b named) there)) in
-            rw (off, beside) refl
-        | false ↦ λ named. names_placed contexts n c id o os context b apart.1 there (λ t. free_rest n x (is_named c.0 id x) (found_in os c.0 id) q (free t)) e
-      ] refl
+            | true ↦ λ named. let off : is_found_by c.0 id context b ≡ false = not_given contexts n c id x context b (found_in os c.0 id) there free q named in
+                let beside : is_named context b o ≡ false = named_like x o context b named ∙ not_named_in n x.context.0 x.id o os e (apart.0 (rw (in_that_context x context b named) there)) in
+                rw (off, beside) refl
+            | false ↦ λ named. names_placed contexts n c id o os context b apart.1 there (λ t. free_rest n x (is_named c.0 id x) (found_in os c.0 id) q (free t)) e
+          ] refl
     ] refl found
 
 none_left : (b : Bool) (r : Option ℕ) → r ≡ None → cond b None r ≡ None
@@ -145,9 +145,9 @@ apart_placed contexts next n c id o (e ∷ es) h sorted apart free found =
     elim (has_number n x) as (λ t. has_number n x ≡ t → cond t (Some x) (object_in os n) ≡ Some o → AreApart contexts (cond t (placed c id x ∷ os) (x ∷ change_in os n (placed c id)))) [
       | true ↦ λ q r. ((λ there. alone q there), apart.1)
       | false ↦ λ q r. (
-          (λ there. no_number _ (names_placed contexts n c id o os x.context.0 x.id apart.1 there (λ t. free_rest n x (is_named c.0 id x) (found_in os c.0 id) q (free t)) r ∙ nothing_else q there)),
-          apart_placed contexts next n c id o es h.3 (sorted_tail nat_cmp e.0 (keys_of es) sorted) apart.1 (λ t. free_rest n x (is_named c.0 id x) (found_in os c.0 id) q (free t)) r,
-        )
+        (λ there. no_number _ (names_placed contexts n c id o os x.context.0 x.id apart.1 there (λ t. free_rest n x (is_named c.0 id x) (found_in os c.0 id) q (free t)) r ∙ nothing_else q there)),
+        apart_placed contexts next n c id o es h.3 (sorted_tail nat_cmp e.0 (keys_of es) sorted) apart.1 (λ t. free_rest n x (is_named c.0 id x) (found_in os c.0 id) q (free t)) r,
+      )
     ] refl found
   where
     alone : has_number n e.1 ≡ true → contexts c.0 ≡ true → found_in (values_of es) c.0 id ≡ None
@@ -157,13 +157,16 @@ apart_placed contexts next n c id o (e ∷ es) h sorted apart free found =
           | false ↦ λ named r. only_this n (found_in (values_of es) c.0 id)
               (λ y f. apart_number e.0 n (sym h.0 ∙ nat_same (number_of e.1) n q) y (found_above next e.0 (is_named c.0 id) y es h.3 (sorted_head nat_cmp e.0 (keys_of es) sorted) f)) r
         ] refl (free there)
+
     named_self : is_found_by c.0 id e.1.context.0 e.1.id ≡ true → is_named c.0 id e.1 ≡ true
     named_self q = named_other_way (placed c id e.1) e.1 q
+
     unnamed : (b : Bool) → is_found_by c.0 id e.1.context.0 e.1.id ≡ b → has_number n e.1 ≡ false → contexts e.1.context.0 ≡ true → b ≡ false
     unnamed true f q there =
         let open_there : contexts c.0 ≡ true = rw (in_that_context (placed c id e.1) e.1.context.0 e.1.id f) there in
         absurd (never_both (is_named c.0 id e.1) (named_self f) (not_free n e.1 (is_named c.0 id e.1) (found_in (values_of es) c.0 id) q (free open_there)))
     unnamed false f q there = refl
+
     nothing_else : has_number n e.1 ≡ false → contexts e.1.context.0 ≡ true →
         cond (is_found_by c.0 id e.1.context.0 e.1.id) (Some n) (cond (is_named e.1.context.0 e.1.id o) None (option_map number_of (found_in (values_of es) e.1.context.0 e.1.id))) ≡ None
     nothing_else q there = rw (unnamed _ refl q there) (none_left (is_named e.1.context.0 e.1.id o) (option_map number_of (found_in (values_of es) e.1.context.0 e.1.id)) (ap (option_map number_of) (apart.0 there)))

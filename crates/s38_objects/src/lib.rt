@@ -3,6 +3,7 @@
 
 mod body;
 mod kept;
+mod listing;
 mod name_key;
 mod names;
 mod numbered;

@@ -55,7 +55,7 @@ pub fn change(
 ) -> Result<(), NoMemory>
     ensures ok { OnOk result ((there : ℕ) (b : Id) → get name_cmp names.new (key there b)
         ≡ (if is_found_by context.0 id.now there b then Some object.now.number.0
-            else (if is_named there b object.now then None else get name_cmp names.old (key there b)))) }
+        else (if is_named there b object.now then None else get name_cmp names.old (key there b)))) }
     ensures err { OnErr result (IsUnchanged names.old names.new) }
 {
     match enter(names, context, id, object.number) {

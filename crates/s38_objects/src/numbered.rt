@@ -1,7 +1,14 @@
-ghost use Rattle.std.specs.Prelude.{◌≡◌, IfErr, OnOk, OnErr};
+ghost use Rattle.std.specs.Prelude.{◌≡◌, ◌≢◌, ◌==◌, ◌&&◌, ℕ, IfErr, OnOk, OnErr, is_some, if◌then◌else◌};
+ghost use Rattle.std.specs.Option.{option_map};
 ghost use Rattle.std.specs.Ordering.{nat_cmp};
-ghost use Rattle.std.specs.BTreeMap.{IsOrdered, insert_entry};
+ghost use Rattle.std.specs.BTreeMap.{IsOrdered, get, insert_entry};
+ghost use Rattle.s38_rules.specs.Headers.{row_in};
+ghost use Rattle.s38_rules.specs.Parts.{over_object, profile_part};
+ghost use Rattle.s38_rules.specs.Standing.{granted, open_to_all, owned_by};
+ghost use Rattle.s38_objects.specs.Changes.{changed_at, placed, restood};
 
+use crate::body;
+use s38_base::{Id, NoMemory, ObjNum, Rights, Special, UserNum};
 use s38_rules::Object;
 use std::alloc::AllocFailed;
 use std::collections::BTreeMap;
@@ -18,5 +25,61 @@ pub fn add(objects: &mut BTreeMap<u64, Object>, object: Object) -> Result<(), Al
         Err(refused) => Err(AllocFailed {
             value: refused.value.1,
         }),
+    }
+}
+
+/// The object of a number in another context, and with another identification.
+pub fn place(objects: &mut BTreeMap<u64, Object>, number: u64, context: ObjNum, id: Id)
+    ensures { objects.new.entries ≡ changed_at objects.old.entries number (placed context id) }
+{
+    if let Some(object) = objects.get_mut(&number) {
+        object.context = context;
+        object.id = id;
+    }
+}
+
+/// Another owner of the object of a number.
+pub fn set_owner(objects: &mut BTreeMap<u64, Object>, number: u64, user: UserNum)
+    ensures { objects.new.entries ≡ changed_at objects.old.entries number (restood (owned_by user)) }
+{
+    if let Some(object) = objects.get_mut(&number) {
+        object.owner = user;
+    }
+}
+
+/// Other rights of everybody on the object of a number.
+pub fn set_public(objects: &mut BTreeMap<u64, Object>, number: u64, rights: Rights)
+    ensures { objects.new.entries ≡ changed_at objects.old.entries number (restood (open_to_all rights)) }
+{
+    if let Some(object) = objects.get_mut(&number) {
+        object.public = rights;
+    }
+}
+
+/// Other special authorities of the user of a number, and another limit.
+pub fn set_profile(objects: &mut BTreeMap<u64, Object>, number: u64, special: Special, limit: u32)
+    ensures { objects.new.entries ≡ changed_at objects.old.entries number (over_object profile_part (λ _. (special, limit))) }
+{
+    if let Some(object) = objects.get_mut(&number) {
+        body::set_profile(&mut object.body, special, limit);
+    }
+}
+
+/// The rights of a user by a private row on the object of a number.
+pub fn set_row(
+    objects: &mut BTreeMap<u64, Object>,
+    number: u64,
+    user: UserNum,
+    rights: Rights,
+) -> Result<(), NoMemory>
+    ensures ok { OnOk result (objects.new.entries ≡ changed_at objects.old.entries number (restood (granted user rights))) }
+    ensures rows { OnOk result ((u : ℕ) → row_in (option_map (restood (granted user rights)) (get nat_cmp objects.old number)) u
+        ≡ (if is_some (get nat_cmp objects.old number) && (user.0 == u) then rights.0 else row_in (get nat_cmp objects.old number) u)) }
+    ensures added { OnErr result ((row_in (get nat_cmp objects.old number) user.0 ≡ 0) × (rights.0 ≢ 0)) }
+    ensures err { OnErr result (objects.new.entries ≡ objects.old.entries) }
+{
+    match objects.get_mut(&number) {
+        None => Ok(()),
+        Some(object) => object.rows.set(user, rights),
     }
 }

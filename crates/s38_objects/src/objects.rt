@@ -1,12 +1,12 @@
-ghost use Rattle.std.specs.Prelude.{◌≡◌, ◌≢◌, ◌≤◌, ◌<◌, ◌^◌, ◌==◌, ◌&&◌, ◌↔◌, ℕ, length, None, IfOk, IfErr, IsTrue, OnOk, OnErr, false, true, if◌then◌else◌};
+ghost use Rattle.std.specs.Prelude.{◌≡◌, ◌≢◌, [], ◌≤◌, ◌<◌, ◌^◌, ◌==◌, ◌&&◌, ◌↔◌, ℕ, length, None, IfOk, IfErr, IsTrue, OnOk, OnErr, false, true, if◌then◌else◌};
 ghost use Rattle.std.specs.Borrow.{sem};
 ghost use Rattle.std.specs.Option.{option_copied, option_copied_mut};
 ghost use Rattle.s38_memory.specs.contracts.tagged.Tagged.{the_row as tagged_row};
 ghost use Rattle.s38_queues.specs.contracts.queue.Queue.{the_row as queue_row};
-ghost use Rattle.s38_rules.specs.Contexts.{is_name_beside};
+ghost use Rattle.s38_rules.specs.Contexts.{entered, is_name_beside};
 ghost use Rattle.s38_rules.specs.Creation.{is_taken_beside};
 ghost use Rattle.s38_rules.specs.Headers.{row_in};
-ghost use Rattle.s38_rules.specs.Held.{change, context_in, found, is_there, moved, nothing, number_found, object, renamed, with_added, without};
+ghost use Rattle.s38_rules.specs.Held.{change, contents, context_in, found, is_there, moved, nothing, number_found, object, renamed, with_added, without};
 ghost use Rattle.s38_rules.specs.Parts.{part_at, queue_part, set_profile, space_part};
 ghost use Rattle.s38_rules.specs.Standing.{granted, open_to_all, owned_by, restand};
 ghost use Rattle.s38_objects.specs.Changes.{placed};
@@ -14,11 +14,11 @@ ghost use Rattle.s38_objects.specs.Lawful.{IsLawful, is_place, is_place_of};
 ghost use Rattle.s38_objects.specs.Lending.{LendsHeld};
 
 use crate::name_key::{NameKey, key};
-use crate::{body, names, numbered};
+use crate::{listing, names, numbered};
 use s38_base::{Id, NoMemory, ObjNum, Rights, Special, UserNum};
 use s38_memory::Tagged;
 use s38_queues::Queue;
-use s38_rules::{BodyPart, Object};
+use s38_rules::{BodyPart, Listed, Object};
 use std::alloc::{AllocFailed, Global};
 use std::collections::BTreeMap;
 use std::collections::btree_map::Values;
@@ -136,6 +136,21 @@ impl Objects {
         }
     }
 
+    /// The objects in a context under their identifications, in the order of kind, subtype and name; none in a context
+    /// that is gone. `NoMemory` where memory was refused.
+    pub fn names(
+        &self,
+        alloc: Global,
+        context: ObjNum,
+    ) -> Result<BTreeMap<Listed, ObjNum>, NoMemory>
+        ensures { IfOk result (λ names. names.entries ≡ entered [] (contents self.now context.0)) }
+    {
+        if !self.is_there(context) {
+            return Ok(BTreeMap::new(alloc));
+        }
+        listing::names(alloc, &self.by_number, context)
+    }
+
     /// Adds an object behind the others. Its number was never given, its context is there, or itself, or none, and no
     /// object in its context has its identification. Where memory was refused the object comes back and nothing
     /// changed.
@@ -241,17 +256,15 @@ impl Objects {
         ensures ok { OnOk result (self.new ≡ change self.old number.0 (placed context id.now)) }
         ensures err { OnErr result (self.new ≡ self.old) }
     {
-        match self.by_number.get_mut(&number.0) {
-            None => Ok(()),
+        match self.by_number.get(&number.0) {
+            None => return Ok(()),
             Some(object) => match names::change(&mut self.by_name, object, context, id) {
-                Err(e) => Err(e),
-                Ok(()) => {
-                    object.context = context;
-                    object.id = *id;
-                    Ok(())
-                }
+                Ok(()) => {}
+                Err(e) => return Err(e),
             },
         }
+        numbered::place(&mut self.by_number, number.0, context, *id);
+        Ok(())
     }
 
     /// The object of a number has another identification from now on, that no other object in its context has.
@@ -296,28 +309,21 @@ impl Objects {
         ensures added { OnErr result ((row_in (object self.old number.0) user.0 ≡ 0) × (rights.0 ≢ 0)) }
         ensures err { OnErr result (self.new ≡ self.old) }
     {
-        match self.by_number.get_mut(&number.0) {
-            None => Ok(()),
-            Some(object) => object.rows.set(user, rights),
-        }
+        numbered::set_row(&mut self.by_number, number.0, user, rights)
     }
 
     /// The object of a number belongs to a user from now on.
     pub fn set_owner(&mut self, number: ObjNum, user: UserNum)
         ensures { self.new ≡ restand self.old number.0 (owned_by user) }
     {
-        if let Some(object) = self.by_number.get_mut(&number.0) {
-            object.owner = user;
-        }
+        numbered::set_owner(&mut self.by_number, number.0, user);
     }
 
     /// Everybody has these rights on the object of a number from now on.
     pub fn set_public(&mut self, number: ObjNum, rights: Rights)
         ensures { self.new ≡ restand self.old number.0 (open_to_all rights) }
     {
-        if let Some(object) = self.by_number.get_mut(&number.0) {
-            object.public = rights;
-        }
+        numbered::set_public(&mut self.by_number, number.0, rights);
     }
 
     /// The user of a number has these special authorities and this limit from now on. Nothing changes where there is
@@ -325,9 +331,7 @@ impl Objects {
     pub fn set_profile(&mut self, number: ObjNum, special: Special, limit: u32)
         ensures { self.new ≡ set_profile self.old number.0 special limit }
     {
-        if let Some(object) = self.by_number.get_mut(&number.0) {
-            body::set_profile(&mut object.body, special, limit);
-        }
+        numbered::set_profile(&mut self.by_number, number.0, special, limit);
     }
 
     /// Raises the next number, and sets the ceiling.

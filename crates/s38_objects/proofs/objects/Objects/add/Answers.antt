@@ -1,10 +1,10 @@
-use Rattle.std.proofs.Common.{◌∙◌, ◌≡◌, ◌≤◌, ◌+◌, List, true, sym, ap, subst}
+use Rattle.std.proofs.Common.{◌≡◌, ◌≤◌, ◌+◌, List, true, sym, ap, subst}
 use Rattle.std.specs.Prelude.{None}
-use Rattle.std.specs.BTreeMap.{values}
 use Rattle.s38_rules.specs.declared.object.Object.{Object}
-use Rattle.s38_rules.specs.Held.{Held, found, found_in}
+use Rattle.s38_rules.specs.Held.{Held, found}
 use Rattle.s38_objects.specs.Lawful.{is_place_of}
-use Rattle.s38_objects.proofs.IndexLaws.{fresh, from_ok, indexed_added, indexed_refused, near, values_added}
+use Rattle.s38_objects.proofs.IndexLaws.{fresh, indexed_added, indexed_refused, near, values_added}
+use Rattle.s38_objects.proofs.ObjectLaws.{from_ok}
 use Rattle.s38_objects.proofs.objects.Objects.add.Goals as goal
 
 pub invariant_of-self-in-Err : goal.invariant_of-self-in-Err
