@@ -1,3 +1,4 @@
 pub mod CreationLaws
 pub mod KeptLaws
+pub mod LimitLaws
 pub mod RowLaws

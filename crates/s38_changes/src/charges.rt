@@ -1,25 +1,20 @@
 //! What users pay for, against what their profiles allow.
-ghost use Rattle.std.specs.Prelude.{◌≡◌, ◌+◌, ◌≤◌, nat_lt};
+ghost use Rattle.std.specs.Prelude.{◌≡◌, ◌+◌, ◌-◌, ◌≤◌, nat_lt};
 ghost use Rattle.std.specs.Option.{option_copied};
+ghost use Rattle.s38_rules.specs.Authority.{counted};
 ghost use Rattle.s38_rules.specs.Creation.{pages_rule};
-ghost use Rattle.s38_rules.specs.Held.{charge_beside, charge_in, charge_with, object, pages_of};
+ghost use Rattle.s38_rules.specs.Grants.{taker_rule};
+ghost use Rattle.s38_rules.specs.Held.{charge_in, object as object_at, pages_of};
+ghost use Rattle.s38_rules.specs.Profiles.{is_owner};
+ghost use Rattle.s38_rules.specs.Spaces.{owner_pays};
+ghost use Rattle.s38_rules.proofs.ChargeLaws.{AreRising};
 
 use s38_base::exceptions::PAGES_EXCEEDED;
 use s38_base::{Exception, ObjNum, UserNum};
 use s38_invoke::World;
-use s38_objects::Objects;
+use s38_objects::{Objects, pages};
 use s38_operands::fails;
-use s38_rules::Body;
-
-/// The pages that an object with this body takes.
-pub fn pages_of(body: &Body) -> u64
-    ensures { result ≡ pages_of body.now }
-{
-    match body {
-        Body::Space(cells) => 1 + (cells.len() as u64 + 511) / 512,
-        _ => 1,
-    }
-}
+use s38_rules::Object;
 
 /// Whether a limit is less than so many pages and so many more.
 fn passes(limit: u32, pages: u64, more: u64) -> bool
@@ -30,7 +25,7 @@ fn passes(limit: u32, pages: u64, more: u64) -> bool
 }
 
 /// A user would own more pages than its profile allows: those that it pays for, and so many more.
-#[tactic(auto, using(crate::proofs::LimitLaws::pays_by))]
+#[tactic(auto, using(crate::proofs::LimitLaws::more_allowed))]
 pub fn pays_more(
     world: &World<Objects>,
     user: UserNum,
@@ -47,20 +42,31 @@ pub fn pays_more(
     )
 }
 
-/// What the owner of an object pays for beside it.
-fn paid_beside(world: &World<Objects>, object: &Object) -> u64 {
+/// What the owner of an object pays for beside it; nothing of one that is not there.
+fn paid_beside(world: &World<Objects>, object: &Object) -> u64
+    ensures { result ≡ counted (object_at world.now.held object.now.owner.0) (charge_in world.now.held.objects object.now.owner.0) - pages_of object.now.body }
+{
     world
         .charge(object.owner)
-        .saturating_sub(pages_of(&object.body))
+        .saturating_sub(pages(&object.body))
+}
+
+/// The object of a number, among others that are told apart by their numbers.
+fn found(objects: &Objects, number: ObjNum) -> Option<&Object>
+    ensures found { option_copied result ≡ object_at objects.now number.0 }
+    ensures rising { AreRising objects.now.objects }
+{
+    let _count = objects.len();
+    objects.get(number)
 }
 
 /// The owner of an object may pay for so many pages of it.
-#[tactic(auto, unfolding(s38_rules::specs::Spaces::owner_pays))]
+#[tactic(auto, using(crate::proofs::LimitLaws::owner_allowed), unfolding(s38_rules::specs::Spaces::owner_pays))]
 pub fn owner_pays(world: &World<Objects>, number: ObjNum, pages: u64) -> Option<Exception>
     requires { 1 ≤ pages }
     ensures { result ≡ owner_pays world.now.held number.0 pages }
 {
-    match world.objects.get(number) {
+    match found(&world.objects, number) {
         None => pays_more(world, ObjNum(0), pages, 0),
         Some(object) => {
             let others = paid_beside(world, object);
@@ -71,30 +77,29 @@ pub fn owner_pays(world: &World<Objects>, number: ObjNum, pages: u64) -> Option<
 }
 
 /// A user may own the pages of the object of a number beside its others.
+#[tactic(auto, using(crate::proofs::LimitLaws::own_allowed, crate::proofs::LimitLaws::taker_allowed))]
 pub fn taker_rule(world: &World<Objects>, number: ObjNum, user: UserNum) -> Option<Exception>
-    ensures { result ≡ taker_rule world.now.held number.0 user.0 (object world.now.held number.0) }
+    ensures { result ≡ taker_rule world.now.held number.0 user.0 (object_at world.now.held number.0) }
 {
-    match world.objects.get(number) {
+    match found(&world.objects, number) {
         None => None,
         Some(object) => {
-            let others = if object.owner.0 == user.0 {
-                paid_beside(world, object)
-            } else {
-                world.charge(user)
-            };
             let limit = world.page_limit(user);
-            fails(
-                passes(limit, others, pages_of(&object.body)),
-                PAGES_EXCEEDED,
-                2,
-            )
+            let more = pages(&object.body);
+            let over = if object.owner.0 == user.0 {
+                passes(limit, paid_beside(world, object), more)
+            } else {
+                passes(limit, world.charge(user), more)
+            };
+            fails(over, PAGES_EXCEEDED, 2)
         }
     }
 }
 
-/// Whether a user owns an object, or pays for one: the same.
-pub fn owns_any(world: &World<Objects>, user: UserNum) -> bool
-    ensures { result ≡ list_any (owns user.0) world.now.held.objects }
+/// Whether a user owns an object: then it pays for one.
+#[tactic(auto, using(crate::proofs::LimitLaws::owner_charged))]
+pub fn is_owner(world: &World<Objects>, user: UserNum) -> bool
+    ensures { result ≡ is_owner world.now.held user.0 }
 {
     world.charge(user) != 0
 }

@@ -6,16 +6,16 @@ ghost use Rattle.s38_base.specs.declared.exception.Exception.{Exception};
 ghost use Rattle.s38_rules.specs.Creation.{creation_changes, creation_fails, creation_gives, creation_limits, creation_needs, in_context, is_taken, limit_in, maker_rows, name_rule, new_object, new_pointer, number_rule, of_kind, pages_rule};
 ghost use Rattle.s38_rules.specs.Held.{ceiling_for, found, object, with_object};
 
-use crate::failures::fails;
-use crate::needs::{Needs, on_object};
-use crate::operands::{id_at, is_given, rights_at};
-use crate::reads::target;
-use s38_base::exceptions::{DUPLICATE_IDENTIFICATION, LIMIT_EXCEEDED, PAGES_EXCEEDED};
-use s38_base::limits::{CEILING_STEP, LAST_NUMBER, MOST_OBJECTS};
-use s38_base::{Category, Exception, Id, Kind, NoMemory, ObjNum, Pointer, Rights, Seq, UserNum};
+use crate::charges::pays_more;
+use crate::users::{prepare, take_back};
+use s38_base::exceptions::{DUPLICATE_IDENTIFICATION, LIMIT_EXCEEDED};
+use s38_base::limits::{CEILING_STEP, LAST_NUMBER, MACHINE_CONTEXT, MOST_OBJECTS};
+use s38_base::{Category, Exception, Id, Kind, NoMemory, ObjNum, Pointer, Rights, UserNum};
 use s38_code::{Operand, Val};
-use s38_objects::Objects;
-use s38_rules::{Body, Creating, Header, Object, PrivateRow, RowList, Sought, Table};
+use s38_invoke::World;
+use s38_objects::{Objects, pages, pay_more};
+use s38_operands::{Needs, fails, id_at, is_given, on_implied, on_object, rights_at, target};
+use s38_rules::{Body, Creating, Object, RowList, Sought};
 use std::alloc::Global;
 
 /// A context that is there, or none: what is put into one that is not there is in no context.
@@ -146,7 +146,7 @@ fn creation_limits(world: &World<Objects>, owner: UserNum, pages: u64) -> Option
     requires { 1 ≤ pages }
     ensures { result ≡ creation_limits world.now.held owner.0 pages }
 {
-    if let Some(failure) = pays_more(world, owner, pages) {
+    if let Some(failure) = pays_more(world, owner, pages, 0) {
         return Some(failure);
     }
     number_rule(&world.objects)
@@ -232,9 +232,11 @@ fn ceiling_for(ceiling: u64, number: u64) -> u64
     }
 }
 
+/// A new object stands behind the others; where memory is refused nothing changes.
 fn enter(objects: &mut Objects, object: Object) -> Result<(), NoMemory>
     requires number { object.number.0 ≡ objects.old.next }
     requires small { objects.old.next ≤ 2 ^ 62 }
+    requires placed { is_place_of objects.old object ≡ true }
     requires unnamed { found objects.old object.context.0 object.id ≡ None }
     ensures ok { OnOk result (objects.new ≡ with_object objects.old object) }
     ensures err { OnErr result (objects.new ≡ objects.old) }
@@ -250,40 +252,58 @@ fn enter(objects: &mut Objects, object: Object) -> Result<(), NoMemory>
     }
 }
 
-#[tactic(auto, unfolding(s38_rules::specs::Creation::creation_changes))]
-fn create(
-    alloc: Global,
-    objects: &mut Objects,
-    owner: UserNum,
-    made: &Creating,
-    body: Body,
-) -> Result<(), NoMemory>
-    requires small { objects.old.next ≤ 2 ^ 62 }
-    requires free { is_taken objects.old made.now.context.0 made.now.id ≡ false }
-    ensures ok { OnOk result (objects.new ≡ creation_changes objects.old owner.0 made.now body) }
-    ensures err { OnErr result (objects.new ≡ objects.old) }
+/// A new object stands behind the others, and its owner pays for it and has all rights by a row. Where memory is
+/// refused nothing changes.
+#[tactic(auto, using(crate::proofs::KeptLaws::added_kept, crate::proofs::KeptLaws::unprepared_kept))]
+fn add(world: &mut World<Objects>, object: Object) -> Result<(), NoMemory>
+    requires number { object.number.0 ≡ world.old.held.next }
+    requires small { world.old.held.next ≤ 2 ^ 62 }
+    requires placed { is_place_of world.old.held object ≡ true }
+    requires unnamed { found world.old.held object.context.0 object.id ≡ None }
+    requires rows { object.rows ≡ maker_rows object.owner.0 }
+    requires paid { pages_rule world.old.held object.owner.0 (charge_in world.old.held.objects object.owner.0 + pages_of object.body) 0 ≡ None }
+    ensures ok { OnOk result (world.new ≡ record world.old { held = with_object world.old.held object }) }
+    ensures err { OnErr result (world.new ≡ world.old) }
 {
-    match made.id {
-        None => Ok(()),
-        Some(id) => match new_object(alloc, objects, owner, made, id, body) {
-            Ok(object) => enter(objects, object),
-            Err(fault) => Err(fault),
-        },
+    let number = object.number;
+    let owner = object.owner;
+    let charged = pages(&object.body);
+    match prepare(&mut world.profiles, number, owner, &object.body) {
+        Ok(()) => {}
+        Err(fault) => return Err(fault),
+    }
+    match enter(&mut world.objects, object) {
+        Ok(()) => {
+            pay_more(&mut world.profiles, owner, charged);
+            Ok(())
+        }
+        Err(fault) => {
+            take_back(&mut world.profiles, number, owner);
+            Err(fault)
+        }
     }
 }
 
 /// The owner has the new object, which no rule refuses; where memory is refused nothing changes.
-#[tactic(auto, using(crate::proofs::CreationLaws::number_left, crate::proofs::CreationLaws::name_free))]
+#[tactic(auto, using(crate::proofs::CreationLaws::number_left, crate::proofs::CreationLaws::name_free, crate::proofs::CreationLaws::paid_for), unfolding(s38_rules::specs::Creation::creation_changes))]
 pub fn creation_changes(
     alloc: Global,
-    objects: &mut Objects,
+    world: &mut World<Objects>,
     owner: UserNum,
     made: &Creating,
     body: Body,
 ) -> Result<(), NoMemory>
-    requires { (own : Option Exception) × (creation_fails objects.old owner.0 made.now own ≡ None) }
-    ensures ok { OnOk result (objects.new ≡ creation_changes objects.old owner.0 made.now body) }
-    ensures err { OnErr result (objects.new ≡ objects.old) }
+    requires fits { (own : Option Exception) × (creation_fails world.old.held owner.0 made.now own ≡ None) }
+    requires placed { is_place world.old.held made.now.context.0 ≡ true }
+    requires pages { made.now.pages ≡ pages_of body }
+    ensures ok { OnOk result (world.new ≡ record world.old { held = creation_changes world.old.held owner.0 made.now body }) }
+    ensures err { OnErr result (world.new ≡ world.old) }
 {
-    create(alloc, objects, owner, made, body)
+    match made.id {
+        None => Ok(()),
+        Some(id) => match new_object(alloc, &world.objects, owner, made, id, body) {
+            Ok(object) => add(world, object),
+            Err(fault) => Err(fault),
+        },
+    }
 }

@@ -9,10 +9,10 @@ mod spaces;
 mod standing;
 mod users;
 
-pub use charges::{owner_pays, owns_any, taker_rule};
+pub use charges::{is_owner, owner_pays, taker_rule};
 pub use creation::{
-    creation_changes, creation_fails, creation_gives, creation_needs, in_context, is_taken_beside,
-    machine_needs, of_machine,
+    creation_changes, creation_fails, creation_gives, creation_needs, home, in_context,
+    is_taken_beside, machine_needs, of_machine,
 };
 pub use destruction::{destruction_changes, destruction_needs};
 pub use spaces::{put_cells, put_value, resize};

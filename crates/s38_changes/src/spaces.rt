@@ -8,12 +8,13 @@ ghost use Rattle.s38_rules.specs.Operands.{put_value};
 ghost use Rattle.s38_rules.specs.Parts.{on_space};
 ghost use Rattle.s38_rules.specs.Spaces.{cells_put, is_space_length, owner_pays, pages_for_length};
 
-use crate::charges::pages_of;
+use crate::users::pay_otherwise;
 use s38_base::{NoMemory, ObjNum, Pointer};
 use s38_code::{Operand, Val};
 use s38_invoke::World;
 use s38_memory::Cell;
-use s38_objects::Objects;
+use s38_objects::{Objects, pages};
+use s38_rules::Body;
 use s38_operands::{copy_cells, resize_cells, set_cells, write_cells};
 
 fn write(objects: &mut Objects, number: ObjNum, at: u64, bytes: &[u8])
@@ -69,6 +70,13 @@ pub fn put_cells(world: &mut World<Objects>, receiver: Option<&Operand>, cells: 
     }
 }
 
+/// The pages of a space of so many bytes.
+fn pages_for_length(len: u32) -> u64
+    ensures { result ≡ pages_for_length len }
+{
+    1 + (16 * (u64::from(len) / 16) + 511) / 512
+}
+
 fn resize_in(objects: &mut Objects, number: ObjNum, len: u32) -> Result<(), NoMemory>
     requires whole { len % 16 ≡ 0 }
     requires some { 16 ≤ len }
@@ -84,6 +92,7 @@ fn resize_in(objects: &mut Objects, number: ObjNum, len: u32) -> Result<(), NoMe
 
 /// A space has this length, cut or lengthened by zero bytes, and its owner pays for it; where memory is refused
 /// nothing changes.
+#[tactic(auto, using(crate::proofs::KeptLaws::resized_kept))]
 pub fn resize(world: &mut World<Objects>, number: ObjNum, len: u32) -> Result<(), NoMemory>
     requires length { is_space_length world.old.limit len ≡ true }
     requires paid { owner_pays world.old.held number.0 (pages_for_length len) ≡ None }
@@ -94,15 +103,14 @@ pub fn resize(world: &mut World<Objects>, number: ObjNum, len: u32) -> Result<()
         return Ok(());
     };
     let owner = object.owner;
-    let before = pages_of(&object.body);
+    let before = pages(&object.body);
+    let Body::Space(_) = &object.body else {
+        return Ok(());
+    };
     match resize_in(&mut world.objects, number, len) {
         Ok(()) => {}
         Err(fault) => return Err(fault),
     }
-    let after = match world.objects.get(number) {
-        None => before,
-        Some(object) => pages_of(&object.body),
-    };
-    pay_otherwise(&mut world.profiles, owner, before, after);
+    pay_otherwise(&mut world.profiles, owner, before, pages_for_length(len));
     Ok(())
 }

@@ -1,16 +1,20 @@
 //! How objects stand, what they are called and where they are.
 ghost use Rattle.std.specs.Prelude.{◌≡◌, OnErr, OnOk, None, false};
+ghost use Rattle.s38_objects.specs.Lawful.{is_place};
+ghost use Rattle.s38_rules.specs.Contexts.{is_name_beside};
 ghost use Rattle.s38_rules.specs.Creation.{is_taken_beside};
 ghost use Rattle.s38_rules.specs.Grants.{taker_rule};
 ghost use Rattle.s38_rules.specs.Held.{context_in, moved, object, renamed};
 ghost use Rattle.s38_rules.specs.Parts.{set_profile};
 ghost use Rattle.s38_rules.specs.Standing.{granted, open_to_all, owned_by, restand};
 
+use crate::users::pay_less;
 use s38_base::{Id, NoMemory, ObjNum, Rights, Special, UserNum};
 use s38_invoke::World;
-use s38_objects::Objects;
+use s38_objects::{Objects, pages, pay_more};
 
 /// A user has these rights on an object by a row; where memory is refused nothing changes.
+#[tactic(auto, using(crate::proofs::KeptLaws::granted_kept))]
 pub fn set_row(
     world: &mut World<Objects>,
     number: ObjNum,
@@ -20,17 +24,34 @@ pub fn set_row(
     ensures ok { OnOk result (world.new ≡ record world.old { held = restand world.old.held number.0 (granted user rights) }) }
     ensures err { OnErr result (world.new ≡ world.old) }
 {
-    todo!()
+    let Some(object) = world.objects.get(number) else {
+        return Ok(());
+    };
+    let before = object.rows.rights_of(user);
+    match world.profiles.set_row(user, number, rights) {
+        Ok(()) => {}
+        Err(fault) => return Err(fault),
+    }
+    match world.objects.set_row(number, user, rights) {
+        Ok(()) => Ok(()),
+        Err(fault) => {
+            let _result = world.profiles.set_row(user, number, before);
+            Err(fault)
+        }
+    }
 }
 
 /// Everybody has these rights on an object.
+#[tactic(auto, using(crate::proofs::KeptLaws::public_kept))]
 pub fn set_public(world: &mut World<Objects>, number: ObjNum, rights: Rights)
     ensures { world.new ≡ record world.old { held = restand world.old.held number.0 (open_to_all rights) } }
 {
     world.objects.set_public(number, rights);
 }
 
-/// A user owns an object, and has all eight rights on it by a row; where memory is refused nothing changes.
+/// A user owns an object, pays for it, and has all eight rights on it by a row; where memory is refused nothing
+/// changes.
+#[tactic(auto, using(crate::proofs::KeptLaws::given_kept))]
 pub fn give_to(
     world: &mut World<Objects>,
     number: ObjNum,
@@ -40,10 +61,23 @@ pub fn give_to(
     ensures ok { OnOk result (world.new ≡ record world.old { held = restand world.old.held number.0 (λ s. owned_by user (granted user (record { 0 = 255 }) s)) }) }
     ensures err { OnErr result (world.new ≡ world.old) }
 {
-    todo!()
+    let Some(object) = world.objects.get(number) else {
+        return Ok(());
+    };
+    let owner = object.owner;
+    let moved = pages(&object.body);
+    match set_row(world, number, user, Rights(0xff)) {
+        Ok(()) => {}
+        Err(fault) => return Err(fault),
+    }
+    world.objects.set_owner(number, user);
+    pay_less(&mut world.profiles, owner, moved);
+    pay_more(&mut world.profiles, user, moved);
+    Ok(())
 }
 
 /// An object has another identification; where memory is refused nothing changes.
+#[tactic(auto, using(crate::proofs::KeptLaws::renamed_kept))]
 pub fn rename_to(world: &mut World<Objects>, number: ObjNum, id: &Id) -> Result<(), NoMemory>
     requires { is_taken_beside world.old.held number.0 (context_in (object world.old.held number.0)).0 id.now ≡ false }
     ensures ok { OnOk result (world.new ≡ record world.old { held = renamed world.old.held number.0 id.now }) }
@@ -52,9 +86,28 @@ pub fn rename_to(world: &mut World<Objects>, number: ObjNum, id: &Id) -> Result<
     world.objects.rename(number, *id)
 }
 
+/// An object is in another context, or in none; where memory is refused nothing changes.
+#[tactic(auto, using(crate::proofs::KeptLaws::moved_kept))]
+pub fn move_to(
+    world: &mut World<Objects>,
+    number: ObjNum,
+    context: ObjNum,
+) -> Result<(), NoMemory>
+    requires placed { is_place world.old.held context.0 ≡ true }
+    requires free { is_name_beside world.old.held number.0 context.0 (object world.old.held number.0) ≡ false }
+    ensures ok { OnOk result (world.new ≡ record world.old { held = moved world.old.held number.0 context }) }
+    ensures err { OnErr result (world.new ≡ world.old) }
+{
+    world.objects.move_to(number, context)
+}
+
 /// A user has these special authorities and this limit.
+#[tactic(auto, using(crate::proofs::KeptLaws::profile_kept))]
 pub fn set_profile(world: &mut World<Objects>, number: ObjNum, special: Special, limit: u32)
     ensures { world.new ≡ record world.old { held = set_profile world.old.held number.0 special limit } }
 {
-    todo!()
+    if world.profiles.has(number) {
+        let _result = world.profiles.enter(number, special, limit);
+        world.objects.set_profile(number, special, limit);
+    }
 }

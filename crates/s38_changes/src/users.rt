@@ -7,30 +7,10 @@ ghost use Rattle.s38_rules.specs.Keeping.{paid};
 ghost use Rattle.s38_rules.specs.Kept.{kept_row, profile_by};
 ghost use Rattle.s38_rules.specs.PrivateRows.{AreRows, row_of};
 
-use crate::charges::pages_of;
 use s38_base::{NoMemory, ObjNum, Rights, UserNum};
+use s38_objects::{enter, pages, pay};
 use s38_profiles::Profiles;
 use s38_rules::{Body, Object, PrivateRow};
-
-/// A user pays for so many pages; one that is not there pays for nothing.
-fn pay(profiles: &mut Profiles, user: UserNum, pages: u64)
-    ensures users { SetsUser profiles.old.users user.0 (paid pages (user_at profiles.old.users user.0)) profiles.new.users }
-    ensures rows { profiles.new.rows ≡ profiles.old.rows }
-{
-    if profiles.has(user) {
-        profiles.set_charge(user, pages);
-    }
-}
-
-/// A user pays for so many pages more.
-pub fn pay_more(profiles: &mut Profiles, user: UserNum, pages: u64)
-    requires { charge_in (user_at profiles.old.users user.0) + pages < 2 ^ 64 }
-    ensures users { SetsUser profiles.old.users user.0 (paid (charge_in (user_at profiles.old.users user.0) + pages) (user_at profiles.old.users user.0)) profiles.new.users }
-    ensures rows { profiles.new.rows ≡ profiles.old.rows }
-{
-    let charge = profiles.charge(user) + pages;
-    pay(profiles, user, charge);
-}
 
 /// A user pays for so many pages less.
 pub fn pay_less(profiles: &mut Profiles, user: UserNum, pages: u64)
@@ -41,18 +21,14 @@ pub fn pay_less(profiles: &mut Profiles, user: UserNum, pages: u64)
     pay(profiles, user, charge);
 }
 
-/// A new object that is a profile is a user, who pays for nothing. Where memory is refused nothing changes.
-#[tactic(auto, using(s38_rules::proofs::UserLaws::left_unset))]
-fn enter(profiles: &mut Profiles, number: ObjNum, body: &Body) -> Result<(), NoMemory>
-    requires { user_at profiles.old.users number.0 ≡ None }
-    ensures users { OnOk result (SetsUser profiles.old.users number.0 (profile_by body.now 0) profiles.new.users) }
+/// A user pays for so many pages in the place of others.
+pub fn pay_otherwise(profiles: &mut Profiles, user: UserNum, before: u64, after: u64)
+    requires { charge_in (user_at profiles.old.users user.0) - before + after < 2 ^ 64 }
+    ensures users { SetsUser profiles.old.users user.0 (paid (charge_in (user_at profiles.old.users user.0) - before + after) (user_at profiles.old.users user.0)) profiles.new.users }
     ensures rows { profiles.new.rows ≡ profiles.old.rows }
-    ensures err { OnErr result (profiles.new ≡ profiles.old) }
 {
-    match body {
-        Body::Profile { special, limit } => profiles.enter(number, *special, *limit),
-        _ => Ok(()),
-    }
+    let charge = profiles.charge(user).saturating_sub(before) + after;
+    pay(profiles, user, charge);
 }
 
 /// A row is out.
@@ -128,6 +104,6 @@ pub fn forget(profiles: &mut Profiles, object: &Object)
     ensures users { (user : ℕ) → user_at profiles.new.users user ≡ (if object.now.number.0 == user then None else if object.now.owner.0 == user then paid (charge_in (user_at profiles.old.users object.now.owner.0) - pages_of object.now.body) (user_at profiles.old.users object.now.owner.0) else user_at profiles.old.users user) }
 {
     take_rows(profiles, object.number, object.rows.as_slice());
-    pay_less(profiles, object.owner, pages_of(&object.body));
+    pay_less(profiles, object.owner, pages(&object.body));
     leave(profiles, object.number);
 }

@@ -73,9 +73,7 @@ impl Needs {
         ensures { result ≡ self ++ others }
     {
         let mut all = self;
-        for need in others.as_slice() {
-            all.add(*need);
-        }
+        add_all(&mut all, others.as_slice());
         all
     }
 
@@ -84,6 +82,20 @@ impl Needs {
         ensures { result.now ≡ self.now }
     {
         &self.held[..self.count]
+    }
+}
+
+/// The needs, and these behind them.
+fn add_all(all: &mut Needs, needs: &[Need])
+    requires { length all.old + length needs.now ≤ 6 }
+    ensures { all.new ≡ all.old ++ needs.now }
+{
+    match needs {
+        [] => {}
+        [need, more @ ..] => {
+            all.add(*need);
+            add_all(all, more);
+        }
     }
 }
 

@@ -1,0 +1,92 @@
+-- What a user pays for, against what its profile allows: one that is no profile may own nothing.
+use Rattle.std.proofs.Common.{◌≡◌, ℕ, ◌+◌, ◌-◌, ◌≤◌, ◌==◌, Bool, true, false, cond, not, List, [], ◌∷◌, refl, sym, ◌∙◌, ap, arith}
+use Rattle.std.proofs.lemmas.Bool.Decides.{nat_tests}
+use Rattle.std.specs.Prelude.{Option, Some, None, ◌&&◌, nat_lt}
+use Rattle.std.specs.List.{list_any}
+use Rattle.s38_rules.specs.declared.object.Body.{Body}
+use Rattle.s38_rules.specs.declared.object.Body.TheVariants as bodies
+use Rattle.s38_rules.specs.declared.object.Object.{Object}
+use Rattle.s38_rules.specs.Authority.{counted, is_profile}
+use Rattle.s38_rules.specs.Creation.{limit_in}
+use Rattle.s38_rules.specs.Headers.{limit_of}
+use Rattle.s38_rules.specs.Held.{Held, charge_beside, charge_in, object, object_in, pages_for, pages_of, without_in}
+use Rattle.s38_rules.specs.Profiles.{is_owner, is_profile_in, owns}
+use Rattle.s38_rules.proofs.ChargeLaws.{AreRising, beside_found, charge_first, charge_none, charge_without, other_pages, own_pages, some_page}
+
+both_pass : (a b pages : ℕ) → 1 ≤ pages → nat_lt 0 (a + pages) ≡ nat_lt 0 (b + pages)
+both_pass a b pages h = grind (arith, nat_tests)
+
+by_body : (b : Body) (paid others pages : ℕ) → 1 ≤ pages → (is_profile b ≡ true → paid ≡ others) → nat_lt (limit_of b) (paid + pages) ≡ nat_lt (limit_of b) (others + pages)
+by_body (bodies.Profile special limit) paid others pages h same = ap (λ n. nat_lt limit (n + pages)) (same refl)
+by_body bodies.Context paid others pages h same = both_pass paid others pages h
+by_body (bodies.Program code) paid others pages h same = both_pass paid others pages h
+by_body (bodies.Space cells) paid others pages h same = both_pass paid others pages h
+by_body (bodies.Queue q) paid others pages h same = both_pass paid others pages h
+
+by_object : (o : Option Object) (paid others pages : ℕ) → 1 ≤ pages → (is_profile_in o ≡ true → paid ≡ others) → nat_lt (limit_in o) (paid + pages) ≡ nat_lt (limit_in o) (others + pages)
+by_object None paid others pages h same = both_pass paid others pages h
+by_object (Some o) paid others pages h same = by_body o.body paid others pages h same
+
+counted_there : (o : Option Object) (charge : ℕ) → is_profile_in o ≡ true → counted o charge ≡ charge
+counted_there None charge h = cc
+counted_there (Some o) charge h = rw h refl
+
+-- those that a user pays for, and so many more
+pub more_allowed : (h : Held) (user pages : ℕ) → 1 ≤ pages
+    → nat_lt (limit_in (object h user)) (counted (object h user) (charge_in h.objects user) + pages) ≡ nat_lt (limit_in (object h user)) (charge_in h.objects user + pages)
+more_allowed h user pages some =
+    by_object (object h user) (counted (object h user) (charge_in h.objects user)) (charge_in h.objects user) pages some (counted_there (object h user) (charge_in h.objects user))
+
+less_is : (o : Option Object) (charge own others : ℕ) → others + own ≡ charge → is_profile_in o ≡ true → counted o charge - own ≡ others
+less_is o charge own others e there = omega (arith, counted_there o charge there, e)
+
+-- the owner of an object pays for so many pages in the place of its own
+pub owner_allowed : (h : Held) (n : ℕ) (o : Object) (pages : ℕ) → AreRising h.objects → object h n ≡ Some o → 1 ≤ pages
+    → nat_lt (limit_in (object h o.owner.0)) ((counted (object h o.owner.0) (charge_in h.objects o.owner.0) - pages_of o.body) + pages) ≡ nat_lt (limit_in (object h o.owner.0)) (charge_beside h.objects n + pages)
+owner_allowed h n o pages rising found some =
+    by_object (object h o.owner.0) (counted (object h o.owner.0) (charge_in h.objects o.owner.0) - pages_of o.body) (charge_beside h.objects n) pages some
+    (less_is (object h o.owner.0) (charge_in h.objects o.owner.0) (pages_of o.body) (charge_beside h.objects n) (beside_found n o h.objects rising found))
+
+-- an object stays with its owner
+pub own_allowed : (h : Held) (n : ℕ) (o : Object) → AreRising h.objects → object h n ≡ Some o
+    → nat_lt (limit_in (object h o.owner.0)) ((counted (object h o.owner.0) (charge_in h.objects o.owner.0) - pages_of o.body) + pages_of o.body)
+    ≡ nat_lt (limit_in (object h o.owner.0)) (charge_in (without_in h.objects n) o.owner.0 + pages_of o.body)
+own_allowed h n o rising found =
+    let pays : charge_in (without_in h.objects n) o.owner.0 + pages_of o.body ≡ charge_in h.objects o.owner.0 =
+        ap (λ (p : ℕ). charge_in (without_in h.objects n) o.owner.0 + p) (sym (own_pages o)) ∙ charge_without o.owner.0 n o h.objects rising found in
+    by_object (object h o.owner.0) (counted (object h o.owner.0) (charge_in h.objects o.owner.0) - pages_of o.body) (charge_in (without_in h.objects n) o.owner.0) (pages_of o.body) (some_page o.body)
+    (less_is (object h o.owner.0) (charge_in h.objects o.owner.0) (pages_of o.body) (charge_in (without_in h.objects n) o.owner.0) pays)
+
+-- an object goes to another user
+pub taker_allowed : (h : Held) (n user : ℕ) (o : Object) → AreRising h.objects → object h n ≡ Some o → (o.owner.0 == user) ≡ false
+    → nat_lt (limit_in (object h user)) (counted (object h user) (charge_in h.objects user) + pages_of o.body) ≡ nat_lt (limit_in (object h user)) (charge_in (without_in h.objects n) user + pages_of o.body)
+taker_allowed h n user o rising found other =
+    let same : charge_in (without_in h.objects n) user ≡ charge_in h.objects user = omega (arith, charge_without user n o h.objects rising found, other_pages user o other) in
+    by_object (object h user) (counted (object h user) (charge_in h.objects user)) (charge_in (without_in h.objects n) user) (pages_of o.body) (some_page o.body)
+    (λ there. counted_there (object h user) (charge_in h.objects user) there ∙ sym same)
+
+-- ---- who owns an object pays for it
+
+nothing_owned : (user : ℕ) (os : List Object) → (charge_in os user == 0) ≡ not (list_any (owns user) os)
+nothing_owned user [] = rw (charge_none user) refl
+nothing_owned user (o ∷ os) =
+    let rest = nothing_owned user os in
+    rw (charge_first user o os)
+    (elim (o.owner.0 == user) as (λ b. (o.owner.0 == user) ≡ b → (cond b (pages_of o.body) 0 + charge_in os user == 0) ≡ not (cond b true (list_any (owns user) os))) [
+      | true ↦ λ q. let some = some_page o.body in grind (arith, nat_tests)
+      | false ↦ λ q. rest
+    ] refl)
+
+pub owner_charged : (h : Held) (user : ℕ) → not (counted (object h user) (charge_in h.objects user) == 0) ≡ is_owner h user
+owner_charged h user = by_profile (object h user) h.objects user
+  where
+    by_profile : (o : Option Object) (os : List Object) (user : ℕ) → not (counted o (charge_in os user) == 0) ≡ (is_profile_in o && list_any (owns user) os)
+    by_profile None os user = refl
+    by_profile (Some o) os user =
+        elim (is_profile o.body) as (λ b. not (cond b (charge_in os user) 0 == 0) ≡ (b && list_any (owns user) os)) [
+          | true ↦ ap not (nothing_owned user os) ∙ not_not (list_any (owns user) os)
+          | false ↦ refl
+        ]
+    not_not : (b : Bool) → not (not b) ≡ b
+    not_not true = refl
+    not_not false = refl
