@@ -11,7 +11,7 @@ use s38_base::limits::MACHINE_CONTEXT;
 use s38_base::{Category, Exception, Id, Kind, NoMemory, ObjNum, Op, Rights};
 use s38_changes::{
     creation_changes, creation_fails, creation_gives, destruction_changes, destruction_needs,
-    is_taken_beside, machine_needs, move_to, of_machine, rename_to,
+    home, is_taken_beside, machine_needs, move_to, of_machine, rename_to,
 };
 use s38_code::{Operand, Request, Val};
 use s38_invoke::World;
@@ -25,17 +25,18 @@ use std::alloc::Global;
 
 // ---- CRTCTX
 
-fn new_context(operands: &[Operand]) -> Creating
-    ensures { result ≡ new_context operands.now }
+fn new_context(objects: &Objects, operands: &[Operand]) -> Creating
+    ensures { result ≡ new_context objects.now operands.now }
 {
-    of_machine(Kind::Context, rights_at(operands, 3), operands)
+    of_machine(Kind::Context, rights_at(operands, 3), objects, operands)
 }
 
 #[tactic(auto, unfolding(s38_rules::specs::Contexts::crtctx_fails))]
 fn crtctx_fails(world: &World<Objects>, process: u32, operands: &[Operand]) -> Option<Exception>
     ensures { result ≡ crtctx_fails world.now process operands.now }
 {
-    creation_fails(world, world.user_of(process), &new_context(operands), None)
+    let created = new_context(&world.objects, operands);
+    creation_fails(world, world.user_of(process), &created, None)
 }
 
 #[tactic(auto, using(crate::proofs::CreationLaws::crtctx_created), unfolding(s38_rules::specs::Contexts::crtctx_changes))]
@@ -50,7 +51,8 @@ fn crtctx(
     ensures err { OnErr result (world.new ≡ world.old) }
 {
     let owner = world.user_of(process);
-    creation_changes(alloc, world, owner, &new_context(operands), Body::Context)
+    let created = new_context(&world.objects, operands);
+    creation_changes(alloc, world, owner, &created, Body::Context)
 }
 
 // ---- DESCTX
@@ -190,7 +192,7 @@ fn modadr(world: &mut World<Objects>, operands: &[Operand]) -> Result<(), NoMemo
     ensures err { OnErr result (world.new ≡ world.old) }
 {
     let number = target(&world.objects, operands, 1);
-    let context = target(&world.objects, operands, 2);
+    let context = home(&world.objects, target(&world.objects, operands, 2));
     move_to(world, number, context)
 }
 
@@ -339,7 +341,7 @@ pub fn value(
     let objects = &world.objects;
     let operands = request.operands.as_slice();
     match request.op {
-        Op::Crtctx => Ok(Some(creation_gives(objects, &new_context(operands)))),
+        Op::Crtctx => Ok(Some(creation_gives(objects, &new_context(objects, operands)))),
         Op::Matctx => Ok(Some(matctx_gives(alloc, objects, operands)?)),
         _ => Ok(None),
     }

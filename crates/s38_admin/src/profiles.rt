@@ -8,7 +8,7 @@ use s38_base::exceptions::OBJECT_IN_USE;
 use s38_base::{Category, Exception, Kind, NoMemory, Op, Rights, Special, UserNum};
 use s38_changes::{
     creation_changes, creation_fails, creation_gives, destruction_changes, destruction_needs,
-    machine_needs, of_machine, owns_any, set_profile,
+    is_owner, machine_needs, of_machine, set_profile,
 };
 use s38_code::{Operand, Request, Val};
 use s38_invoke::World;
@@ -38,10 +38,10 @@ fn limit_at(operands: &[Operand], k: usize) -> u32
 
 // ---- CRTUP
 
-fn new_profile(operands: &[Operand]) -> Creating
-    ensures { result ≡ new_profile operands.now }
+fn new_profile(objects: &Objects, operands: &[Operand]) -> Creating
+    ensures { result ≡ new_profile objects.now operands.now }
 {
-    of_machine(Kind::Profile, Rights(0), operands)
+    of_machine(Kind::Profile, Rights(0), objects, operands)
 }
 
 fn profile_body(operands: &[Operand]) -> Body
@@ -57,7 +57,8 @@ fn profile_body(operands: &[Operand]) -> Body
 fn crtup_fails(world: &World<Objects>, process: u32, operands: &[Operand]) -> Option<Exception>
     ensures { result ≡ crtup_fails world.now process operands.now }
 {
-    creation_fails(world, world.user_of(process), &new_profile(operands), None)
+    let created = new_profile(&world.objects, operands);
+    creation_fails(world, world.user_of(process), &created, None)
 }
 
 #[tactic(auto, using(crate::proofs::CreationLaws::crtup_created), unfolding(s38_rules::specs::Profiles::crtup_changes))]
@@ -72,13 +73,8 @@ fn crtup(
     ensures err { OnErr result (world.new ≡ world.old) }
 {
     let owner = world.user_of(process);
-    creation_changes(
-        alloc,
-        world,
-        owner,
-        &new_profile(operands),
-        profile_body(operands),
-    )
+    let created = new_profile(&world.objects, operands);
+    creation_changes(alloc, world, owner, &created, profile_body(operands))
 }
 
 // ---- MODUP
@@ -133,7 +129,7 @@ fn has_process(entries: &[ProcessEntry], user: UserNum) -> bool
 fn is_needed(world: &World<Objects>, user: UserNum) -> bool
     ensures { result ≡ is_needed world.now user.0 }
 {
-    user.0 == OFFICER || owns_any(world, user) || has_process(world.processes.as_slice(), user)
+    user.0 == OFFICER || is_owner(world, user) || has_process(world.processes.as_slice(), user)
 }
 
 #[tactic(auto, unfolding(s38_rules::specs::Profiles::desup_fails))]
@@ -213,7 +209,7 @@ pub fn value(
     let _ = depth;
     let operands = request.operands.as_slice();
     match request.op {
-        Op::Crtup => Ok(Some(creation_gives(&world.objects, &new_profile(operands)))),
+        Op::Crtup => Ok(Some(creation_gives(&world.objects, &new_profile(&world.objects, operands)))),
         _ => Ok(None),
     }
 }

@@ -1,6 +1,10 @@
-//! Which rights are available on an object, over any table of objects.
+//! Which authority users have over objects, in a world over any table of objects.
 #![tactic(auto)]
 
+mod refusals;
 mod rights;
+mod users;
 
-pub use rights::{available, has_rights, missing};
+pub use refusals::{lacks_special, missing};
+pub use rights::{Missing, available, check, has_rights};
+pub use users::is_governed;

@@ -1,9 +1,19 @@
+//! Rights: which are available on an object, and which of those that are needed are missing.
 ghost use Rattle.std.specs.Prelude.{◌≡◌, map};
-ghost use Rattle.s38_rules.specs.Authority.{available, brought, by_profile, has_all, has_rights, missing, rights_on, source_by, sources_by};
+ghost use Rattle.std.specs.Option.{option_map};
+ghost use Rattle.std.specs.Result.{result_err};
+ghost use Rattle.s38_rules.specs.Authority.{available, has_rights, missing_in, source_by, sources_by, sources_on};
+ghost use Rattle.s38_rules.specs.Headers.{public_in};
+ghost use Rattle.s38_rules.specs.Held.{object};
 
-use s38_base::exceptions::UNAUTHORIZED;
-use s38_base::{Exception, Kind, ObjNum, Rights, Rule, Special, UserNum};
-use s38_rules::{Header, TableRows};
+use crate::users::has_special;
+use s38_base::{ObjNum, Rights, Special, UserNum};
+use s38_invoke::World;
+use s38_rules::Table;
+
+/// Needed rights that are not available.
+#[derive(Clone, Copy, PartialEq, Eq, Debug)]
+pub struct Missing(pub Rights);
 
 /// Whether all the needed rights are among those that are there.
 pub fn has_rights(needed: Rights, there: Rights) -> bool
@@ -12,91 +22,74 @@ pub fn has_rights(needed: Rights, there: Rights) -> bool
     there.0 & needed.0 == needed.0
 }
 
-fn has_all(profile: &Header) -> bool
-    ensures { result ≡ has_all profile.now }
+/// The rights that a user brings to an object with these rights of everybody.
+#[tactic(auto, unfolding(s38_rules::specs::Authority::source_by))]
+fn source_by<T: Table>(world: &World<T>, number: ObjNum, public: Rights, user: UserNum) -> Rights
+    requires { public.0 ≡ public_in (object world.now.held number.0) }
+    ensures { result.0 ≡ source_by world.now.held number.0 user.0 }
 {
-    profile.special.0 & Special::ALLOBJ.0 == Special::ALLOBJ.0
-}
-
-fn by_profile(profile: &Header, row: Rights) -> Rights
-    ensures { result.0 ≡ by_profile profile.now row.0 }
-{
-    if has_all(profile) { Rights(255) } else { row }
-}
-
-fn brought(profile: Option<Header>, row: Rights) -> Rights
-    ensures { result.0 ≡ brought profile row.0 }
-{
-    match profile {
-        None => Rights(0),
-        Some(profile) => {
-            if Kind::Profile.code() == profile.kind.code() {
-                by_profile(&profile, row)
-            } else {
-                Rights(0)
-            }
-        }
+    if has_special(world, Special::ALLOBJ, user) {
+        Rights(255)
+    } else {
+        Rights(public.0 | world.row_on(number, user).0)
     }
 }
 
-#[tactic(auto, unfolding(s38_rules::specs::Authority::source_by))]
-fn source_by<T: TableRows>(objects: &T, number: ObjNum, user: UserNum) -> Rights
-    ensures { result.0 ≡ source_by (T.held objects.now) number.0 user.0 }
-{
-    brought(objects.header(user), objects.row_of(number, user))
-}
-
-fn sources_by<T: TableRows>(objects: &T, number: ObjNum, users: &[UserNum]) -> u8
-    ensures { result ≡ sources_by (T.held objects.now) number.0 (map (λ u. u.0) users.now) }
+fn sources_by<T: Table>(world: &World<T>, number: ObjNum, public: Rights, users: &[UserNum]) -> u8
+    requires { public.0 ≡ public_in (object world.now.held number.0) }
+    ensures { result ≡ sources_by world.now.held number.0 (map (λ u. u.0) users.now) }
 {
     match users {
         [] => 0,
         [user, more @ ..] => {
-            source_by(objects, number, *user).0 | sources_by(objects, number, more)
+            source_by(world, number, public, *user).0 | sources_by(world, number, public, more)
         }
     }
 }
 
-fn rights_on<T: TableRows>(
-    objects: &T,
-    users: &[UserNum],
-    number: ObjNum,
-    header: Option<Header>,
-) -> u8
-    ensures { result ≡ rights_on (T.held objects.now) (map (λ u. u.0) users.now) number.0 header }
+fn sources_on<T: Table>(world: &World<T>, number: ObjNum, users: &[UserNum]) -> u8
+    ensures { result ≡ sources_on world.now.held number.0 (map (λ u. u.0) users.now) (object world.now.held number.0) }
 {
-    match header {
+    match world.objects.header(number) {
         None => 0,
-        Some(header) => header.public.0 | sources_by(objects, number, users),
+        Some(header) => sources_by(world, number, header.public, users),
     }
 }
 
 /// The rights that are available to these users on the object of a number, with those that the used pointer
 /// carries: none but those without the object.
 #[tactic(auto, unfolding(s38_rules::specs::Authority::available))]
-pub fn available<T: TableRows>(
-    objects: &T,
+pub fn available<T: Table>(
+    world: &World<T>,
     users: &[UserNum],
     number: ObjNum,
     carried: Rights,
 ) -> Rights
-    ensures { result.0 ≡ available (T.held objects.now) (map (λ u. u.0) users.now) number.0 carried.0 }
+    ensures { result.0 ≡ available world.now.held (map (λ u. u.0) users.now) number.0 carried.0 }
 {
-    Rights(carried.0 | rights_on(objects, users, number, objects.header(number)))
+    Rights(carried.0 | sources_on(world, number, users))
 }
 
-/// The exception that says which needed rights are missing, where some are.
-pub fn missing(operand: u8, needed: Rights, there: Rights) -> Option<Exception>
-    ensures { result ≡ missing operand needed.0 there.0 }
+/// Exactly the needed rights that are not there, where some are not.
+pub fn missing_in(needed: Rights, there: Rights) -> Result<(), Missing>
+    ensures { option_map (λ m. m.0) (result_err result) ≡ missing_in needed.0 there.0 }
 {
     if has_rights(needed, there) {
-        return None;
+        return Ok(());
     }
-    Some(Exception {
-        id: UNAUTHORIZED,
-        operand,
-        rule: Rule::Missing {
-            rights: Rights(needed.0 & (255 - there.0)),
-        },
-    })
+    Err(Missing(Rights(needed.0 & (255 - there.0))))
+}
+
+/// Whether the needed rights are available to these users on the object of a number; else exactly those that are
+/// not.
+pub fn check<T: Table>(
+    world: &World<T>,
+    users: &[UserNum],
+    number: ObjNum,
+    carried: Rights,
+    needed: Rights,
+) -> Result<(), Missing>
+    ensures { option_map (λ m. m.0) (result_err result) ≡ missing_in needed.0 (available world.now.held (map (λ u. u.0) users.now) number.0 carried.0) }
+{
+    missing_in(needed, available(world, users, number, carried))
 }

@@ -18,6 +18,16 @@ use s38_objects::Objects;
 use s38_rules::{Body, Creating, Header, Object, PrivateRow, RowList, Sought, Table};
 use std::alloc::Global;
 
+/// A context that is there, or none: what is put into one that is not there is in no context.
+pub fn home(objects: &Objects, context: ObjNum) -> ObjNum
+    ensures { result ≡ home objects.now context.0 }
+{
+    match objects.get(context) {
+        None => ObjNum(0),
+        Some(_) => context,
+    }
+}
+
 /// The same name, of this kind of object.
 fn of_kind(kind: Kind, id: Option<&Id>) -> Option<Id>
     ensures { result ≡ of_kind kind (option_copied id.entry) }
@@ -29,11 +39,16 @@ fn of_kind(kind: Kind, id: Option<&Id>) -> Option<Id>
 }
 
 /// An object of the machine context, with the identification of operand 2.
-pub fn of_machine(kind: Kind, public: Rights, operands: &[Operand]) -> Creating
-    ensures { result ≡ of_machine kind public.0 operands.now }
+pub fn of_machine(
+    kind: Kind,
+    public: Rights,
+    objects: &Objects,
+    operands: &[Operand],
+) -> Creating
+    ensures { result ≡ of_machine kind public.0 objects.now operands.now }
 {
     Creating {
-        context: MACHINE_CONTEXT,
+        context: home(objects, MACHINE_CONTEXT),
         id: of_kind(kind, id_at(operands, 2)),
         place: 2,
         public,
@@ -59,7 +74,7 @@ pub fn in_context(kind: Kind, pages: u64, objects: &Objects, operands: &[Operand
     ensures { result ≡ in_context kind pages objects.now operands.now }
 {
     Creating {
-        context: target(objects, operands, 2),
+        context: home(objects, target(objects, operands, 2)),
         id: of_kind(kind, id_at(operands, 3)),
         place: 3,
         public: rights_at(operands, 4),

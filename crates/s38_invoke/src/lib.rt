@@ -1,8 +1,9 @@
-//! The machine's world, over any table of objects: its processes, who acts in them, their invocations, and their
-//! starts and ends.
+//! The machine's world, over any table of objects: its processes, who acts in them, their invocations, their starts
+//! and ends, and what is kept of users.
 #![tactic(auto)]
 
 mod invocations;
+mod kept;
 mod processes;
 mod starts;
 mod users;

@@ -1,4 +1,4 @@
-ghost use Rattle.std.specs.Prelude.{◌≡◌, ◌≢◌, [], None, Some, IsSome, OnOk, OnErr};
+ghost use Rattle.std.specs.Prelude.{◌≡◌, ◌≢◌, [], None, Some, IsSome, OnOk, OnErr, is_some};
 ghost use Rattle.s38_profiles.specs.Rows.{SetsRow, row_at, row_key, row_with, with_row};
 ghost use Rattle.s38_profiles.specs.Users.{SetsUser, charge_in, charged, entered, limit_in, special_in, user_at, with_charge, with_user, without_user};
 ghost use Rattle.s38_profiles.specs.ProfileMaps.{row_of};
@@ -48,6 +48,13 @@ impl Profiles {
             Some(_) => rows::row_at(&self.rows, key).unwrap_or(Rights(0)),
             None => Rights(0),
         }
+    }
+
+    /// Whether a user is there.
+    pub fn has(&self, user: UserNum) -> bool
+        ensures { result ≡ is_some (user_at self.now.users user.0) }
+    {
+        users::user_at(&self.users, user.0).is_some()
     }
 
     /// The special authorities of a user, none of one that is not there.

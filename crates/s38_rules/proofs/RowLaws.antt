@@ -167,6 +167,10 @@ row_read (row ∷ rows) user r other h =
           read_first user r (beside user row rows) other (none_below (beside user row rows) user.0 good.0 good.1) ∙ read_beside user row rows other r.0
     ] refl
 
+-- the only row is that of a user
+pub row_alone : (user : ObjNum) (r : Rights) (other : ℕ) → row_of (row_for user r) other ≡ cond (user.0 == other) r.0 0
+row_alone user r other = row_read [] user r other tt
+
 -- ---- places
 
 pub place_within : (rows : List PrivateRow) (user : ObjNum) → count_before rows user ≤ length rows

@@ -29,7 +29,7 @@ use Rattle.s38_rules.specs.declared.need.Sought.TheVariants.{Any, Of}
 use Rattle.s38_rules.specs.declared.object.Body.TheVariants as bodies
 use Rattle.s38_rules.specs.declared.object.Object.{Object}
 use Rattle.s38_rules.specs.Creation.{creation_changes, creation_fails, creation_gives, destruction_changes, destruction_needs, is_taken_beside, machine_needs, of_machine}
-use Rattle.s38_rules.specs.Held.{Held, contents, context_in, is_there, kind_of, moved, object, renamed}
+use Rattle.s38_rules.specs.Held.{Held, contents, context_in, home, is_there, kind_of, moved, object, renamed}
 use Rattle.s38_rules.specs.Instruction.{Instruction, inert}
 use Rattle.s38_rules.specs.Needs.{on_implied, on_object}
 use Rattle.s38_rules.specs.Operands.{blank, count_image, fitted, id_at, is_given, is_machine, rights_at, room_at, target}
@@ -39,20 +39,20 @@ use Rattle.s38_rules.specs.Users.{user_of}
 
 -- ---- CRTCTX
 
-abbrev pub new_context : List Operand → Creating
-new_context ops = of_machine kinds.Context (rights_at ops 3) ops
+abbrev pub new_context : Held → List Operand → Creating
+new_context h ops = of_machine kinds.Context (rights_at ops 3) h ops
 
 unfoldable pub crtctx_fails : State → ℕ → List Operand → Option Exception
-crtctx_fails s p ops = creation_fails s.held (user_of s p) (new_context ops) None
+crtctx_fails s p ops = creation_fails s.held (user_of s p) (new_context s.held ops) None
 
 unfoldable pub crtctx_changes : State → ℕ → List Operand → State
-crtctx_changes s p ops = record s { held = creation_changes s.held (user_of s p) (new_context ops) bodies.Context }
+crtctx_changes s p ops = record s { held = creation_changes s.held (user_of s p) (new_context s.held ops) bodies.Context }
 
 abbrev pub crtctx : Instruction
 crtctx = record inert {
   needs = λ s p d r. machine_needs;
   fails = λ s p d r. crtctx_fails s p r.operands;
-  gives = λ s p d r. Some (creation_gives s.held (new_context r.operands));
+  gives = λ s p d r. Some (creation_gives s.held (new_context s.held r.operands));
   changes = λ s p d r. crtctx_changes s p r.operands;
 }
 
@@ -105,7 +105,7 @@ modadr_fails h ops =
 
 -- the object is in the new context, or in none
 unfoldable pub modadr_changes : Held → List Operand → Held
-modadr_changes h ops = moved h (target h ops 1) (record { 0 = target h ops 2 })
+modadr_changes h ops = moved h (target h ops 1) (home h (target h ops 2))
 
 abbrev pub modadr : Instruction
 modadr = record inert {

@@ -22,7 +22,7 @@ use Rattle.s38_rules.specs.declared.object.Body.{Body}
 use Rattle.s38_rules.specs.declared.object.Object.{Object}
 use Rattle.s38_rules.specs.declared.rows.PrivateRow.{PrivateRow}
 use Rattle.s38_rules.specs.Headers.{limit_of}
-use Rattle.s38_rules.specs.Held.{Held, charge_in, found, has_number, object, with_object, without}
+use Rattle.s38_rules.specs.Held.{Held, charge_in, found, has_number, home, object, with_object, without}
 use Rattle.s38_rules.specs.Needs.{on_implied, on_object}
 use Rattle.s38_rules.specs.PrivateRows.{row_for}
 use Rattle.s38_rules.specs.Operands.{id_at, is_given, rights_at, target}
@@ -38,7 +38,7 @@ of_kind kind (Some id) = Some (record id { kind = kind })
 abbrev pub in_context : Kind → ℕ → Held → List Operand → Creating
 in_context kind pages h ops =
     record {
-      context = record { 0 = target h ops 2 };
+      context = home h (target h ops 2);
       id = of_kind kind (id_at ops 3);
       place = 3;
       public = record { 0 = rights_at ops 4 };
@@ -46,10 +46,10 @@ in_context kind pages h ops =
     }
 
 -- an object of the machine context, with the identification of operand 2
-abbrev pub of_machine : Kind → ℕ → List Operand → Creating
-of_machine kind public ops =
+abbrev pub of_machine : Kind → ℕ → Held → List Operand → Creating
+of_machine kind public h ops =
     record {
-      context = record { 0 = machine_context };
+      context = home h machine_context;
       id = of_kind kind (id_at ops 2);
       place = 2;
       public = record { 0 = public };

@@ -38,6 +38,10 @@ object h n = object_in h.objects n
 abbrev pub is_there : Held → ℕ → Bool
 is_there h n = is_some (object h n)
 
+-- a context that is there, or none: what is put into one that is not there is in no context
+abbrev pub home : Held → ℕ → ObjNum
+home h context = record { 0 = if is_there h context then context else 0 }
+
 -- the object says that it is in a context; one whose context number is 0 is in no context
 abbrev pub is_in_context : ℕ → Object → Bool
 is_in_context context o = not (context == 0) && (o.context.0 == context)

@@ -9,6 +9,7 @@ pub mod Headers
 pub mod Held
 pub mod Instruction
 pub mod Invocations
+pub mod Keeping
 pub mod Kept
 pub mod Legal
 pub mod Lending

@@ -19,8 +19,9 @@ use Rattle.s38_rules.specs.declared.object.Body.TheVariants as bodies
 use Rattle.s38_rules.specs.declared.object.Object.{Object}
 use Rattle.s38_rules.specs.declared.process.ProcessEntry.{ProcessEntry}
 use Rattle.s38_rules.specs.declared.process.Started.{Started}
+use Rattle.s38_rules.specs.Authority.{is_profile}
 use Rattle.s38_rules.specs.Creation.{creation_changes, creation_fails, creation_gives, destruction_changes, destruction_needs, machine_needs, of_machine}
-use Rattle.s38_rules.specs.Held.{Held}
+use Rattle.s38_rules.specs.Held.{Held, object}
 use Rattle.s38_rules.specs.Instruction.{Instruction, inert}
 use Rattle.s38_rules.specs.Needs.{on_object}
 use Rattle.s38_rules.specs.Operands.{target, whole_at, word_at}
@@ -44,24 +45,24 @@ limit_at ops k = min (whole_at ops k) 4294967295
 
 -- ---- CRTUP
 
-abbrev pub new_profile : List Operand → Creating
-new_profile ops = of_machine kinds.Profile rights.no_rights ops
+abbrev pub new_profile : Held → List Operand → Creating
+new_profile h ops = of_machine kinds.Profile rights.no_rights h ops
 
 abbrev pub profile_body : List Operand → Body
 profile_body ops = bodies.Profile (specials_at ops 3) (limit_at ops 4)
 
 unfoldable pub crtup_fails : State → ℕ → List Operand → Option Exception
-crtup_fails s p ops = creation_fails s.held (user_of s p) (new_profile ops) None
+crtup_fails s p ops = creation_fails s.held (user_of s p) (new_profile s.held ops) None
 
 unfoldable pub crtup_changes : State → ℕ → List Operand → State
-crtup_changes s p ops = record s { held = creation_changes s.held (user_of s p) (new_profile ops) (profile_body ops) }
+crtup_changes s p ops = record s { held = creation_changes s.held (user_of s p) (new_profile s.held ops) (profile_body ops) }
 
 abbrev pub crtup : Instruction
 crtup = record inert {
   needs = λ s p d r. machine_needs;
   special = λ s p d r. rights.profile;
   fails = λ s p d r. crtup_fails s p r.operands;
-  gives = λ s p d r. Some (creation_gives s.held (new_profile r.operands));
+  gives = λ s p d r. Some (creation_gives s.held (new_profile s.held r.operands));
   changes = λ s p d r. crtup_changes s p r.operands;
 }
 
@@ -92,6 +93,14 @@ modup = record inert {
 abbrev pub owns : ℕ → Object → Bool
 owns user o = o.owner.0 == user
 
+abbrev pub is_profile_in : Option Object → Bool
+is_profile_in None = false
+is_profile_in (Some o) = is_profile o.body
+
+-- it is a user, and owns an object
+abbrev pub is_owner : Held → ℕ → Bool
+is_owner h user = is_profile_in (object h user) && list_any (owns user) h.objects
+
 abbrev pub is_user : ℕ → Option Started → Bool
 is_user user None = false
 is_user user (Some p) = p.user.0 == user
@@ -102,7 +111,7 @@ is_live user x = not x.ended && is_user user x.started
 
 -- the security officer stays, and so does a user that owns an object or has a live process
 abbrev pub is_needed : State → ℕ → Bool
-is_needed s user = (user == officer) || (list_any (owns user) s.held.objects || list_any (is_live user) s.processes)
+is_needed s user = (user == officer) || (is_owner s.held user || list_any (is_live user) s.processes)
 
 unfoldable pub desup_fails : State → List Operand → Option Exception
 desup_fails s ops = fails (is_needed s (target s.held ops 1)) exceptions.object_in_use 1

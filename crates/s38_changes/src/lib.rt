@@ -1,0 +1,19 @@
+//! What instructions change of the objects, and with them what is kept of users: objects made and destroyed, how they
+//! stand, their names and places, what is written into spaces.
+#![tactic(auto)]
+
+mod charges;
+mod creation;
+mod destruction;
+mod spaces;
+mod standing;
+mod users;
+
+pub use charges::{owner_pays, owns_any, taker_rule};
+pub use creation::{
+    creation_changes, creation_fails, creation_gives, creation_needs, in_context, is_taken_beside,
+    machine_needs, of_machine,
+};
+pub use destruction::{destruction_changes, destruction_needs};
+pub use spaces::{put_cells, put_value, resize};
+pub use standing::{give_to, move_to, rename_to, set_profile, set_public, set_row};
