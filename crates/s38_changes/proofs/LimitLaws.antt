@@ -7,10 +7,11 @@ use Rattle.s38_rules.specs.declared.object.Body.{Body}
 use Rattle.s38_rules.specs.declared.object.Body.TheVariants as bodies
 use Rattle.s38_rules.specs.declared.object.Object.{Object}
 use Rattle.s38_rules.specs.Authority.{counted, is_profile}
-use Rattle.s38_rules.specs.Creation.{limit_in}
+use Rattle.s38_rules.specs.Creation.{limit_in, pages_rule}
 use Rattle.s38_rules.specs.Headers.{limit_of}
-use Rattle.s38_rules.specs.Held.{Held, charge_beside, charge_in, object, object_in, pages_for, pages_of, without_in}
+use Rattle.s38_rules.specs.Held.{Held, charge_beside, charge_in, has_number, object, object_in, pages_for, pages_of, without_in}
 use Rattle.s38_rules.specs.Profiles.{is_owner, is_profile_in, owns}
+use Rattle.s38_rules.specs.Spaces.{owner_pays}
 use Rattle.s38_rules.proofs.ChargeLaws.{AreRising, beside_found, charge_first, charge_none, charge_without, other_pages, own_pages, some_page}
 
 both_pass : (a b pages : ℕ) → 1 ≤ pages → nat_lt 0 (a + pages) ≡ nat_lt 0 (b + pages)
@@ -30,6 +31,25 @@ by_object (Some o) paid others pages h same = by_body o.body paid others pages h
 counted_there : (o : Option Object) (charge : ℕ) → is_profile_in o ≡ true → counted o charge ≡ charge
 counted_there None charge h = cc
 counted_there (Some o) charge h = rw h refl
+
+some_none : (x : Object) → Some x ≡ None → ⊥
+some_none x h = cc
+
+-- no object has the number, and none is left out
+without_absent : (n : ℕ) (os : List Object) → object_in os n ≡ None → without_in os n ≡ os
+without_absent n [] h = refl
+without_absent n (o ∷ os) h =
+    elim (has_number n o) as (λ b. cond b (Some o) (object_in os n) ≡ None → cond (not b) (o ∷ without_in os n) (without_in os n) ≡ o ∷ os) [
+      | true ↦ λ g. absurd (some_none o g)
+      | false ↦ λ g. ap (λ (l : List Object). o ∷ l) (without_absent n os g)
+    ] h
+
+-- no object has the number, and nobody owns it
+pub nobody_allowed : (h : Held) (n pages : ℕ) → object h n ≡ None → AreRising h.objects → pages_rule h 0 (charge_in h.objects 0 + pages) 0 ≡ owner_pays h n pages
+unfolding owner_pays charge_beside
+nobody_allowed h n pages none rising =
+    let gone : without_in h.objects n ≡ h.objects = without_absent n h.objects none in
+    rw (none, gone) refl
 
 -- those that a user pays for, and so many more
 pub more_allowed : (h : Held) (user pages : ℕ) → 1 ≤ pages
@@ -67,26 +87,33 @@ taker_allowed h n user o rising found other =
 
 -- ---- who owns an object pays for it
 
+zero_sum : (a b : ℕ) → 1 ≤ a → (a + b == 0) ≡ false
+zero_sum a b h = grind (arith, nat_tests)
+
+none_more : (b : ℕ) → 0 + b ≡ b
+none_more b = omega arith
+
 nothing_owned : (user : ℕ) (os : List Object) → (charge_in os user == 0) ≡ not (list_any (owns user) os)
 nothing_owned user [] = rw (charge_none user) refl
 nothing_owned user (o ∷ os) =
     let rest = nothing_owned user os in
     rw (charge_first user o os)
-    (elim (o.owner.0 == user) as (λ b. (o.owner.0 == user) ≡ b → (cond b (pages_of o.body) 0 + charge_in os user == 0) ≡ not (cond b true (list_any (owns user) os))) [
-      | true ↦ λ q. let some = some_page o.body in grind (arith, nat_tests)
-      | false ↦ λ q. rest
-    ] refl)
+    (elim (o.owner.0 == user) as (λ b. (cond b (pages_of o.body) 0 + charge_in os user == 0) ≡ not (cond b true (list_any (owns user) os))) [
+      | true ↦ zero_sum (pages_of o.body) (charge_in os user) (some_page o.body)
+      | false ↦ ap (λ (n : ℕ). n == 0) (none_more (charge_in os user)) ∙ rest
+    ])
+
+not_twice : (b : Bool) → not (not b) ≡ b
+not_twice true = refl
+not_twice false = refl
+
+charged_by : (o : Option Object) (os : List Object) (user : ℕ) → not (counted o (charge_in os user) == 0) ≡ (is_profile_in o && list_any (owns user) os)
+charged_by None os user = refl
+charged_by (Some o) os user =
+    elim (is_profile o.body) as (λ b. not (cond b (charge_in os user) 0 == 0) ≡ (b && list_any (owns user) os)) [
+      | true ↦ ap not (nothing_owned user os) ∙ not_twice (list_any (owns user) os)
+      | false ↦ refl
+    ]
 
 pub owner_charged : (h : Held) (user : ℕ) → not (counted (object h user) (charge_in h.objects user) == 0) ≡ is_owner h user
-owner_charged h user = by_profile (object h user) h.objects user
-  where
-    by_profile : (o : Option Object) (os : List Object) (user : ℕ) → not (counted o (charge_in os user) == 0) ≡ (is_profile_in o && list_any (owns user) os)
-    by_profile None os user = refl
-    by_profile (Some o) os user =
-        elim (is_profile o.body) as (λ b. not (cond b (charge_in os user) 0 == 0) ≡ (b && list_any (owns user) os)) [
-          | true ↦ ap not (nothing_owned user os) ∙ not_not (list_any (owns user) os)
-          | false ↦ refl
-        ]
-    not_not : (b : Bool) → not (not b) ≡ b
-    not_not true = refl
-    not_not false = refl
+owner_charged h user = charged_by (object h user) h.objects user

@@ -52,6 +52,7 @@ fn paid_beside(world: &World<Objects>, object: &Object) -> u64
 }
 
 /// The object of a number, among others that are told apart by their numbers.
+#[tactic(auto, using(s38_rules::proofs::ChargeLaws::rising_by))]
 fn found(objects: &Objects, number: ObjNum) -> Option<&Object>
     ensures found { option_copied result ≡ object_at objects.now number.0 }
     ensures rising { AreRising objects.now.objects }
@@ -61,7 +62,7 @@ fn found(objects: &Objects, number: ObjNum) -> Option<&Object>
 }
 
 /// The owner of an object may pay for so many pages of it.
-#[tactic(auto, using(crate::proofs::LimitLaws::owner_allowed), unfolding(s38_rules::specs::Spaces::owner_pays))]
+#[tactic(auto, using(crate::proofs::LimitLaws::nobody_allowed, crate::proofs::LimitLaws::owner_allowed), unfolding(s38_rules::specs::Spaces::owner_pays))]
 pub fn owner_pays(world: &World<Objects>, number: ObjNum, pages: u64) -> Option<Exception>
     requires { 1 ≤ pages }
     ensures { result ≡ owner_pays world.now.held number.0 pages }

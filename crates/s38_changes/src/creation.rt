@@ -1,10 +1,11 @@
 //! How objects are made, whatever their kind: the identification is new in its context, the owner may pay for the
 //! object, and a number is left.
-ghost use Rattle.std.specs.Prelude.{◌≡◌, ◌+◌, ◌≤◌, ◌^◌, false, nat_lt, IfOk, None, OnOk, OnErr, Option};
+ghost use Rattle.std.specs.Prelude.{◌≡◌, ◌+◌, ◌≤◌, ◌^◌, false, true, IfOk, None, OnOk, OnErr, Option};
 ghost use Rattle.std.specs.Option.{option_copied};
 ghost use Rattle.s38_base.specs.declared.exception.Exception.{Exception};
-ghost use Rattle.s38_rules.specs.Creation.{creation_changes, creation_fails, creation_gives, creation_limits, creation_needs, in_context, is_taken, limit_in, maker_rows, name_rule, new_object, new_pointer, number_rule, of_kind, pages_rule};
-ghost use Rattle.s38_rules.specs.Held.{ceiling_for, found, object, with_object};
+ghost use Rattle.s38_objects.specs.Lawful.{is_place, is_place_of};
+ghost use Rattle.s38_rules.specs.Creation.{creation_changes, creation_fails, creation_gives, creation_limits, creation_needs, in_context, is_another, is_taken, is_taken_beside, machine_needs, maker_rows, name_rule, new_object, new_pointer, number_rule, of_kind, of_machine, pages_rule};
+ghost use Rattle.s38_rules.specs.Held.{ceiling_for, charge_in, found, home, pages_of, with_object};
 
 use crate::charges::pays_more;
 use crate::users::{prepare, take_back};

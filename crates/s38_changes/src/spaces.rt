@@ -1,5 +1,5 @@
 //! What is written into spaces, and their lengths.
-ghost use Rattle.std.specs.Prelude.{◌≡◌, ◌≤◌, All, OnErr, OnOk, None, true};
+ghost use Rattle.std.specs.Prelude.{◌≡◌, ◌≤◌, ◌%◌, All, OnErr, OnOk, None, true};
 ghost use Rattle.std.specs.Option.{option_copied};
 ghost use Rattle.s38_memory.specs.Cell.{IsCell};
 ghost use Rattle.s38_memory.specs.Tagged.{resized};

@@ -1,5 +1,5 @@
 //! How objects stand, what they are called and where they are.
-ghost use Rattle.std.specs.Prelude.{◌≡◌, OnErr, OnOk, None, false};
+ghost use Rattle.std.specs.Prelude.{◌≡◌, OnErr, OnOk, None, false, true};
 ghost use Rattle.s38_objects.specs.Lawful.{is_place};
 ghost use Rattle.s38_rules.specs.Contexts.{is_name_beside};
 ghost use Rattle.s38_rules.specs.Creation.{is_taken_beside};
