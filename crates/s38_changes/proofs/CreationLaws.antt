@@ -1,16 +1,17 @@
 -- What holds where no rule refuses a new object.
-use Rattle.std.proofs.Common.{◌≡◌, ℕ, ◌+◌, ◌<◌, ◌≤◌, ◌^◌, true, false, ◌||◌, nat_le, nat_lt, length, Some, None, Option, refl, sym, subst, arith}
+use Rattle.std.proofs.Common.{◌≡◌, ℕ, ◌+◌, ◌<◌, ◌≤◌, ◌^◌, ◌==◌, cond, true, false, ◌||◌, nat_le, nat_lt, length, Some, None, Option, refl, sym, subst, arith}
 use Rattle.std.proofs.lemmas.Bool.Decides.{nat_tests}
 use Rattle.s38_base.specs.declared.exception.Exception.{Exception}
 use Rattle.s38_base.specs.Limits.{last_number, most_objects}
 use Rattle.s38_rules.specs.declared.creating.Creating.{Creating}
 use Rattle.s38_rules.specs.Creation.{creation_fails, creation_limits, is_taken, limit_in, maker_rows, number_rule, pages_rule}
 use Rattle.s38_base.specs.declared.id.ObjNum.{ObjNum}
+use Rattle.s38_objects.specs.Lawful.{is_place}
 use Rattle.s38_profiles.specs.ProfileMaps.{ProfileMaps}
 use Rattle.s38_profiles.specs.Rows.{Rows, SetsRow, row_key}
 use Rattle.s38_profiles.specs.Users.{SetsUser, charge_in as charge_of, user_at}
 use Rattle.s38_rules.specs.declared.object.Object.{Object}
-use Rattle.s38_rules.specs.Held.{Held, charge_in, object, pages_of, with_object}
+use Rattle.s38_rules.specs.Held.{Held, charge_in, home, is_there, object, pages_of, with_object}
 use Rattle.s38_rules.specs.Keeping.{paid}
 use Rattle.s38_rules.specs.Kept.{Mirrors, profile_by}
 use Rattle.s38_rules.proofs.ChargeLaws.{some_page}
@@ -79,3 +80,13 @@ addition_kept maps mid after h new o number next given own allowed rows row user
         subst (λ (rs : Rows). SetsRow maps.rows (row_key o.owner.0 h.next) (Some (record { 0 = 255 })) rs) (sym same)
         (subst (λ (n : ℕ). SetsRow maps.rows (row_key o.owner.0 n) (Some (record { 0 = 255 })) mid.rows) next row) in
     subst (λ (k : Held). Mirrors after k) (sym made) (added_kept maps after mid.users h o (record { 0 = 255 }) given own owner rows entered paying set m)
+
+-- ---- where a new object is put
+
+-- a home is a place
+pub home_placed : (h : Held) (context : ℕ) → is_place h (home h context).0 ≡ true
+home_placed h context =
+    elim (is_there h context) as (λ b. is_there h context ≡ b → is_place h (cond b context 0) ≡ true) [
+      | true ↦ λ q. rw q (elim (context == 0) as (λ c. (c || true) ≡ true) [ true ↦ refl | false ↦ refl ])
+      | false ↦ λ q. refl
+    ] refl
