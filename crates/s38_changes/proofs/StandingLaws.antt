@@ -1,5 +1,5 @@
 -- What is kept of users where an object is given, a profile is set, or a space gets another length.
-use Rattle.std.proofs.Common.{◌≡◌, ℕ, ◌+◌, ◌-◌, ◌/◌, ◌<◌, ◌≤◌, ◌^◌, ◌==◌, true, false, cond, List, length, refl, sym, ◌∙◌, ap, subst, arith}
+use Rattle.std.proofs.Common.{◌≡◌, ℕ, ◌+◌, ◌-◌, ◌/◌, ◌<◌, ◌≤◌, ◌^◌, ◌==◌, true, false, cond, not, List, [], ◌∷◌, length, refl, sym, ◌∙◌, ap, subst, arith}
 use Rattle.std.proofs.lemmas.Bool.Decides.{nat_tests}
 use Rattle.std.specs.Prelude.{Option, Some, None, IsSome, OnErr, OnOk, Result, Ok, Err, is_some, nat_lt}
 use Rattle.s38_base.specs.declared.fault.NoMemory.{NoMemory}
@@ -18,7 +18,7 @@ use Rattle.s38_rules.specs.declared.object.Object.{Object}
 use Rattle.s38_rules.specs.Creation.{limit_in}
 use Rattle.s38_rules.specs.Grants.{taker_rule}
 use Rattle.s38_rules.specs.Headers.{limit_of}
-use Rattle.s38_rules.specs.Held.{Held, change, change_in, charge_beside, charge_in, object, object_in, owner_in, pages_of, without_in}
+use Rattle.s38_rules.specs.Held.{Held, change, change_in, charge_beside, charge_in, has_number, object, object_in, owner_in, pages_of, without, without_in}
 use Rattle.s38_rules.specs.Keeping.{IsUser, paid}
 use Rattle.s38_rules.specs.Kept.{Mirrors, kept_profile, profile_by}
 use Rattle.s38_rules.specs.Parts.{on_space, part_at, part_in, profile_part, set_profile}
@@ -128,6 +128,12 @@ profile_entered maps after h n special limit there set same m =
       | Some o ↦ λ q g. entered_body maps after h n o o.body special limit q refl g set same m
     ] refl (subst (λ (x : Option Profile). IsSome x) (m.users n) there)
 
+pub profile_set : (maps after : ProfileMaps) (h : Held) (n : ℕ) (special : Special) (limit : ℕ) (users : Users) (result : Result (Unit {0}) NoMemory) → is_some (user_at maps.users n) ≡ true
+    → OnOk result (after ≡ record maps { users = users }) → OnOk result (SetsUser maps.users n (Some (entered special limit (user_at maps.users n))) after.users) → OnErr result (user_at maps.users n ≡ None)
+    → Mirrors maps h → Mirrors after (set_profile h n special limit)
+profile_set maps after h n special limit users (Ok x) there ok others added m = profile_entered maps after h n special limit there others (ap (λ (p : ProfileMaps). p.rows) ok) m
+profile_set maps after h n special limit users (Err x) there ok others added m = absurd (no_user (subst (λ (p : Option Profile). IsSome p) added there))
+
 no_part : (b : Body) (charge : ℕ) → is_some (profile_by b charge) ≡ false → profile_part.of b ≡ None
 no_part (bodies.Profile special limit) charge h = cc
 no_part bodies.Context charge h = refl
@@ -143,6 +149,23 @@ no_profile (Some o) charge h = no_part o.body charge h
 pub profile_absent : (maps : ProfileMaps) (h : Held) (n : ℕ) (special : Special) (limit : ℕ) → is_some (user_at maps.users n) ≡ false → Mirrors maps h → set_profile h n special limit ≡ h
 profile_absent maps h n special limit none m =
     part_kept profile_part h n (λ _. (special, limit)) (no_profile (object h n) (charge_in h.objects n) (subst (λ (x : Option Profile). is_some x ≡ false) (m.users n) none))
+
+-- ---- an object is gone
+
+none_found : (x : Object) → Some x ≡ None → ⊥
+none_found x h = cc
+
+none_left_out : (n : ℕ) (os : List Object) → object_in os n ≡ None → without_in os n ≡ os
+none_left_out n [] h = refl
+none_left_out n (o ∷ os) h =
+    elim (has_number n o) as (λ b. cond b (Some o) (object_in os n) ≡ None → cond (not b) (o ∷ without_in os n) (without_in os n) ≡ o ∷ os) [
+      | true ↦ λ g. absurd (none_found o g)
+      | false ↦ λ g. ap (λ (l : List Object). o ∷ l) (none_left_out n os g)
+    ] h
+
+-- where there is no object of the number, none is taken out
+pub none_gone : (h : Held) (n : ℕ) → object h n ≡ None → without h n ≡ h
+none_gone h n none = ap (λ (os : List Object). record h { objects = os }) (none_left_out n h.objects none)
 
 -- ---- a space gets another length
 
