@@ -10,8 +10,9 @@ use Rattle.s38_memory.specs.declared.cell.Cell.{Cell}
 use Rattle.s38_memory.specs.Tagged.{resized}
 use Rattle.s38_profiles.specs.declared.profile.Profile.{Profile}
 use Rattle.s38_profiles.specs.ProfileMaps.{ProfileMaps}
-use Rattle.s38_profiles.specs.Rows.{SetsRow, row_at, row_key, row_with}
-use Rattle.s38_profiles.specs.Users.{SetsUser, Users, charge_in as charge_of, entered, user_at}
+use Rattle.s38_profiles.specs.Rows.{Rows, SetsRow, row_at, row_key, row_with}
+use Rattle.s38_profiles.specs.Users.{SetsUser, Users, charge_in as charge_of, entered, limit_in as kept_limit, user_at}
+use Rattle.s38_objects.specs.Lawful.{IsLawful}
 use Rattle.s38_rules.specs.declared.object.Body.{Body}
 use Rattle.s38_rules.specs.declared.object.Body.TheVariants as bodies
 use Rattle.s38_rules.specs.declared.object.Object.{Object}
@@ -21,17 +22,17 @@ use Rattle.s38_rules.specs.Headers.{limit_of}
 use Rattle.s38_rules.specs.Held.{Held, change, change_in, charge_beside, charge_in, has_number, object, object_in, owner_in, pages_of, without, without_in}
 use Rattle.s38_rules.specs.Keeping.{IsUser, paid}
 use Rattle.s38_rules.specs.Kept.{Mirrors, kept_profile, profile_by}
-use Rattle.s38_rules.specs.Parts.{on_space, part_at, part_in, profile_part, set_profile}
+use Rattle.s38_rules.specs.Parts.{on_space, part_in, profile_part, set_profile, space_part}
 use Rattle.s38_rules.specs.PrivateRows.{AreRows}
-use Rattle.s38_rules.specs.Standing.{granted, restand}
+use Rattle.s38_rules.specs.Standing.{granted, owned_by, restand, standing_of, with_standing}
 use Rattle.s38_rules.specs.State.{State}
 use Rattle.s38_rules.specs.Spaces.{owner_pays, pages_for_length}
-use Rattle.s38_rules.proofs.ChargeLaws.{AreRising, beside_found, change_absent, charge_without, own_pages, pages_within, some_page}
+use Rattle.s38_rules.proofs.ChargeLaws.{AreRising, KeepsNumber, beside_found, change_absent, charge_without, found_number, own_pages, pages_within, rising_by, some_page}
 use Rattle.s38_rules.proofs.PartLaws.{part_kept}
 use Rattle.s38_rules.proofs.RuleLaws.{fails_none}
 use Rattle.s38_rules.proofs.UserLaws.{charge_kept, is_user, user_there}
 use Rattle.s38_changes.proofs.CellLaws.{resized_length}
-use Rattle.s38_changes.proofs.KeptLaws.{charge_read, granted_kept, profile_kept, read_kept, resized_kept}
+use Rattle.s38_changes.proofs.KeptLaws.{charge_read, given_by, given_kept, gone_kept, granted_kept, profile_kept, read_kept, resized_kept}
 
 -- where there is no object of the number, a change leaves all
 pub none_changed : (h : Held) (n : ℕ) (f : Object → Object) → object h n ≡ None → change h n f ≡ h
@@ -39,6 +40,15 @@ none_changed h n f none = ap (λ (os : List Object). record h { objects = os }) 
 
 pub stays : (s : State) (n : ℕ) (f : Object → Object) → object s.held n ≡ None → s ≡ record s { held = change s.held n f }
 stays s n f none = ap (λ (h : Held). record s { held = h }) (sym (none_changed s.held n f none))
+
+-- two changes of an object are one
+changed_twice : (n : ℕ) (f g : Object → Object) (os : List Object) → KeepsNumber f → change_in (change_in os n f) n g ≡ change_in os n (λ o. g (f o))
+changed_twice n f g [] keeps = refl
+changed_twice n f g (o ∷ os) keeps =
+    elim (has_number n o) as (λ b. has_number n o ≡ b → change_in (cond b (f o ∷ os) (o ∷ change_in os n f)) n g ≡ cond b (g (f o) ∷ os) (o ∷ change_in os n (λ x. g (f x)))) [
+      | true ↦ λ q. let here : has_number n (f o) ≡ true = ap (λ (k : ℕ). k == n) (keeps o) ∙ q in rw here refl
+      | false ↦ λ q. rw q (ap (λ (l : List Object). o ∷ l) (changed_twice n f g os keeps))
+    ] refl
 
 -- ---- a row is set
 
@@ -106,6 +116,56 @@ given_room maps mid h n user limit o rising found rule is small set m =
     ] refl in
     omega (arith, most, within, is, small)
 
+limit_body_kept : (b : Body) (charge : ℕ) → kept_limit (profile_by b charge) ≡ limit_of b
+limit_body_kept (bodies.Profile special limit) charge = refl
+limit_body_kept bodies.Context charge = refl
+limit_body_kept (bodies.Program code) charge = refl
+limit_body_kept (bodies.Space cells) charge = refl
+limit_body_kept (bodies.Queue q) charge = refl
+
+limit_kept : (o : Option Object) (charge : ℕ) → kept_limit (kept_profile o charge) ≡ limit_in o
+limit_kept None charge = refl
+limit_kept (Some o) charge = limit_body_kept o.body charge
+
+-- what is kept of a user's limit
+pub limit_read : (maps : ProfileMaps) (h : Held) (user : ℕ) → Mirrors maps h → kept_limit (user_at maps.users user) ≡ limit_in (object h user)
+limit_read maps h user m = ap kept_limit (m.users user) ∙ limit_kept (object h user) (charge_in h.objects user)
+
+-- an object is another user's, who has a row and pays for it
+pub restood : (h set owned : Held) (n : ℕ) (user : ObjNum) (r : Rights) → set ≡ restand h n (granted user r) → owned ≡ restand set n (owned_by user) → owned ≡ restand h n (λ s. owned_by user (granted user r s))
+restood h set owned n user r first then =
+    then ∙ ap (λ (k : Held). restand k n (owned_by user)) first
+    ∙ ap (λ (os : List Object). record h { objects = os })
+        (changed_twice n (λ o. with_standing (granted user r (standing_of o)) o) (λ o. with_standing (owned_by user (standing_of o)) o) h.objects (λ o. refl))
+
+pub object_given : (maps both lessened after : ProfileMaps) (h set owned : Held) (n : ℕ) (o : Object) (user : ObjNum) (r : Rights) (pages : ℕ) → IsLawful h → object h n ≡ Some o → AreRows o.rows
+    → taker_rule h n user.0 (object h n) ≡ None → pages ≡ pages_of o.body
+    → set ≡ restand h n (granted user r) → SetsRow maps.rows (row_key user.0 n) (row_with r) both.rows → both.users ≡ maps.users → owned ≡ restand set n (owned_by user)
+    → SetsUser both.users o.owner.0 (paid (charge_of (user_at both.users o.owner.0) - pages) (user_at both.users o.owner.0)) lessened.users → lessened.rows ≡ both.rows
+    → SetsUser lessened.users user.0 (paid (charge_of (user_at lessened.users user.0) + pages) (user_at lessened.users user.0)) after.users → after.rows ≡ lessened.rows
+    → Mirrors maps h → Mirrors after owned
+object_given maps both lessened after h set owned n o user r pages lawful found are rule is first row users then less less_rows more more_rows m =
+    let a : ℕ = o.owner.0 in
+    subst (λ (k : Held). Mirrors after k) (sym (restood h set owned n user r first then))
+    (given_kept maps after lessened.users h n o user r (given_by h lawful.given) found are (taker_there maps h n user.0 o found rule m)
+        (subst (λ (us : Users). SetsUser us a (paid (charge_of (user_at us a) - pages_of o.body) (user_at us a)) lessened.users) users
+        (subst (λ (k : ℕ). SetsUser both.users a (paid (charge_of (user_at both.users a) - k) (user_at both.users a)) lessened.users) is less))
+        (subst (λ (k : ℕ). SetsUser lessened.users user.0 (paid (charge_of (user_at lessened.users user.0) + k) (user_at lessened.users user.0)) after.users) is more)
+        (subst (λ (rs : Rows). SetsRow maps.rows (row_key user.0 n) (row_with r) rs) (sym (more_rows ∙ less_rows)) row)
+        m)
+
+-- what the new owner pays for can be counted
+pub given_counted : (maps both lessened : ProfileMaps) (h : Held) (n : ℕ) (o : Object) (user limit pages : ℕ) → IsLawful h → object h n ≡ Some o
+    → taker_rule h n user (object h n) ≡ None → pages ≡ pages_of o.body → both.users ≡ maps.users → limit ≡ kept_limit (user_at maps.users user) → limit < 2 ^ 32
+    → SetsUser both.users o.owner.0 (paid (charge_of (user_at both.users o.owner.0) - pages) (user_at both.users o.owner.0)) lessened.users
+    → Mirrors maps h → charge_of (user_at lessened.users user) + pages < 2 ^ 64
+given_counted maps both lessened h n o user limit pages lawful found rule is users limited small less m =
+    let a : ℕ = o.owner.0 in
+    let fits = given_room maps lessened.users h n user limit o (rising_by h.objects lawful.rising) found rule (limited ∙ limit_read maps h user m) small
+        (subst (λ (us : Users). SetsUser us a (paid (charge_of (user_at us a) - pages_of o.body) (user_at us a)) lessened.users) users
+        (subst (λ (k : ℕ). SetsUser both.users a (paid (charge_of (user_at both.users a) - k) (user_at both.users a)) lessened.users) is less)) m in
+    omega (arith, fits, is)
+
 -- ---- a profile is set
 
 no_user : IsSome (kept_profile None 0) → ⊥
@@ -167,6 +227,16 @@ none_left_out n (o ∷ os) h =
 pub none_gone : (h : Held) (n : ℕ) → object h n ≡ None → without h n ≡ h
 none_gone h n none = ap (λ (os : List Object). record h { objects = os }) (none_left_out n h.objects none)
 
+-- an object that is taken out is forgotten
+pub forgotten : (maps after : ProfileMaps) (h : Held) (n : ℕ) (o : Object) → IsLawful h → object h n ≡ Some o
+    → ((user m : ℕ) → row_at after.rows (row_key user m) ≡ cond (o.number.0 == m) None (row_at maps.rows (row_key user m)))
+    → ((user : ℕ) → user_at after.users user ≡ cond (o.number.0 == user) None (cond (o.owner.0 == user) (paid (charge_of (user_at maps.users o.owner.0) - pages_of o.body) (user_at maps.users o.owner.0)) (user_at maps.users user)))
+    → Mirrors maps h → Mirrors after (without h n)
+forgotten maps after h n o lawful found rows users m =
+    let here : o.number.0 ≡ n = found_number n o h.objects found in
+    subst (λ (k : ℕ). Mirrors after (without h k)) here
+    (gone_kept maps after h o.number.0 o (rising_by h.objects lawful.rising) (ap (λ (k : ℕ). object h k) here ∙ found) rows users m)
+
 -- ---- a space gets another length
 
 -- what its owner pays for can be counted
@@ -194,3 +264,21 @@ length_kept maps after h n len o cells found e set same m =
         let many = resized_length len cells in
         omega (arith, kept, within, many))
     set same m
+
+pub length_counted : (maps : ProfileMaps) (h : Held) (n len limit : ℕ) (o : Object) → IsLawful h → object h n ≡ Some o → owner_pays h n (pages_for_length len) ≡ None
+    → limit ≡ kept_limit (user_at maps.users o.owner.0) → limit < 2 ^ 32 → Mirrors maps h
+    → charge_of (user_at maps.users o.owner.0) - pages_of o.body + pages_for_length len < 2 ^ 64
+length_counted maps h n len limit o lawful found rule is small m =
+    resized_room maps h n (pages_for_length len) limit o (rising_by h.objects lawful.rising) found rule (is ∙ limit_read maps h o.owner.0 m) small m
+
+no_space : (b : Body) → ((cells : List Cell) → b ≡ bodies.Space cells → ⊥) → space_part.of b ≡ None
+no_space (bodies.Space cells) none = absurd (none cells refl)
+no_space bodies.Context none = refl
+no_space (bodies.Program code) none = refl
+no_space (bodies.Profile special limit) none = refl
+no_space (bodies.Queue q) none = refl
+
+-- the object of a number is no space, and nothing is changed
+pub space_stays : (s : State) (n : ℕ) (f : List Cell → List Cell) (o : Object) → object s.held n ≡ Some o → ((cells : List Cell) → o.body ≡ bodies.Space cells → ⊥) → s ≡ record s { held = on_space s.held n f }
+space_stays s n f o found none =
+    ap (λ (h : Held). record s { held = h }) (sym (part_kept space_part s.held n f (ap (λ (r : Option Object). part_in space_part r) found ∙ no_space o.body none)))

@@ -1,13 +1,14 @@
-use Rattle.std.proofs.Common.{rules, ◌≡◌, ◌≤◌, ◌%◌, All, OnErr, OnOk, None, true, ℕ, ◌+◌, ◌-◌, ◌*◌, ◌<◌, length, ◌/◌, Bool, false, nat_eq, nat_lt, List, [], ◌∷◌, ◌++◌, slice_index_or, slice_set, bit_and, bit_or, Fits, w8, w32, w64, Bor, MutBor}
-use Rattle.std.specs.Option.{option_copied}
-use Rattle.s38_memory.specs.Cell.{IsCell}
-use Rattle.s38_memory.specs.Tagged.{resized}
-use Rattle.s38_rules.specs.Cells.{with_bytes, with_cells, with_pointer}
-use Rattle.s38_rules.specs.Operands.{put_value}
-use Rattle.s38_rules.specs.Parts.{on_space}
-use Rattle.s38_rules.specs.Spaces.{cells_put, is_space_length, owner_pays, pages_for_length}
+use Rattle.std.proofs.Common.{subst, sym}
+use Rattle.s38_rules.specs.Cells.{with_cells}
+use Rattle.s38_rules.specs.Held.{Held}
+use Rattle.s38_rules.specs.Kept.{Mirrors}
+use Rattle.s38_rules.specs.Parts.{cells_at}
+use Rattle.s38_changes.proofs.CellLaws.{cells_length}
+use Rattle.s38_changes.proofs.KeptLaws.{cells_kept}
 use Rattle.s38_changes.proofs.spaces.put_cells.Goals as goal
 
--- src/spaces.rt:64:5
 pub invariant_of-world : goal.invariant_of-world
-invariant_of-world c = ?
+invariant_of-world c =
+    (c.world.invariant.0, subst (λ (h : Held). Mirrors c.world.inside.profiles h) (sym c.copy_in.ensures)
+    (cells_kept c.world.inside.profiles c.world.inside.objects c.target.result.0 (with_cells c.start-at.result c.args.cells.now)
+        (cells_length c.start-at.result c.args.cells.now (cells_at c.world.inside.objects c.target.result.0)) c.world.invariant.1))

@@ -1,17 +1,14 @@
-use Rattle.std.proofs.Common.{rules, ◌≡◌, ◌≤◌, ◌%◌, All, OnErr, OnOk, None, true, ℕ, ◌+◌, ◌-◌, ◌*◌, ◌<◌, length, ◌/◌, Bool, false, nat_eq, nat_lt, List, [], ◌∷◌, ◌++◌, slice_index_or, slice_set, bit_and, bit_or, Fits, w8, w32, w64, Bor, MutBor}
-use Rattle.std.specs.Option.{option_copied}
-use Rattle.s38_memory.specs.Cell.{IsCell}
-use Rattle.s38_memory.specs.Tagged.{resized}
-use Rattle.s38_rules.specs.Cells.{with_bytes, with_cells, with_pointer}
-use Rattle.s38_rules.specs.Operands.{put_value}
-use Rattle.s38_rules.specs.Parts.{on_space}
-use Rattle.s38_rules.specs.Spaces.{cells_put, is_space_length, owner_pays, pages_for_length}
+use Rattle.std.proofs.Common.{List, sym, ap, ◌∙◌}
+use Rattle.s38_memory.specs.declared.cell.Cell.{Cell}
+use Rattle.s38_rules.specs.Cells.{with_bytes}
+use Rattle.s38_rules.specs.Parts.{over_part, space_part}
+use Rattle.s38_rules.proofs.PartLaws.{part_kept, part_written}
 use Rattle.s38_changes.proofs.spaces.write.Goals as goal
 
--- src/spaces.rt:24:9
 pub returns-in_default : goal.returns-in_default
-returns-in_default c = ?
+returns-in_default c = sym (part_kept space_part c.args.objects.now c.args.number.0 (with_bytes c.args.at c.args.bytes.now) (sym c.in_default.ensures.value))
 
--- src/spaces.rt:20:1
 pub returns : goal.returns
-returns c = ?
+returns c =
+    ap (λ (cells : List Cell). over_part space_part c.args.objects.now c.args.number.0 (λ _. cells)) c.write_cells.ensures
+    ∙ part_written space_part c.args.objects.now c.args.number.0 (with_bytes c.args.at c.args.bytes.now) c.in-Some.cells.now (sym c.in-Some.ensures.value)
