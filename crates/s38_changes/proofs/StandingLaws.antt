@@ -46,7 +46,7 @@ changed_twice : (n : ℕ) (f g : Object → Object) (os : List Object) → Keeps
 changed_twice n f g [] keeps = refl
 changed_twice n f g (o ∷ os) keeps =
     elim (has_number n o) as (λ b. has_number n o ≡ b → change_in (cond b (f o ∷ os) (o ∷ change_in os n f)) n g ≡ cond b (g (f o) ∷ os) (o ∷ change_in os n (λ x. g (f x)))) [
-      | true ↦ λ q. let here : has_number n (f o) ≡ true = ap (λ (k : ℕ). k == n) (keeps o) ∙ q in rw here refl
+      | true ↦ λ q. let here : has_number n (f o) ≡ true = ap (λ (k : ObjNum). k.0 == n) (keeps o) ∙ q in rw here refl
       | false ↦ λ q. rw q (ap (λ (l : List Object). o ∷ l) (changed_twice n f g os keeps))
     ] refl
 
