@@ -77,8 +77,8 @@ addition_kept maps mid after h new o number next given own allowed rows row user
     let owner : o.owner.0 < h.next = payer_given h o.owner.0 (charge_in h.objects o.owner.0) (pages_of o.body) 0 (some_page o.body) given allowed in
     let entered : SetsUser maps.users h.next (profile_by o.body 0) mid.users = subst (λ (n : ℕ). SetsUser maps.users n (profile_by o.body 0) mid.users) next user in
     let set : SetsRow maps.rows (row_key o.owner.0 h.next) (Some (record { 0 = 255 })) after.rows =
-        subst (λ (rs : Rows). SetsRow maps.rows (row_key o.owner.0 h.next) (Some (record { 0 = 255 })) rs) (sym same)
-        (subst (λ (n : ℕ). SetsRow maps.rows (row_key o.owner.0 n) (Some (record { 0 = 255 })) mid.rows) next row) in
+    subst (λ (rs : Rows). SetsRow maps.rows (row_key o.owner.0 h.next) (Some (record { 0 = 255 })) rs) (sym same)
+    (subst (λ (n : ℕ). SetsRow maps.rows (row_key o.owner.0 n) (Some (record { 0 = 255 })) mid.rows) next row) in
     subst (λ (k : Held). Mirrors after k) (sym made) (added_kept maps after mid.users h o (record { 0 = 255 }) given own owner rows entered paying set m)
 
 -- ---- where a new object is put
