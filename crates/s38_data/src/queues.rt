@@ -119,16 +119,27 @@ fn put_in(objects: &mut Objects, number: ObjNum, key: &[u8], text: &[u8]) -> Res
     put_queue(queue, key, text)
 }
 
+/// A message stands last in the queue of a number; where memory is refused nothing changes.
+fn put(world: &mut World<Objects>, number: ObjNum, key: &[u8], text: &[u8]) -> Result<(), NoMemory>
+    ensures ok { OnOk result (world.new ≡ record world.old { held = on_queue world.old.held number.0 (λ q. with_message q (message key.now text.now)) }) }
+    ensures err { OnErr result (world.new ≡ world.old) }
+{
+    match put_in(&mut world.objects, number, key, text) {
+        Ok(()) => Ok(()),
+        Err(fault) => Err(fault),
+    }
+}
+
 /// The message stands last in the queue.
 #[tactic(auto, unfolding(s38_rules::specs::Queues::enq_changes))]
-fn enq(alloc: Global, objects: &mut Objects, operands: &[Operand]) -> Result<(), NoMemory>
-    ensures ok { OnOk result (objects.new ≡ enq_changes objects.old operands.now) }
-    ensures err { OnErr result (objects.new ≡ objects.old) }
+fn enq(alloc: Global, world: &mut World<Objects>, operands: &[Operand]) -> Result<(), NoMemory>
+    ensures ok { OnOk result (world.new ≡ record world.old { held = enq_changes world.old.held operands.now }) }
+    ensures err { OnErr result (world.new ≡ world.old) }
 {
-    let number = target(objects, operands, 1);
-    match bytes_at(alloc, objects, operands, 2) {
-        Ok(key) => match bytes_at(alloc, objects, operands, 3) {
-            Ok(text) => put_in(objects, number, key.as_slice(), text.as_slice()),
+    let number = target(&world.objects, operands, 1);
+    match bytes_at(alloc, &world.objects, operands, 2) {
+        Ok(key) => match bytes_at(alloc, &world.objects, operands, 3) {
+            Ok(text) => put(world, number, key.as_slice(), text.as_slice()),
             Err(fault) => Err(fault),
         },
         Err(fault) => Err(fault),
@@ -181,12 +192,12 @@ fn take_in(objects: &mut Objects, number: ObjNum)
 
 /// The oldest message leaves the queue.
 #[tactic(auto, using(crate::proofs::QueueLaws::deq_full), unfolding(s38_rules::specs::Queues::deq_changes))]
-fn deq(objects: &mut Objects, operands: &[Operand])
-    requires { deq_fails objects.old operands.now ≡ None }
-    ensures { objects.new ≡ deq_changes objects.old operands.now }
+fn deq(world: &mut World<Objects>, operands: &[Operand])
+    requires { deq_fails world.old.held operands.now ≡ None }
+    ensures { world.new ≡ record world.old { held = deq_changes world.old.held operands.now } }
 {
-    let number = target(objects, operands, 2);
-    take_in(objects, number);
+    let number = target(&world.objects, operands, 2);
+    take_in(&mut world.objects, number);
 }
 
 // ---- the family
@@ -271,9 +282,9 @@ pub fn apply(
             destruction_changes(world, operands);
             Ok(())
         }
-        Op::Enq => enq(alloc, &mut world.objects, operands),
+        Op::Enq => enq(alloc, world, operands),
         Op::Deq => {
-            deq(&mut world.objects, operands);
+            deq(world, operands);
             Ok(())
         }
         _ => Ok(()),
