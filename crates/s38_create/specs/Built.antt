@@ -1,22 +1,10 @@
 -- The instructions that this machine has: creation refuses the others.
 use Rattle.std.specs.Prelude.{Bool, true, false}
 use Rattle.s38_base.specs.declared.op.Op.{Op}
-use Rattle.s38_base.specs.declared.op.Op.TheVariants.{Crtctx, Modadr, Rename, Matctx, Crtup, Modup, Grant, Retract, Xfro, Testau, Matau, Matauobj, Lock, Unlock, Xfrlock, Matobjlk, Crtinx, Insinxen, Fndinxen, Rmvinxen, Crtds, Crtcr, Setcr, Insdsen, Retdsen, Updsen, Deldsen, Crtjs, Crtjp, Jrnlobj, Retjent, Crtcb, Commit, Decommit, Ensobj, Desctx, Desup, Desinx, Desds, Descr, Desjs, Desjp, Descb}
+use Rattle.s38_base.specs.declared.op.Op.TheVariants.{Lock, Unlock, Xfrlock, Matobjlk, Crtinx, Insinxen, Fndinxen, Rmvinxen, Crtds, Crtcr, Setcr, Insdsen, Retdsen, Updsen, Deldsen, Crtjs, Crtjp, Jrnlobj, Retjent, Crtcb, Commit, Decommit, Ensobj, Desinx, Desds, Descr, Desjs, Desjp, Descb}
 
 -- these are not built yet
 unfoldable pub is_built : Op → Bool
-is_built Crtctx = false
-is_built Modadr = false
-is_built Rename = false
-is_built Matctx = false
-is_built Crtup = false
-is_built Modup = false
-is_built Grant = false
-is_built Retract = false
-is_built Xfro = false
-is_built Testau = false
-is_built Matau = false
-is_built Matauobj = false
 is_built Lock = false
 is_built Unlock = false
 is_built Xfrlock = false
@@ -40,8 +28,6 @@ is_built Crtcb = false
 is_built Commit = false
 is_built Decommit = false
 is_built Ensobj = false
-is_built Desctx = false
-is_built Desup = false
 is_built Desinx = false
 is_built Desds = false
 is_built Descr = false

@@ -11,18 +11,6 @@ pub fn is_built(op: Op) -> bool
     ensures { result ≡ is_built op }
 {
     match op {
-        Op::Crtctx => false,
-        Op::Modadr => false,
-        Op::Rename => false,
-        Op::Matctx => false,
-        Op::Crtup => false,
-        Op::Modup => false,
-        Op::Grant => false,
-        Op::Retract => false,
-        Op::Xfro => false,
-        Op::Testau => false,
-        Op::Matau => false,
-        Op::Matauobj => false,
         Op::Lock => false,
         Op::Unlock => false,
         Op::Xfrlock => false,
@@ -46,8 +34,6 @@ pub fn is_built(op: Op) -> bool
         Op::Commit => false,
         Op::Decommit => false,
         Op::Ensobj => false,
-        Op::Desctx => false,
-        Op::Desup => false,
         Op::Desinx => false,
         Op::Desds => false,
         Op::Descr => false,
