@@ -2,16 +2,18 @@
 
 use crate::tables::{Acts, SERIAL, Table};
 
-/// One instruction of a user that made three contexts: it has all rights on C and none on D, and destroyed G. In C are a queue
-/// Q and a queue R, on which it has no right; in D is a queue Q, and H was one in G. Each exception ends the program.
+/// One instruction of a user that made three contexts: it has all rights on C and none on D, and destroyed G. In C are
+/// a queue Q and a queue R, on which it has no right; in D is a queue Q, and H was one in G. Each exception ends the
+/// program.
 pub static CONTEXTS: Acts = Acts {
     deck: (
         "PROGRAM P;DCL U PTR;DCL M PTR;DCL C PTR;DCL D PTR;DCL G PTR;DCL Q PTR;DCL R PTR;DCL S PTR
-DCL H PTR;DCL N PTR;DCL W CHAR:4;DCL X BASED N 0 CHAR:4;DCL E EXCM * LAST
+DCL H PTR;DCL N PTR;DCL A PTR;DCL W CHAR:4;DCL X BASED N 0 CHAR:4;DCL E EXCM * LAST
 RSLVSP U,*MACHINE,PROFILE/00/QUSER,NONE;RSLVSP M,*MACHINE,CONTEXT/00/QMACHINE,NONE
 CRTCTX C,CONTEXT/00/C,NONE;CRTCTX D,CONTEXT/00/D,NONE;CRTCTX G,CONTEXT/00/G,NONE
 CRTQ Q,C,QUEUE/00/Q,NONE,FIFO,0,8;CRTQ R,C,QUEUE/00/R,NONE,FIFO,0,8;CRTQ S,D,QUEUE/00/Q,NONE,FIFO,0,8
-CRTQ H,G,QUEUE/00/Q,NONE,FIFO,0,8;DESCTX G;RETRACT D,U,ALL;RETRACT R,U,ALL;",
+CRTQ H,G,QUEUE/00/Q,NONE,FIFO,0,8;DESCTX G;RETRACT D,U,ALL;RETRACT R,U,ALL
+CRTS A,*NONE,SPACE/00/A,NONE,16;SETSPPFP A,A;",
         ";LABEL LAST;END;STAGE;JOB A USER ",
         " RUN P;",
     ),
@@ -19,23 +21,27 @@ CRTQ H,G,QUEUE/00/Q,NONE,FIFO,0,8;DESCTX G;RETRACT D,U,ALL;RETRACT R,U,ALL;",
         "JOB 1 A USER ",
         ";1 START OK;2 RSLVSP OK S4/00;3 RSLVSP OK S1/00;4 CRTCTX OK S6/00;5 CRTCTX OK S7/00
 6 CRTCTX OK S8/00;7 CRTQ OK S9/00;8 CRTQ OK S10/00;9 CRTQ OK S11/00;10 CRTQ OK S12/00;11 DESCTX OK
-12 RETRACT OK;13 RETRACT OK;14 ",
-        ";15 FINISH RETURN;DONE 15;",
+12 RETRACT OK;13 RETRACT OK;14 CRTS OK S13/00;15 SETSPPFP OK A13+0;16 ",
+        ";17 FINISH RETURN;DONE 17;",
     ),
     rows: &[
         ("QUSER", "CRTCTX N,CONTEXT/00/C,NONE", "CRTCTX 0E01 2"),
-        ("QUSER", "CRTCTX N,CONTEXT/07/C,NONE", "CRTCTX OK S13/00"),
-        ("QUSER", "CRTCTX N,CONTEXT/00/G,NONE", "CRTCTX OK S13/00"),
+        ("QUSER", "CRTCTX N,CONTEXT/07/C,NONE", "CRTCTX OK S14/00"),
+        ("QUSER", "CRTCTX N,CONTEXT/00/G,NONE", "CRTCTX OK S14/00"),
         ("QUSER", "MATCTX X,N", "MATCTX 2401 1"),
         ("QUSER", "MATCTX W,N", "MATCTX 2401 2"),
+        ("QUSER", "MATCTX W,A", "MATCTX 2402 2"),
         ("QUSER", "MATCTX W,G", "MATCTX 2202 2"),
         ("QUSER", "MATCTX W,R", "MATCTX 2403 2"),
         ("QUSER", "MATCTX W,D", "MATCTX 0A01 2 RETRIEVE"),
         ("QUSER", "MATCTX W,C", "MATCTX OK 00000002"),
         ("QSECOFR", "MATCTX W,*MACHINE", "MATCTX OK 00000006"),
-        // MODADR: rights on the object, on the new context and on the present one, in this order, before its conditions.
+        // MODADR: rights on the object, on the new context and on the present one, in this order, before its
+        // conditions.
         ("QUSER", "MODADR N,N", "MODADR 2401 1"),
+        ("QUSER", "MODADR A,N", "MODADR 2402 1"),
         ("QUSER", "MODADR R,N", "MODADR 2401 2"),
+        ("QUSER", "MODADR R,A", "MODADR 2402 2"),
         ("QUSER", "MODADR R,G", "MODADR 2202 2"),
         ("QUSER", "MODADR R,Q", "MODADR 2403 2"),
         ("QUSER", "MODADR R,D", "MODADR 0A01 1 OBJMGT"),
@@ -56,6 +62,8 @@ CRTQ H,G,QUEUE/00/Q,NONE,FIFO,0,8;DESCTX G;RETRACT D,U,ALL;RETRACT R,U,ALL;",
         ("QUSER", "MODADR H,*NONE", "MODADR OK"),
         // RENAME: rights on the object and on its context, in this order, before its conditions.
         ("QUSER", "RENAME N,QUEUE/00/R", "RENAME 2401 1"),
+        ("QUSER", "RENAME A,SPACE/00/A", "RENAME 2402 1"),
+        ("QUSER", "RENAME G,CONTEXT/00/G", "RENAME 2202 1"),
         ("QUSER", "RENAME R,SPACE/00/R", "RENAME 0A01 1 OBJMGT"),
         ("QUSER", "RENAME D,CONTEXT/00/X", "RENAME 0A01 1 OBJMGT"),
         ("QUSER", "RENAME S,SPACE/00/R", "RENAME 0A01 0 UPDATE"),
@@ -70,6 +78,7 @@ CRTQ H,G,QUEUE/00/Q,NONE,FIFO,0,8;DESCTX G;RETRACT D,U,ALL;RETRACT R,U,ALL;",
         ("QSECOFR", "RENAME M,CONTEXT/00/X", "RENAME OK"),
         // DESCTX: the right before the condition; a context that holds objects is destroyed.
         ("QUSER", "DESCTX N", "DESCTX 2401 1"),
+        ("QUSER", "DESCTX A", "DESCTX 2402 1"),
         ("QUSER", "DESCTX G", "DESCTX 2202 1"),
         ("QUSER", "DESCTX R", "DESCTX 2403 1"),
         ("QUSER", "DESCTX D", "DESCTX 0A01 1 OBJCTL"),
@@ -137,8 +146,8 @@ MATCTX W,D;MODADR R,D;END;STAGE;JOB A USER QUSER RUN P BUDGET 40;",
 6 CRTCTX OK S9/00;7 RSLVSP 2201 3;8 MATCTX OK 00000000;9 RENAME OK;10 MODADR OK
 11 MATCTX OK 00000001;12 MODADR 0E01 1;13 FINISH UNHANDLED 0E01;DONE 13;",
         ),
-        // A search passes over contexts of the job's list that the user may not read, and over one that is gone,
-        // also where a new one has its name.
+        // A search passes over contexts of the job's list that the user may not read, and over one that is gone, also
+        // where a new one has its name.
         (
             "PROGRAM SETUP;DCL C PTR;DCL Q PTR;CRTCTX C,CONTEXT/00/SHED,NONE
 CRTQ Q,C,QUEUE/00/ORDERS,NONE,FIFO,0,8;CRTCTX C,CONTEXT/00/SHOP,ALL

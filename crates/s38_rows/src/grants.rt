@@ -4,17 +4,18 @@ use crate::answers::answers;
 use crate::tables::{SERIAL, Table};
 use std::test::Fail;
 
-/// BOB has OBJMGT and INSERT on ORDERS, OBJCTL and OBJMGT on BILLS, what all have on QLOCKED, and no right on a queue of his
-/// own, the last. His program up to its instructions: each exception ends it.
+/// BOB has OBJMGT and INSERT on ORDERS, OBJCTL and OBJMGT on BILLS, what all have on QLOCKED, and no right on a queue
+/// of his own, the last. His program up to its instructions: each exception ends it.
 const BEFORE: &str =
     "PROGRAM SETUP;DCL C PTR;DCL B PTR;DCL Q PTR;RSLVSP C,*MACHINE,CONTEXT/00/QGPL,NONE
 CRTUP B,PROFILE/00/BOB,NONE,100;CRTQ Q,C,QUEUE/00/ORDERS,NONE,FIFO,0,8;GRANT Q,B,OBJMGT+INSERT
 CRTQ Q,C,QUEUE/00/BILLS,NONE,FIFO,0,8;GRANT Q,B,OBJCTL+OBJMGT;END
-PROGRAM USE;DCL B PTR;DCL O PTR;DCL Q PTR;DCL R PTR;DCL L PTR;DCL T PTR;DCL N PTR;DCL V BIN:2
+PROGRAM USE;DCL B PTR;DCL O PTR;DCL Q PTR;DCL R PTR;DCL L PTR;DCL T PTR;DCL N PTR;DCL A PTR;DCL V BIN:2
 DCL W CHAR:11;DCL K CHAR:9;DCL J CHAR:34;DCL Y BASED N 0 BIN:2;DCL X BASED N 0 CHAR:9
 DCL E EXCM * LAST;RSLVSP B,*MACHINE,PROFILE/00/BOB,NONE;RSLVSP O,*MACHINE,PROFILE/00/QSECOFR,NONE
 RSLVSP Q,*LIST,QUEUE/00/ORDERS,NONE;RSLVSP R,*LIST,QUEUE/00/BILLS,NONE
-RSLVSP L,*LIST,QUEUE/00/QLOCKED,NONE;CRTQ T,*NONE,QUEUE/00/MINE,NONE,FIFO,0,8;RETRACT T,B,ALL;";
+RSLVSP L,*LIST,QUEUE/00/QLOCKED,NONE;CRTQ T,*NONE,QUEUE/00/MINE,NONE,FIFO,0,8;RETRACT T,B,ALL
+CRTS A,*NONE,SPACE/00/A,NONE,16;SETSPPFP A,A;";
 
 /// What is behind them.
 const BEHIND: &str = ";LABEL LAST;END;STAGE;JOB S USER QSECOFR RUN SETUP;STAGE
@@ -25,13 +26,13 @@ const LOG: &str =
     "JOB 1 S USER QSECOFR;1 START OK;2 RSLVSP OK S3/00;3 CRTUP OK S6/00;4 CRTQ OK S7/00;5 GRANT OK
 6 CRTQ OK S8/00;7 GRANT OK;8 FINISH RETURN;JOB 2 B USER BOB;9 START OK;10 RSLVSP OK S6/00
 11 RSLVSP OK S2/00;12 RSLVSP OK S7/00;13 RSLVSP OK S8/00;14 RSLVSP OK S5/00;15 CRTQ OK S9/00
-16 RETRACT OK;17 ";
+16 RETRACT OK;17 CRTS OK S10/00;18 SETSPPFP OK A10+0;19 ";
 
 /// An instruction, and its entry.
 pub static GRANTED: Table = Table {
     calls: SERIAL,
     deck: (BEFORE, BEHIND),
-    text: (LOG, ";18 FINISH RETURN;DONE 18;"),
+    text: (LOG, ";20 FINISH RETURN;DONE 20;"),
     status: 0,
     rows: &[
         // Who has OBJMGT and what is named may grant and retract it, but OBJCTL and OBJMGT.
@@ -51,7 +52,9 @@ pub static GRANTED: Table = Table {
         ),
         ("GRANT T,B,ALL", "GRANT OK"),
         ("GRANT N,N,ALL", "GRANT 2401 1"),
+        ("GRANT A,N,ALL", "GRANT 2402 1"),
         ("GRANT L,N,ALL", "GRANT 2401 2"),
+        ("GRANT L,A,ALL", "GRANT 2402 2"),
         ("GRANT L,Q,ALL", "GRANT 2403 2"),
         ("RETRACT Q,O,INSERT", "RETRACT OK"),
         ("RETRACT Q,B,DELETE", "RETRACT 0A01 1 DELETE"),
@@ -67,6 +70,7 @@ pub static GRANTED: Table = Table {
         ("RETRACT L,L,ALL", "RETRACT 2403 2"),
         // No right stands for ownership.
         ("XFRO N,N", "XFRO 2401 1"),
+        ("XFRO A,N", "XFRO 2402 1"),
         ("XFRO R,N", "XFRO 2401 2"),
         ("XFRO R,L", "XFRO 2403 2"),
         ("XFRO R,B", "XFRO 0A03 1"),
@@ -78,6 +82,7 @@ pub static GRANTED: Table = Table {
         ("TESTAU V,T,RETRIEVE", "TESTAU OK 0000"),
         ("TESTAU V,O,NONE", "TESTAU OK 0001"),
         ("TESTAU V,N,NONE", "TESTAU 2401 2"),
+        ("TESTAU V,A,NONE", "TESTAU 2402 2"),
         ("TESTAU Y,N,NONE", "TESTAU 2401 1"),
         // Owner, public rights and a row are told to who has OBJMGT.
         ("MATAU W,Q,B", "MATAU OK 0000000000000002004400"),
@@ -87,11 +92,12 @@ pub static GRANTED: Table = Table {
         ("MATAU W,T,*PUBLIC", "MATAU 0A01 2 OBJMGT"),
         ("MATAU X,N,N", "MATAU 2401 1"),
         ("MATAU W,N,N", "MATAU 2401 2"),
+        ("MATAU W,A,N", "MATAU 2402 2"),
         ("MATAU W,L,N", "MATAU 2401 3"),
         ("MATAU W,L,L", "MATAU 2403 3"),
         (
             "MATAUOBJ J,B",
-            "MATAUOBJ OK 0000000300000000000000070044000000000000000800C000000000000000090100",
+            "MATAUOBJ OK 0000000400000000000000070044000000000000000800C000000000000000090100",
         ),
     ],
 };
@@ -108,29 +114,29 @@ pub static SEEN: Table = Table {
             "GRANT T,B,OBJMGT;MATAU W,T,B;GRANT T,*PUBLIC,OBJMGT+UPDATE;MATAU W,T,*PUBLIC
 RETRACT T,*PUBLIC,DELETE+UPDATE;MATAU W,T,B;XFRO T,B;MATAU W,T,B;ENQ T,*NONE,'A';RETRACT T,B,INSERT
 XFRO T,O;MATAU W,T,O;GRANT T,*PUBLIC,DELETE;MATAU W,T,*PUBLIC;XFRO T,B",
-            "GRANT OK;18 MATAU OK 0000000000000006004000;19 GRANT OK;20 MATAU OK 0000000000000006414100
-21 RETRACT OK;22 MATAU OK 0000000000000006404000;23 XFRO OK;24 MATAU OK 000000000000000640FF00
-25 ENQ OK;26 RETRACT OK;27 XFRO OK;28 MATAU OK 000000000000000240FF00;29 GRANT OK
-30 MATAU OK 0000000000000002424200;31 XFRO 0A03 1;32 FINISH RETURN;DONE 32;",
+            "GRANT OK;20 MATAU OK 0000000000000006004000;21 GRANT OK;22 MATAU OK 0000000000000006414100
+23 RETRACT OK;24 MATAU OK 0000000000000006404000;25 XFRO OK;26 MATAU OK 000000000000000640FF00
+27 ENQ OK;28 RETRACT OK;29 XFRO OK;30 MATAU OK 000000000000000240FF00;31 GRANT OK
+32 MATAU OK 0000000000000002424200;33 XFRO 0A03 1;34 FINISH RETURN;DONE 34;",
         ),
         // Public rights and rows are apart: what is retracted from one stays in the other.
         (
             "GRANT Q,*PUBLIC,INSERT;MATAU W,Q,B;RETRACT Q,*PUBLIC,INSERT;ENQ Q,*NONE,'A'
 GRANT Q,*PUBLIC,INSERT;RETRACT Q,B,INSERT;MATAU W,Q,B;ENQ Q,*NONE,'A';RETRACT Q,O,INSERT;MATAU W,Q,O
 RETRACT Q,*PUBLIC,INSERT;ENQ Q,*NONE,'A'",
-            "GRANT OK;18 MATAU OK 0000000000000002044400;19 RETRACT OK;20 ENQ OK;21 GRANT OK
-22 RETRACT OK;23 MATAU OK 0000000000000002044000;24 ENQ OK;25 RETRACT OK
-26 MATAU OK 000000000000000204FB00;27 RETRACT OK;28 ENQ 0A01 1 INSERT;29 FINISH RETURN;DONE 29;",
+            "GRANT OK;20 MATAU OK 0000000000000002044400;21 RETRACT OK;22 ENQ OK;23 GRANT OK
+24 RETRACT OK;25 MATAU OK 0000000000000002044000;26 ENQ OK;27 RETRACT OK
+28 MATAU OK 000000000000000204FB00;29 RETRACT OK;30 ENQ 0A01 1 INSERT;31 FINISH RETURN;DONE 31;",
         ),
         (
             "XFRO T,O;GRANT T,B,INSERT",
-            "XFRO OK;18 GRANT 0A01 1 OBJMGT+INSERT;19 FINISH RETURN;DONE 19;",
+            "XFRO OK;20 GRANT 0A01 1 OBJMGT+INSERT;21 FINISH RETURN;DONE 21;",
         ),
     ],
 };
 
-/// A pointer to ORDERS in a space carries INSERT, and the next one OBJMGT and INSERT; the user has no right on ORDERS any more.
-/// The user's program up to its instructions, and the log behind the pointer to the space.
+/// A pointer to ORDERS in a space carries INSERT, and the next one OBJMGT and INSERT; the user has no right on ORDERS
+/// any more. The user's program up to its instructions, and the log behind the pointer to the space.
 pub static CARRIED: Table = Table {
     calls: SERIAL,
     deck: (
@@ -208,7 +214,8 @@ pub static OWNED: Table = Table {
     text: ("", ""),
     status: 0,
     rows: &[
-        // A row lasts until its last right is retracted, also that of one who gave the object away; none is made of nothing.
+        // A row lasts until its last right is retracted, also that of one who gave the object away; none is made of
+        // nothing.
         (
             "PROGRAM P;DCL B PTR;DCL O PTR;DCL Q PTR;DCL W CHAR:14
 RSLVSP O,*MACHINE,PROFILE/00/QSECOFR,NONE;CRTUP B,PROFILE/00/BOB,NONE,1
@@ -233,7 +240,8 @@ MATAU W,S,O;CPYBLA Z,W;MATAUOBJ W,O;CPYBLA Z,W;END;STAGE;JOB A USER QSECOFR RUN 
 5 CPYBLA OK;6 TESTAU OK;7 CPYNV OK 0001;8 MATAU OK;9 CPYBLA OK 000000000000000208FF0000
 10 MATAUOBJ OK;11 CPYBLA OK 000000060000000000000001;12 FINISH RETURN;DONE 12;",
         ),
-        // A program lends the rows and the ownership of its present owner, as long as it runs, and what is told to that one.
+        // A program lends the rows and the ownership of its present owner, as long as it runs, and what is told to that
+        // one.
         (
             "PROGRAM LEND ADOPT;DCL Q PTR;DCL K PTR;DCL U PTR;DCL V BIN:2;DCL W CHAR:24
 RSLVSP Q,*LIST,QUEUE/00/ORDERS,NONE;RSLVSP K,*MACHINE,PROFILE/00/CLERK,NONE
@@ -258,7 +266,8 @@ JOB 2 U USER QUSER;12 START OK;13 RSLVSP OK S7/00;14 RSLVSP OK S6/00;15 CALLX OK
     ],
 };
 
-/// A queue gets the rows of users that are destroyed again, until it has no room for a new row; a row that goes makes room.
+/// A queue gets the rows of users that are destroyed again, until it has no room for a new row; a row that goes makes
+/// room.
 const FILLED: &str =
     "PROGRAM P;DCL Q PTR;DCL U PTR;DCL O PTR;DCL E EXCM 1C03 FULL;DCL F EXCM 1C04 PAY;DCL G EXCM 1C03 LESS
 RSLVSP O,*MACHINE,PROFILE/00/QSECOFR,NONE;CRTQ Q,*NONE,QUEUE/00/Q,NONE,FIFO,0,8

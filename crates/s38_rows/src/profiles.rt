@@ -2,9 +2,9 @@
 
 use crate::tables::{Acts, SERIAL, Table};
 
-/// One instruction of a user. The security officer made three: AL with PROFILE, who may make objects in the machine context and
-/// owns a context, for which alone it has a page; BO with PROFILE, who controls the three; CY with ALLOBJ. Each exception ends
-/// the program.
+/// One instruction of a user. The security officer made three: AL with PROFILE, who may make objects in the machine
+/// context and owns a context, for which alone it has a page; BO with PROFILE, who controls the three; CY with ALLOBJ.
+/// Each exception ends the program.
 pub static PROFILES: Acts = Acts {
     deck: (
         "PROGRAM SETUP;DCL M PTR;DCL U PTR;DCL V PTR;DCL F PTR;DCL C PTR
@@ -128,7 +128,8 @@ pub static USERS: Table = Table {
     text: ("", ""),
     status: 0,
     rows: &[
-        // A start finds the present name of a profile that is there. The user of a process that has not ended is in use.
+        // A start finds the present name of a profile that is there. The user of a process that has not ended is in
+        // use.
         (
             "PROGRAM MAKE;DCL U PTR;CRTUP U,PROFILE/00/BOB,PROFILE,0;GRANT U,U,OBJCTL
 RENAME U,PROFILE/00/ROB;END

@@ -66,7 +66,7 @@ fn wrong_act(alloc: Global, acts: &Acts) -> Result<Option<(&'static str, &'stati
         let deck = [acts.deck.0, code, acts.deck.1, user, acts.deck.2];
         let text = [acts.text.0, user, acts.text.1, entry, acts.text.2];
         if !answers(alloc, &["serial"], &deck, &text, 0)? {
-            return Ok(Some((user, code)));
+            return Ok(Some((*user, *code)));
         }
     }
     Ok(None)
