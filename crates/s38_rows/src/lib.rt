@@ -8,6 +8,8 @@ mod commands;
 #[cfg(test)]
 mod computed;
 #[cfg(test)]
+mod contexts;
+#[cfg(test)]
 mod created;
 #[cfg(test)]
 mod decks;
@@ -16,9 +18,13 @@ mod exceptions;
 #[cfg(test)]
 mod faults;
 #[cfg(test)]
+mod grants;
+#[cfg(test)]
 mod invocations;
 #[cfg(test)]
 mod pages;
+#[cfg(test)]
+mod profiles;
 #[cfg(test)]
 mod programs;
 #[cfg(test)]

@@ -3,10 +3,13 @@
 use crate::answers::answers;
 use crate::commands::{BAD_DECKS, BAD_LINES, BAD_WORDS, CHECKED, RUN};
 use crate::computed::COMPUTED;
+use crate::contexts::{CONTEXTS, SHOPS};
 use crate::created::CREATED;
 use crate::decks::DECKS;
 use crate::exceptions::EXCEPTIONS;
+use crate::grants::{CARRIED, GRANTED, LENT, OWNED, SEEN};
 use crate::invocations::{ADOPTED, CALLED, MISMATCHED, OFFERED, PASSED};
+use crate::profiles::{PAID, PROFILES, USERS};
 use crate::programs::PROGRAMS;
 use crate::refused::{CHECKS, JOBS};
 use crate::rules::RULES;
@@ -23,6 +26,16 @@ pub struct Table {
     pub status: u8,
     /// What each row has of the deck, and of the text that is written of it.
     pub rows: &'static [(&'static str, &'static str)],
+}
+
+/// Rows of an instruction each, by a user, in a deck that is run.
+pub struct Acts {
+    /// The deck up to the instruction, from there to the user of its job, and the rest.
+    pub deck: (&'static str, &'static str, &'static str),
+    /// The text up to that user, from there to the entry, and the rest.
+    pub text: (&'static str, &'static str, &'static str),
+    /// What each row has: the user, the instruction, and its entry.
+    pub rows: &'static [(&'static str, &'static str, &'static str)],
 }
 
 /// The word that runs a deck.
@@ -42,6 +55,18 @@ fn wrong_row(
         let text = [table.text.0, log, table.text.1];
         if !answers(alloc, words, &deck, &text, table.status)? {
             return Ok(Some(code));
+        }
+    }
+    Ok(None)
+}
+
+/// The user and the instruction of the first row that is answered otherwise, if there is one.
+fn wrong_act(alloc: Global, acts: &Acts) -> Result<Option<(&'static str, &'static str)>, NoMemory> {
+    for (user, code, entry) in acts.rows {
+        let deck = [acts.deck.0, code, acts.deck.1, user, acts.deck.2];
+        let text = [acts.text.0, user, acts.text.1, entry, acts.text.2];
+        if !answers(alloc, &["serial"], &deck, &text, 0)? {
+            return Ok(Some((*user, *code)));
         }
     }
     Ok(None)
@@ -70,11 +95,27 @@ fn every_row_is_answered(rt: HostRuntime) -> Result<(), Fail> {
         &CALLED,
         &CREATED,
         &BAD_LINES,
+        &SHOPS,
+        &PAID,
+        &USERS,
+        &GRANTED,
+        &SEEN,
+        &CARRIED,
+        &LENT,
+        &OWNED,
     ];
     for table in tables {
         for words in table.calls {
             assert_eq!(rt; wrong_row(rt.alloc(), table, words)?, None);
         }
+    }
+    Ok(())
+}
+
+#[test]
+fn every_act_is_answered(rt: HostRuntime) -> Result<(), Fail> {
+    for acts in [&CONTEXTS, &PROFILES] {
+        assert_eq!(rt; wrong_act(rt.alloc(), acts)?, None);
     }
     Ok(())
 }
