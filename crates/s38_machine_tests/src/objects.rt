@@ -1,10 +1,10 @@
-//! Calls that can want memory, with ample memory: objects are added, resized and listed.
+//! Calls that can want memory, with ample memory: objects are added and listed, and get a row.
 
-use s38_base::{Id, Kind, Name, ObjNum, Rights, Seq};
+use s38_base::{Id, Kind, Name, ObjNum, Rights};
 use s38_memory::Tagged;
 use s38_objects::Objects;
 use s38_queues::{Order, Queue};
-use s38_rules::{Body, Object};
+use s38_rules::{Body, Object, RowList};
 use std::alloc::Global;
 use std::test::Fail;
 
@@ -21,33 +21,36 @@ fn object(alloc: Global, number: u64, kind: Kind, body: Body) -> Result<Object, 
         context: ObjNum(2),
         owner: ObjNum(1),
         public: Rights(0),
-        rows: Seq::new(alloc),
+        rows: RowList::of(alloc, ObjNum(1), Rights(255))?,
         body,
     })
 }
 
-/// Adds an object where its number and its name are free, and says whether it did.
+/// Adds an object where its number and its name are free and its context is there, and says whether it did.
 fn is_added(objects: &mut Objects, object: Object) -> bool {
     let number = object.number.0;
     let id = object.id;
     let is_free = objects.next_number() <= number && objects.find(object.context, &id).is_none();
-    number < 1 << 62 && is_free && objects.add(object).is_ok()
+    let is_placed = object.context.0 == number || objects.get(object.context).is_some();
+    number < 1 << 62 && is_free && is_placed && objects.add(object).is_ok()
 }
 
 #[test]
-fn objects_are_added_resized_and_listed(rt: HostRuntime) -> Result<(), Fail> {
+fn objects_are_added_and_listed(rt: HostRuntime) -> Result<(), Fail> {
     let alloc = rt.alloc();
     let mut objects = Objects::new(alloc);
+    assert!(rt;
+        is_added(
+            &mut objects,
+            object(alloc, 2, Kind::Context, Body::Context)?
+        )
+    );
     let queue = Body::Queue(Queue::new(alloc, Order::Fifo, 0, 100));
     assert!(rt; is_added(&mut objects, object(alloc, 3, Kind::Queue, queue)?));
     let space = Body::Space(Tagged::new(alloc, 1040)?);
     assert!(rt; is_added(&mut objects, object(alloc, 5, Kind::Space, space)?));
-    assert_eq!(rt; objects.charge(ObjNum(1)), 5);
-    objects.resize(ObjNum(5), 16)?;
-    assert_eq!(rt; objects.charge(ObjNum(1)), 3);
-    let contents = objects.contents(ObjNum(2))?;
-    assert_eq!(rt; contents.len(), 2);
-    assert_eq!(rt; contents[0].kind, Kind::Queue);
-    assert_eq!(rt; contents[1].kind, Kind::Space);
+    objects.set_row(ObjNum(3), ObjNum(7), Rights(8))?;
+    assert_eq!(rt; objects.names(alloc, ObjNum(2))?.len(), 3);
+    assert_eq!(rt; objects.names(alloc, ObjNum(3))?.len(), 0);
     Ok(())
 }

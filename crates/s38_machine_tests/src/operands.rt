@@ -1,58 +1,36 @@
 //! Calls that can want memory, with ample memory: a space is made, and read at operands.
 
-use s38_base::{Attr, Id, Kind, Name, ObjNum, Op, Pointer, Rights, Seq, Special};
+use s38_base::{Attr, Id, Kind, Name, ObjNum, Op, Pointer, Rights, Seq};
 use s38_code::{Operand, Request, Val};
 use s38_memory::Tagged;
 use s38_objects::Objects;
-use s38_operands::{
-    bytes_at, computing_gives, creation_changes, creation_fails, fitted, in_context, piece_at,
-    source_cells,
-};
-use s38_rules::{Body, Object};
+use s38_operands::{bytes_at, computing_gives, fitted, piece_at, source_cells, write_cells};
+use s38_rules::{Body, Object, RowList};
 use std::alloc::Global;
 use std::test::Fail;
 
-/// The user who makes objects.
-const OWNER: ObjNum = ObjNum(1);
-
-fn id(kind: Kind) -> Result<Id, Fail> {
-    Ok(Id {
-        kind,
+/// A space that begins with three letters, as object 2.
+fn with_space(alloc: Global) -> Result<Objects, Fail> {
+    let mut objects = Objects::new(alloc);
+    let id = Id {
+        kind: Kind::Space,
         sub: 0,
         name: Name::parse(b"N")?,
-    })
-}
-
-/// A user who may own ten pages.
-fn with_user(alloc: Global) -> Result<Objects, Fail> {
-    let mut objects = Objects::new(alloc);
-    let body = Body::Profile {
-        special: Special(0),
-        limit: 10,
     };
-    let user = Object {
-        number: OWNER,
-        id: id(Kind::Profile)?,
+    let space = Object {
+        number: ObjNum(2),
+        id,
         context: ObjNum(0),
-        owner: OWNER,
+        owner: ObjNum(1),
         public: Rights(0),
-        rows: Seq::new(alloc),
-        body,
+        rows: RowList::of(alloc, ObjNum(1), Rights(255))?,
+        body: Body::Space(Tagged::new(alloc, 32)?),
     };
-    objects.add(user)?;
+    objects.add(space)?;
+    if let Some(cells) = objects.space_mut(ObjNum(2)) {
+        write_cells(cells, 0, b"abc");
+    }
     Ok(objects)
-}
-
-/// Makes a space that begins with three letters, and says whether it did.
-fn has_space(alloc: Global, objects: &mut Objects) -> Result<bool, Fail> {
-    let named = Operand::Ident(id(Kind::Queue)?);
-    let operands = vec![in alloc; Operand::Nothing, Operand::Nothing, named]?;
-    let made = in_context(Kind::Space, 2, objects, &operands);
-    let body = Body::Space(Tagged::new(alloc, 32)?);
-    let is_made = creation_fails(objects, OWNER, &made, None).is_none()
-        && creation_changes(alloc, objects, OWNER, &made, body).is_ok();
-    objects.write(ObjNum(2), 0, b"abc");
-    Ok(is_made)
 }
 
 /// An item of so many bytes at the beginning of the first space that is made.
@@ -70,8 +48,7 @@ fn item(len: u16) -> Operand {
 #[test]
 fn a_space_is_made_and_read(rt: HostRuntime) -> Result<(), Fail> {
     let alloc = rt.alloc();
-    let mut objects = with_user(alloc)?;
-    assert!(rt; has_space(alloc, &mut objects)?);
+    let objects = with_space(alloc)?;
     let operands = vec![in alloc; item(2), item(16)]?;
     assert_eq!(rt;
         bytes_at(alloc, &objects, &operands, 1)?.as_slice(),
@@ -100,8 +77,7 @@ fn is_bytes(value: &Option<Val>, want: &[u8]) -> bool {
 #[test]
 fn a_computation_reads_a_space(rt: HostRuntime) -> Result<(), Fail> {
     let alloc = rt.alloc();
-    let mut objects = with_user(alloc)?;
-    assert!(rt; has_space(alloc, &mut objects)?);
+    let objects = with_space(alloc)?;
     let attr = Attr::Chars { len: 4 };
     let operands = vec![in alloc; Operand::Receiver { attr }, item(2), item(1)]?;
     let request = Request {

@@ -37,7 +37,7 @@ pub static CREATED: Table = Table {
         ("CALLX P,*NONE", "2A04 1"),
         ("CALLX P,N,N,N,N,N,N,N,N,N,N,N,N,N,N,N,N,N", "2A04 1"),
         ("CALLX X,'A'", "2A04 1"),
-        ("GRANT P,*PUBLIC,ALL", "2A04 1"),
+        ("COMMIT P", "2A04 1"),
         ("ADDN C,N,N", "2A05 1"),
         ("CPYBLA P,C", "2A05 1"),
         ("CMPNVB N,N,FIRST,L", "2A05 1"),
