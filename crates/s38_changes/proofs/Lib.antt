@@ -1,4 +1,6 @@
+pub mod CellLaws
 pub mod CreationLaws
 pub mod KeptLaws
 pub mod LimitLaws
 pub mod RowLaws
+pub mod StandingLaws

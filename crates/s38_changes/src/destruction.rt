@@ -20,10 +20,10 @@ pub fn destruction_needs(kind: Kind) -> Needs
 }
 
 /// The object of a number is there no more, and what is kept of it goes with it.
-#[tactic(auto, using(crate::proofs::KeptLaws::gone_kept))]
 fn remove(world: &mut World<Objects>, number: ObjNum)
     ensures { world.new ≡ record world.old { held = without world.old.held number.0 } }
 {
+    let _count = world.objects.len();
     let Some(object) = world.objects.remove(number) else {
         return;
     };

@@ -92,7 +92,6 @@ fn resize_in(objects: &mut Objects, number: ObjNum, len: u32) -> Result<(), NoMe
 
 /// A space has this length, cut or lengthened by zero bytes, and its owner pays for it; where memory is refused
 /// nothing changes.
-#[tactic(auto, using(crate::proofs::KeptLaws::resized_kept))]
 pub fn resize(world: &mut World<Objects>, number: ObjNum, len: u32) -> Result<(), NoMemory>
     requires length { is_space_length world.old.limit len ≡ true }
     requires paid { owner_pays world.old.held number.0 (pages_for_length len) ≡ None }
@@ -107,6 +106,8 @@ pub fn resize(world: &mut World<Objects>, number: ObjNum, len: u32) -> Result<()
     let Body::Space(_) = &object.body else {
         return Ok(());
     };
+    let _count = world.objects.len();
+    let _limit = world.profiles.limit(owner);
     match resize_in(&mut world.objects, number, len) {
         Ok(()) => {}
         Err(fault) => return Err(fault),

@@ -1,20 +1,52 @@
 //! How objects stand, what they are called and where they are.
-ghost use Rattle.std.specs.Prelude.{◌≡◌, OnErr, OnOk, None, false, true};
+ghost use Rattle.std.specs.Prelude.{◌≡◌, ℕ, OnErr, OnOk, None, false, true};
 ghost use Rattle.s38_objects.specs.Lawful.{is_place};
 ghost use Rattle.s38_rules.specs.Contexts.{is_name_beside};
 ghost use Rattle.s38_rules.specs.Creation.{is_taken_beside};
 ghost use Rattle.s38_rules.specs.Grants.{taker_rule};
+ghost use Rattle.s38_profiles.specs.Rows.{SetsRow, row_at, row_key, row_with};
+ghost use Rattle.s38_rules.specs.Headers.{row_in};
 ghost use Rattle.s38_rules.specs.Held.{context_in, moved, object, renamed};
+ghost use Rattle.s38_rules.specs.Kept.{kept_row};
 ghost use Rattle.s38_rules.specs.Parts.{set_profile};
 ghost use Rattle.s38_rules.specs.Standing.{granted, open_to_all, owned_by, restand};
 
-use crate::users::pay_less;
+use crate::users::{pay_less, take_row};
 use s38_base::{Id, NoMemory, ObjNum, Rights, Special, UserNum};
 use s38_invoke::World;
 use s38_objects::{Objects, pages, pay_more};
+use s38_profiles::Profiles;
+
+/// The row of a user on an object is set among the objects and beside them. Where memory is refused everything reads as
+/// before.
+fn set_both(
+    profiles: &mut Profiles,
+    objects: &mut Objects,
+    number: ObjNum,
+    user: UserNum,
+    rights: Rights,
+) -> Result<(), NoMemory>
+    requires { row_at profiles.old.rows (row_key user.0 number.0) ≡ kept_row (row_in (object objects.old number.0) user.0) }
+    ensures ok { OnOk result (objects.new ≡ restand objects.old number.0 (granted user rights)) }
+    ensures rows { OnOk result (SetsRow profiles.old.rows (row_key user.0 number.0) (row_with rights) profiles.new.rows) }
+    ensures users { profiles.new.users ≡ profiles.old.users }
+    ensures err { OnErr result (objects.new ≡ objects.old) }
+    ensures err_rows { OnErr result ((other n : ℕ) → row_at profiles.new.rows (row_key other n) ≡ row_at profiles.old.rows (row_key other n)) }
+{
+    match profiles.set_row(user, number, rights) {
+        Ok(()) => {}
+        Err(fault) => return Err(fault),
+    }
+    match objects.set_row(number, user, rights) {
+        Ok(()) => Ok(()),
+        Err(fault) => {
+            take_row(profiles, user, number);
+            Err(fault)
+        }
+    }
+}
 
 /// A user has these rights on an object by a row; where memory is refused nothing changes.
-#[tactic(auto, using(crate::proofs::KeptLaws::granted_kept))]
 pub fn set_row(
     world: &mut World<Objects>,
     number: ObjNum,
@@ -27,18 +59,8 @@ pub fn set_row(
     let Some(object) = world.objects.get(number) else {
         return Ok(());
     };
-    let before = object.rows.rights_of(user);
-    match world.profiles.set_row(user, number, rights) {
-        Ok(()) => {}
-        Err(fault) => return Err(fault),
-    }
-    match world.objects.set_row(number, user, rights) {
-        Ok(()) => Ok(()),
-        Err(fault) => {
-            let _result = world.profiles.set_row(user, number, before);
-            Err(fault)
-        }
-    }
+    let _rows = object.rows.as_slice();
+    set_both(&mut world.profiles, &mut world.objects, number, user, rights)
 }
 
 /// Everybody has these rights on an object.
@@ -51,7 +73,6 @@ pub fn set_public(world: &mut World<Objects>, number: ObjNum, rights: Rights)
 
 /// A user owns an object, pays for it, and has all eight rights on it by a row; where memory is refused nothing
 /// changes.
-#[tactic(auto, using(crate::proofs::KeptLaws::given_kept))]
 pub fn give_to(world: &mut World<Objects>, number: ObjNum, user: UserNum) -> Result<(), NoMemory>
     requires { taker_rule world.old.held number.0 user.0 (object world.old.held number.0) ≡ None }
     ensures ok { OnOk result (world.new ≡ record world.old { held = restand world.old.held number.0 (λ s. owned_by user (granted user (record { 0 = 255 }) s)) }) }
@@ -62,7 +83,16 @@ pub fn give_to(world: &mut World<Objects>, number: ObjNum, user: UserNum) -> Res
     };
     let owner = object.owner;
     let moved = pages(&object.body);
-    match set_row(world, number, user, Rights(0xff)) {
+    let _rows = object.rows.as_slice();
+    let _count = world.objects.len();
+    let _limit = world.profiles.limit(user);
+    match set_both(
+        &mut world.profiles,
+        &mut world.objects,
+        number,
+        user,
+        Rights(0xff),
+    ) {
         Ok(()) => {}
         Err(fault) => return Err(fault),
     }
@@ -94,7 +124,7 @@ pub fn move_to(world: &mut World<Objects>, number: ObjNum, context: ObjNum) -> R
 }
 
 /// A user has these special authorities and this limit.
-#[tactic(auto, using(crate::proofs::KeptLaws::profile_kept))]
+#[tactic(auto, using(crate::proofs::StandingLaws::profile_entered, crate::proofs::StandingLaws::profile_absent))]
 pub fn set_profile(world: &mut World<Objects>, number: ObjNum, special: Special, limit: u32)
     ensures { world.new ≡ record world.old { held = set_profile world.old.held number.0 special limit } }
 {

@@ -42,7 +42,7 @@ pub fn pay_otherwise(profiles: &mut Profiles, user: UserNum, before: u64, after:
 }
 
 /// A row is out.
-fn take_row(profiles: &mut Profiles, user: UserNum, number: ObjNum)
+pub fn take_row(profiles: &mut Profiles, user: UserNum, number: ObjNum)
     ensures rows { SetsRow profiles.old.rows (row_key user.0 number.0) None profiles.new.rows }
     ensures users { profiles.new.users ≡ profiles.old.users }
 {
