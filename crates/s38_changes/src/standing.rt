@@ -60,7 +60,13 @@ pub fn set_row(
         return Ok(());
     };
     let _rows = object.rows.as_slice();
-    set_both(&mut world.profiles, &mut world.objects, number, user, rights)
+    set_both(
+        &mut world.profiles,
+        &mut world.objects,
+        number,
+        user,
+        rights,
+    )
 }
 
 /// Everybody has these rights on an object.
