@@ -29,7 +29,8 @@ fn owner_in(found: Option<&Object>) -> UserNum
     }
 }
 
-fn public_in(found: Option<&Object>) -> Rights
+/// The rights of everybody on an object.
+pub fn public_in(found: Option<&Object>) -> Rights
     ensures { result.0 ≡ public_in (option_copied found.entry) }
 {
     match found {
