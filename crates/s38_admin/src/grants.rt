@@ -1,12 +1,14 @@
 //! Authority over objects: granted and retracted, an object given to another owner, and what is available looked at.
-ghost use Rattle.std.specs.Prelude.{◌≡◌, None, IfOk, OnOk, OnErr, map};
+ghost use Rattle.std.specs.Prelude.{◌≡◌, ◌==◌, None, IfOk, OnOk, OnErr, length, map};
 ghost use Rattle.std.specs.List.{list_any};
 ghost use Rattle.std.specs.Option.{option_copied};
-ghost use Rattle.s38_rules.specs.Grants.{grant_changes, grant_fails, grant_needs, grants_row, matau_gives, matau_needs, matauobj_gives, matauobj_needs, matauobj_special, retract_changes, row_or_public, row_rule, testau_gives, testau_needs, truth, user_needs, xfro_changes, xfro_fails, xfro_needs};
-ghost use Rattle.s38_rules.specs.Headers.{public_in, row_in};
+ghost use Rattle.s38_rules.specs.Grants.{grant_changes, grant_fails, grant_needs, grants_row, matau_gives, matau_needs, matauobj_gives, matauobj_needs, matauobj_special, retract_changes, row_or_public, row_rule, testau_gives, testau_needs, truth, user_at, user_needs, with_rights, xfro_changes, xfro_fails, xfro_needs};
+ghost use Rattle.s38_rules.specs.Headers.{row_in, rows_in};
 ghost use Rattle.s38_rules.specs.Held.{object};
+ghost use Rattle.s38_rules.specs.Operands.{is_given, target};
+ghost use Rattle.s38_rules.specs.Standing.{restand};
 
-use crate::images::{authority_image, concerns_image};
+use crate::images::{authority_image, concerns_image, public_in};
 use s38_authority::{available, has_rights};
 use s38_base::exceptions::LIMIT_EXCEEDED;
 use s38_base::limits::MOST_ROWS;
@@ -45,12 +47,15 @@ fn row_in(found: Option<&Object>, user: UserNum) -> Rights
     }
 }
 
-fn public_in(found: Option<&Object>) -> Rights
-    ensures { result.0 ≡ public_in (option_copied found.entry) }
+/// The rights that a user has by its row on an object, or those of everybody where no user is given.
+fn rights_of(objects: &Objects, operands: &[Operand], at: usize, k: usize) -> Rights
+    ensures { result.0 ≡ row_or_public (is_given operands.now k) (object objects.now (target objects.now operands.now at)) (target objects.now operands.now k) }
 {
-    match found {
-        None => Rights(0),
-        Some(object) => object.public,
+    let found = objects.get(target(objects, operands, at));
+    if is_given(operands, k) {
+        row_in(found, target(objects, operands, k))
+    } else {
+        public_in(found)
     }
 }
 
@@ -97,40 +102,44 @@ fn grant_fails(objects: &Objects, operands: &[Operand]) -> Option<Exception>
     )
 }
 
+/// A user's row on the object, or everybody, has these rights; where memory is refused nothing changes.
+fn set_rights(
+    world: &mut World<Objects>,
+    operands: &[Operand],
+    rights: Rights,
+) -> Result<(), NoMemory>
+    ensures ok { OnOk result (world.new ≡ record world.old { held = restand world.old.held (target world.old.held operands.now 1) (with_rights (is_given operands.now 2) (user_at world.old.held operands.now 2) rights.0) }) }
+    ensures err { OnErr result (world.new ≡ world.old) }
+{
+    let number = target(&world.objects, operands, 1);
+    if is_given(operands, 2) {
+        let user = target(&world.objects, operands, 2);
+        return set_row(world, number, user, rights);
+    }
+    set_public(world, number, rights);
+    Ok(())
+}
+
 /// The rights are added; where memory is refused nothing changes.
-#[tactic(auto, unfolding(s38_rules::specs::Grants::grant_changes))]
+#[tactic(auto, using(crate::proofs::GrantLaws::rights_added))]
 fn grant(world: &mut World<Objects>, operands: &[Operand]) -> Result<(), NoMemory>
     ensures ok { OnOk result (world.new ≡ record world.old { held = grant_changes world.old.held operands.now }) }
     ensures err { OnErr result (world.new ≡ world.old) }
 {
-    let number = target(&world.objects, operands, 1);
-    let rights = rights_at(operands, 3);
-    if is_given(operands, 2) {
-        let user = target(&world.objects, operands, 2);
-        let present = row_in(world.objects.get(number), user);
-        return set_row(world, number, user, Rights(present.0 | rights.0));
-    }
-    let present = public_in(world.objects.get(number));
-    set_public(world, number, Rights(present.0 | rights.0));
-    Ok(())
+    let present = rights_of(&world.objects, operands, 1, 2);
+    let more = rights_at(operands, 3);
+    set_rights(world, operands, Rights(present.0 | more.0))
 }
 
 /// The rights are taken away; what pointers carry stays.
-#[tactic(auto, unfolding(s38_rules::specs::Grants::retract_changes))]
+#[tactic(auto, using(crate::proofs::GrantLaws::rights_taken))]
 fn retract(world: &mut World<Objects>, operands: &[Operand]) -> Result<(), NoMemory>
     ensures ok { OnOk result (world.new ≡ record world.old { held = retract_changes world.old.held operands.now }) }
     ensures err { OnErr result (world.new ≡ world.old) }
 {
-    let number = target(&world.objects, operands, 1);
-    let rights = rights_at(operands, 3);
-    if is_given(operands, 2) {
-        let user = target(&world.objects, operands, 2);
-        let present = row_in(world.objects.get(number), user);
-        return set_row(world, number, user, Rights(present.0 & (255 - rights.0)));
-    }
-    let present = public_in(world.objects.get(number));
-    set_public(world, number, Rights(present.0 & (255 - rights.0)));
-    Ok(())
+    let present = rights_of(&world.objects, operands, 1, 2);
+    let less = rights_at(operands, 3);
+    set_rights(world, operands, Rights(present.0 & (255 - less.0)))
 }
 
 // ---- XFRO
@@ -215,11 +224,7 @@ fn matau_gives(alloc: Global, objects: &Objects, operands: &[Operand]) -> Result
     ensures { IfOk result (λ value. value ≡ matau_gives objects.now operands.now) }
 {
     let found = objects.get(target(objects, operands, 2));
-    let rights = if is_given(operands, 3) {
-        row_in(found, target(objects, operands, 3))
-    } else {
-        public_in(found)
-    };
+    let rights = rights_of(objects, operands, 2, 3);
     let image = authority_image(alloc, found, rights)?;
     let bytes = fitted(alloc, room_at(operands, 1), 0, image.as_slice())?;
     Ok(Val::Bytes(bytes))

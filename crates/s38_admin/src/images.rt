@@ -1,10 +1,11 @@
 //! What is said of authority over objects, as bytes.
-ghost use Rattle.std.specs.Prelude.{◌≡◌, IfOk};
+ghost use Rattle.std.specs.Prelude.{◌≡◌, ◌++◌, ◌∷◌, [], filter, length, IfOk, OnOk};
+ghost use Rattle.std.specs.List.{flat_map};
 ghost use Rattle.std.specs.Option.{option_copied};
 ghost use Rattle.s38_rules.specs.Grants.{authority_image, concern_image, concerns, concerns_image};
 ghost use Rattle.s38_rules.specs.Headers.{public_in};
 ghost use Rattle.s38_rules.specs.Held.{owner_in};
-ghost use Rattle.s38_rules.specs.Operands.{count_image, number_image};
+ghost use Rattle.s38_rules.specs.Operands.{count_image};
 
 use s38_base::{Bytes, NoMemory, ObjNum, Rights, Seq, UserNum};
 use s38_objects::Objects;
@@ -28,7 +29,8 @@ fn owner_in(found: Option<&Object>) -> UserNum
     }
 }
 
-fn public_in(found: Option<&Object>) -> Rights
+/// The rights of everybody on an object.
+pub fn public_in(found: Option<&Object>) -> Rights
     ensures { result.0 ≡ public_in (option_copied found.entry) }
 {
     match found {
@@ -59,12 +61,36 @@ fn concerns(user: UserNum, object: &Object) -> bool
     object.owner.0 == user.0 || object.rows.rights_of(user).0 != 0
 }
 
-/// An object's number, whether a user owns it, and the rights of the user's row.
-fn concern_image(alloc: Global, user: UserNum, object: &Object) -> Result<Vec<u8>, NoMemory>
-    ensures { IfOk result (λ made. made.items ≡ concern_image user.0 object.now) }
+/// Adds an object that concerns a user: its number, whether the user owns it, and the rights of the user's row.
+fn add_concern(made: &mut Vec<u8>, user: UserNum, object: &Object) -> Result<(), NoMemory>
+    ensures { OnOk result (made.new.items ≡ made.old.items ++ flat_map (concern_image user.0) (filter (concerns user.0) (object.now ∷ []))) }
 {
-    let mut made = Vec::from_slice(alloc, &object.number.0.to_be_bytes())?;
+    if !concerns(user, object) {
+        return Ok(());
+    }
+    made.extend_from_slice(&object.number.0.to_be_bytes())?;
     made.push(u8::from(object.owner.0 == user.0))?;
     made.push(object.rows.rights_of(user).0)?;
-    Ok(made)
+    Ok(())
+}
+
+/// How many objects concern a user.
+fn count_concerns(objects: &Objects, user: UserNum) -> usize
+    ensures { result ≡ length (filter (concerns user.0) objects.now.objects) }
+{
+    objects
+        .all()
+        .filter(|object| concerns(user, object))
+        .count()
+}
+
+/// How many objects concern a user, and each in order of number.
+pub fn concerns_image(alloc: Global, objects: &Objects, user: UserNum) -> Result<Bytes, NoMemory>
+    ensures { IfOk result (λ made. made ≡ concerns_image user.0 (filter (concerns user.0) objects.now.objects)) }
+{
+    let mut made = count_image(alloc, count_concerns(objects, user))?;
+    for object in objects.all() {
+        add_concern(&mut made, user, object)?;
+    }
+    Ok(Seq::from_vec(made))
 }
