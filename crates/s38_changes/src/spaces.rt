@@ -14,8 +14,8 @@ use s38_code::{Operand, Val};
 use s38_invoke::World;
 use s38_memory::Cell;
 use s38_objects::{Objects, pages};
-use s38_rules::Body;
 use s38_operands::{copy_cells, resize_cells, set_cells, write_cells};
+use s38_rules::Body;
 
 fn write(objects: &mut Objects, number: ObjNum, at: u64, bytes: &[u8])
     ensures { objects.new ≡ on_space objects.old number.0 (with_bytes at bytes.now) }

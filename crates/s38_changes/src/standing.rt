@@ -60,7 +60,13 @@ pub fn set_row(
         return Ok(());
     };
     let _rows = object.rows.as_slice();
-    set_both(&mut world.profiles, &mut world.objects, number, user, rights)
+    set_both(
+        &mut world.profiles,
+        &mut world.objects,
+        number,
+        user,
+        rights,
+    )
 }
 
 /// Everybody has these rights on an object.
@@ -73,11 +79,7 @@ pub fn set_public(world: &mut World<Objects>, number: ObjNum, rights: Rights)
 
 /// A user owns an object, pays for it, and has all eight rights on it by a row; where memory is refused nothing
 /// changes.
-pub fn give_to(
-    world: &mut World<Objects>,
-    number: ObjNum,
-    user: UserNum,
-) -> Result<(), NoMemory>
+pub fn give_to(world: &mut World<Objects>, number: ObjNum, user: UserNum) -> Result<(), NoMemory>
     requires { taker_rule world.old.held number.0 user.0 (object world.old.held number.0) ≡ None }
     ensures ok { OnOk result (world.new ≡ record world.old { held = restand world.old.held number.0 (λ s. owned_by user (granted user (record { 0 = 255 }) s)) }) }
     ensures err { OnErr result (world.new ≡ world.old) }
@@ -118,11 +120,7 @@ pub fn rename_to(world: &mut World<Objects>, number: ObjNum, id: &Id) -> Result<
 
 /// An object is in another context, or in none; where memory is refused nothing changes.
 #[tactic(auto, using(crate::proofs::KeptLaws::moved_kept))]
-pub fn move_to(
-    world: &mut World<Objects>,
-    number: ObjNum,
-    context: ObjNum,
-) -> Result<(), NoMemory>
+pub fn move_to(world: &mut World<Objects>, number: ObjNum, context: ObjNum) -> Result<(), NoMemory>
     requires placed { is_place world.old.held context.0 ≡ true }
     requires free { is_name_beside world.old.held number.0 context.0 (object world.old.held number.0) ≡ false }
     ensures ok { OnOk result (world.new ≡ record world.old { held = moved world.old.held number.0 context }) }
@@ -132,7 +130,7 @@ pub fn move_to(
 }
 
 /// A user has these special authorities and this limit.
-#[tactic(auto, using(crate::proofs::StandingLaws::profile_entered, crate::proofs::StandingLaws::profile_absent))]
+#[tactic(auto, using(crate::proofs::StandingLaws::profile_absent))]
 pub fn set_profile(world: &mut World<Objects>, number: ObjNum, special: Special, limit: u32)
     ensures { world.new ≡ record world.old { held = set_profile world.old.held number.0 special limit } }
 {

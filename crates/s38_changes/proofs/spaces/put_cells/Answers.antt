@@ -8,7 +8,9 @@ use Rattle.s38_changes.proofs.KeptLaws.{cells_kept}
 use Rattle.s38_changes.proofs.spaces.put_cells.Goals as goal
 
 pub invariant_of-world : goal.invariant_of-world
-invariant_of-world c =
-    (c.world.invariant.0, subst (λ (h : Held). Mirrors c.world.inside.profiles h) (sym c.copy_in.ensures)
-    (cells_kept c.world.inside.profiles c.world.inside.objects c.target.result.0 (with_cells c.start-at.result c.args.cells.now)
-        (cells_length c.start-at.result c.args.cells.now (cells_at c.world.inside.objects c.target.result.0)) c.world.invariant.1))
+invariant_of-world c = (
+  c.world.invariant.0,
+  subst (λ (h : Held). Mirrors c.world.inside.profiles h) (sym c.copy_in.ensures)
+      (cells_kept c.world.inside.profiles c.world.inside.objects c.target.result.0 (with_cells c.start-at.result c.args.cells.now)
+      (cells_length c.start-at.result c.args.cells.now (cells_at c.world.inside.objects c.target.result.0)) c.world.invariant.1),
+)

@@ -1,9 +1,8 @@
 use Rattle.std.proofs.Common.{◌≡◌, ℕ, ◌+◌, ◌-◌, ap, arith, subst, sym, ◌∙◌}
 use Rattle.std.specs.Option.{option_copied}
-use Rattle.std.specs.Prelude.{None, Option, Some}
+use Rattle.std.specs.Prelude.{None, Some}
 use Rattle.s38_memory.specs.Tagged.{resized}
 use Rattle.s38_profiles.specs.Users.{SetsUser, charge_in, user_at}
-use Rattle.s38_rules.specs.declared.object.Object.{Object}
 use Rattle.s38_rules.specs.Held.{Held, object}
 use Rattle.s38_rules.specs.Keeping.{paid}
 use Rattle.s38_rules.specs.Kept.{Mirrors}
@@ -33,17 +32,19 @@ pay_otherwise-requires c =
     let held : c.world.inside.objects ≡ c.args.world.now.held = ap (λ (s : State). s.held) c.world.view_is in
     let found : object c.world.inside.objects c.args.number.0 ≡ Some c.in-Some.object.now = sym c.get.ensures ∙ ap (λ r. option_copied r) c.in-Some.is in
     let room = length_counted c.world.inside.profiles c.world.inside.objects c.args.number.0 c.args.len c.limit-limit.result c.in-Some.object.now c.len-count.ensures.lawful found
-        (subst (λ (h : Held). owner_pays h c.args.number.0 (pages_for_length c.args.len) ≡ None) (sym held) c.requires.paid) c.limit-limit.ensures c.limit-limit.type_inv c.world.invariant.1 in
+    (subst (λ (h : Held). owner_pays h c.args.number.0 (pages_for_length c.args.len) ≡ None) (sym held) c.requires.paid) c.limit-limit.ensures c.limit-limit.type_inv c.world.invariant.1 in
     omega (arith, room, c.pages-before.ensures, c.pages_for_length.ensures)
 
 pub invariant_of-world-2 : goal.invariant_of-world-2
 invariant_of-world-2 c =
     let found : object c.world.inside.objects c.args.number.0 ≡ Some c.in-Some.object.now = sym c.get.ensures ∙ ap (λ r. option_copied r) c.in-Some.is in
     let users = c.world.inside.profiles.users in
-    let owner : ℕ = c.in-Some.object.now.owner.0 in
-    (c.world.invariant.0, subst (λ (h : Held). Mirrors c.pay_otherwise.new.profiles h) (sym c.in-Ok.ensures.ok)
-    (length_kept c.world.inside.profiles c.pay_otherwise.new.profiles c.world.inside.objects c.args.number.0 c.args.len c.in-Some.object.now c.in-Space.field-0 found c.in-Space.is
-        (subst (λ (k : ℕ). SetsUser users owner (paid (charge_in (user_at users owner) - k + pages_for_length c.args.len) (user_at users owner)) c.pay_otherwise.new.profiles.users) c.pages-before.ensures
-        (subst (λ (k : ℕ). SetsUser users owner (paid (charge_in (user_at users owner) - c.pages-before.result + k) (user_at users owner)) c.pay_otherwise.new.profiles.users) c.pages_for_length.ensures
-        c.pay_otherwise.ensures.users))
-        c.pay_otherwise.ensures.rows c.world.invariant.1))
+    let owner : ℕ = c.in-Some.object.now.owner.0 in (
+      c.world.invariant.0,
+      subst (λ (h : Held). Mirrors c.pay_otherwise.new.profiles h) (sym c.in-Ok.ensures.ok)
+          (length_kept c.world.inside.profiles c.pay_otherwise.new.profiles c.world.inside.objects c.args.number.0 c.args.len c.in-Some.object.now c.in-Space.field-0 found c.in-Space.is
+          (subst (λ (k : ℕ). SetsUser users owner (paid (charge_in (user_at users owner) - k + pages_for_length c.args.len) (user_at users owner)) c.pay_otherwise.new.profiles.users) c.pages-before.ensures
+          (subst (λ (k : ℕ). SetsUser users owner (paid (charge_in (user_at users owner) - c.pages-before.result + k) (user_at users owner)) c.pay_otherwise.new.profiles.users) c.pages_for_length.ensures
+          c.pay_otherwise.ensures.users))
+          c.pay_otherwise.ensures.rows c.world.invariant.1),
+    )

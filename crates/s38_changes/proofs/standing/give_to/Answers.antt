@@ -27,13 +27,15 @@ pay_more-requires c =
 pub invariant_of-world-2 : goal.invariant_of-world-2
 invariant_of-world-2 c =
     let held : c.world.inside.objects ≡ c.args.world.now.held = ap (λ (s : State). s.held) c.world.view_is in
-    let found : object c.world.inside.objects c.args.number.0 ≡ Some c.in-Some.object.now = sym c.get.ensures ∙ ap (λ r. option_copied r) c.in-Some.is in
-    (c.world.invariant.0, object_given c.world.inside.profiles c.set_both.new.profiles c.pay_less.new.profiles c.pay_more.new.profiles c.world.inside.objects c.set_both.new.objects c.set_owner.new.self
-        c.args.number.0 c.in-Some.object.now c.args.user (record { 0 = 255 }) c.pages-moved.result c.len-count.ensures.lawful found
-        (subst (λ rows. AreRows rows) c.as_slice-rows.ensures.value c.as_slice-rows.ensures.rows)
-        (subst (λ (h : Held). taker_rule h c.args.number.0 c.args.user.0 (object h c.args.number.0) ≡ None) (sym held) c.requires)
-        c.pages-moved.ensures c.in-Ok.ensures.ok c.in-Ok.ensures.rows c.set_both.ensures.users c.set_owner.ensures
-        c.pay_less.ensures.users c.pay_less.ensures.rows c.pay_more.ensures.users c.pay_more.ensures.rows c.world.invariant.1)
+    let found : object c.world.inside.objects c.args.number.0 ≡ Some c.in-Some.object.now = sym c.get.ensures ∙ ap (λ r. option_copied r) c.in-Some.is in (
+      c.world.invariant.0,
+      object_given c.world.inside.profiles c.set_both.new.profiles c.pay_less.new.profiles c.pay_more.new.profiles c.world.inside.objects c.set_both.new.objects c.set_owner.new.self
+          c.args.number.0 c.in-Some.object.now c.args.user (record { 0 = 255 }) c.pages-moved.result c.len-count.ensures.lawful found
+          (subst (λ rows. AreRows rows) c.as_slice-rows.ensures.value c.as_slice-rows.ensures.rows)
+          (subst (λ (h : Held). taker_rule h c.args.number.0 c.args.user.0 (object h c.args.number.0) ≡ None) (sym held) c.requires)
+          c.pages-moved.ensures c.in-Ok.ensures.ok c.in-Ok.ensures.rows c.set_both.ensures.users c.set_owner.ensures
+          c.pay_less.ensures.users c.pay_less.ensures.rows c.pay_more.ensures.users c.pay_more.ensures.rows c.world.invariant.1,
+    )
 
 pub returns-clause-ok : goal.returns-clause-ok
 returns-clause-ok c =

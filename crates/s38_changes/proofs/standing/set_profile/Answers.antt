@@ -5,7 +5,9 @@ use Rattle.std.proofs.Common.{subst, sym, ◌∙◌}
 use Rattle.s38_changes.proofs.standing.set_profile.Goals as goal
 
 pub invariant_of-world : goal.invariant_of-world
-invariant_of-world c =
-    (c.world.invariant.0, subst (λ (h : Held). Mirrors c.enter-result.new.self h) (sym c.set_profile.ensures)
-    (profile_set c.world.inside.profiles c.enter-result.new.self c.world.inside.objects c.args.number.0 c.args.special c.args.limit _ c.enter-result.result (sym c.has.ensures ∙ c.if-has.true)
-    c.enter-result.ensures.ok c.enter-result.ensures.others c.enter-result.ensures.added c.world.invariant.1))
+invariant_of-world c = (
+  c.world.invariant.0,
+  subst (λ (h : Held). Mirrors c.enter-result.new.self h) (sym c.set_profile.ensures)
+      (profile_set c.world.inside.profiles c.enter-result.new.self c.world.inside.objects c.args.number.0 c.args.special c.args.limit _ c.enter-result.result (sym c.has.ensures ∙ c.if-has.true)
+      c.enter-result.ensures.ok c.enter-result.ensures.others c.enter-result.ensures.added c.world.invariant.1),
+)

@@ -1,5 +1,5 @@
 use Rattle.std.proofs.Common.{◌≡◌, ap, subst, sym, ◌∙◌}
-use Rattle.std.specs.Prelude.{None, Some}
+use Rattle.std.specs.Prelude.{None}
 use Rattle.std.specs.Option.{option_copied}
 use Rattle.s38_rules.specs.Held.{Held, object}
 use Rattle.s38_rules.specs.Standing.{granted, standing_of, with_standing}
@@ -16,7 +16,9 @@ returns-in_default-clause-ok c =
 
 pub invariant_of-world : goal.invariant_of-world
 invariant_of-world c =
-    let found = sym c.get.ensures ∙ ap (λ r. option_copied r) c.in-Some.is in
-    (c.world.invariant.0, row_set c.world.inside.profiles c.set_both.new.profiles c.world.inside.objects c.set_both.new.objects c.args.number.0 c.in-Some.object.now c.args.user c.args.rights c.set_both.result found
-    (subst (λ rows. AreRows rows) c.as_slice-rows.ensures.value c.as_slice-rows.ensures.rows)
-    c.set_both.ensures.ok c.set_both.ensures.rows c.set_both.ensures.users c.set_both.ensures.err c.set_both.ensures.err_rows c.world.invariant.1)
+    let found = sym c.get.ensures ∙ ap (λ r. option_copied r) c.in-Some.is in (
+      c.world.invariant.0,
+      row_set c.world.inside.profiles c.set_both.new.profiles c.world.inside.objects c.set_both.new.objects c.args.number.0 c.in-Some.object.now c.args.user c.args.rights c.set_both.result found
+          (subst (λ rows. AreRows rows) c.as_slice-rows.ensures.value c.as_slice-rows.ensures.rows)
+          c.set_both.ensures.ok c.set_both.ensures.rows c.set_both.ensures.users c.set_both.ensures.err c.set_both.ensures.err_rows c.world.invariant.1,
+    )
