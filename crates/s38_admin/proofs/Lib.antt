@@ -1,3 +1,5 @@
 mod CallLaws
 mod CreationLaws
 mod RoomLaws
+mod ContextLaws
+mod GrantLaws

@@ -1,8 +1,13 @@
 //! Contexts: made and destroyed, their contents listed; the address and the name of an object changed.
-ghost use Rattle.std.specs.Prelude.{◌≡◌, None, IfOk, OnOk, OnErr};
+ghost use Rattle.std.specs.Prelude.{◌≡◌, None, Some, IfOk, OnOk, OnErr};
 ghost use Rattle.std.specs.Option.{option_copied};
 ghost use Rattle.s38_rules.specs.Contexts.{contexts_row, crtctx_changes, crtctx_fails, desctx_fails, is_at_home, is_name_beside, is_other_kind, matctx_gives, matctx_needs, modadr_changes, modadr_fails, modadr_needs, new_address, new_context, own_context, rename_changes, rename_fails, rename_needs, rename_rule, renamed_by};
+ghost use Rattle.s38_base.specs.RightNames as rights;
+ghost use Rattle.s38_base.specs.declared.words.Category.TheVariants.{Change};
+ghost use Rattle.s38_rules.specs.declared.need.Sought.TheVariants.{Any};
 ghost use Rattle.s38_rules.specs.Held.{context_in, object};
+ghost use Rattle.s38_rules.specs.Needs.{on_object};
+ghost use Rattle.s38_rules.specs.Operands.{target};
 
 use crate::listing::names_image;
 use crate::resolving::{context_at, context_read};
@@ -39,7 +44,7 @@ fn crtctx_fails(world: &World<Objects>, process: u32, operands: &[Operand]) -> O
     creation_fails(world, world.user_of(process), &created, None)
 }
 
-#[tactic(auto, using(crate::proofs::CreationLaws::crtctx_created), unfolding(s38_rules::specs::Contexts::crtctx_changes))]
+#[tactic(auto, using(crate::proofs::CreationLaws::crtctx_created, s38_changes::proofs::CreationLaws::home_placed), unfolding(s38_rules::specs::Contexts::crtctx_changes))]
 fn crtctx(
     alloc: Global,
     world: &mut World<Objects>,
@@ -97,7 +102,7 @@ fn context_in(found: Option<&Object>) -> ObjNum
 }
 
 fn present_context(objects: &Objects, operands: &[Operand]) -> ObjNum
-    ensures { (n : ObjNum) → result ≡ context_in (object objects.now (target objects.now operands.now 1)) }
+    ensures { result ≡ context_in (object objects.now (target objects.now operands.now 1)) }
 {
     context_in(objects.get(target(objects, operands, 1)))
 }
@@ -121,7 +126,7 @@ fn new_address(operands: &[Operand]) -> Needs
 
 /// Object management on an object, which is changed.
 fn management() -> Needs
-    ensures { result ≡ on_object 1 Any objmgt (Some Change) }
+    ensures { result ≡ on_object 1 Any rights.objmgt (Some Change) }
 {
     on_object(1, Sought::Any, Rights::OBJMGT, Some(Category::Change))
 }
@@ -185,7 +190,7 @@ fn modadr_fails(objects: &Objects, operands: &[Operand]) -> Option<Exception>
 }
 
 /// The object is in the new context, or in none; where memory is refused nothing changes.
-#[tactic(auto, using(crate::proofs::ContextLaws::modadr_free), unfolding(s38_rules::specs::Contexts::modadr_changes))]
+#[tactic(auto, using(crate::proofs::ContextLaws::modadr_free, crate::proofs::ContextLaws::home_free, s38_changes::proofs::CreationLaws::home_placed), unfolding(s38_rules::specs::Contexts::modadr_changes))]
 fn modadr(world: &mut World<Objects>, operands: &[Operand]) -> Result<(), NoMemory>
     requires { modadr_fails world.old.held operands.now ≡ None }
     ensures ok { OnOk result (world.new ≡ record world.old { held = modadr_changes world.old.held operands.now }) }

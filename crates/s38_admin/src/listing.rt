@@ -3,6 +3,7 @@ ghost use Rattle.std.specs.Prelude.{◌≡◌, map, IfOk};
 ghost use Rattle.s38_rules.specs.Contexts.{character, name_image, names_image};
 
 use s38_base::{Bytes, Name, NoMemory, ObjNum, Seq};
+use crate::images::count_image;
 use s38_operands::fitted;
 use s38_rules::Listed;
 use s38_strings::ebcdic;
@@ -27,4 +28,29 @@ fn characters(alloc: Global, name: &Name) -> Result<Bytes, NoMemory>
         made.push(character(*c))?;
     }
     Ok(made)
+}
+
+/// Kind, subtype, and the name filled with blanks.
+fn name_image(alloc: Global, listed: &Listed) -> Result<Bytes, NoMemory>
+    ensures { IfOk result (λ made. made ≡ name_image listed.now) }
+{
+    let name = characters(alloc, &listed.name)?;
+    let filled = fitted(alloc, 30, BLANK, name.as_slice())?;
+    let mut made = Vec::new(alloc);
+    made.push(listed.kind)?;
+    made.push(listed.sub)?;
+    made.extend_from_slice(filled.as_slice())?;
+    Ok(Seq::from_vec(made))
+}
+
+/// How many names there are, and their images in order.
+pub fn names_image(alloc: Global, names: &BTreeMap<Listed, ObjNum>) -> Result<Bytes, NoMemory>
+    ensures { IfOk result (λ made. made ≡ names_image names.now.entries) }
+{
+    let mut made = count_image(alloc, names.len())?;
+    for listed in names.keys() {
+        let image = name_image(alloc, listed)?;
+        made.extend_from_slice(image.as_slice())?;
+    }
+    Ok(Seq::from_vec(made))
 }

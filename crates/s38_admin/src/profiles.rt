@@ -61,7 +61,7 @@ fn crtup_fails(world: &World<Objects>, process: u32, operands: &[Operand]) -> Op
     creation_fails(world, world.user_of(process), &created, None)
 }
 
-#[tactic(auto, using(crate::proofs::CreationLaws::crtup_created), unfolding(s38_rules::specs::Profiles::crtup_changes))]
+#[tactic(auto, using(crate::proofs::CreationLaws::crtup_created, s38_changes::proofs::CreationLaws::home_placed), unfolding(s38_rules::specs::Profiles::crtup_changes))]
 fn crtup(
     alloc: Global,
     world: &mut World<Objects>,

@@ -63,7 +63,7 @@ fn program_copy(
 }
 
 /// An object of the program that a template makes.
-#[tactic(auto, using(crate::proofs::CreationLaws::crtpg_created), unfolding(s38_rules::specs::Programs::crtpg_changes))]
+#[tactic(auto, using(crate::proofs::CreationLaws::crtpg_created, s38_changes::proofs::CreationLaws::home_placed), unfolding(s38_rules::specs::Programs::crtpg_changes))]
 fn crtpg(
     alloc: Global,
     world: &mut World<Objects>,

@@ -117,7 +117,7 @@ fn new_cells(
 }
 
 /// The space of this storage.
-#[tactic(auto, using(crate::proofs::CreationLaws::crts_created), unfolding(s38_rules::specs::Spaces::crts_changes))]
+#[tactic(auto, using(crate::proofs::CreationLaws::crts_created, crate::proofs::CreationLaws::space_paid, s38_changes::proofs::CreationLaws::home_placed), unfolding(s38_rules::specs::Spaces::crts_changes))]
 fn create_space(
     alloc: Global,
     world: &mut World<Objects>,

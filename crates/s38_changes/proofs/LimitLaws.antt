@@ -1,7 +1,7 @@
 -- What a user pays for, against what its profile allows: one that is no profile may own nothing.
 use Rattle.std.proofs.Common.{◌≡◌, ℕ, ◌+◌, ◌-◌, ◌≤◌, ◌==◌, Bool, true, false, cond, not, List, [], ◌∷◌, refl, sym, ◌∙◌, ap, arith}
 use Rattle.std.proofs.lemmas.Bool.Decides.{nat_tests}
-use Rattle.std.specs.Prelude.{Option, Some, None, ◌&&◌, nat_lt}
+use Rattle.std.specs.Prelude.{Option, Some, None, ◌&&◌, ◌||◌, nat_lt}
 use Rattle.std.specs.List.{list_any}
 use Rattle.s38_rules.specs.declared.object.Body.{Body}
 use Rattle.s38_rules.specs.declared.object.Body.TheVariants as bodies
@@ -73,7 +73,7 @@ pub own_allowed : (h : Held) (n : ℕ) (o : Object) → AreRising h.objects → 
     ≡ nat_lt (limit_in (object h o.owner.0)) (charge_in (without_in h.objects n) o.owner.0 + pages_of o.body)
 own_allowed h n o rising found =
     let pays : charge_in (without_in h.objects n) o.owner.0 + pages_of o.body ≡ charge_in h.objects o.owner.0 =
-        ap (λ (p : ℕ). charge_in (without_in h.objects n) o.owner.0 + p) (sym (own_pages o)) ∙ charge_without o.owner.0 n o h.objects rising found in
+    ap (λ (p : ℕ). charge_in (without_in h.objects n) o.owner.0 + p) (sym (own_pages o)) ∙ charge_without o.owner.0 n o h.objects rising found in
     by_object (object h o.owner.0) (counted (object h o.owner.0) (charge_in h.objects o.owner.0) - pages_of o.body) (charge_in (without_in h.objects n) o.owner.0) (pages_of o.body) (some_page o.body)
     (less_is (object h o.owner.0) (charge_in h.objects o.owner.0) (pages_of o.body) (charge_in (without_in h.objects n) o.owner.0) pays)
 
@@ -93,15 +93,15 @@ zero_sum a b h = grind (arith, nat_tests)
 none_more : (b : ℕ) → 0 + b ≡ b
 none_more b = omega arith
 
+one_owned : (b : Bool) (pages rest : ℕ) (others : Bool) → 1 ≤ pages → (rest == 0) ≡ not others → (cond b pages 0 + rest == 0) ≡ not (b || others)
+one_owned true pages rest others some h = zero_sum pages rest some
+one_owned false pages rest others some h = ap (λ (n : ℕ). n == 0) (none_more rest) ∙ h
+
 nothing_owned : (user : ℕ) (os : List Object) → (charge_in os user == 0) ≡ not (list_any (owns user) os)
 nothing_owned user [] = rw (charge_none user) refl
 nothing_owned user (o ∷ os) =
-    let rest = nothing_owned user os in
-    rw (charge_first user o os)
-    (elim (o.owner.0 == user) as (λ b. (cond b (pages_of o.body) 0 + charge_in os user == 0) ≡ not (cond b true (list_any (owns user) os))) [
-      | true ↦ zero_sum (pages_of o.body) (charge_in os user) (some_page o.body)
-      | false ↦ ap (λ (n : ℕ). n == 0) (none_more (charge_in os user)) ∙ rest
-    ])
+    ap (λ (n : ℕ). n == 0) (charge_first user o os)
+    ∙ one_owned (o.owner.0 == user) (pages_of o.body) (charge_in os user) (list_any (owns user) os) (some_page o.body) (nothing_owned user os)
 
 not_twice : (b : Bool) → not (not b) ≡ b
 not_twice true = refl

@@ -1,20 +1,20 @@
 //! How objects are made, whatever their kind: the identification is new in its context, the owner may pay for the
 //! object, and a number is left.
-ghost use Rattle.std.specs.Prelude.{◌≡◌, ◌+◌, ◌≤◌, ◌^◌, false, true, IfOk, None, OnOk, OnErr, Option};
+ghost use Rattle.std.specs.Prelude.{◌≡◌, ◌+◌, ◌≤◌, ◌^◌, ℕ, false, true, IfOk, None, OnOk, OnErr, Option};
 ghost use Rattle.std.specs.Option.{option_copied};
 ghost use Rattle.s38_base.specs.declared.exception.Exception.{Exception};
 ghost use Rattle.s38_objects.specs.Lawful.{is_place, is_place_of};
 ghost use Rattle.s38_rules.specs.Creation.{creation_changes, creation_fails, creation_gives, creation_limits, creation_needs, in_context, is_another, is_taken, is_taken_beside, machine_needs, maker_rows, name_rule, new_object, new_pointer, number_rule, of_kind, of_machine, pages_rule};
-ghost use Rattle.s38_rules.specs.Held.{ceiling_for, charge_in, found, home, pages_of, with_object};
+ghost use Rattle.s38_rules.specs.Held.{ceiling_for, charge_in, found, home, object as object_at, pages_of, with_object};
 
 use crate::charges::pays_more;
-use crate::users::{prepare, take_back};
+use crate::users::{pay_within, prepare, take_back};
 use s38_base::exceptions::{DUPLICATE_IDENTIFICATION, LIMIT_EXCEEDED};
 use s38_base::limits::{CEILING_STEP, LAST_NUMBER, MACHINE_CONTEXT, MOST_OBJECTS};
 use s38_base::{Category, Exception, Id, Kind, NoMemory, ObjNum, Pointer, Rights, UserNum};
 use s38_code::{Operand, Val};
 use s38_invoke::World;
-use s38_objects::{Objects, pages, pay_more};
+use s38_objects::{Objects, pages};
 use s38_operands::{Needs, fails, id_at, is_given, on_implied, on_object, rights_at, target};
 use s38_rules::{Body, Creating, Object, RowList, Sought};
 use std::alloc::Global;
@@ -40,12 +40,7 @@ fn of_kind(kind: Kind, id: Option<&Id>) -> Option<Id>
 }
 
 /// An object of the machine context, with the identification of operand 2.
-pub fn of_machine(
-    kind: Kind,
-    public: Rights,
-    objects: &Objects,
-    operands: &[Operand],
-) -> Creating
+pub fn of_machine(kind: Kind, public: Rights, objects: &Objects, operands: &[Operand]) -> Creating
     ensures { result ≡ of_machine kind public.0 objects.now operands.now }
 {
     Creating {
@@ -253,9 +248,19 @@ fn enter(objects: &mut Objects, object: Object) -> Result<(), NoMemory>
     }
 }
 
+/// The number of the next object: none has it, or a greater one.
+#[tactic(auto, using(crate::proofs::KeptLaws::given_by))]
+fn fresh(objects: &Objects) -> ObjNum
+    ensures next { result.0 ≡ objects.now.next }
+    ensures given { (n : ℕ) → objects.now.next ≤ n → object_at objects.now n ≡ None }
+{
+    let _count = objects.len();
+    ObjNum(objects.next_number())
+}
+
 /// A new object stands behind the others, and its owner pays for it and has all rights by a row. Where memory is
 /// refused nothing changes.
-#[tactic(auto, using(crate::proofs::KeptLaws::added_kept, crate::proofs::KeptLaws::unprepared_kept))]
+#[tactic(auto, using(crate::proofs::CreationLaws::addition_kept, crate::proofs::KeptLaws::none_yet, crate::proofs::KeptLaws::no_row_yet))]
 fn add(world: &mut World<Objects>, object: Object) -> Result<(), NoMemory>
     requires number { object.number.0 ≡ world.old.held.next }
     requires small { world.old.held.next ≤ 2 ^ 62 }
@@ -266,16 +271,17 @@ fn add(world: &mut World<Objects>, object: Object) -> Result<(), NoMemory>
     ensures ok { OnOk result (world.new ≡ record world.old { held = with_object world.old.held object }) }
     ensures err { OnErr result (world.new ≡ world.old) }
 {
-    let number = object.number;
+    let number = fresh(&world.objects);
     let owner = object.owner;
-    let charged = pages(&object.body);
+    let limit = world.page_limit(owner);
+    let more = pages(&object.body);
     match prepare(&mut world.profiles, number, owner, &object.body) {
         Ok(()) => {}
         Err(fault) => return Err(fault),
     }
     match enter(&mut world.objects, object) {
         Ok(()) => {
-            pay_more(&mut world.profiles, owner, charged);
+            pay_within(&mut world.profiles, owner, more, limit);
             Ok(())
         }
         Err(fault) => {

@@ -8,7 +8,7 @@ ghost use Rattle.s38_rules.specs.Kept.{kept_row, profile_by};
 ghost use Rattle.s38_rules.specs.PrivateRows.{AreRows, row_of};
 
 use s38_base::{NoMemory, ObjNum, Rights, UserNum};
-use s38_objects::{enter, pages, pay};
+use s38_objects::{enter, pages, pay, pay_more};
 use s38_profiles::Profiles;
 use s38_rules::{Body, Object, PrivateRow};
 
@@ -19,6 +19,16 @@ pub fn pay_less(profiles: &mut Profiles, user: UserNum, pages: u64)
 {
     let charge = profiles.charge(user).saturating_sub(pages);
     pay(profiles, user, charge);
+}
+
+/// A user pays for so many pages more, as its limit allows.
+pub fn pay_within(profiles: &mut Profiles, user: UserNum, pages: u64, limit: u32)
+    requires { charge_in (user_at profiles.old.users user.0) + pages ≤ limit }
+    ensures users { SetsUser profiles.old.users user.0 (paid (charge_in (user_at profiles.old.users user.0) + pages) (user_at profiles.old.users user.0)) profiles.new.users }
+    ensures rows { profiles.new.rows ≡ profiles.old.rows }
+{
+    let _limit = limit;
+    pay_more(profiles, user, pages);
 }
 
 /// A user pays for so many pages in the place of others.

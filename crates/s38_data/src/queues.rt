@@ -47,7 +47,7 @@ fn longest_at(operands: &[Operand]) -> u16
     whole_at(operands, 7).min(4096).max(1) as u16
 }
 
-#[tactic(auto, using(crate::proofs::QueueLaws::crtq_created), unfolding(s38_rules::specs::Queues::crtq_changes))]
+#[tactic(auto, using(crate::proofs::QueueLaws::crtq_created, s38_changes::proofs::CreationLaws::home_placed), unfolding(s38_rules::specs::Queues::crtq_changes))]
 fn crtq(
     alloc: Global,
     world: &mut World<Objects>,

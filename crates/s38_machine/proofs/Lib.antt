@@ -1,3 +1,4 @@
 mod EventLaws
 mod LogLaws
 mod VerdictLaws
+mod OpeningLaws

@@ -1,4 +1,5 @@
-ghost use Rattle.std.specs.Prelude.{◌≡◌, ◌<◌, ◌≤◌, ◌^◌, None, IsTrue, IfOk, OnOk};
+ghost use Rattle.std.specs.Prelude.{◌≡◌, ◌<◌, ◌≤◌, ◌^◌, None, IsTrue, IfOk, OnOk, true};
+ghost use Rattle.s38_objects.specs.Lawful.{is_place_of};
 ghost use Rattle.s38_rules.specs.Held.{found, with_added};
 ghost use Rattle.s38_base.specs.NameText.{is_name};
 ghost use Rattle.s38_rules.specs.Opening.{general_context, held_first, locked_queue, machine_context, named, officer, officer_rows, opened, opening, owned, plain_user, process_entries};
@@ -97,6 +98,7 @@ fn locked_queue(alloc: Global) -> Result<Object, NoMemory>
 fn add(objects: &mut Objects, object: Object) -> Result<(), NoMemory>
     requires unused { objects.old.next ≤ object.number.0 }
     requires small { object.number.0 < 2 ^ 63 }
+    requires placed { is_place_of objects.old object ≡ true }
     requires unnamed { found objects.old object.context.0 object.id ≡ None }
     ensures { OnOk result (objects.new ≡ with_added objects.old object) }
 {
@@ -138,6 +140,7 @@ fn process_entries(alloc: Global, jobs: &[Job]) -> Result<Vec<ProcessEntry>, NoM
 }
 
 /// The state in which the jobs find the machine, with the deck's templates.
+#[tactic(auto, using(crate::proofs::OpeningLaws::opening_kept))]
 pub fn opened(alloc: Global, templates: Checked, jobs: &[Job]) -> Result<World<Objects>, NoMemory>
     ensures { IfOk result (λ world. world ≡ opened templates jobs.now) }
 {
