@@ -9,7 +9,7 @@ use Rattle.s38_rules.specs.declared.object.Object.{Object}
 use Rattle.s38_rules.specs.Authority.{counted, is_profile}
 use Rattle.s38_rules.specs.Creation.{limit_in, pages_rule}
 use Rattle.s38_rules.specs.Headers.{limit_of}
-use Rattle.s38_rules.specs.Held.{Held, charge_beside, charge_in, has_number, object, object_in, pages_for, pages_of, without_in}
+use Rattle.s38_rules.specs.Held.{Held, charge_beside, charge_in, has_number, object, object_in, pages_of, without_in}
 use Rattle.s38_rules.specs.Profiles.{is_owner, is_profile_in, owns}
 use Rattle.s38_rules.specs.Spaces.{owner_pays}
 use Rattle.s38_rules.proofs.ChargeLaws.{AreRising, beside_found, charge_first, charge_none, charge_without, other_pages, own_pages, some_page}

@@ -1,5 +1,5 @@
 -- What is kept of users where an object is given, a profile is set, or a space gets another length.
-use Rattle.std.proofs.Common.{◌≡◌, ℕ, ◌+◌, ◌-◌, ◌/◌, ◌<◌, ◌≤◌, ◌^◌, ◌==◌, true, false, cond, not, List, [], ◌∷◌, length, refl, sym, ◌∙◌, ap, subst, arith}
+use Rattle.std.proofs.Common.{◌≡◌, ℕ, ◌+◌, ◌-◌, ◌<◌, ◌≤◌, ◌^◌, ◌==◌, true, false, cond, not, List, [], ◌∷◌, refl, sym, ◌∙◌, ap, subst, arith}
 use Rattle.std.proofs.lemmas.Bool.Decides.{nat_tests}
 use Rattle.std.specs.Prelude.{Option, Some, None, IsSome, OnErr, OnOk, Result, Ok, Err, is_some, nat_lt}
 use Rattle.s38_base.specs.declared.fault.NoMemory.{NoMemory}
@@ -20,7 +20,7 @@ use Rattle.s38_rules.specs.Creation.{limit_in}
 use Rattle.s38_rules.specs.Grants.{taker_rule}
 use Rattle.s38_rules.specs.Headers.{limit_of}
 use Rattle.s38_rules.specs.Held.{Held, change, change_in, charge_beside, charge_in, has_number, object, object_in, owner_in, pages_of, without, without_in}
-use Rattle.s38_rules.specs.Keeping.{IsUser, paid}
+use Rattle.s38_rules.specs.Keeping.{paid}
 use Rattle.s38_rules.specs.Kept.{Mirrors, kept_profile, profile_by}
 use Rattle.s38_rules.specs.Parts.{on_space, part_in, profile_part, set_profile, space_part}
 use Rattle.s38_rules.specs.PrivateRows.{AreRows}
@@ -35,7 +35,7 @@ use Rattle.s38_changes.proofs.CellLaws.{resized_length}
 use Rattle.s38_changes.proofs.KeptLaws.{charge_read, given_by, given_kept, gone_kept, granted_kept, profile_kept, read_kept, resized_kept}
 
 -- where there is no object of the number, a change leaves all
-pub none_changed : (h : Held) (n : ℕ) (f : Object → Object) → object h n ≡ None → change h n f ≡ h
+none_changed : (h : Held) (n : ℕ) (f : Object → Object) → object h n ≡ None → change h n f ≡ h
 none_changed h n f none = ap (λ (os : List Object). record h { objects = os }) (change_absent n f h.objects none)
 
 pub stays : (s : State) (n : ℕ) (f : Object → Object) → object s.held n ≡ None → s ≡ record s { held = change s.held n f }
@@ -81,7 +81,7 @@ room h n user o found rule =
     grind (arith, nat_tests)
 
 -- who may own an object is a user
-pub taker_there : (maps : ProfileMaps) (h : Held) (n user : ℕ) (o : Object) → object h n ≡ Some o → taker_rule h n user (object h n) ≡ None → Mirrors maps h → IsSome (user_at maps.users user)
+taker_there : (maps : ProfileMaps) (h : Held) (n user : ℕ) (o : Object) → object h n ≡ Some o → taker_rule h n user (object h n) ≡ None → Mirrors maps h → IsSome (user_at maps.users user)
 taker_there maps h n user o found rule m =
     user_there maps.users h.objects (charge_in h.objects) user m.users (limit_some (object h user) (omega (arith, room h n user o found rule, some_page o.body)))
 
@@ -93,7 +93,7 @@ nat_same : (a b : ℕ) → (a == b) ≡ true → a ≡ b
 nat_same a b h = grind (arith, nat_tests)
 
 -- what it pays for can be counted
-pub given_room : (maps : ProfileMaps) (mid : Users) (h : Held) (n user limit : ℕ) (o : Object) → AreRising h.objects → object h n ≡ Some o → taker_rule h n user (object h n) ≡ None
+given_room : (maps : ProfileMaps) (mid : Users) (h : Held) (n user limit : ℕ) (o : Object) → AreRising h.objects → object h n ≡ Some o → taker_rule h n user (object h n) ≡ None
     → limit ≡ limit_in (object h user) → limit < 2 ^ 32
     → SetsUser maps.users o.owner.0 (paid (charge_of (user_at maps.users o.owner.0) - pages_of o.body) (user_at maps.users o.owner.0)) mid → Mirrors maps h
     → charge_of (user_at mid user) + pages_of o.body < 2 ^ 64
@@ -128,7 +128,7 @@ limit_kept None charge = refl
 limit_kept (Some o) charge = limit_body_kept o.body charge
 
 -- what is kept of a user's limit
-pub limit_read : (maps : ProfileMaps) (h : Held) (user : ℕ) → Mirrors maps h → kept_limit (user_at maps.users user) ≡ limit_in (object h user)
+limit_read : (maps : ProfileMaps) (h : Held) (user : ℕ) → Mirrors maps h → kept_limit (user_at maps.users user) ≡ limit_in (object h user)
 limit_read maps h user m = ap kept_limit (m.users user) ∙ limit_kept (object h user) (charge_in h.objects user)
 
 -- an object is another user's, who has a row and pays for it
@@ -180,7 +180,7 @@ entered_body maps after h n o (bodies.Space cells) special limit found e there s
 entered_body maps after h n o (bodies.Queue q) special limit found e there set same m = absurd (no_user there)
 
 -- a user has other specials and another limit
-pub profile_entered : (maps after : ProfileMaps) (h : Held) (n : ℕ) (special : Special) (limit : ℕ) → IsSome (user_at maps.users n)
+profile_entered : (maps after : ProfileMaps) (h : Held) (n : ℕ) (special : Special) (limit : ℕ) → IsSome (user_at maps.users n)
     → SetsUser maps.users n (Some (entered special limit (user_at maps.users n))) after.users → after.rows ≡ maps.rows → Mirrors maps h → Mirrors after (set_profile h n special limit)
 profile_entered maps after h n special limit there set same m =
     elim (object h n) as (λ r. object h n ≡ r → IsSome (kept_profile r (charge_in h.objects n)) → Mirrors after (set_profile h n special limit)) [
@@ -240,7 +240,7 @@ forgotten maps after h n o lawful found rows users m =
 -- ---- a space gets another length
 
 -- what its owner pays for can be counted
-pub resized_room : (maps : ProfileMaps) (h : Held) (n pages limit : ℕ) (o : Object) → AreRising h.objects → object h n ≡ Some o → owner_pays h n pages ≡ None
+resized_room : (maps : ProfileMaps) (h : Held) (n pages limit : ℕ) (o : Object) → AreRising h.objects → object h n ≡ Some o → owner_pays h n pages ≡ None
     → limit ≡ limit_in (object h o.owner.0) → limit < 2 ^ 32 → Mirrors maps h
     → charge_of (user_at maps.users o.owner.0) - pages_of o.body + pages < 2 ^ 64
 unfolding owner_pays

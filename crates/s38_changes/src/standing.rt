@@ -130,7 +130,7 @@ pub fn move_to(world: &mut World<Objects>, number: ObjNum, context: ObjNum) -> R
 }
 
 /// A user has these special authorities and this limit.
-#[tactic(auto, using(crate::proofs::StandingLaws::profile_entered, crate::proofs::StandingLaws::profile_absent))]
+#[tactic(auto, using(crate::proofs::StandingLaws::profile_absent))]
 pub fn set_profile(world: &mut World<Objects>, number: ObjNum, special: Special, limit: u32)
     ensures { world.new ≡ record world.old { held = set_profile world.old.held number.0 special limit } }
 {

@@ -1,9 +1,8 @@
 use Rattle.std.proofs.Common.{◌≡◌, ℕ, ◌+◌, ◌-◌, ap, arith, subst, sym, ◌∙◌}
 use Rattle.std.specs.Option.{option_copied}
-use Rattle.std.specs.Prelude.{None, Option, Some}
+use Rattle.std.specs.Prelude.{None, Some}
 use Rattle.s38_memory.specs.Tagged.{resized}
 use Rattle.s38_profiles.specs.Users.{SetsUser, charge_in, user_at}
-use Rattle.s38_rules.specs.declared.object.Object.{Object}
 use Rattle.s38_rules.specs.Held.{Held, object}
 use Rattle.s38_rules.specs.Keeping.{paid}
 use Rattle.s38_rules.specs.Kept.{Mirrors}
