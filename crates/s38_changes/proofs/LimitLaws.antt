@@ -36,7 +36,7 @@ some_none : (x : Object) → Some x ≡ None → ⊥
 some_none x h = cc
 
 -- no object has the number, and none is left out
-without_absent : (n : ℕ) (os : List Object) → object_in os n ≡ None → without_in os n ≡ os
+pub without_absent : (n : ℕ) (os : List Object) → object_in os n ≡ None → without_in os n ≡ os
 without_absent n [] h = refl
 without_absent n (o ∷ os) h =
     elim (has_number n o) as (λ b. cond b (Some o) (object_in os n) ≡ None → cond (not b) (o ∷ without_in os n) (without_in os n) ≡ o ∷ os) [

@@ -1,5 +1,5 @@
 -- What is kept of users where an object is given, a profile is set, or a space gets another length.
-use Rattle.std.proofs.Common.{◌≡◌, ℕ, ◌+◌, ◌-◌, ◌<◌, ◌≤◌, ◌^◌, ◌==◌, true, false, cond, not, List, [], ◌∷◌, refl, sym, ◌∙◌, ap, subst, arith}
+use Rattle.std.proofs.Common.{◌≡◌, ℕ, ◌+◌, ◌-◌, ◌<◌, ◌≤◌, ◌^◌, ◌==◌, true, false, cond, List, [], ◌∷◌, refl, sym, ◌∙◌, ap, subst, arith}
 use Rattle.std.proofs.lemmas.Bool.Decides.{nat_tests}
 use Rattle.std.specs.Prelude.{Option, Some, None, IsSome, OnErr, OnOk, Result, Ok, Err, is_some, nat_lt}
 use Rattle.s38_base.specs.declared.fault.NoMemory.{NoMemory}
@@ -19,7 +19,7 @@ use Rattle.s38_rules.specs.declared.object.Object.{Object}
 use Rattle.s38_rules.specs.Creation.{limit_in}
 use Rattle.s38_rules.specs.Grants.{taker_rule}
 use Rattle.s38_rules.specs.Headers.{limit_of}
-use Rattle.s38_rules.specs.Held.{Held, change, change_in, charge_beside, charge_in, has_number, object, object_in, owner_in, pages_of, without, without_in}
+use Rattle.s38_rules.specs.Held.{Held, change, change_in, charge_beside, charge_in, has_number, object, owner_in, pages_of, without, without_in}
 use Rattle.s38_rules.specs.Keeping.{paid}
 use Rattle.s38_rules.specs.Kept.{Mirrors, kept_profile, profile_by}
 use Rattle.s38_rules.specs.Parts.{on_space, part_in, profile_part, set_profile, space_part}
@@ -32,6 +32,7 @@ use Rattle.s38_rules.proofs.PartLaws.{part_kept}
 use Rattle.s38_rules.proofs.RuleLaws.{fails_none}
 use Rattle.s38_rules.proofs.UserLaws.{charge_kept, is_user, user_there}
 use Rattle.s38_changes.proofs.CellLaws.{resized_length}
+use Rattle.s38_changes.proofs.LimitLaws.{without_absent}
 use Rattle.s38_changes.proofs.KeptLaws.{charge_read, given_by, given_kept, gone_kept, granted_kept, profile_kept, read_kept, resized_kept}
 
 -- where there is no object of the number, a change leaves all
@@ -215,17 +216,9 @@ profile_absent maps h n special limit none m =
 none_found : (x : Object) → Some x ≡ None → ⊥
 none_found x h = cc
 
-none_left_out : (n : ℕ) (os : List Object) → object_in os n ≡ None → without_in os n ≡ os
-none_left_out n [] h = refl
-none_left_out n (o ∷ os) h =
-    elim (has_number n o) as (λ b. cond b (Some o) (object_in os n) ≡ None → cond (not b) (o ∷ without_in os n) (without_in os n) ≡ o ∷ os) [
-      | true ↦ λ g. absurd (none_found o g)
-      | false ↦ λ g. ap (λ (l : List Object). o ∷ l) (none_left_out n os g)
-    ] h
-
 -- where there is no object of the number, none is taken out
 pub none_gone : (h : Held) (n : ℕ) → object h n ≡ None → without h n ≡ h
-none_gone h n none = ap (λ (os : List Object). record h { objects = os }) (none_left_out n h.objects none)
+none_gone h n none = ap (λ (os : List Object). record h { objects = os }) (without_absent n h.objects none)
 
 -- an object that is taken out is forgotten
 pub forgotten : (maps after : ProfileMaps) (h : Held) (n : ℕ) (o : Object) → IsLawful h → object h n ≡ Some o

@@ -57,6 +57,7 @@ fn found(objects: &Objects, number: ObjNum) -> Option<&Object>
     ensures found { option_copied result ≡ object_at objects.now number.0 }
     ensures rising { AreRising objects.now.objects }
 {
+    // Its contract says that numbers rise and were given.
     let _count = objects.len();
     objects.get(number)
 }

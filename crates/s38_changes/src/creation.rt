@@ -254,6 +254,7 @@ fn fresh(objects: &Objects) -> ObjNum
     ensures next { result.0 ≡ objects.now.next }
     ensures given { (n : ℕ) → objects.now.next ≤ n → object_at objects.now n ≡ None }
 {
+    // Its contract says that numbers rise and were given.
     let _count = objects.len();
     ObjNum(objects.next_number())
 }

@@ -23,6 +23,7 @@ pub fn destruction_needs(kind: Kind) -> Needs
 fn remove(world: &mut World<Objects>, number: ObjNum)
     ensures { world.new ≡ record world.old { held = without world.old.held number.0 } }
 {
+    // Its contract says that numbers rise and were given.
     let _count = world.objects.len();
     let Some(object) = world.objects.remove(number) else {
         return;

@@ -106,7 +106,9 @@ pub fn resize(world: &mut World<Objects>, number: ObjNum, len: u32) -> Result<()
     let Body::Space(_) = &object.body else {
         return Ok(());
     };
+    // Its contract says that numbers rise and were given.
     let _count = world.objects.len();
+    // A limit is a number of 32 bits, so no charge is too large.
     let _limit = world.profiles.limit(owner);
     match resize_in(&mut world.objects, number, len) {
         Ok(()) => {}

