@@ -10,10 +10,10 @@ use Rattle.s38_rules.specs.Creation.{creation_fails}
 use Rattle.s38_memory.specs.Tagged.{resized}
 use Rattle.s38_rules.specs.declared.object.Body.TheVariants as bodies
 use Rattle.s38_rules.specs.Held.{Held, pages_of, space_pages}
-use Rattle.s38_rules.specs.Operands.{count_at}
+use Rattle.s38_rules.specs.Operands.{count_at, target}
 use Rattle.s38_rules.specs.Profiles.{crtup_fails, new_profile}
 use Rattle.s38_rules.specs.Programs.{crtpg_fails, new_program, template_at, template_rule}
-use Rattle.s38_rules.specs.Spaces.{crts_fails, is_space_length, length_at, length_rule, mods_fails, new_space, pages_for_length}
+use Rattle.s38_rules.specs.Spaces.{crts_fails, is_space_length, length_at, length_rule, mods_fails, new_space, owner_pays, pages_for_length}
 use Rattle.s38_rules.specs.State.{State}
 use Rattle.s38_rules.specs.Users.{user_of}
 use Rattle.s38_rules.proofs.RuleLaws.{fails_none, first_none, not_false}
@@ -63,6 +63,11 @@ crts_long s p ops h = length_long s ops 5 (own_met s.held (user_of s p) (new_spa
 pub mods_long : (s : State) (ops : List Operand) → mods_fails s ops ≡ None → is_space_length s.limit (length_at s ops 2) ≡ true
 unfolding mods_fails
 mods_long s ops h = length_long s ops 2 (first_none _ _ h).0
+
+-- its owner pays for it
+pub mods_paid : (s : State) (ops : List Operand) → mods_fails s ops ≡ None → owner_pays s.held (target s.held ops 1) (pages_for_length (length_at s ops 2)) ≡ None
+unfolding mods_fails
+mods_paid s ops h = (first_none _ _ h).1
 
 -- a new space takes the pages of its length
 pub space_paid : (len : ℕ) → pages_for_length len ≡ pages_of (bodies.Space (resized len []))

@@ -32,7 +32,7 @@ rights_changed : (h : Held) (n : ℕ) (b : Bool) (user : ObjNum) (f : ℕ → �
     → restand h n (λ s. with_rights b user (f (rights_of b user s)) s) ≡ restand h n (with_rights b user (f (row_or_public b (object h n) user.0)))
 rights_changed h n b user f =
     let alike = λ (o : Object) (found : object h n ≡ Some o).
-        ap (λ r. with_standing (with_rights b user (f r) (standing_of o)) o) (rw found (rights_there b user o)) in
+    ap (λ r. with_standing (with_rights b user (f r) (standing_of o)) o) (rw found (rights_there b user o)) in
     ap (λ os. record h { objects = os }) (changed_alike n _ _ h.objects alike)
 
 -- rights are added to those that there are

@@ -3,3 +3,4 @@ mod CreationLaws
 mod RoomLaws
 mod ContextLaws
 mod GrantLaws
+mod ListingLaws

@@ -1,7 +1,7 @@
 //! Contexts: made and destroyed, their contents listed; the address and the name of an object changed.
 ghost use Rattle.std.specs.Prelude.{◌≡◌, None, Some, IfOk, OnOk, OnErr};
 ghost use Rattle.std.specs.Option.{option_copied};
-ghost use Rattle.s38_rules.specs.Contexts.{contexts_row, crtctx_changes, crtctx_fails, desctx_fails, is_at_home, is_name_beside, is_other_kind, matctx_gives, matctx_needs, modadr_changes, modadr_fails, modadr_needs, new_address, new_context, own_context, rename_changes, rename_fails, rename_needs, rename_rule, renamed_by};
+ghost use Rattle.s38_rules.specs.Contexts.{contexts_row, crtctx_changes, crtctx_fails, desctx_fails, is_at_home, is_name_beside, is_other_kind, matctx_gives, matctx_needs, modadr_changes, modadr_fails, modadr_needs, new_address, new_context, own_context, rename_changes, rename_fails, rename_needs, rename_rule};
 ghost use Rattle.s38_base.specs.RightNames as rights;
 ghost use Rattle.s38_base.specs.declared.words.Category.TheVariants.{Change};
 ghost use Rattle.s38_rules.specs.declared.need.Sought.TheVariants.{Any};
@@ -15,8 +15,8 @@ use s38_base::exceptions::{DUPLICATE_IDENTIFICATION, OBJECT_IN_USE, OBJECT_TYPE_
 use s38_base::limits::MACHINE_CONTEXT;
 use s38_base::{Category, Exception, Id, Kind, NoMemory, ObjNum, Op, Rights};
 use s38_changes::{
-    creation_changes, creation_fails, creation_gives, destruction_changes, destruction_needs,
-    home, is_taken_beside, machine_needs, move_to, of_machine, rename_to,
+    creation_changes, creation_fails, creation_gives, destruction_changes, destruction_needs, home,
+    is_taken_beside, machine_needs, move_to, of_machine, rename_to,
 };
 use s38_code::{Operand, Request, Val};
 use s38_invoke::World;
@@ -249,7 +249,7 @@ fn rename_fails(objects: &Objects, operands: &[Operand]) -> Option<Exception>
 }
 
 /// The object has the identification; where memory is refused nothing changes.
-#[tactic(auto, using(crate::proofs::ContextLaws::rename_free), unfolding(s38_rules::specs::Contexts::rename_changes))]
+#[tactic(auto, unfolding(s38_rules::specs::Contexts::rename_changes))]
 fn rename(world: &mut World<Objects>, operands: &[Operand]) -> Result<(), NoMemory>
     requires { rename_fails world.old.held operands.now ≡ None }
     ensures ok { OnOk result (world.new ≡ record world.old { held = rename_changes world.old.held operands.now }) }

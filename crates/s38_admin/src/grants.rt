@@ -121,7 +121,6 @@ fn set_rights(
 }
 
 /// The rights are added; where memory is refused nothing changes.
-#[tactic(auto, using(crate::proofs::GrantLaws::rights_added))]
 fn grant(world: &mut World<Objects>, operands: &[Operand]) -> Result<(), NoMemory>
     ensures ok { OnOk result (world.new ≡ record world.old { held = grant_changes world.old.held operands.now }) }
     ensures err { OnErr result (world.new ≡ world.old) }
@@ -132,7 +131,6 @@ fn grant(world: &mut World<Objects>, operands: &[Operand]) -> Result<(), NoMemor
 }
 
 /// The rights are taken away; what pointers carry stays.
-#[tactic(auto, using(crate::proofs::GrantLaws::rights_taken))]
 fn retract(world: &mut World<Objects>, operands: &[Operand]) -> Result<(), NoMemory>
     ensures ok { OnOk result (world.new ≡ record world.old { held = retract_changes world.old.held operands.now }) }
     ensures err { OnErr result (world.new ≡ world.old) }
@@ -202,10 +200,7 @@ fn testau_gives(
     let number = target(&world.objects, operands, 2);
     let carried = Pointer::carried(pointer_at(&world.objects, operands, 2));
     let there = available(world, users.as_slice(), number, carried);
-    Ok(Val::Bytes(truth(
-        alloc,
-        has_rights(rights_at(operands, 3), there),
-    )?))
+    Ok(Val::Bytes(truth(alloc, has_rights(rights_at(operands, 3), there))?))
 }
 
 // ---- MATAU
@@ -235,7 +230,10 @@ fn matau_gives(alloc: Global, objects: &Objects, operands: &[Operand]) -> Result
 fn acts(users: &[UserNum], user: UserNum) -> bool
     ensures { result ≡ list_any (λ acting. acting == user.0) (map (λ u. u.0) users.now) }
 {
-    users.iter().any(|acting| acting.0 == user.0)
+    match users {
+        [] => false,
+        [acting, more @ ..] => acting.0 == user.0 || acts(more, user),
+    }
 }
 
 /// The special authority over profiles, but for one's own.

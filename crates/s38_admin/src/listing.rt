@@ -2,8 +2,8 @@
 ghost use Rattle.std.specs.Prelude.{◌≡◌, map, IfOk};
 ghost use Rattle.s38_rules.specs.Contexts.{character, name_image, names_image};
 
-use s38_base::{Bytes, Name, NoMemory, ObjNum, Seq};
 use crate::images::count_image;
+use s38_base::{Bytes, Name, NoMemory, ObjNum, Seq};
 use s38_operands::fitted;
 use s38_rules::Listed;
 use s38_strings::ebcdic;
@@ -44,6 +44,7 @@ fn name_image(alloc: Global, listed: &Listed) -> Result<Bytes, NoMemory>
 }
 
 /// How many names there are, and their images in order.
+#[tactic(auto, using(crate::proofs::ListingLaws::names_written))]
 pub fn names_image(alloc: Global, names: &BTreeMap<Listed, ObjNum>) -> Result<Bytes, NoMemory>
     ensures { IfOk result (λ made. made ≡ names_image names.now.entries) }
 {

@@ -23,10 +23,12 @@ const OFFICER: u64 = 2;
 // ---- what is said of a user
 
 /// A word of special authorities: its two bits.
+#[tactic(auto, using(std::proofs::lemmas::Nat::and_le_r))]
 fn specials_at(operands: &[Operand], k: usize) -> Special
     ensures { result ≡ specials_at operands.now k }
 {
-    Special(word_at(operands, k) as u8 & (Special::ALLOBJ.0 + Special::PROFILE.0))
+    let both = u32::from(Special::ALLOBJ.0 + Special::PROFILE.0);
+    Special((word_at(operands, k) & both) as u8)
 }
 
 /// How many pages a user may own.
@@ -209,7 +211,10 @@ pub fn value(
     let _ = depth;
     let operands = request.operands.as_slice();
     match request.op {
-        Op::Crtup => Ok(Some(creation_gives(&world.objects, &new_profile(&world.objects, operands)))),
+        Op::Crtup => Ok(Some(creation_gives(
+            &world.objects,
+            &new_profile(&world.objects, operands),
+        ))),
         _ => Ok(None),
     }
 }

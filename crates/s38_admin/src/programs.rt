@@ -1,7 +1,7 @@
 //! Programs as objects: made of the deck's templates, called, and destroyed.
 ghost use Rattle.std.specs.Prelude.{◌≡◌, None, IfOk, OnOk, OnErr};
 ghost use Rattle.std.specs.Option.{option_copied};
-ghost use Rattle.s38_rules.specs.Programs.{created_program, crtpg_changes, crtpg_fails, new_program, program_in, programs_row, template_at};
+ghost use Rattle.s38_rules.specs.Programs.{crtpg_changes, crtpg_fails, new_program, program_in, programs_row, template_at};
 
 use crate::calls::{call_gives, call_needs, callx, callx_fails, xctl, xctl_fails};
 use crate::templates::{is_larger, program_in, template_in, template_rule};

@@ -204,12 +204,7 @@ fn rslvsp_fails(
 {
     let users = world.acting(process, depth);
     let located = resolved(world, process, depth, operands);
-    carried_rights(
-        world,
-        users.as_slice(),
-        rights_at(operands, 4),
-        located,
-    )
+    carried_rights(world, users.as_slice(), rights_at(operands, 4), located)
 }
 
 fn pointer_to(rights: Rights, located: Option<Located>) -> Option<Pointer>

@@ -1,28 +1,25 @@
 //! Spaces: made, lengthened or cut, and destroyed; pointers into them; copies of cells with their tags.
-ghost use Rattle.std.specs.Prelude.{◌≡◌, ◌≤◌, [], All, Some, None, IfOk, OnOk, OnErr, true};
+ghost use Rattle.std.specs.Prelude.{◌≡◌, ◌≤◌, [], Some, None, IfOk, OnOk, OnErr, true};
 ghost use Rattle.std.specs.Option.{option_copied};
 ghost use Rattle.s38_base.specs.Limits.{furthest};
-ghost use Rattle.s38_memory.specs.Cell.{IsCell};
 ghost use Rattle.s38_memory.specs.Tagged.{resized};
-ghost use Rattle.s38_rules.specs.Held.{owner_in};
-ghost use Rattle.s38_rules.specs.Parts.{on_space};
-ghost use Rattle.s38_rules.specs.Spaces.{cells_put, cpybwp_changes, cpybwp_fails, cpybwp_gives, crts_changes, crts_fails, is_space_length, is_unaligned, length_at, length_rule, mods_changes, mods_fails, new_space, owner_pays, pages_for_length, setdp_fails, setdp_gives, setsppfp_gives, spaces_row};
+ghost use Rattle.s38_rules.specs.Spaces.{cpybwp_changes, cpybwp_fails, cpybwp_gives, crts_changes, crts_fails, is_space_length, is_unaligned, length_at, length_rule, mods_changes, mods_fails, new_space, owner_pays, setdp_fails, setdp_gives, setsppfp_gives, spaces_row};
 
 use s38_base::exceptions::{BOUNDARY_ALIGNMENT, DECIMAL_DATA, LENGTH_INVALID, SPACE_ADDRESSING};
-use s38_base::{Category, Exception, Kind, NoMemory, ObjNum, Op, Pointer, Rights, UserNum};
+use s38_base::{Category, Exception, Kind, NoMemory, Op, Pointer, Rights};
 use s38_changes::{
     creation_changes, creation_fails, creation_gives, creation_needs, destruction_changes,
-    destruction_needs, in_context, owner_pays, put_cells, resize,
+    destruction_needs, in_context, owner_pays, pages_for_length, put_cells, resize,
 };
 use s38_code::{Operand, Request, Val};
 use s38_invoke::World;
-use s38_memory::{Cell, Tagged};
+use s38_memory::Tagged;
 use s38_objects::Objects;
 use s38_operands::{
     Needs, attr_at, count_at, fails, first_pointer, is_aligned, is_in_space, is_within, need,
     number_at, on_object, place, pointer_at, source_cells, target,
 };
-use s38_rules::{Body, Creating, Named, Object, PointerKind, Sought};
+use s38_rules::{Body, Creating, Named, PointerKind, Sought};
 use std::alloc::Global;
 
 // ---- lengths
@@ -56,13 +53,6 @@ fn length_at(world: &World<Objects>, operands: &[Operand], k: usize) -> u32
     } else {
         0
     }
-}
-
-/// The pages of a space of so many bytes.
-fn pages_for_length(len: u32) -> u64
-    ensures { result ≡ pages_for_length len }
-{
-    1 + (16 * (u64::from(len) / 16) + 511) / 512
 }
 
 // ---- CRTS
@@ -169,7 +159,7 @@ fn mods_fails(world: &World<Objects>, operands: &[Operand]) -> Option<Exception>
 }
 
 /// The space is cut, or lengthened by zero bytes.
-#[tactic(auto, using(crate::proofs::CreationLaws::mods_long), unfolding(s38_rules::specs::Spaces::mods_changes))]
+#[tactic(auto, using(crate::proofs::CreationLaws::mods_long, crate::proofs::CreationLaws::mods_paid), unfolding(s38_rules::specs::Spaces::mods_changes))]
 fn mods(world: &mut World<Objects>, operands: &[Operand]) -> Result<(), NoMemory>
     requires { mods_fails world.old operands.now ≡ None }
     ensures ok { OnOk result (world.new ≡ record world.old { held = mods_changes world.old operands.now }) }

@@ -15,5 +15,5 @@ pub use creation::{
     is_taken_beside, machine_needs, of_machine,
 };
 pub use destruction::{destruction_changes, destruction_needs};
-pub use spaces::{put_cells, put_value, resize};
+pub use spaces::{pages_for_length, put_cells, put_value, resize};
 pub use standing::{give_to, move_to, rename_to, set_profile, set_public, set_row};

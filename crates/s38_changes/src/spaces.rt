@@ -71,7 +71,7 @@ pub fn put_cells(world: &mut World<Objects>, receiver: Option<&Operand>, cells: 
 }
 
 /// The pages of a space of so many bytes.
-fn pages_for_length(len: u32) -> u64
+pub fn pages_for_length(len: u32) -> u64
     ensures { result ≡ pages_for_length len }
 {
     1 + (16 * (u64::from(len) / 16) + 511) / 512
