@@ -1,5 +1,5 @@
 -- What a run begins with can be kept of its users: all five objects are the security officer's, and take a page each.
-use Rattle.std.proofs.Common.{◌≡◌, ℕ, ◌+◌, ◌<◌, ◌≤◌, ◌^◌, ◌==◌, Bool, true, false, cond, List, [], ◌∷◌, refl, arith}
+use Rattle.std.proofs.Common.{◌≡◌, ℕ, ◌≤◌, ◌==◌, true, false, cond, [], ◌∷◌, refl, arith}
 use Rattle.std.proofs.lemmas.Bool.Decides.{nat_tests}
 use Rattle.s38_rules.specs.declared.object.Object.{Object}
 use Rattle.s38_rules.specs.Held.{charge_in, pages_for, pages_of}
@@ -16,24 +16,38 @@ no_page user o own high = let other : (o.owner.0 == user) ≡ false = grind (ari
 charge_few : (user : ℕ) → charge_in opening user ≤ 5
 unfolding opening
 charge_few user =
-    omega (arith,
-      charge_first user machine_context (officer ∷ general_context ∷ plain_user ∷ locked_queue ∷ []), one_page user machine_context refl,
-      charge_first user officer (general_context ∷ plain_user ∷ locked_queue ∷ []), one_page user officer refl,
-      charge_first user general_context (plain_user ∷ locked_queue ∷ []), one_page user general_context refl,
-      charge_first user plain_user (locked_queue ∷ []), one_page user plain_user refl,
-      charge_first user locked_queue [], one_page user locked_queue refl,
-      charge_none user)
+    omega (
+      arith,
+      charge_first user machine_context (officer ∷ general_context ∷ plain_user ∷ locked_queue ∷ []),
+      one_page user machine_context refl,
+      charge_first user officer (general_context ∷ plain_user ∷ locked_queue ∷ []),
+      one_page user officer refl,
+      charge_first user general_context (plain_user ∷ locked_queue ∷ []),
+      one_page user general_context refl,
+      charge_first user plain_user (locked_queue ∷ []),
+      one_page user plain_user refl,
+      charge_first user locked_queue [],
+      one_page user locked_queue refl,
+      charge_none user,
+    )
 
 charge_nothing : (user : ℕ) → 6 ≤ user → charge_in opening user ≡ 0
 unfolding opening
 charge_nothing user high =
-    omega (arith,
-      charge_first user machine_context (officer ∷ general_context ∷ plain_user ∷ locked_queue ∷ []), no_page user machine_context refl high,
-      charge_first user officer (general_context ∷ plain_user ∷ locked_queue ∷ []), no_page user officer refl high,
-      charge_first user general_context (plain_user ∷ locked_queue ∷ []), no_page user general_context refl high,
-      charge_first user plain_user (locked_queue ∷ []), no_page user plain_user refl high,
-      charge_first user locked_queue [], no_page user locked_queue refl high,
-      charge_none user)
+    omega (
+      arith,
+      charge_first user machine_context (officer ∷ general_context ∷ plain_user ∷ locked_queue ∷ []),
+      no_page user machine_context refl high,
+      charge_first user officer (general_context ∷ plain_user ∷ locked_queue ∷ []),
+      no_page user officer refl high,
+      charge_first user general_context (plain_user ∷ locked_queue ∷ []),
+      no_page user general_context refl high,
+      charge_first user plain_user (locked_queue ∷ []),
+      no_page user plain_user refl high,
+      charge_first user locked_queue [],
+      no_page user locked_queue refl high,
+      charge_none user,
+    )
 
 pub opening_kept : CanBeKept held_first
 opening_kept = record {

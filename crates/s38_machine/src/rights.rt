@@ -66,11 +66,7 @@ fn claim_rule(
 {
     let place = need.place;
     match need.claim {
-        Claim::Available => missing(
-            place,
-            need.rights,
-            available(world, users, number, carried),
-        ),
+        Claim::Available => missing(place, need.rights, available(world, users, number, carried)),
         Claim::Granting => granting_rule(
             is_governed(world, users, number),
             place,
