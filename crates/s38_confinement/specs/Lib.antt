@@ -1,0 +1,3 @@
+pub mod OfPointers
+pub mod NoWay
+pub mod Confined
