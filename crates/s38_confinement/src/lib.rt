@@ -6,12 +6,14 @@ ghost use Rattle.s38_code.specs.declared.entry.Entry.{Entry};
 ghost use Rattle.s38_process.specs.Process.{ProcessState};
 ghost use Rattle.s38_rules.specs.State.{State};
 ghost use Rattle.s38_confinement.specs.Confined.{AllWithin, AreRun, NeverUsed, StaysClosed};
-ghost use Rattle.s38_confinement.specs.OfPointers.{OfEvent, IsClosed, OfReply};
+ghost use Rattle.s38_confinement.specs.NoWay.{IsHarmless};
+ghost use Rattle.s38_confinement.specs.OfPointers.{IsClosed};
 
 /// A place for laws.
+#[tactic(auto, using(crate::proofs::HistoryLaws::confined))]
 pub fn none() -> bool
-    ensures { result ≡ true }
-    ensures x { (s : State) (h : List Entry) (ds : List ProcessState) (us : List ℕ) (o r : ℕ) → AllWithin us s h → AreRun ds h → NeverUsed s h o r → StaysClosed ds h s us o r → StaysClosed ds h s us o r }
+    ensures value { result ≡ true }
+    ensures law { (s : State) (h : List Entry) (ds : List ProcessState) (us : List ℕ) (o r : ℕ) → AllWithin us s h → IsClosed (IsHarmless o r) → AreRun ds h → NeverUsed s h o r → StaysClosed ds h s us o r → StaysClosed ds h s us o r }
 {
     true
 }
