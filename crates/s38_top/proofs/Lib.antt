@@ -1,2 +1,3 @@
 pub mod DeckLaws
 pub mod TopLaws
+mod ConfinedLaws

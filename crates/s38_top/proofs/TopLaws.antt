@@ -26,6 +26,7 @@ use Rattle.s38_top.specs.declared.outcome.Outcome.{Outcome}
 use Rattle.s38_top.specs.declared.outcome.Outcome.TheVariants.{BadWords, BadDeck, DeckFault, NoMemory, Complete, Checked}
 use Rattle.s38_top.specs.Commands.{command_of}
 use Rattle.s38_top.specs.Decks.{AreMarks, IsRunOf, checked_of, made_for}
+use Rattle.s38_top.proofs.ConfinedLaws.{run_confined}
 use Rattle.s38_top.specs.Outcome.{Ends, HasDeck, Holds, IsChecked, IsComplete, IsGood, OfText, Serves, Tells, checked_text, faulted, history_of, marks_of, most, status_of, text_of}
 
 there_is : {A : Type 0} (xs : List A) (k : ℕ) → k < length xs → (x : A) × (slice_get xs k ≡ Some x)
@@ -152,6 +153,7 @@ serves_by words left left' taken taken' written written' (Complete whole) histor
     subst (λ (es : List Entry). IsComplete left left' written written' es) (sym h) (record {
       deck = whole.deck;
       ran = holds.1.0;
+      confined = run_confined whole.deck whole.history.items holds.1.0.run;
       told = told;
       finished = λ xs e. read_out left left' whole.deck xs holds.1.0.taken e;
     }) in

@@ -1,16 +1,20 @@
 -- The checked templates of a deck, and whole runs of its jobs.
 use Rattle.std.specs.Prelude.{◌≡◌, ◌<◌, ℕ, ◌+◌, All, List, [], map, Option, Some, length, slice_get}
-use Rattle.std.specs.Option.{option_map}
+use Rattle.std.specs.Option.{option_map, unwrap_or}
 use Rattle.s38_code.specs.declared.deck.Deck.{Deck}
 use Rattle.s38_code.specs.declared.deck.Job.{Job}
 use Rattle.s38_code.specs.declared.entry.Entry.{Entry}
 use Rattle.s38_code.specs.declared.made.CheckedTemplate.{CheckedTemplate}
 use Rattle.s38_code.specs.declared.made.CreateResult.{CreateResult}
 use Rattle.s38_code.specs.History.{entries_of}
+use Rattle.s38_code.specs.declared.made.CreateResult.TheVariants.{Refused}
+use Rattle.s38_confinement.specs.Confined.{AllWithin, NeverUsed, StaysClosed}
+use Rattle.s38_confinement.specs.NoWay.{NoWay}
 use Rattle.s38_create.specs.Checked.{made_of}
 use Rattle.s38_rules.specs.State.{State}
 use Rattle.s38_rules.specs.Legal.{IsUnstored, Leads}
-use Rattle.s38_rules.specs.Opening.{opened}
+use Rattle.s38_rules.specs.Opening.{held_first, opened}
+use Rattle.s38_process.specs.Process.{ProcessState, fresh}
 use Rattle.s38_run.specs.Order.{InOrder}
 use Rattle.s38_run.specs.Whole.{RanWhole}
 use Rattle.s38_template.specs.Grammar.{name_of}
@@ -41,6 +45,26 @@ pub record IsRunOf (deck : Deck) (history : List Entry) : Type 0 where
   pub legal : Leads (opened (checked_of deck) deck.jobs) [] history state
   pub order : InOrder (opened (checked_of deck) deck.jobs) history
   pub each : (k : ℕ) (job : Job) → slice_get deck.jobs k ≡ Some job → IsRunOfJob deck job (entries_of (k + 1) history)
+
+-- ---- confinement
+
+abbrev pub no_program : CreateResult
+no_program = Refused 0 0
+
+-- the process of a job as it begins
+abbrev pub process_of : Deck → Job → ProcessState
+process_of deck job = fresh (unwrap_or (made_for deck job) no_program) job.budget
+
+-- those of a deck, in the order of its jobs
+abbrev pub processes_of : Deck → List ProcessState
+processes_of deck = map (process_of deck) deck.jobs
+
+-- where no way to a right on an object is open for users at the beginning, and they alone act, the right is never used,
+-- and no way is open at the end
+abbrev pub IsConfined : Deck → List Entry → State → Type 0
+IsConfined deck history end =
+    (users : List ℕ) (o r : ℕ) → NoWay held_first users o r → AllWithin users (opened (checked_of deck) deck.jobs) history
+    → NeverUsed (opened (checked_of deck) deck.jobs) history o r × StaysClosed (processes_of deck) history end users o r
 
 -- each entry has a mark, and since there is no store all are those of one moment
 pub record AreMarks (marks : List ℕ) (history : List Entry) : Type 0 where

@@ -17,7 +17,7 @@ use Rattle.s38_top.specs.declared.command.Command.TheVariants.{Serial, Check}
 use Rattle.s38_top.specs.declared.outcome.Outcome.{Outcome}
 use Rattle.s38_top.specs.declared.outcome.Outcome.TheVariants.{BadWords, BadDeck, DeckFault, NoMemory, Complete, Checked}
 use Rattle.s38_top.specs.Commands.{command_of}
-use Rattle.s38_top.specs.Decks.{AreMarks, IsRunOf, checked_of}
+use Rattle.s38_top.specs.Decks.{AreMarks, IsConfined, IsRunOf, checked_of}
 
 -- how many bytes of a deck are taken at most
 abbrev pub most : ℕ
@@ -134,11 +134,12 @@ pub record Ends (words : List (List ℕ)) (left left' : Option (List ℕ)) (take
 
 -- ---- status 0
 
--- a deck was spelled, the history is that of its whole runs, its text was written, and the input was read to its
--- end
+-- a deck was spelled, the history is that of its whole runs and opens no way to a right, its text was written, and the
+-- input was read to its end
 pub record IsComplete (left left' written written' : Option (List ℕ)) (history : List Entry) : Type 0 where
   pub deck : Deck
   pub ran : RanDeck left left' deck history
+  pub confined : IsConfined deck history ran.run.state
   pub told : Appends written written' (run_text deck history)
   pub finished : (bytes : List ℕ) → left ≡ Some bytes → left' ≡ Some []
 

@@ -1,0 +1,52 @@
+-- A whole run opens no way to a right.
+use Rattle.std.proofs.Common.{◌≡◌, ℕ, ◌+◌, List, [], ◌∷◌, length, map, refl, sym, ◌∙◌, ap, subst, zero, suc}
+use Rattle.std.proofs.lemmas.List.{length-map}
+use Rattle.std.specs.Prelude.{Option, Some, None, slice_get}
+use Rattle.std.specs.Option.{option_map, unwrap_or}
+use Rattle.s38_code.specs.declared.deck.Deck.{Deck}
+use Rattle.s38_code.specs.declared.deck.Job.{Job}
+use Rattle.s38_code.specs.declared.entry.Entry.{Entry}
+use Rattle.s38_code.specs.declared.made.CreateResult.{CreateResult}
+use Rattle.s38_code.specs.History.{entries_of}
+use Rattle.s38_process.specs.Process.{ProcessState, RanFrom, fresh}
+use Rattle.s38_rules.specs.Opening.{opened, process_entries}
+use Rattle.s38_confinement.specs.Confined.{AreRun}
+use Rattle.s38_confinement.specs.NoWay.{IsHarmless, NoWayIn}
+use Rattle.s38_confinement.proofs.HistoryLaws.{confined}
+use Rattle.s38_confinement.proofs.ProcessLaws.{begins, processes_keep}
+use Rattle.s38_confinement.proofs.StepLaws.{steps_keep}
+use Rattle.s38_top.specs.Decks.{IsConfined, IsRunOf, IsRunOfJob, checked_of, made_for, no_program, process_of, processes_of}
+
+some_is : {A : Type 0} (x y : A) → Some x ≡ Some y → x ≡ y
+some_is x y h = cc
+
+-- what stands at a place of a list that was mapped
+mapped_at : {A B : Type 0} (f : A → B) (xs : List A) (k : ℕ) (y : B) → slice_get (map f xs) k ≡ Some y → (x : A) × (slice_get xs k ≡ Some x) × (f x ≡ y)
+mapped_at f [] k y h = cc
+mapped_at f (x ∷ xs) zero y h = (x, refl, some_is (f x) y h)
+mapped_at f (x ∷ xs) (suc k) y h = mapped_at f xs k y h
+
+made_is : (deck : Deck) (job : Job) (made : CreateResult) → made_for deck job ≡ Some made → process_of deck job ≡ fresh made job.budget
+made_is deck job made h = ap (λ (m : Option CreateResult). fresh (unwrap_or m no_program) job.budget) h
+
+-- each process of the deck ran by its job
+each_ran : (deck : Deck) (history : List Entry) → IsRunOf deck history → AreRun (processes_of deck) history
+each_ran deck history run = record {
+  each = λ k d there.
+    let at = mapped_at (process_of deck) deck.jobs k d there in
+    let one = run.each k at.0 at.1 in
+    subst (λ (x : ProcessState). RanFrom x (entries_of (k + 1) history)) (sym (made_is deck at.0 one.made one.is) ∙ at.2) one.ran.by_program;
+}
+
+begins_closed : (deck : Deck) (o r k : ℕ) (d : ProcessState) → slice_get (processes_of deck) k ≡ Some d → NoWayIn o r d
+begins_closed deck o r k d there =
+    let at = mapped_at (process_of deck) deck.jobs k d there in
+    subst (λ (x : ProcessState). NoWayIn o r x) at.2 (begins (IsHarmless o r) (unwrap_or (made_for deck at.0) no_program) at.0.budget)
+
+as_many : (deck : Deck) → length (processes_of deck) ≡ length (opened (checked_of deck) deck.jobs).processes
+as_many deck = length-map deck.jobs (process_of deck) ∙ sym (length-map deck.jobs _)
+
+pub run_confined : (deck : Deck) (history : List Entry) (run : IsRunOf deck history) → IsConfined deck history run.state
+run_confined deck history run users o r none within =
+    confined users o r (steps_keep users o r) (processes_keep o r) (processes_of deck) (opened (checked_of deck) deck.jobs) [] history run.state
+    (as_many deck) none (begins_closed deck o r) run.legal within (each_ran deck history run)
