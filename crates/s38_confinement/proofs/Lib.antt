@@ -1,1 +1,3 @@
 pub mod HistoryLaws
+pub mod ProcessLaws
+pub mod StepLaws

@@ -13,8 +13,8 @@ use Rattle.s38_rules.specs.Opening.{opened, process_entries}
 use Rattle.s38_confinement.specs.Confined.{AreRun}
 use Rattle.s38_confinement.specs.NoWay.{IsHarmless, NoWayIn}
 use Rattle.s38_confinement.proofs.HistoryLaws.{confined}
-use Rattle.s38_confinement.proofs.ProcessLaws.{begins, processes_keep}
-use Rattle.s38_confinement.proofs.StepLaws.{steps_keep}
+use Rattle.s38_confinement.proofs.ProcessLaws.{begins}
+use Rattle.s38_confinement.proofs.StepLaws.{processes_keep, steps_keep}
 use Rattle.s38_top.specs.Decks.{IsConfined, IsRunOf, IsRunOfJob, checked_of, made_for, no_program, process_of, processes_of}
 
 some_is : {A : Type 0} (x y : A) → Some x ≡ Some y → x ≡ y
