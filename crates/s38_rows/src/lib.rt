@@ -8,6 +8,8 @@ mod commands;
 #[cfg(test)]
 mod computed;
 #[cfg(test)]
+mod confinement;
+#[cfg(test)]
 mod contexts;
 #[cfg(test)]
 mod created;

@@ -3,6 +3,7 @@
 use crate::answers::answers;
 use crate::commands::{BAD_DECKS, BAD_LINES, BAD_WORDS, CHECKED, RUN};
 use crate::computed::COMPUTED;
+use crate::confinement::{CLOSED, OPENED};
 use crate::contexts::{CONTEXTS, SHOPS};
 use crate::created::CREATED;
 use crate::decks::DECKS;
@@ -103,6 +104,8 @@ fn every_row_is_answered(rt: HostRuntime) -> Result<(), Fail> {
         &CARRIED,
         &LENT,
         &OWNED,
+        &CLOSED,
+        &OPENED,
     ];
     for table in tables {
         for words in table.calls {
