@@ -1,0 +1,325 @@
+-- What holds of every pointer that stands somewhere holds of what stands in the spaces after an instruction too, and
+-- of what it gives, but where it makes a pointer.
+use Rattle.std.proofs.Common.{◌≡◌, ℕ, zero, suc, ◌+◌, ◌*◌, ◌/◌, ◌-◌, Bool, true, false, cond, List, [], ◌∷◌, ◌++◌, length, take, drop, refl, subst}
+use Rattle.std.proofs.lemmas.List.Elements.{All-append, All-cons, All-drop, All-filter, All-head, All-nil, All-replicate, All-set, All-tail, All-take}
+use Rattle.std.specs.Prelude.{◌&&◌, not, All, Option, Some, None, IfSome, Result, Ok, Err, ℤ, find, replicate, slice_get, slice_set}
+use Rattle.std.specs.Option.{unwrap_or}
+use Rattle.s38_base.specs.declared.attr.Attr.{Attr}
+use Rattle.s38_base.specs.declared.exception.Exception.{Exception}
+use Rattle.s38_base.specs.declared.id.Id.{Id}
+use Rattle.s38_base.specs.declared.id.ObjNum.{ObjNum}
+use Rattle.s38_base.specs.declared.op.Op.{Op}
+use Rattle.s38_base.specs.declared.pointer.Pointer.{Pointer}
+use Rattle.s38_base.specs.declared.pointer.Pointer.TheVariants as pointers
+use Rattle.s38_base.specs.Pointers.{is_storable, start_of, target_of}
+use Rattle.s38_base.specs.Scalar.{is_pointer_attr, length_of}
+use Rattle.s38_memory.specs.declared.cell.Cell.{Cell}
+use Rattle.s38_memory.specs.declared.cell.Cell.TheVariants.{Bytes, Tagged}
+use Rattle.s38_memory.specs.declared.fault.MemoryFault.{MemoryFault}
+use Rattle.s38_memory.specs.Tagged.{cells_fault, is_aligned, is_within, overlaid, pointer_in as pointer_read, resized, unless_refused, with_piece, written}
+use Rattle.s38_code.specs.declared.operand.Operand.{Operand}
+use Rattle.s38_code.specs.declared.operand.Operand.TheVariants as operands
+use Rattle.s38_code.specs.declared.reply.Val.{Val}
+use Rattle.s38_code.specs.declared.reply.Val.TheVariants as vals
+use Rattle.s38_rules.specs.declared.creating.Creating.{Creating}
+use Rattle.s38_rules.specs.declared.object.Body.{Body}
+use Rattle.s38_rules.specs.declared.object.Body.TheVariants as bodies
+use Rattle.s38_rules.specs.declared.object.Object.{Object}
+use Rattle.s38_rules.specs.Cells.{cell_for, cells_there, first_pointer, found_pointer, is_cell, pointer_there, with_bytes, with_cells, with_pointer}
+use Rattle.s38_rules.specs.Creation.{created, creation_changes, destruction_changes, new_object}
+use Rattle.s38_rules.specs.Held.{Held, change_in, has_number, object}
+use Rattle.s38_rules.specs.Operands.{cells_of, place, pointer_at, pointer_of, source_cells, target}
+use Rattle.s38_rules.specs.Parts.{Part, cells_at, on_space, over, over_object, over_part, part_in, space_lawful, space_of, space_part}
+use Rattle.s38_confinement.specs.OfPointers.{OfBody, OfCell, OfCells, OfObject, OfObjects, OfOperand, OfPointer}
+
+-- ---- what is found among things of which something holds
+
+find_of : {X : Type 0} (P : X → Type 0) (test : X → Bool) (xs : List X) → All P xs → IfSome (find test xs) P
+find_of P test [] all = tt
+find_of P test (x ∷ xs) all =
+    elim (test x) as (λ b. IfSome (cond b (Some x) (find test xs)) P) [
+      | true ↦ All-head P x xs all
+      | false ↦ find_of P test xs (All-tail P x xs all)
+    ]
+
+get_of : {X : Type 0} (P : X → Type 0) (xs : List X) (k : ℕ) → All P xs → IfSome (slice_get xs k) P
+get_of P [] k all = tt
+get_of P (x ∷ xs) zero all = All-head P x xs all
+get_of P (x ∷ xs) (suc k) all = get_of P xs k (All-tail P x xs all)
+
+-- ---- what is read
+
+body_cells : (q : Pointer → Type 0) (b : Body) → OfBody q b → OfCells q (unwrap_or (space_of b) [])
+body_cells q (bodies.Space cells) of = of
+body_cells q bodies.Context of = All-nil (OfCell q)
+body_cells q (bodies.Program code) of = All-nil (OfCell q)
+body_cells q (bodies.Profile special limit) of = All-nil (OfCell q)
+body_cells q (bodies.Queue messages) of = All-nil (OfCell q)
+
+cells_in_object : (q : Pointer → Type 0) (r : Option Object) → IfSome r (OfObject q) → OfCells q (unwrap_or (part_in space_part r) [])
+cells_in_object q None of = All-nil (OfCell q)
+cells_in_object q (Some o) of = body_cells q o.body of
+
+-- the cells of a space
+pub cells_kept : (q : Pointer → Type 0) (h : Held) (n : ℕ) → OfObjects q h.objects → OfCells q (cells_at h n)
+cells_kept q h n of = cells_in_object q (object h n) (find_of (OfObject q) (has_number n) h.objects of)
+
+read_of : (q : Pointer → Type 0) (cell : Option Cell) → IfSome cell (OfCell q) → OfPointer q (found_pointer (pointer_read cell))
+read_of q None of = tt
+read_of q (Some (Bytes bytes)) of = tt
+read_of q (Some (Tagged p)) of = of
+
+unless_of : (q : Pointer → Type 0) (fault : Option MemoryFault) (r : Result Pointer MemoryFault) → OfPointer q (found_pointer r) → OfPointer q (found_pointer (unless_refused fault r))
+unless_of q None r of = of
+unless_of q (Some fault) r of = tt
+
+there_of : (q : Pointer → Type 0) (cells : List Cell) (at : ℕ) → OfCells q cells → OfPointer q (pointer_there cells at)
+there_of q cells at of =
+    unless_of q (cells_fault at 16 cells) (pointer_read (slice_get cells (at / 16)))
+    (read_of q (slice_get cells (at / 16)) (get_of (OfCell q) cells (at / 16) of))
+
+pointer_of_operand : (q : Pointer → Type 0) (h : Held) (x : Option Operand) → OfObjects q h.objects → IfSome x (OfOperand q) → OfPointer q (pointer_of h x)
+pointer_of_operand q h None of asked = tt
+pointer_of_operand q h (Some (operands.Ptr p)) of asked = asked
+pointer_of_operand q h (Some (operands.InSpace base offset attr)) of asked =
+    elim (is_pointer_attr attr) as (λ b. OfPointer q (cond b (pointer_there (cells_at h (target_of base)) (start_of base offset)) None)) [
+      | true ↦ there_of q (cells_at h (target_of base)) (start_of base offset) (cells_kept q h (target_of base) of)
+      | false ↦ tt
+    ]
+pointer_of_operand q h (Some _) of asked = tt
+
+-- the pointer that is used
+pub pointer_kept : (q : Pointer → Type 0) (h : Held) (ops : List Operand) (k : ℕ) → OfObjects q h.objects → All (OfOperand q) ops → OfPointer q (pointer_at h ops k)
+pointer_kept q h ops k of asked = pointer_of_operand q h (place ops k) of (get_of (OfOperand q) ops (k - 1) asked)
+
+zeros_of : (q : Pointer → Type 0) (n : ℕ) → OfCells q (replicate n (Bytes (replicate 16 0)))
+zeros_of q n = All-replicate (OfCell q) n (Bytes (replicate 16 0)) tt
+
+cell_of_pointer : (q : Pointer → Type 0) (p : Option Pointer) → OfPointer q p → OfCell q (cell_for p)
+cell_of_pointer q None of = tt
+cell_of_pointer q (Some p) of = elim (is_storable p) as (λ b. OfCell q (cond b (Tagged p) (Bytes (replicate 16 0)))) [ true ↦ of | false ↦ tt ]
+
+piece_of : (q : Pointer → Type 0) (cells : List Cell) (at len : ℕ) → OfCells q cells → OfCells q (cells_there cells at len)
+piece_of q cells at len of =
+    elim (is_within at len cells && is_aligned at) as (λ b. OfCells q (cond b (take (len / 16) (drop (at / 16) cells)) [])) [
+      | true ↦ All-take (OfCell q) (len / 16) (drop (at / 16) cells) (All-drop (OfCell q) (at / 16) cells of)
+      | false ↦ All-nil (OfCell q)
+    ]
+
+cells_of_operand : (q : Pointer → Type 0) (h : Held) (x : Option Operand) → OfObjects q h.objects → IfSome x (OfOperand q) → OfCells q (cells_of h x)
+cells_of_operand q h None of asked = All-nil (OfCell q)
+cells_of_operand q h (Some (operands.Ptr p)) of asked = All-cons (OfCell q) (cell_for p) [] (cell_of_pointer q p asked) (All-nil (OfCell q))
+cells_of_operand q h (Some (operands.InSpace base offset attr)) of asked =
+    piece_of q (cells_at h (target_of base)) (start_of base offset) (length_of attr) (cells_kept q h (target_of base) of)
+cells_of_operand q h (Some _) of asked = All-nil (OfCell q)
+
+-- the cells that are read
+pub source_kept : (q : Pointer → Type 0) (h : Held) (ops : List Operand) (k : ℕ) → OfObjects q h.objects → All (OfOperand q) ops → OfCells q (source_cells h ops k)
+source_kept q h ops k of asked = cells_of_operand q h (place ops k) of (get_of (OfOperand q) ops (k - 1) asked)
+
+first_of : (q : Pointer → Type 0) (cells : List Cell) → OfCells q cells → OfPointer q (first_pointer cells)
+first_of q [] of = tt
+first_of q (Tagged p ∷ cells) of = All-head (OfCell q) (Tagged p) cells of
+first_of q (Bytes bytes ∷ cells) of = tt
+
+-- ---- what is put
+
+overwritten_of : (q : Pointer → Type 0) (at : ℕ) (piece : List ℕ) (cell : Cell) → OfCell q cell → OfCell q (with_piece at piece cell)
+overwritten_of q at [] cell of = of
+overwritten_of q at (b ∷ bs) cell of = tt
+
+written_of : (q : Pointer → Type 0) (at : ℕ) (piece : List ℕ) (cells : List Cell) → OfCells q cells → OfCells q (written at piece cells)
+written_of q at piece [] of = of
+written_of q at piece (cell ∷ cells) of =
+    let here = overwritten_of q at (take (16 - at) piece) cell (All-head (OfCell q) cell cells of) in
+    let more = written_of q (at - 16) (drop (16 - at) piece) cells (All-tail (OfCell q) cell cells of) in
+    All-cons (OfCell q) (with_piece at (take (16 - at) piece) cell) (written (at - 16) (drop (16 - at) piece) cells) here more
+
+bytes_put : (q : Pointer → Type 0) (at : ℕ) (bytes : List ℕ) (cells : List Cell) → OfCells q cells → OfCells q (with_bytes at bytes cells)
+bytes_put q at bytes cells of =
+    elim (is_within at (length bytes) cells) as (λ b. OfCells q (cond b (written at bytes cells) cells)) [
+      | true ↦ written_of q at bytes cells of
+      | false ↦ of
+    ]
+
+pointer_put : (q : Pointer → Type 0) (at : ℕ) (p : Option Pointer) (cells : List Cell) → OfPointer q p → OfCells q cells → OfCells q (with_pointer at p cells)
+pointer_put q at None cells given of = bytes_put q at (replicate 16 0) cells of
+pointer_put q at (Some p) cells given of =
+    elim (is_storable p && is_cell at cells) as (λ b. OfCells q (cond b (slice_set cells (at / 16) (Tagged p)) cells)) [
+      | true ↦ All-set (OfCell q) cells (at / 16) (Tagged p) given of
+      | false ↦ of
+    ]
+
+overlaid_of : (q : Pointer → Type 0) (at : ℕ) (piece cells : List Cell) → OfCells q piece → OfCells q cells → OfCells q (overlaid at piece cells)
+overlaid_of q at piece cells given of =
+    let rest = drop (at + length piece) cells in
+    All-append (OfCell q) (take at cells) (piece ++ rest) (All-take (OfCell q) at cells of)
+    (All-append (OfCell q) piece rest given (All-drop (OfCell q) (at + length piece) cells of))
+
+cells_laid : (q : Pointer → Type 0) (at : ℕ) (piece cells : List Cell) → OfCells q piece → OfCells q cells → OfCells q (with_cells at piece cells)
+cells_laid q at piece cells given of =
+    elim (is_within at (16 * length piece) cells && is_aligned at) as (λ b. OfCells q (cond b (overlaid (at / 16) piece cells) cells)) [
+      | true ↦ overlaid_of q (at / 16) piece cells given of
+      | false ↦ of
+    ]
+
+resized_of : (q : Pointer → Type 0) (len : ℕ) (cells : List Cell) → OfCells q cells → OfCells q (resized len cells)
+resized_of q len cells of =
+    let more = replicate (len / 16 - length cells) (Bytes (replicate 16 0)) in
+    All-append (OfCell q) (take (len / 16) cells) more (All-take (OfCell q) (len / 16) cells of) (zeros_of q (len / 16 - length cells))
+
+-- ---- the objects after a change
+
+pub change_kept : (q : Pointer → Type 0) (n : ℕ) (f : Object → Object) (os : List Object) → ((o : Object) → OfObject q o → OfObject q (f o)) → OfObjects q os → OfObjects q (change_in os n f)
+change_kept q n f [] keeps of = of
+change_kept q n f (o ∷ os) keeps of =
+    let here = All-head (OfObject q) o os of in
+    let more = All-tail (OfObject q) o os of in
+    elim (has_number n o) as (λ b. OfObjects q (cond b (f o ∷ os) (o ∷ change_in os n f))) [
+      | true ↦ All-cons (OfObject q) (f o) os (keeps o here) more
+      | false ↦ All-cons (OfObject q) o (change_in os n f) here (change_kept q n f os keeps more)
+    ]
+
+over_of : {T : Type 0} (q : Pointer → Type 0) (part : Part T) (f : T → T) (b : Body) (r : Option T) → ((x : T) → r ≡ Some x → OfBody q (part.make (f x))) → OfBody q b → OfBody q (over part f b r)
+over_of q part f b None puts of = of
+over_of q part f b (Some x) puts of = puts x refl
+
+-- what a body of a kind holds is something else
+pub part_kept : {T : Type 0} (q : Pointer → Type 0) (part : Part T) (h : Held) (n : ℕ) (f : T → T) → ((b : Body) (x : T) → part.of b ≡ Some x → OfBody q b → OfBody q (part.make (f x))) → OfObjects q h.objects
+    → OfObjects q (over_part part h n f).objects
+part_kept q part h n f puts of =
+    change_kept q n (over_object part f) h.objects (λ o here. over_of q part f o.body (part.of o.body) (λ x e. puts o.body x e here) here) of
+
+-- the cells of a space are others
+pub space_kept : (q : Pointer → Type 0) (h : Held) (n : ℕ) (f : List Cell → List Cell) → ((cells : List Cell) → OfCells q cells → OfCells q (f cells)) → OfObjects q h.objects → OfObjects q (on_space h n f).objects
+space_kept q h n f keeps of =
+    part_kept q space_part h n f (λ b cells e here. keeps cells (subst (λ (x : Body). OfBody q x) (space_lawful.back b cells e) here)) of
+
+pub created_kept : (q : Pointer → Type 0) (h : Held) (owner : ℕ) (made : Creating) (body : Body) → OfBody q body → OfObjects q h.objects → OfObjects q (creation_changes h owner made body).objects
+unfolding creation_changes
+created_kept q h owner made body new of = by_id made.id
+  where
+    by_id : (id : Option Id) → OfObjects q (created h owner made body id).objects
+    by_id None = of
+    by_id (Some id) =
+        let o = new_object h owner made id body in
+        All-append (OfObject q) h.objects (o ∷ []) of (All-cons (OfObject q) o [] new (All-nil (OfObject q)))
+
+destroyed_kept : (q : Pointer → Type 0) (h : Held) (ops : List Operand) → OfObjects q h.objects → OfObjects q (destruction_changes h ops).objects
+unfolding destruction_changes
+destroyed_kept q h ops of = All-filter (λ o. not (has_number (target h ops 1) o)) (OfObject q) h.objects of
+
+-- ---- what an instruction changes
+
+-- it leaves in the spaces pointers alone of which that holds
+abbrev pub KeepsPointers : (Pointer → Type 0) → Instruction → Type 0
+KeepsPointers q i =
+    (s : State) (p d : ℕ) (r : Request) → OfObjects q s.held.objects → All (OfOperand q) r.operands → OfObjects q (i.changes s p d r).held.objects
+
+program_made : (q : Pointer → Type 0) (s : State) (p : ℕ) (ops : List Operand) (program : Option Program) → OfObjects q s.held.objects → OfObjects q (created_program s p ops program).held.objects
+program_made q s p ops None of = of
+program_made q s p ops (Some program) of = created_kept q s.held (user_of s p) (new_program s.held ops) (bodies.Program program) tt of
+
+restacked_kept : (q : Pointer → Type 0) (f : List ObjNum → List ObjNum) (s : State) (p : ℕ) (x : Option ProcessEntry) → OfObjects q s.held.objects → OfObjects q (restack_at f s p x).held.objects
+restacked_kept q f s p None of = of
+restacked_kept q f s p (Some x) of = of
+
+programs_kept : (q : Pointer → Type 0) (op : Op) → KeepsPointers q (programs_row op)
+unfolding programs_row crtpg_changes callx_changes xctl_changes
+programs_kept q Crtpg = λ s p d r of asked. program_made q s p r.operands (program_in (template_at s r.operands)) of
+programs_kept q Callx = λ s p d r of asked. restacked_kept q (pushed d (record { 0 = target s.held r.operands 1 })) s p (process_entry s p) of
+programs_kept q Xctl = λ s p d r of asked. restacked_kept q (replaced d (record { 0 = target s.held r.operands 1 })) s p (process_entry s p) of
+programs_kept q Despg = λ s p d r of asked. destroyed_kept q s.held r.operands of
+programs_kept q _ = λ s p d r of asked. of
+
+resolving_kept : (q : Pointer → Type 0) (op : Op) → KeepsPointers q (resolving_row op)
+resolving_kept q op = λ s p d r of asked. subst (λ (t : State). OfObjects q t.held.objects) (sym (resolving_still op s p d r)) of
+
+cells_put_kept : (q : Pointer → Type 0) (h : Held) (x : Option Operand) (piece : List Cell) → OfCells q piece → OfObjects q h.objects → OfObjects q (cells_put h x piece).objects
+cells_put_kept q h None piece given of = of
+cells_put_kept q h (Some (operands.InSpace base offset attr)) piece given of =
+    space_kept q h (target_of base) (with_cells (start_of base offset) piece) (λ cells here. cells_laid q (start_of base offset) piece cells given here) of
+cells_put_kept q h (Some _) piece given of = of
+
+spaces_kept : (q : Pointer → Type 0) (op : Op) → KeepsPointers q (spaces_row op)
+unfolding spaces_row crts_changes mods_changes cpybwp_changes
+spaces_kept q Cpybwp = λ s p d r of asked. cells_put_kept q s.held (place r.operands 1) (source_cells s.held r.operands 2) (source_kept q s.held r.operands 2 of asked) of
+spaces_kept q Crts = λ s p d r of asked.
+    let len = length_at s r.operands 5 in
+    created_kept q s.held (user_of s p) (new_space s r.operands) (bodies.Space (resized len [])) (resized_of q len [] (All-nil (OfCell q))) of
+spaces_kept q Mods = λ s p d r of asked.
+    let len = length_at s r.operands 2 in
+    space_kept q s.held (target s.held r.operands 1) (resized len) (λ cells here. resized_of q len cells here) of
+spaces_kept q Dess = λ s p d r of asked. destroyed_kept q s.held r.operands of
+spaces_kept q Setsppfp = λ s p d r of asked. of
+spaces_kept q Setdp = λ s p d r of asked. of
+spaces_kept q _ = λ s p d r of asked. of
+
+-- the messages of a queue are others
+pub queue_kept : (q : Pointer → Type 0) (h : Held) (n : ℕ) (f : MessageQueue → MessageQueue) → OfObjects q h.objects → OfObjects q (on_queue h n f).objects
+queue_kept q h n f of = part_kept q queue_part h n f (λ b messages e here. tt) of
+
+queues_kept : (q : Pointer → Type 0) (op : Op) → KeepsPointers q (queues_row op)
+unfolding queues_row crtq_changes enq_changes deq_changes
+queues_kept q Crtq = λ s p d r of asked. created_kept q s.held (user_of s p) (created_queue s.held r.operands) (bodies.Queue (new_queue (longest_at r.operands))) tt of
+queues_kept q Desq = λ s p d r of asked. destroyed_kept q s.held r.operands of
+queues_kept q Enq = λ s p d r of asked.
+    queue_kept q s.held (target s.held r.operands 1) (λ messages. with_message messages (message (bytes_at s.held r.operands 2) (bytes_at s.held r.operands 3))) of
+queues_kept q Deq = λ s p d r of asked. queue_kept q s.held (target s.held r.operands 2) (λ messages. without_message messages 0) of
+queues_kept q _ = λ s p d r of asked. of
+
+-- another name, context or standing keeps what the body holds
+pub body_kept : (q : Pointer → Type 0) (h : Held) (n : ℕ) (f : Object → Object) → ((o : Object) → (f o).body ≡ o.body) → OfObjects q h.objects → OfObjects q (change h n f).objects
+body_kept q h n f same of = change_kept q n f h.objects (λ o here. subst (λ (b : Body). OfBody q b) (sym (same o)) here) of
+
+renamed_kept : (q : Pointer → Type 0) (h : Held) (n : ℕ) (id : Option Id) → OfObjects q h.objects → OfObjects q (renamed_by h n id).objects
+renamed_kept q h n None of = of
+renamed_kept q h n (Some id) of = body_kept q h n (λ o. record o { id = id }) (λ o. refl) of
+
+contexts_kept : (q : Pointer → Type 0) (op : Op) → KeepsPointers q (contexts_row op)
+unfolding contexts_row crtctx_changes modadr_changes rename_changes
+contexts_kept q Crtctx = λ s p d r of asked. created_kept q s.held (user_of s p) (new_context s.held r.operands) bodies.Context tt of
+contexts_kept q Desctx = λ s p d r of asked. destroyed_kept q s.held r.operands of
+contexts_kept q Modadr = λ s p d r of asked.
+    body_kept q s.held (target s.held r.operands 1) (λ o. record o { context = home s.held (target s.held r.operands 2) }) (λ o. refl) of
+contexts_kept q Rename = λ s p d r of asked. renamed_kept q s.held (target s.held r.operands 1) (id_at r.operands 2) of
+contexts_kept q Matctx = λ s p d r of asked. of
+contexts_kept q _ = λ s p d r of asked. of
+
+profiles_kept : (q : Pointer → Type 0) (op : Op) → KeepsPointers q (profiles_row op)
+unfolding profiles_row crtup_changes modup_changes
+profiles_kept q Crtup = λ s p d r of asked. created_kept q s.held (user_of s p) (new_profile s.held r.operands) (profile_body r.operands) tt of
+profiles_kept q Modup = λ s p d r of asked.
+    part_kept q profile_part s.held (target s.held r.operands 1) (λ _. (specials_at r.operands 2, limit_at r.operands 3)) (λ b x e here. tt) of
+profiles_kept q Desup = λ s p d r of asked. destroyed_kept q s.held r.operands of
+profiles_kept q _ = λ s p d r of asked. of
+
+-- an object stands otherwise
+pub restand_kept : (q : Pointer → Type 0) (h : Held) (n : ℕ) (f : Standing → Standing) → OfObjects q h.objects → OfObjects q (restand h n f).objects
+restand_kept q h n f of = body_kept q h n (λ o. with_standing (f (standing_of o)) o) (λ o. refl) of
+
+grants_kept : (q : Pointer → Type 0) (op : Op) → KeepsPointers q (grants_row op)
+unfolding grants_row grant_changes retract_changes xfro_changes
+grants_kept q Grant = λ s p d r of asked. restand_kept q s.held (target s.held r.operands 1) _ of
+grants_kept q Retract = λ s p d r of asked. restand_kept q s.held (target s.held r.operands 1) _ of
+grants_kept q Xfro = λ s p d r of asked. restand_kept q s.held (target s.held r.operands 1) _ of
+grants_kept q Testau = λ s p d r of asked. of
+grants_kept q Matau = λ s p d r of asked. of
+grants_kept q Matauobj = λ s p d r of asked. of
+grants_kept q _ = λ s p d r of asked. of
+
+row_kept : (q : Pointer → Type 0) (f : Family) (op : Op) → KeepsPointers q (row_in f op)
+unfolding row_in
+row_kept q families.Computing op = λ s p d r of asked. of
+row_kept q families.Resolving op = resolving_kept q op
+row_kept q families.Contexts op = contexts_kept q op
+row_kept q families.Profiles op = profiles_kept q op
+row_kept q families.Grants op = grants_kept q op
+row_kept q families.Programs op = programs_kept q op
+row_kept q families.Spaces op = spaces_kept q op
+row_kept q families.Queues op = queues_kept q op
+row_kept q _ op = λ s p d r of asked. of
+
+-- what stands in the spaces after an instruction
+pub changes_kept : (q : Pointer → Type 0) (op : Op) (s : State) (p d : ℕ) (r : Request) → OfObjects q s.held.objects → All (OfOperand q) r.operands → OfObjects q ((row op).changes s p d r).held.objects
+changes_kept q op s p d r of asked = row_kept q (family_of op) op s p d r of asked
