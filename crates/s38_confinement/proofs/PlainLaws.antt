@@ -1,14 +1,15 @@
 -- What holds of every pointer that stands somewhere holds of what stands in the spaces after an instruction too, and
 -- of what it gives, but where it makes a pointer.
-use Rattle.std.proofs.Common.{◌≡◌, ℕ, zero, suc, ◌+◌, ◌*◌, ◌/◌, ◌-◌, Bool, true, false, cond, List, [], ◌∷◌, ◌++◌, length, take, drop, refl, subst}
+use Rattle.std.proofs.Common.{◌≡◌, ℕ, zero, suc, ◌+◌, ◌*◌, ◌/◌, ◌-◌, Bool, true, false, cond, List, [], ◌∷◌, ◌++◌, length, take, drop, refl, subst, sym}
 use Rattle.std.proofs.lemmas.List.Elements.{All-append, All-cons, All-drop, All-filter, All-head, All-nil, All-replicate, All-set, All-tail, All-take}
-use Rattle.std.specs.Prelude.{◌&&◌, not, All, Option, Some, None, IfSome, Result, Ok, Err, ℤ, find, replicate, slice_get, slice_set}
+use Rattle.std.specs.Prelude.{◌&&◌, ◌||◌, not, All, Option, Some, None, IfSome, Result, Ok, Err, ℤ, find, replicate, slice_get, slice_set}
 use Rattle.std.specs.Option.{unwrap_or}
 use Rattle.s38_base.specs.declared.attr.Attr.{Attr}
 use Rattle.s38_base.specs.declared.exception.Exception.{Exception}
 use Rattle.s38_base.specs.declared.id.Id.{Id}
 use Rattle.s38_base.specs.declared.id.ObjNum.{ObjNum}
 use Rattle.s38_base.specs.declared.op.Op.{Op}
+use Rattle.s38_base.specs.declared.op.Op.TheVariants.{Crtctx, Modadr, Rename, Matctx, Desctx, Crtup, Modup, Desup, Grant, Retract, Xfro, Testau, Matau, Matauobj, Rslvsp, Setsppfp, Setspfp, Setdp, Cpybwp, Crtpg, Callx, Xctl, Crtq, Crts, Mods, Despg, Desq, Dess, Enq, Deq}
 use Rattle.s38_base.specs.declared.pointer.Pointer.{Pointer}
 use Rattle.s38_base.specs.declared.pointer.Pointer.TheVariants as pointers
 use Rattle.s38_base.specs.Pointers.{is_storable, start_of, target_of}
@@ -17,20 +18,41 @@ use Rattle.s38_memory.specs.declared.cell.Cell.{Cell}
 use Rattle.s38_memory.specs.declared.cell.Cell.TheVariants.{Bytes, Tagged}
 use Rattle.s38_memory.specs.declared.fault.MemoryFault.{MemoryFault}
 use Rattle.s38_memory.specs.Tagged.{cells_fault, is_aligned, is_within, overlaid, pointer_in as pointer_read, resized, unless_refused, with_piece, written}
+use Rattle.s38_code.specs.declared.event.Request.{Request}
+use Rattle.s38_code.specs.declared.family.Family.{Family}
+use Rattle.s38_code.specs.declared.family.Family.TheVariants as families
 use Rattle.s38_code.specs.declared.operand.Operand.{Operand}
 use Rattle.s38_code.specs.declared.operand.Operand.TheVariants as operands
+use Rattle.s38_code.specs.declared.program.Program.{Program}
 use Rattle.s38_code.specs.declared.reply.Val.{Val}
 use Rattle.s38_code.specs.declared.reply.Val.TheVariants as vals
+use Rattle.s38_code.specs.Operations.{family_of}
 use Rattle.s38_rules.specs.declared.creating.Creating.{Creating}
 use Rattle.s38_rules.specs.declared.object.Body.{Body}
 use Rattle.s38_rules.specs.declared.object.Body.TheVariants as bodies
 use Rattle.s38_rules.specs.declared.object.Object.{Object}
+use Rattle.s38_rules.specs.declared.process.ProcessEntry.{ProcessEntry}
 use Rattle.s38_rules.specs.Cells.{cell_for, cells_there, first_pointer, found_pointer, is_cell, pointer_there, with_bytes, with_cells, with_pointer}
+use Rattle.s38_rules.specs.Computing.{computing_gives, of_operands, receiver_at, shift_at}
+use Rattle.s38_rules.specs.Contexts.{contexts_row, crtctx_changes, matctx_gives, modadr_changes, new_context, rename_changes, renamed_by}
 use Rattle.s38_rules.specs.Creation.{created, creation_changes, destruction_changes, new_object}
-use Rattle.s38_rules.specs.Held.{Held, change_in, has_number, object}
-use Rattle.s38_rules.specs.Operands.{cells_of, place, pointer_at, pointer_of, source_cells, target}
-use Rattle.s38_rules.specs.Parts.{Part, cells_at, on_space, over, over_object, over_part, part_in, space_lawful, space_of, space_part}
-use Rattle.s38_confinement.specs.OfPointers.{OfBody, OfCell, OfCells, OfObject, OfObjects, OfOperand, OfPointer}
+use Rattle.s38_rules.specs.Effect.{effect}
+use Rattle.s38_rules.specs.Grants.{grant_changes, grants_row, matau_gives, matauobj_gives, retract_changes, testau_gives, xfro_changes}
+use Rattle.s38_rules.specs.Held.{Held, change, change_in, has_number, home, object}
+use Rattle.s38_rules.specs.Instruction.{Instruction}
+use Rattle.s38_rules.specs.Invocations.{pushed, replaced, restack_at}
+use Rattle.s38_rules.specs.Operands.{bytes_at, cells_of, deliver, delivered, id_at, is_in_space, place, pointer_at, pointer_of, put_value, source_cells, target}
+use Rattle.s38_rules.specs.Parts.{Part, cells_at, on_queue, on_space, over, over_object, over_part, part_in, profile_part, queue_part, space_lawful, space_of, space_part}
+use Rattle.s38_rules.specs.Profiles.{crtup_changes, limit_at, modup_changes, new_profile, profile_body, profiles_row, specials_at}
+use Rattle.s38_rules.specs.Programs.{call_gives, callx_changes, created_program, crtpg_changes, new_program, program_at, program_in, programs_row, template_at, xctl_changes}
+use Rattle.s38_rules.specs.Queues.{created_queue, crtq_changes, deq_changes, deq_gives, enq_changes, longest_at, new_queue, queues_row}
+use Rattle.s38_rules.specs.Resolving.{resolving_row}
+use Rattle.s38_rules.specs.Rows.{row, row_in}
+use Rattle.s38_rules.specs.Spaces.{cells_put, cpybwp_changes, cpybwp_gives, crts_changes, length_at, mods_changes, new_space, spaces_row}
+use Rattle.s38_rules.specs.State.{State, process_entry}
+use Rattle.s38_rules.specs.Users.{user_of}
+use Rattle.s38_rules.proofs.Laws.{resolving_still}
+use Rattle.s38_confinement.specs.OfPointers.{IsClosed, OfBody, OfCell, OfCells, OfObject, OfObjects, OfOperand, OfPointer, OfVal, OfVals}
 
 -- ---- what is found among things of which something holds
 
@@ -255,17 +277,12 @@ spaces_kept q Setsppfp = λ s p d r of asked. of
 spaces_kept q Setdp = λ s p d r of asked. of
 spaces_kept q _ = λ s p d r of asked. of
 
--- the messages of a queue are others
-pub queue_kept : (q : Pointer → Type 0) (h : Held) (n : ℕ) (f : MessageQueue → MessageQueue) → OfObjects q h.objects → OfObjects q (on_queue h n f).objects
-queue_kept q h n f of = part_kept q queue_part h n f (λ b messages e here. tt) of
-
 queues_kept : (q : Pointer → Type 0) (op : Op) → KeepsPointers q (queues_row op)
 unfolding queues_row crtq_changes enq_changes deq_changes
 queues_kept q Crtq = λ s p d r of asked. created_kept q s.held (user_of s p) (created_queue s.held r.operands) (bodies.Queue (new_queue (longest_at r.operands))) tt of
 queues_kept q Desq = λ s p d r of asked. destroyed_kept q s.held r.operands of
-queues_kept q Enq = λ s p d r of asked.
-    queue_kept q s.held (target s.held r.operands 1) (λ messages. with_message messages (message (bytes_at s.held r.operands 2) (bytes_at s.held r.operands 3))) of
-queues_kept q Deq = λ s p d r of asked. queue_kept q s.held (target s.held r.operands 2) (λ messages. without_message messages 0) of
+queues_kept q Enq = λ s p d r of asked. part_kept q queue_part s.held (target s.held r.operands 1) _ (λ b messages e here. tt) of
+queues_kept q Deq = λ s p d r of asked. part_kept q queue_part s.held (target s.held r.operands 2) _ (λ b messages e here. tt) of
 queues_kept q _ = λ s p d r of asked. of
 
 -- another name, context or standing keeps what the body holds
@@ -294,15 +311,11 @@ profiles_kept q Modup = λ s p d r of asked.
 profiles_kept q Desup = λ s p d r of asked. destroyed_kept q s.held r.operands of
 profiles_kept q _ = λ s p d r of asked. of
 
--- an object stands otherwise
-pub restand_kept : (q : Pointer → Type 0) (h : Held) (n : ℕ) (f : Standing → Standing) → OfObjects q h.objects → OfObjects q (restand h n f).objects
-restand_kept q h n f of = body_kept q h n (λ o. with_standing (f (standing_of o)) o) (λ o. refl) of
-
 grants_kept : (q : Pointer → Type 0) (op : Op) → KeepsPointers q (grants_row op)
 unfolding grants_row grant_changes retract_changes xfro_changes
-grants_kept q Grant = λ s p d r of asked. restand_kept q s.held (target s.held r.operands 1) _ of
-grants_kept q Retract = λ s p d r of asked. restand_kept q s.held (target s.held r.operands 1) _ of
-grants_kept q Xfro = λ s p d r of asked. restand_kept q s.held (target s.held r.operands 1) _ of
+grants_kept q Grant = λ s p d r of asked. body_kept q s.held (target s.held r.operands 1) _ (λ o. refl) of
+grants_kept q Retract = λ s p d r of asked. body_kept q s.held (target s.held r.operands 1) _ (λ o. refl) of
+grants_kept q Xfro = λ s p d r of asked. body_kept q s.held (target s.held r.operands 1) _ (λ o. refl) of
 grants_kept q Testau = λ s p d r of asked. of
 grants_kept q Matau = λ s p d r of asked. of
 grants_kept q Matauobj = λ s p d r of asked. of
