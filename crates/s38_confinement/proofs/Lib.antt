@@ -1,3 +1,4 @@
 pub mod HistoryLaws
+pub mod PlainLaws
 pub mod ProcessLaws
 pub mod StepLaws
