@@ -9,8 +9,9 @@ ghost use Rattle.s38_confinement.specs.Confined.{AllWithin, AreRun, NeverUsed, S
 ghost use Rattle.s38_confinement.specs.OfPointers.{OfEvent, IsClosed, OfReply};
 
 /// A place for laws.
+#[tactic(auto, using(crate::proofs::StandingLaws::stays_closed))]
 pub fn none() -> bool
-    ensures { result ≡ true }
+    ensures said { result ≡ true }
     ensures x { (s : State) (h : List Entry) (ds : List ProcessState) (us : List ℕ) (o r : ℕ) → AllWithin us s h → AreRun ds h → NeverUsed s h o r → StaysClosed ds h s us o r → StaysClosed ds h s us o r }
 {
     true
