@@ -2,9 +2,11 @@
 -- special authorities opens none.
 use Rattle.std.proofs.Common.{◌≡◌, ◌≢◌, ℕ, ◌+◌, ◌<◌, ◌≤◌, ◌==◌, Bool, true, false, cond, List, [], ◌∷◌, ◌++◌, refl, sym, ◌∙◌, ap, subst, ◌⊎◌, inl, inr, arith}
 use Rattle.std.proofs.lemmas.Bool.Decides.{nat_tests}
-use Rattle.std.proofs.lemmas.List.Elements.{All-weaker}
+use Rattle.std.proofs.lemmas.List.Elements.{All-contains, All-weaker}
+use Rattle.std.proofs.lemmas.List.Folds.{list_any_none}
 use Rattle.std.proofs.lemmas.Nat.Bits.{bit_at-zero, bit_at_and, bit_at_or}
 use Rattle.std.specs.Int.{bit_at}
+use Rattle.std.specs.List.{Contains}
 use Rattle.std.specs.Prelude.{All, Option, Some, None, bit_and, bit_or, max, min}
 use Rattle.std.specs.Option.{option_map}
 use Rattle.s38_base.specs.declared.exception.Exception.{Exception}
@@ -15,6 +17,8 @@ use Rattle.std.specs.Prelude.{◌-◌, ◌^◌}
 use Rattle.s38_base.specs.declared.op.Op.{Op}
 use Rattle.s38_base.specs.declared.op.Op.TheVariants.{Crtctx, Modadr, Rename, Matctx, Desctx, Crtup, Modup, Desup, Grant, Retract, Xfro, Testau, Matau, Matauobj, Setsppfp, Setdp, Cpybwp, Crtpg, Callx, Xctl, Crtq, Crts, Mods, Despg, Desq, Dess, Enq, Deq}
 use Rattle.s38_base.specs.RightNames as rights
+use Rattle.s38_code.specs.declared.event.Event.{Event}
+use Rattle.s38_code.specs.declared.event.Event.TheVariants.{Start, Act, Finish}
 use Rattle.s38_code.specs.declared.event.Request.{Request}
 use Rattle.s38_code.specs.declared.family.Family.{Family}
 use Rattle.s38_code.specs.declared.family.Family.TheVariants as families
@@ -24,37 +28,45 @@ use Rattle.s38_rules.specs.declared.process.ProcessEntry.{ProcessEntry}
 use Rattle.s38_base.specs.Pointers.{carried_in, start_of, target_of}
 use Rattle.s38_code.specs.declared.operand.Operand.{Operand}
 use Rattle.s38_code.specs.declared.operand.Operand.TheVariants as operands
+use Rattle.s38_code.specs.declared.reply.Val.{Val}
+use Rattle.s38_code.specs.declared.reply.Val.TheVariants as vals
+use Rattle.s38_code.specs.Operations.{family_of}
 use Rattle.s38_memory.specs.declared.cell.Cell.{Cell}
 use Rattle.s38_rules.specs.declared.creating.Creating.{Creating}
 use Rattle.s38_rules.specs.declared.object.Body.{Body}
-use Rattle.s38_rules.specs.declared.object.Body.TheVariants as bodies
 use Rattle.s38_rules.specs.declared.object.Object.{Object}
-use Rattle.s38_rules.specs.Authority.{available, has_rights, is_governed, is_special, lacks_special, missing, unauthorized}
-use Rattle.s38_rules.specs.Cells.{with_cells}
+use Rattle.s38_rules.specs.declared.verdict.Verdict.{Verdict}
+use Rattle.s38_rules.specs.declared.verdict.Verdict.TheVariants.{Permit, Wait, Refuse}
+use Rattle.s38_rules.specs.Authority.{available, has_rights, has_special, is_governed, is_special, lacks_special, missing, unauthorized}
+use Rattle.s38_rules.specs.Cells.{with_bytes, with_cells, with_pointer}
 use Rattle.s38_rules.specs.Creation.{created, creation_changes, destruction_changes, new_object}
 use Rattle.s38_rules.specs.Contexts.{contexts_row, crtctx_changes, modadr_changes, rename_changes, renamed_by}
+use Rattle.s38_rules.specs.Computing.{receiver_at, shift_at}
+use Rattle.s38_rules.specs.Effect.{effect, effect_of, end_at, start_at}
 use Rattle.s38_rules.specs.Grants.{grant, grant_changes, grant_needs, grants_row, retract_changes, rights_of, user_at, with_rights, xfro, xfro_changes, xfro_needs}
 use Rattle.s38_rules.specs.Headers.{public_in, row_in, rows_in, special_in, special_of}
 use Rattle.s38_rules.specs.Held.{Held, change, moved, object, object_in, with_object, without}
 use Rattle.s38_rules.specs.Instruction.{Instruction}
 use Rattle.s38_rules.specs.Invocations.{pushed, replaced, restack_at}
-use Rattle.s38_rules.specs.Operands.{id_at, is_given, place, pointer_at, rights_at, source_cells, target}
+use Rattle.s38_rules.specs.Operands.{deliver, delivered, id_at, is_given, place, pointer_at, put_value, rights_at, source_cells, target}
 use Rattle.s38_rules.specs.Parts.{IsPart, Part, over, over_object, over_part, queue_lawful, queue_part, space_lawful, space_part}
 use Rattle.s38_rules.specs.PrivateRows.{AreRows, row_of}
 use Rattle.s38_rules.specs.Profiles.{crtup, modup, profiles_row}
 use Rattle.s38_rules.specs.Programs.{callx_changes, created_program, crtpg_changes, program_in, programs_row, template_at, xctl_changes}
 use Rattle.s38_rules.specs.Queues.{crtq_changes, deq_changes, enq_changes, queues_row}
-use Rattle.s38_rules.specs.Rows.{row_in as row_of_family}
+use Rattle.s38_rules.specs.Rows.{row, row_in as row_of_family}
 use Rattle.s38_rules.specs.Spaces.{cells_put, cpybwp_changes, crts_changes, mods_changes, spaces_row}
 use Rattle.s38_rules.specs.Standing.{Standing, granted, owned_by, restand, standing_of, with_standing}
-use Rattle.s38_rules.specs.State.{State, process_entry}
+use Rattle.s38_rules.specs.State.{State, process_entry, waits}
+use Rattle.s38_rules.specs.Step.{by_verdict, by_waiting, step}
 use Rattle.s38_rules.specs.Users.{acting}
-use Rattle.s38_rules.specs.Verdict.{carried_for, claim_rule, granting_rule, refused_by, rights_rule, rights_rules, subject}
+use Rattle.s38_rules.specs.Verdict.{awake_verdict, carried_for, claim_rule, granting_rule, of_failure, refused_by, rights_rule, rights_rules, subject}
 use Rattle.s38_rules.proofs.ChargeLaws.{KeepsNumber, object_changed, object_without}
 use Rattle.s38_rules.proofs.Laws.{resolving_still}
 use Rattle.s38_rules.proofs.RowLaws.{row_read, rows_kept}
 use Rattle.s38_rules.proofs.RuleLaws.{fails_none, first_none, not_false}
-use Rattle.s38_confinement.specs.NoWay.{HasNoWay, Lacks, NoWay}
+use Rattle.s38_confinement.specs.NoWay.{HasNoWay, IsHarmless, Lacks, NoWay}
+use Rattle.s38_confinement.specs.OfPointers.{OfObjects}
 
 -- all of no way but what pointers carry
 pub record StandsClosed (h : Held) (users : List ℕ) (o r : ℕ) : Type 0 where
@@ -117,12 +129,39 @@ user_closed h k o r user less are closed = record {
   profiles = unspecial 64 (object h user) (object k user) (λ e. cc) (less.special user) closed.profiles;
 }
 
-pub stays_closed : (h k : Held) (users : List ℕ) (o r : ℕ) → Lessens h k o r → AreRows (rows_in (object h o)) → NoWay h users o r → StandsClosed k users o r
-stays_closed h k users o r less are closed = record {
+pub stays_closed : (h k : Held) (users : List ℕ) (o r : ℕ) → Lessens h k o r → StandsClosed h users o r → StandsClosed k users o r
+stays_closed h k users o r less closed = record {
   given = omega (arith, less.next, closed.given);
-  nobody = All-weaker (HasNoWay h o r) (HasNoWay k o r) (λ user g. user_closed h k o r user less are g) users closed.nobody;
+  nobody = All-weaker (HasNoWay h o r) (HasNoWay k o r) (λ user g. user_closed h k o r user less closed.rows g) users closed.nobody;
   everybody = less.standing.everybody closed.everybody;
-  rows = less.standing.rows are;
+  rows = less.standing.rows closed.rows;
+}
+
+-- no way, and rows in order
+pub stands_closed : (h : Held) (users : List ℕ) (o r : ℕ) → NoWay h users o r → AreRows (rows_in (object h o)) → StandsClosed h users o r
+stands_closed h users o r closed are = record { given = closed.given; nobody = closed.nobody; everybody = closed.everybody; rows = are }
+
+-- with harmless pointers alone among the objects there is no way
+pub no_way : (h : Held) (users : List ℕ) (o r : ℕ) → StandsClosed h users o r → r < 8 → OfObjects (IsHarmless o r) h.objects → NoWay h users o r
+no_way h users o r closed right spaces = record { given = closed.given; right = right; nobody = closed.nobody; everybody = closed.everybody; spaces = spaces }
+
+-- ---- one change after another
+
+special_then : (x y z : Option Object) → SpecialStays x y → SpecialStays y z → SpecialStays x z
+special_then x y z (inl a) (inl b) = inl (b ∙ a)
+special_then x y z (inr a) (inl b) = inr (b ∙ a)
+special_then x y z a (inr b) = inr b
+
+pub lessens_then : (h j k : Held) (o r : ℕ) → Lessens h j o r → Lessens j k o r → Lessens h k o r
+lessens_then h j k o r a b = record {
+  next = omega (arith, a.next, b.next);
+  standing = record {
+    owner = λ user free. b.standing.owner user (a.standing.owner user free);
+    row = λ user are none. b.standing.row user (a.standing.rows are) (a.standing.row user are none);
+    everybody = λ none. b.standing.everybody (a.standing.everybody none);
+    rows = λ are. b.standing.rows (a.standing.rows are);
+  };
+  special = λ user. special_then (object h user) (object j user) (object k user) (a.special user) (b.special user);
 }
 
 -- ---- the words of change
@@ -271,12 +310,12 @@ restand_more r g None gives = gives_same r None None refl
 restand_more r g (Some x) gives =
     let nothing = gives x refl in
     record {
-  owner = λ user free y e. subst (λ (z : Object). z.owner.0 ≢ user) (some_same (with_standing (g (standing_of x)) x) y e)
-      (subst (λ (n : ObjNum). n.0 ≢ user) (sym (nothing.owner (standing_of x))) (free x refl));
-  row = λ user a lacks. nothing.row (standing_of x) user a lacks;
-  everybody = λ lacks. nothing.everybody (standing_of x) lacks;
-  rows = λ a. nothing.rows (standing_of x) a;
-}
+      owner = λ user free y e. subst (λ (z : Object). z.owner.0 ≢ user) (some_same (with_standing (g (standing_of x)) x) y e)
+          (subst (λ (n : ObjNum). n.0 ≢ user) (sym (nothing.owner (standing_of x))) (free x refl));
+      row = λ user a lacks. nothing.row (standing_of x) user a lacks;
+      everybody = λ lacks. nothing.everybody (standing_of x) lacks;
+      rows = λ a. nothing.rows (standing_of x) a;
+    }
 
 -- the object of a number stands otherwise: it is another one, or is not there, or is given to nobody
 pub restand_lessens : (h : Held) (n : ℕ) (g : Standing → Standing) (o r : ℕ) → (n ≡ o → (x : Object) → object h o ≡ Some x → GivesNothing r g) → Lessens h (restand h n g) o r
@@ -341,6 +380,21 @@ pub granting_lacks : (governed : Bool) (k given there r : ℕ) → governed ≡ 
 granting_lacks true k given there r free rule none = cc
 granting_lacks false k given there r free rule none =
     lacks_part r 64 given (lacks_needed r (bit_or 64 given) there (has_where k (bit_or 64 given) there (first_none _ _ rule).0) none)
+
+-- ---- what comes back to a space
+
+put_value_lessens : (h : Held) (n at : ℕ) (v : Val) (o r : ℕ) → Lessens h (put_value h n at v) o r
+put_value_lessens h n at (vals.Bytes bytes) o r = part_lessens space_part space_lawful (λ x. refl) h n (with_bytes at bytes) o r
+put_value_lessens h n at (vals.Ptr p) o r = part_lessens space_part space_lawful (λ x. refl) h n (with_pointer at p) o r
+put_value_lessens h n at _ o r = lessens_same h h o r refl
+
+deliver_lessens : (s : State) (shift : ℕ) (receiver : Option Operand) (v : Val) (o r : ℕ) → Lessens s.held (deliver s shift receiver v).state.held o r
+deliver_lessens s shift (Some (operands.InSpace base offset attr)) v o r = put_value_lessens s.held (target_of base) (start_of base offset + shift) v o r
+deliver_lessens s shift _ v o r = lessens_same s.held s.held o r refl
+
+pub delivered_lessens : (s : State) (shift : ℕ) (receiver : Option Operand) (v : Option Val) (o r : ℕ) → Lessens s.held (delivered s shift receiver v).state.held o r
+delivered_lessens s shift receiver None o r = lessens_same s.held s.held o r refl
+delivered_lessens s shift receiver (Some v) o r = deliver_lessens s shift receiver v o r
 
 -- ---- who is refused
 
@@ -486,3 +540,70 @@ row_lessens families.Programs op s p d request o r powerless e = programs_lessen
 row_lessens families.Spaces op s p d request o r powerless e = spaces_lessen op s p d request o r powerless e
 row_lessens families.Queues op s p d request o r powerless e = queues_lessen op s p d request o r powerless e
 row_lessens _ op s p d request o r powerless e = lessens_same s.held s.held o r refl
+
+-- ---- over an instruction, and over a step
+
+unspecial_acting : (h : Held) (users acting : List ℕ) (o r : ℕ) → StandsClosed h users o r → All (λ u. Contains users u) acting → is_special h acting rights.profile ≡ false
+unspecial_acting h users acting o r closed within =
+    list_any_none (has_special h rights.profile) acting
+    (All-weaker (λ u. Contains users u) (λ u. has_special h rights.profile u ≡ false) (λ u there. (All-contains (HasNoWay h o r) users u closed.nobody there).profiles) acting within)
+
+-- users who have no way, do not govern the object, and lack the right with the pointer of operand 1
+pub powerless : (s : State) (p d : ℕ) (ops : List Operand) (users : List ℕ) (o r : ℕ) → StandsClosed s.held users o r → All (λ u. Contains users u) (acting s p d)
+    → ((x : Object) → object s.held o ≡ Some x → is_governed s.held o (acting s p d) ≡ false)
+    → (target s.held ops 1 ≡ o → Lacks r (available s.held (acting s p d) o (carried_in (pointer_at s.held ops 1))))
+    → IsPowerless s p d ops o r
+powerless s p d ops users o r closed within ungoverned lacking =
+    record { given = closed.given; unspecial = unspecial_acting s.held users (acting s p d) o r closed within; ungoverned = ungoverned; lacking = lacking }
+
+-- a permitted instruction leaves all of no way but what pointers carry
+pub noway_kept : (op : Op) (s : State) (p d : ℕ) (request : Request) (users : List ℕ) (o r : ℕ) → StandsClosed s.held users o r → IsPowerless s p d request.operands o r
+    → refused_by (row op) s p d request ≡ None → StandsClosed ((row op).changes s p d request).held users o r
+noway_kept op s p d request users o r closed powerless permitted =
+    stays_closed s.held ((row op).changes s p d request).held users o r (row_lessens (family_of op) op s p d request o r powerless permitted) closed
+
+-- who acts in an event has no power over the object
+abbrev pub ActsPowerless : State → ℕ → Event → ℕ → ℕ → Type 0
+ActsPowerless s p (Act depth request) o r = IsPowerless s p depth request.operands o r
+ActsPowerless s p Start o r = Unit {0}
+ActsPowerless s p (Finish cause) o r = Unit {0}
+
+effect_lessens : (s : State) (p d : ℕ) (request : Request) (o r : ℕ) → IsPowerless s p d request.operands o r → refused_by (row request.op) s p d request ≡ None
+    → Lessens s.held (effect (row request.op) s p d request).state.held o r
+unfolding effect
+effect_lessens s p d request o r powerless permitted =
+    let done = (row request.op).changes s p d request in
+    lessens_then s.held done.held _ o r (row_lessens (family_of request.op) request.op s p d request o r powerless permitted)
+    (delivered_lessens done (shift_at s.held request.op request.operands) (receiver_at request.op request.operands) ((row request.op).gives s p d request) o r)
+
+started_held : (s : State) (p : ℕ) (x : Option ProcessEntry) → (start_at s p x).held ≡ s.held
+started_held s p None = refl
+started_held s p (Some x) = refl
+
+ended_held : (s : State) (p : ℕ) (x : Option ProcessEntry) → (end_at s p x).held ≡ s.held
+ended_held s p None = refl
+ended_held s p (Some x) = refl
+
+permit_lessens : (s : State) (p : ℕ) (e : Event) (o r : ℕ) → ActsPowerless s p e o r → awake_verdict s p e ≡ Permit → Lessens s.held (effect_of s p e).state.held o r
+unfolding effect_of awake_verdict
+permit_lessens s p Start o r powerless permitted = lessens_same s.held _ o r (started_held s p (process_entry s p))
+permit_lessens s p (Act depth request) o r powerless permitted = effect_lessens s p depth request o r powerless (permitted_none (refused_by (row request.op) s p depth request) permitted)
+  where
+    permitted_none : (x : Option Exception) → of_failure s p (Act depth request) x ≡ Permit → x ≡ None
+    permitted_none None h = refl
+    permitted_none (Some x) h = cc
+permit_lessens s p (Finish cause) o r powerless permitted = lessens_same s.held _ o r (ended_held s p (process_entry s p))
+
+verdict_lessens : (s : State) (p : ℕ) (e : Event) (v : Verdict) (o r : ℕ) → ActsPowerless s p e o r → awake_verdict s p e ≡ v → Lessens s.held (by_verdict s p e v).state.held o r
+verdict_lessens s p e Permit o r powerless is = permit_lessens s p e o r powerless is
+verdict_lessens s p e Wait o r powerless is = lessens_same s.held s.held o r refl
+verdict_lessens s p e (Refuse x) o r powerless is = lessens_same s.held s.held o r refl
+
+waiting_lessens : (b : Bool) (s : State) (p : ℕ) (e : Event) (o r : ℕ) → ActsPowerless s p e o r → Lessens s.held (by_waiting b s p e).state.held o r
+waiting_lessens true s p e o r powerless = lessens_same s.held s.held o r refl
+waiting_lessens false s p e o r powerless = verdict_lessens s p e (awake_verdict s p e) o r powerless refl
+
+-- and so does a step
+pub step_closed : (s : State) (p : ℕ) (e : Event) (users : List ℕ) (o r : ℕ) → StandsClosed s.held users o r → ActsPowerless s p e o r → StandsClosed (step s p e).state.held users o r
+unfolding step
+step_closed s p e users o r closed powerless = stays_closed s.held _ users o r (waiting_lessens (waits s p) s p e o r powerless) closed
