@@ -1,0 +1,98 @@
+-- Where no way to a right is open for the users that act, what is permitted does not use it.
+use Rattle.std.proofs.Common.{◌≡◌, ◌≢◌, ℕ, ◌+◌, ◌-◌, ◌<◌, ◌==◌, Bool, true, false, cond, List, [], ◌∷◌, ◌++◌, length, max, min, refl, sym, ◌∙◌, ap, subst, arith, bit_and, bit_or, slice_index_or}
+use Rattle.std.proofs.lemmas.Bool.Decides.{nat_tests}
+use Rattle.std.proofs.lemmas.List.Elements.{All-cons, All-contains, All-head, All-nil, All-tail, All-weaker}
+use Rattle.std.proofs.lemmas.List.Folds.{list_any_none}
+use Rattle.std.proofs.lemmas.Nat.Bits.{bit_at-zero, bit_at_and, bit_at_or}
+use Rattle.std.specs.Prelude.{◌||◌, All, Option, Some, None}
+use Rattle.std.specs.Int.{bit_at}
+use Rattle.std.specs.List.{Any, Contains}
+use Rattle.s38_base.specs.declared.exception.Exception.{Exception}
+use Rattle.s38_base.specs.declared.rights.Rights.{Rights}
+use Rattle.s38_base.specs.RightNames as rights
+use Rattle.s38_rules.specs.declared.object.Body.{Body}
+use Rattle.s38_rules.specs.declared.object.Object.{Object}
+use Rattle.s38_rules.specs.Authority.{available, counted, governs, has_rights, has_special, is_governed, is_profile, missing, missing_in, row_on, source_by, sources_by, sources_on, unauthorized}
+use Rattle.s38_rules.specs.Headers.{public_in, row_in}
+use Rattle.s38_rules.specs.Held.{Held, object, owner_in}
+use Rattle.s38_confinement.specs.NoWay.{HasNoWay, Lacks, NoWay}
+
+-- ---- bits
+
+nat_same : (a b : ℕ) → (a == b) ≡ true → a ≡ b
+nat_same a b h = grind (arith, nat_tests)
+
+pub lacks_both : (a b r : ℕ) → Lacks r a → Lacks r b → Lacks r (bit_or a b)
+lacks_both a b r la lb = bit_at_or a b r ∙ rw (la, lb) refl
+
+pub lacks_none : (r : ℕ) → Lacks r rights.no_rights
+lacks_none r = bit_at-zero r
+
+has_either : (a b r : ℕ) → bit_at b r ≡ 1 → Lacks r (bit_or a b) → ⊥
+has_either a b r has lacks =
+    let both : max (bit_at a r) (bit_at b r) ≡ 0 = sym (bit_at_or a b r) ∙ lacks in
+    omega (arith, both, has)
+
+none_by : (operand : ℕ) (b : Bool) (x : Rights) → unauthorized operand (cond b None (Some x)) ≡ None → b ≡ true
+none_by operand true x h = refl
+none_by operand false x h = cc
+
+-- nothing that is needed is missing
+all_there : (operand needed there : ℕ) → missing operand needed there ≡ None → has_rights needed there ≡ true
+all_there operand needed there h = none_by operand (has_rights needed there) _ h
+
+-- a right that is needed is there
+pub not_lacking : (operand needed there r : ℕ) → missing operand needed there ≡ None → bit_at needed r ≡ 1 → Lacks r there → ⊥
+not_lacking operand needed there r h has lacks =
+    let all : bit_and there needed ≡ needed = nat_same _ _ (all_there operand needed there h) in
+    let bits : min (bit_at there r) (bit_at needed r) ≡ bit_at needed r = sym (bit_at_and there needed r) ∙ ap (λ n. bit_at n r) all in
+    omega (arith, bits, has, lacks)
+
+-- ---- who acts has none
+
+-- the acting users are among those who have no way
+pub nobody_acts : (h : Held) (users acting : List ℕ) (o r : ℕ) → NoWay h users o r → All (λ u. Contains users u) acting → All (HasNoWay h o r) acting
+nobody_acts h users acting o r closed within =
+    All-weaker (λ u. Contains users u) (HasNoWay h o r) (λ u there. All-contains (HasNoWay h o r) users u closed.nobody there) acting within
+
+counted_lacks : (x : Option Object) (row r : ℕ) → Lacks r row → Lacks r (counted x row)
+counted_lacks None row r lacks = lacks_none r
+counted_lacks (Some o) row r lacks = elim (is_profile o.body) as (λ b. Lacks r (cond b row rights.no_rights)) [ true ↦ lacks | false ↦ lacks_none r ]
+
+source_lacks : (h : Held) (o r user : ℕ) → Lacks r (public_in (object h o)) → HasNoWay h o r user → Lacks r (source_by h o user)
+unfolding source_by
+source_lacks h o r user everybody has =
+    rw has.all (lacks_both (public_in (object h o)) (row_on h o user) r everybody (counted_lacks (object h user) (row_in (object h o) user) r has.row))
+
+sources_lack : (h : Held) (o r : ℕ) (acting : List ℕ) → Lacks r (public_in (object h o)) → All (HasNoWay h o r) acting → Lacks r (sources_by h o acting)
+sources_lack h o r [] everybody nobody = lacks_none r
+sources_lack h o r (user ∷ users) everybody nobody =
+    lacks_both (source_by h o user) (sources_by h o users) r
+    (source_lacks h o r user everybody (All-head (HasNoWay h o r) user users nobody))
+    (sources_lack h o r users everybody (All-tail (HasNoWay h o r) user users nobody))
+
+sources_on_lack : (h : Held) (o r : ℕ) (acting : List ℕ) (x : Option Object) → Lacks r (sources_by h o acting) → Lacks r (sources_on h o acting x)
+sources_on_lack h o r acting None lacks = lacks_none r
+sources_on_lack h o r acting (Some x) lacks = lacks
+
+-- the right is not available, with a pointer that does not carry it
+pub lacking : (h : Held) (users acting : List ℕ) (o r carried : ℕ) → NoWay h users o r → All (λ u. Contains users u) acting → Lacks r carried → Lacks r (available h acting o carried)
+unfolding available
+lacking h users acting o r carried closed within lacks =
+    lacks_both carried (sources_on h o acting (object h o)) r lacks
+    (sources_on_lack h o r acting (object h o) (sources_lack h o r acting closed.everybody (nobody_acts h users acting o r closed within)))
+
+governs_not : (h : Held) (o r user : ℕ) (x : Object) → object h o ≡ Some x → HasNoWay h o r user → governs h o user ≡ false
+governs_not h o r user x found has =
+    let other : (user == x.owner.0) ≡ false = not_same user x.owner.0 (has.owner x found) in
+    rw (found, has.all, other) refl
+  where
+    not_same : (a b : ℕ) → b ≢ a → (a == b) ≡ false
+    not_same a b h = grind (arith, nat_tests)
+
+-- no acting user governs the object, where it is there
+pub ungoverned : (h : Held) (users acting : List ℕ) (o r : ℕ) (x : Object) → object h o ≡ Some x → NoWay h users o r → All (λ u. Contains users u) acting → is_governed h o acting ≡ false
+unfolding is_governed
+ungoverned h users acting o r x found closed within =
+    list_any_none (governs h o) acting
+    (All-weaker (HasNoWay h o r) (λ u. governs h o u ≡ false) (λ u has. governs_not h o r u x found has) acting (nobody_acts h users acting o r closed within))
