@@ -1,20 +1,26 @@
 -- Where no way to a right is open for the users that act, what is permitted does not use it.
-use Rattle.std.proofs.Common.{◌≡◌, ◌≢◌, ℕ, ◌+◌, ◌-◌, ◌<◌, ◌==◌, Bool, true, false, cond, List, [], ◌∷◌, ◌++◌, length, max, min, refl, sym, ◌∙◌, ap, subst, arith, bit_and, bit_or, slice_index_or}
+use Rattle.std.proofs.Common.{◌≡◌, ◌≢◌, ℕ, ◌+◌, ◌-◌, ◌<◌, ◌==◌, Bool, true, false, cond, List, [], ◌∷◌, ◌++◌, length, max, min, refl, sym, ◌∙◌, ap, subst, arith, bit_and, bit_or, slice_index_or, zero, suc}
 use Rattle.std.proofs.lemmas.Bool.Decides.{nat_tests}
 use Rattle.std.proofs.lemmas.List.Elements.{All-cons, All-contains, All-head, All-nil, All-tail, All-weaker}
 use Rattle.std.proofs.lemmas.List.Folds.{list_any_none}
 use Rattle.std.proofs.lemmas.Nat.Bits.{bit_at-zero, bit_at_and, bit_at_or}
-use Rattle.std.specs.Prelude.{◌||◌, All, Option, Some, None}
+use Rattle.std.specs.Prelude.{◌||◌, All, Option, Some, None, slice_get, filter, IfSome}
 use Rattle.std.specs.Int.{bit_at}
 use Rattle.std.specs.List.{Any, Contains}
 use Rattle.s38_base.specs.declared.exception.Exception.{Exception}
 use Rattle.s38_base.specs.declared.rights.Rights.{Rights}
 use Rattle.s38_base.specs.RightNames as rights
+use Rattle.s38_base.specs.Limits.{last_operand}
+use Rattle.s38_code.specs.declared.operand.Operand.{Operand}
+use Rattle.s38_rules.specs.declared.need.Need.{Need}
 use Rattle.s38_rules.specs.declared.object.Body.{Body}
 use Rattle.s38_rules.specs.declared.object.Object.{Object}
 use Rattle.s38_rules.specs.Authority.{available, counted, governs, has_rights, has_special, is_governed, is_profile, missing, missing_in, row_on, source_by, sources_by, sources_on, unauthorized}
 use Rattle.s38_rules.specs.Headers.{public_in, row_in}
 use Rattle.s38_rules.specs.Held.{Held, object, owner_in}
+use Rattle.s38_rules.specs.Needs.{first_of}
+use Rattle.s38_rules.specs.Verdict.{address_rule, address_rules, by_operand, item_rule, needs_rule, stands_at}
+use Rattle.s38_rules.proofs.RuleLaws.{fails_none, first_none, not_false}
 use Rattle.s38_confinement.specs.NoWay.{HasNoWay, Lacks, NoWay}
 
 -- ---- bits
@@ -96,3 +102,56 @@ unfolding is_governed
 ungoverned h users acting o r x found closed within =
     list_any_none (governs h o) acting
     (All-weaker (HasNoWay h o r) (λ u. governs h o u ≡ false) (λ u has. governs_not h o r u x found has) acting (nobody_acts h users acting o r closed within))
+
+-- ---- what passed the rules
+
+-- a rule that each need of a list passed
+pub each_passed : (rule : Need → Option Exception) (wanted : List Need) → first_of rule wanted ≡ None → All (λ need. rule need ≡ None) wanted
+each_passed rule [] h = All-nil (λ need. rule need ≡ None)
+each_passed rule (need ∷ more) h =
+    let both = first_none (rule need) (first_of rule more) h in
+    All-cons (λ n. rule n ≡ None) need more both.0 (each_passed rule more both.1)
+
+-- an operand passed its own rule, and the needs that speak of it passed theirs
+pub record HasPassed (itself : ℕ → Operand → Option Exception) (rule : Need → Option Exception) (wanted : List Need) (k : ℕ) (operand : Operand) : Type 0 where
+  pub own : itself (min k last_operand) operand ≡ None
+  pub needs : needs_rule rule wanted (min k last_operand) ≡ None
+
+pub passed_at : (itself : ℕ → Operand → Option Exception) (rule : Need → Option Exception) (wanted : List Need) (k : ℕ) (ops : List Operand) (j : ℕ) (operand : Operand)
+    → by_operand itself rule wanted k ops ≡ None → slice_get ops j ≡ Some operand → HasPassed itself rule wanted (k + j) operand
+passed_at itself rule wanted k [] j operand h at = cc
+passed_at itself rule wanted k (x ∷ ops) zero operand h at =
+    let one = first_none _ _ h in
+    let two = first_none _ _ one.1 in
+    let here : HasPassed itself rule wanted k x = record { own = one.0; needs = two.0 } in
+    subst (λ (i : ℕ). HasPassed itself rule wanted i operand) (omega arith) (subst (λ (y : Operand). HasPassed itself rule wanted k y) (some_same x operand at) here)
+  where
+    some_same : (a b : Operand) → Some a ≡ Some b → a ≡ b
+    some_same a b g = cc
+passed_at itself rule wanted k (x ∷ ops) (suc j) operand h at =
+    let one = first_none _ _ h in
+    let two = first_none _ _ one.1 in
+    subst (λ (i : ℕ). HasPassed itself rule wanted i operand) (omega arith) (passed_at itself rule wanted (k + 1) ops j operand two.1 at)
+
+-- what holds of those that pass a test
+where_passed : (P : Need → Type 0) (test : Need → Bool) (xs : List Need) → All P (filter test xs) → All (λ x. test x ≡ true → P x) xs
+where_passed P test [] h = All-nil (λ x. test x ≡ true → P x)
+where_passed P test (x ∷ xs) h =
+    elim (test x) as (λ b. test x ≡ b → All P (cond b (x ∷ filter test xs) (filter test xs)) → All (λ y. test y ≡ true → P y) (x ∷ xs)) [
+      | true ↦ λ e q. All-cons (λ y. test y ≡ true → P y) x xs (λ g. All-head P x (filter test xs) q) (where_passed P test xs (All-tail P x (filter test xs) q))
+      | false ↦ λ e q. All-cons (λ y. test y ≡ true → P y) x xs (λ g. absurd (true_false (sym g ∙ e))) (where_passed P test xs q)
+    ] refl h
+  where
+    true_false : true ≡ false → ⊥
+    true_false g = cc
+
+-- a need of an operand that is there passed its address rule
+pub need_passed : (h : Held) (ops : List Operand) (wanted : List Need) (need : Need) (j : ℕ) (operand : Operand)
+    → address_rules h ops wanted ≡ None → Contains wanted need → need.place ≡ j + 1 → j < 255 → slice_get ops j ≡ Some operand → address_rule h ops need ≡ None
+unfolding address_rules
+need_passed h ops wanted need j operand passed there at low is =
+    let here = passed_at (item_rule h) (address_rule h ops) wanted 1 ops j operand passed is in
+    let place : min (1 + j) 255 ≡ j + 1 = omega (arith, low) in
+    let stands : stands_at (min (1 + j) 255) need ≡ true = grind (arith, nat_tests, at, place) in
+    let all = where_passed (λ n. address_rule h ops n ≡ None) (stands_at (min (1 + j) 255)) wanted (each_passed (address_rule h ops) _ here.needs) in
+    All-contains (λ n. stands_at (min (1 + j) 255) n ≡ true → address_rule h ops n ≡ None) wanted need all there stands
