@@ -1,1 +1,2 @@
+pub mod NeedLaws
 pub mod RightLaws

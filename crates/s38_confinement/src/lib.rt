@@ -4,7 +4,7 @@
 ghost use Rattle.std.specs.Prelude.{◌≡◌, true};
 
 /// A place for laws.
-#[tactic(auto, using(crate::proofs::RightLaws::lacks_both))]
+#[tactic(auto, using(crate::proofs::RightLaws::lacks_both, crate::proofs::NeedLaws::row_speaks))]
 pub fn none() -> bool
     ensures { result ≡ true }
 {
