@@ -38,11 +38,13 @@ behind_last d (x ∷ xs) e = behind_last (absorbed d x.reply) xs e
 
 -- ---- one step
 
--- every way stays closed over a step, and the reply opens none
-pub record StepKeeps (users : List ℕ) (o r : ℕ) : Type 0 where
-  pub closed : (s : State) (p : ℕ) (e : Event) → NoWay s.held users o r → OfEvent (IsHarmless o r) e → ActsWithin users s p e → NoWay (step s p e).state.held users o r
-  pub reply : (s : State) (p : ℕ) (e : Event) → NoWay s.held users o r → OfEvent (IsHarmless o r) e → ActsWithin users s p e → OfReply (IsHarmless o r) (step s p e).reply
-  pub unused : (s : State) (e : Entry) → NoWay s.held users o r → OfEvent (IsHarmless o r) e.event → ActsWithin users s e.process e.event → Exercises s e (step s e.process e.event).reply o r → ⊥
+-- what holds of a state holds behind a step, the reply opens no way, and the step does not use the right
+pub record StepKeeps (closed : State → Type 0) (users : List ℕ) (o r : ℕ) : Type 0 where
+  pub stays : (s : State) (p : ℕ) (e : Event) → closed s → OfEvent (IsHarmless o r) e → ActsWithin users s p e → closed (step s p e).state
+  pub reply : (s : State) (p : ℕ) (e : Event) → closed s → OfEvent (IsHarmless o r) e → ActsWithin users s p e → OfReply (IsHarmless o r) (step s p e).reply
+  pub unused : (s : State) (e : Entry) → closed s → OfEvent (IsHarmless o r) e.event → ActsWithin users s e.process e.event → Exercises s e (step s e.process e.event).reply o r → ⊥
+  -- and where it holds no way is open
+  pub no_way : (s : State) → closed s → NoWay s.held users o r
 
 -- a process asks by pointers that stand in its variables, and gets none but by replies
 pub record ProcessKeeps (o r : ℕ) : Type 0 where
@@ -101,21 +103,21 @@ closed_next ds done e o r keeps reply closed k d there =
 of_process : (ds : List ProcessState) (s : State) (p : ℕ) → length ds ≡ length s.processes → IsProcess s p → IsProcessOf ds p
 of_process ds s p same is = record { first = is.first; last = rw same is.last }
 
-pub confined : (users : List ℕ) (o r : ℕ) → StepKeeps users o r → ProcessKeeps o r → (ds : List ProcessState) (s : State) (done history : List Entry) (end : State)
-    → length ds ≡ length s.processes → NoWay s.held users o r → AreClosed ds done o r → Leads s done history end → AllWithin users s history → AreRun ds (done ++ history)
+pub confined : (closed : State → Type 0) (users : List ℕ) (o r : ℕ) → StepKeeps closed users o r → ProcessKeeps o r → (ds : List ProcessState) (s : State) (done history : List Entry) (end : State)
+    → length ds ≡ length s.processes → closed s → AreClosed ds done o r → Leads s done history end → AllWithin users s history → AreRun ds (done ++ history)
     → NeverUsed s history o r × StaysClosed ds (done ++ history) end users o r
-confined users o r steps keeps ds s done [] end same none closed leads within run =
+confined closed users o r steps keeps ds s done [] end same holds ways leads within run =
     (tt, record {
-      objects = subst (λ (t : State). NoWay t.held users o r) leads none;
-      variables = λ k d there. subst (λ (l : List Entry). NoWayIn o r (behind d (entries_of (k + 1) l))) (sym (append-nil done)) (closed k d there);
+      objects = subst (λ (t : State). NoWay t.held users o r) leads (steps.no_way s holds);
+      variables = λ k d there. subst (λ (l : List Entry). NoWayIn o r (behind d (entries_of (k + 1) l))) (sym (append-nil done)) (ways k d there);
     })
-confined users o r steps keeps ds s done (e ∷ es) end same none closed leads within run =
+confined closed users o r steps keeps ds s done (e ∷ es) end same holds ways leads within run =
     let one = leads.0 in
-    let event = asked_closed ds done es e o r keeps (of_process ds s e.process same one.process) run closed in
-    let reply : OfReply (IsHarmless o r) e.reply = subst (λ (x : Reply). OfReply (IsHarmless o r) x) one.reply (steps.reply s e.process e.event none event within.0) in
-    let rest = confined users o r steps keeps ds (step s e.process e.event).state (done ++ e ∷ []) es end
-        (same ∙ sym (step_keeps s e.process e.event)) (steps.closed s e.process e.event none event within.0)
-        (closed_next ds done e o r keeps reply closed) leads.1 within.1
+    let event = asked_closed ds done es e o r keeps (of_process ds s e.process same one.process) run ways in
+    let reply : OfReply (IsHarmless o r) e.reply = subst (λ (x : Reply). OfReply (IsHarmless o r) x) one.reply (steps.reply s e.process e.event holds event within.0) in
+    let rest = confined closed users o r steps keeps ds (step s e.process e.event).state (done ++ e ∷ []) es end
+        (same ∙ sym (step_keeps s e.process e.event)) (steps.stays s e.process e.event holds event within.0)
+        (closed_next ds done e o r keeps reply ways) leads.1 within.1
         (subst (λ (l : List Entry). AreRun ds l) (sym (append_assoc done (e ∷ []) es)) run) in
-    let never : Exercises s e e.reply o r → ⊥ = subst (λ (x : Reply). Exercises s e x o r → ⊥) one.reply (steps.unused s e none event within.0) in
+    let never : Exercises s e e.reply o r → ⊥ = subst (λ (x : Reply). Exercises s e x o r → ⊥) one.reply (steps.unused s e holds event within.0) in
     ((never, rest.0), subst (λ (l : List Entry). StaysClosed ds l end users o r) (append_assoc done (e ∷ []) es) rest.1)

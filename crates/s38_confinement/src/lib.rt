@@ -4,7 +4,7 @@
 ghost use Rattle.std.specs.Prelude.{◌≡◌, true};
 
 /// A place for laws.
-#[tactic(auto, using(crate::proofs::HistoryLaws::confined, crate::proofs::ProcessLaws::behind_kept, crate::proofs::StepLaws::processes_keep))]
+#[tactic(auto, using(crate::proofs::HistoryLaws::confined, crate::proofs::StepLaws::steps_keep))]
 pub fn none() -> bool
     ensures { result ≡ true }
 {
