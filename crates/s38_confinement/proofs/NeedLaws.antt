@@ -1,6 +1,6 @@
 -- Of what the needs of each instruction speak: one that grants, or gives away, speaks of the object of its first
 -- operand, which is there.
-use Rattle.std.proofs.Common.{◌≡◌, ℕ, true, false, cond, List, [], ◌∷◌, ◌++◌, refl}
+use Rattle.std.proofs.Common.{◌≡◌, ℕ, true, false, cond, List, [], ◌++◌, refl}
 use Rattle.std.proofs.lemmas.List.Elements.{All-append, All-cons, All-nil}
 use Rattle.std.specs.Prelude.{All, Option, Some, None}
 use Rattle.s38_base.specs.declared.id.Kind.{Kind}

@@ -1,18 +1,17 @@
 -- Where no way is open for users to a right on an object, what a permitted instruction makes of headers, rows and
 -- special authorities opens none.
-use Rattle.std.proofs.Common.{◌≡◌, ◌≢◌, ℕ, ◌+◌, ◌<◌, ◌≤◌, ◌==◌, Bool, true, false, cond, List, [], ◌∷◌, ◌++◌, refl, sym, ◌∙◌, ap, subst, ◌⊎◌, inl, inr, arith}
+use Rattle.std.proofs.Common.{◌≡◌, ◌≢◌, ℕ, ◌+◌, ◌<◌, ◌≤◌, ◌==◌, Bool, true, false, cond, List, [], ◌∷◌, ◌++◌, refl, sym, ◌∙◌, ap, subst, ◌⊎◌, inl, inr, arith, zero, suc}
 use Rattle.std.proofs.lemmas.Bool.Decides.{nat_tests}
-use Rattle.std.proofs.lemmas.List.Elements.{All-contains, All-weaker}
+use Rattle.std.proofs.lemmas.List.Elements.{All-weaker}
 use Rattle.std.proofs.lemmas.List.Folds.{list_any_none}
-use Rattle.std.proofs.lemmas.Nat.Bits.{bit_at-zero, bit_at_and, bit_at_or}
+use Rattle.std.proofs.lemmas.Nat.Bits.{bit_at-lt, bit_at-zero, bit_at_and, bit_at_or}
 use Rattle.std.specs.Int.{bit_at}
 use Rattle.std.specs.List.{Contains}
-use Rattle.std.specs.Prelude.{All, Option, Some, None, bit_and, bit_or, max, min}
+use Rattle.std.specs.Prelude.{All, Option, Some, None, bit_and, bit_or}
 use Rattle.std.specs.Option.{option_map}
 use Rattle.s38_base.specs.declared.exception.Exception.{Exception}
 use Rattle.s38_base.specs.declared.id.Id.{Id}
 use Rattle.s38_base.specs.declared.id.ObjNum.{ObjNum}
-use Rattle.s38_base.specs.declared.rights.Rights.{Rights}
 use Rattle.std.specs.Prelude.{◌-◌, ◌^◌}
 use Rattle.s38_base.specs.declared.op.Op.{Op}
 use Rattle.s38_base.specs.declared.op.Op.TheVariants.{Crtctx, Modadr, Rename, Matctx, Desctx, Crtup, Modup, Desup, Grant, Retract, Xfro, Testau, Matau, Matauobj, Setsppfp, Setdp, Cpybwp, Crtpg, Callx, Xctl, Crtq, Crts, Mods, Despg, Desq, Dess, Enq, Deq}
@@ -23,6 +22,7 @@ use Rattle.s38_code.specs.declared.event.Request.{Request}
 use Rattle.s38_code.specs.declared.family.Family.{Family}
 use Rattle.s38_code.specs.declared.family.Family.TheVariants as families
 use Rattle.s38_code.specs.declared.program.Program.{Program}
+use Rattle.s38_rules.specs.declared.need.Named.TheVariants.{Written}
 use Rattle.s38_rules.specs.declared.need.Need.{Need}
 use Rattle.s38_rules.specs.declared.process.ProcessEntry.{ProcessEntry}
 use Rattle.s38_base.specs.Pointers.{carried_in, start_of, target_of}
@@ -37,7 +37,7 @@ use Rattle.s38_rules.specs.declared.object.Body.{Body}
 use Rattle.s38_rules.specs.declared.object.Object.{Object}
 use Rattle.s38_rules.specs.declared.verdict.Verdict.{Verdict}
 use Rattle.s38_rules.specs.declared.verdict.Verdict.TheVariants.{Permit, Wait, Refuse}
-use Rattle.s38_rules.specs.Authority.{available, has_rights, has_special, is_governed, is_special, lacks_special, missing, unauthorized}
+use Rattle.s38_rules.specs.Authority.{available, has_rights, has_special, is_governed, is_special, lacks_special}
 use Rattle.s38_rules.specs.Cells.{with_bytes, with_cells, with_pointer}
 use Rattle.s38_rules.specs.Creation.{created, creation_changes, destruction_changes, new_object}
 use Rattle.s38_rules.specs.Contexts.{contexts_row, crtctx_changes, modadr_changes, rename_changes, renamed_by}
@@ -66,7 +66,9 @@ use Rattle.s38_rules.proofs.Laws.{resolving_still}
 use Rattle.s38_rules.proofs.RowLaws.{row_read, rows_kept}
 use Rattle.s38_rules.proofs.RuleLaws.{fails_none, first_none, not_false}
 use Rattle.s38_confinement.specs.NoWay.{HasNoWay, IsHarmless, Lacks, NoWay}
-use Rattle.s38_confinement.specs.OfPointers.{OfObjects}
+use Rattle.s38_confinement.specs.OfPointers.{OfEvent, OfObjects, OfOperand}
+use Rattle.s38_confinement.specs.Confined.{ActsWithin}
+use Rattle.s38_confinement.proofs.RightLaws.{carried_lacks, lacking, lacks_both, nobody_acts, not_lacking, ungoverned}
 
 -- all of no way but what pointers carry
 pub record StandsClosed (h : Held) (users : List ℕ) (o r : ℕ) : Type 0 where
@@ -344,42 +346,20 @@ rights_kept r false user new lacks = record {
 
 -- ---- rights by their bits
 
-max_zero : (a b : ℕ) → a ≡ 0 → b ≡ 0 → max a b ≡ 0
-max_zero a b p q = omega (arith, p, q)
+lacks_common : (r a b : ℕ) → Lacks r a → Lacks r (bit_and a b)
+lacks_common r a b none = omega (arith, bit_at_and a b r, none)
 
-min_zero : (a b : ℕ) → a ≡ 0 → min a b ≡ 0
-min_zero a b p = omega (arith, p)
-
-max_right : (a b : ℕ) → max a b ≡ 0 → b ≡ 0
-max_right a b h = omega (arith, h)
-
-lacks_either : (r a b : ℕ) → Lacks r a → Lacks r b → Lacks r (bit_or a b)
-lacks_either r a b p q = bit_at_or a b r ∙ max_zero (bit_at a r) (bit_at b r) p q
-
-lacks_both : (r a b : ℕ) → Lacks r a → Lacks r (bit_and a b)
-lacks_both r a b p = bit_at_and a b r ∙ min_zero (bit_at a r) (bit_at b r) p
-
--- where the needed rights are there, what is not there is not needed
-lacks_needed : (r needed there : ℕ) → has_rights needed there ≡ true → Lacks r there → Lacks r needed
-lacks_needed r needed there has none =
-    let same : bit_and there needed ≡ needed = grind (arith, nat_tests) in
-    sym (ap (λ (n : ℕ). bit_at n r) same) ∙ lacks_both r there needed none
-
-lacks_part : (r a b : ℕ) → Lacks r (bit_or a b) → Lacks r b
-lacks_part r a b none = max_right (bit_at a r) (bit_at b r) (sym (bit_at_or a b r) ∙ none)
-
-none_missing : (b : Bool) (k : ℕ) (x : Rights) → unauthorized k (cond b None (Some x)) ≡ None → b ≡ true
-none_missing true k x h = refl
-none_missing false k x h = cc
-
-has_where : (k needed there : ℕ) → missing k needed there ≡ None → has_rights needed there ≡ true
-has_where k needed there h = none_missing (has_rights needed there) k _ h
+zero_by : (n : ℕ) → n < 2 → (n ≡ 1 → ⊥) → n ≡ 0
+zero_by zero few one = refl
+zero_by (suc zero) few one = absurd (one refl)
+zero_by (suc (suc n)) few one = omega (arith, few)
 
 -- who does not govern an object gives and takes of it only what is available
 pub granting_lacks : (governed : Bool) (k given there r : ℕ) → governed ≡ false → granting_rule governed k given there ≡ None → Lacks r there → Lacks r given
 granting_lacks true k given there r free rule none = cc
 granting_lacks false k given there r free rule none =
-    lacks_part r 64 given (lacks_needed r (bit_or 64 given) there (has_where k (bit_or 64 given) there (first_none _ _ rule).0) none)
+    zero_by (bit_at given r) (bit_at-lt given r)
+    (λ has. not_lacking k (bit_or rights.objmgt given) there r (first_none _ _ rule).0 (omega (arith, bit_at_or rights.objmgt given r, bit_at-lt rights.objmgt r, has)) none)
 
 -- ---- what comes back to a space
 
@@ -441,12 +421,12 @@ grant_right s p d ops o r x powerless e same found =
 grant_lessens : (s : State) (p d : ℕ) (ops : List Operand) (o r : ℕ) → IsPowerless s p d ops o r → rights_rules s p d ops (grant_needs ops) ≡ None → Lessens s.held (grant_changes s.held ops) o r
 unfolding grant_changes
 grant_lessens s p d ops o r powerless e = restand_lessens s.held (target s.held ops 1) _ o r
-    (λ same x found. rights_kept r (is_given ops 2) (user_at s.held ops 2) (λ n. bit_or n (rights_at ops 3)) (λ n none. lacks_either r n (rights_at ops 3) none (grant_right s p d ops o r x powerless e same found)))
+    (λ same x found. rights_kept r (is_given ops 2) (user_at s.held ops 2) (λ n. bit_or n (rights_at ops 3)) (λ n none. lacks_both n (rights_at ops 3) r none (grant_right s p d ops o r x powerless e same found)))
 
 retract_lessens : (h : Held) (ops : List Operand) (o r : ℕ) → Lessens h (retract_changes h ops) o r
 unfolding retract_changes
 retract_lessens h ops o r = restand_lessens h (target h ops 1) _ o r
-    (λ same x found. rights_kept r (is_given ops 2) (user_at h ops 2) (λ n. bit_and n (2 ^ 8 - 1 - rights_at ops 3)) (λ n none. lacks_both r n (2 ^ 8 - 1 - rights_at ops 3) none))
+    (λ same x found. rights_kept r (is_given ops 2) (user_at h ops 2) (λ n. bit_and n (2 ^ 8 - 1 - rights_at ops 3)) (λ n none. lacks_common r n (2 ^ 8 - 1 - rights_at ops 3) none))
 
 xfro_owned : (s : State) (p d : ℕ) (ops : List Operand) → rights_rules s p d ops xfro_needs ≡ None → is_governed s.held (target s.held ops 1) (acting s p d) ≡ true
 unfolding xfro_needs
@@ -464,9 +444,6 @@ xfro_lessens s p d ops o r powerless e =
 -- a step of a row leaves who may do what, or gives less
 abbrev RowLessens : Instruction → Type 0
 RowLessens i = (s : State) (p d : ℕ) (request : Request) (o r : ℕ) → IsPowerless s p d request.operands o r → refused_by i s p d request ≡ None → Lessens s.held (i.changes s p d request).held o r
-
-still_lessens : (i : Instruction) → ((s : State) (p d : ℕ) (request : Request) → (i.changes s p d request).held ≡ s.held) → RowLessens i
-still_lessens i same s p d request o r powerless e = lessens_same s.held (i.changes s p d request).held o r (same s p d request)
 
 grants_lessen : (op : Op) → RowLessens (grants_row op)
 unfolding grants_row
@@ -543,30 +520,40 @@ row_lessens _ op s p d request o r powerless e = lessens_same s.held s.held o r 
 
 -- ---- over an instruction, and over a step
 
-unspecial_acting : (h : Held) (users acting : List ℕ) (o r : ℕ) → StandsClosed h users o r → All (λ u. Contains users u) acting → is_special h acting rights.profile ≡ false
+unspecial_acting : (h : Held) (users acting : List ℕ) (o r : ℕ) → NoWay h users o r → All (λ u. Contains users u) acting → is_special h acting rights.profile ≡ false
 unspecial_acting h users acting o r closed within =
     list_any_none (has_special h rights.profile) acting
-    (All-weaker (λ u. Contains users u) (λ u. has_special h rights.profile u ≡ false) (λ u there. (All-contains (HasNoWay h o r) users u closed.nobody there).profiles) acting within)
+    (All-weaker (HasNoWay h o r) (λ u. has_special h rights.profile u ≡ false) (λ u has. has.profiles) acting (nobody_acts h users acting o r closed within))
 
--- users who have no way, do not govern the object, and lack the right with the pointer of operand 1
-pub powerless : (s : State) (p d : ℕ) (ops : List Operand) (users : List ℕ) (o r : ℕ) → StandsClosed s.held users o r → All (λ u. Contains users u) (acting s p d)
-    → ((x : Object) → object s.held o ≡ Some x → is_governed s.held o (acting s p d) ≡ false)
-    → (target s.held ops 1 ≡ o → Lacks r (available s.held (acting s p d) o (carried_in (pointer_at s.held ops 1))))
-    → IsPowerless s p d ops o r
-powerless s p d ops users o r closed within ungoverned lacking =
-    record { given = closed.given; unspecial = unspecial_acting s.held users (acting s p d) o r closed within; ungoverned = ungoverned; lacking = lacking }
+-- users who have no way have no power over the object, whatever they ask with harmless pointers
+pub are_powerless : (s : State) (p d : ℕ) (ops : List Operand) (users : List ℕ) (o r : ℕ) → NoWay s.held users o r → All (λ u. Contains users u) (acting s p d)
+    → All (OfOperand (IsHarmless o r)) ops → IsPowerless s p d ops o r
+are_powerless s p d ops users o r closed within harmless = record {
+  given = closed.given;
+  unspecial = unspecial_acting s.held users (acting s p d) o r closed within;
+  ungoverned = λ x found. ungoverned s.held users (acting s p d) o r x found closed within;
+  lacking = λ to. lacking s.held users (acting s p d) o r (carried_in (pointer_at s.held ops 1)) closed within (carried_lacks s.held users ops 1 Written o r closed harmless to);
+}
 
 -- a permitted instruction leaves all of no way but what pointers carry
-pub noway_kept : (op : Op) (s : State) (p d : ℕ) (request : Request) (users : List ℕ) (o r : ℕ) → StandsClosed s.held users o r → IsPowerless s p d request.operands o r
-    → refused_by (row op) s p d request ≡ None → StandsClosed ((row op).changes s p d request).held users o r
-noway_kept op s p d request users o r closed powerless permitted =
-    stays_closed s.held ((row op).changes s p d request).held users o r (row_lessens (family_of op) op s p d request o r powerless permitted) closed
+pub noway_kept : (op : Op) (s : State) (p d : ℕ) (request : Request) (users : List ℕ) (o r : ℕ) → NoWay s.held users o r → AreRows (rows_in (object s.held o))
+    → All (λ u. Contains users u) (acting s p d) → All (OfOperand (IsHarmless o r)) request.operands → refused_by (row op) s p d request ≡ None
+    → StandsClosed ((row op).changes s p d request).held users o r
+noway_kept op s p d request users o r closed are within harmless permitted =
+    stays_closed s.held ((row op).changes s p d request).held users o r
+    (row_lessens (family_of op) op s p d request o r (are_powerless s p d request.operands users o r closed within harmless) permitted)
+    (stands_closed s.held users o r closed are)
 
 -- who acts in an event has no power over the object
-abbrev pub ActsPowerless : State → ℕ → Event → ℕ → ℕ → Type 0
+abbrev ActsPowerless : State → ℕ → Event → ℕ → ℕ → Type 0
 ActsPowerless s p (Act depth request) o r = IsPowerless s p depth request.operands o r
 ActsPowerless s p Start o r = Unit {0}
 ActsPowerless s p (Finish cause) o r = Unit {0}
+
+acts_powerless : (s : State) (p : ℕ) (e : Event) (users : List ℕ) (o r : ℕ) → NoWay s.held users o r → ActsWithin users s p e → OfEvent (IsHarmless o r) e → ActsPowerless s p e o r
+acts_powerless s p (Act depth request) users o r closed within harmless = are_powerless s p depth request.operands users o r closed within harmless
+acts_powerless s p Start users o r closed within harmless = tt
+acts_powerless s p (Finish cause) users o r closed within harmless = tt
 
 effect_lessens : (s : State) (p d : ℕ) (request : Request) (o r : ℕ) → IsPowerless s p d request.operands o r → refused_by (row request.op) s p d request ≡ None
     → Lessens s.held (effect (row request.op) s p d request).state.held o r
@@ -604,6 +591,8 @@ waiting_lessens true s p e o r powerless = lessens_same s.held s.held o r refl
 waiting_lessens false s p e o r powerless = verdict_lessens s p e (awake_verdict s p e) o r powerless refl
 
 -- and so does a step
-pub step_closed : (s : State) (p : ℕ) (e : Event) (users : List ℕ) (o r : ℕ) → StandsClosed s.held users o r → ActsPowerless s p e o r → StandsClosed (step s p e).state.held users o r
+pub step_closed : (s : State) (p : ℕ) (e : Event) (users : List ℕ) (o r : ℕ) → NoWay s.held users o r → AreRows (rows_in (object s.held o))
+    → ActsWithin users s p e → OfEvent (IsHarmless o r) e → StandsClosed (step s p e).state.held users o r
 unfolding step
-step_closed s p e users o r closed powerless = stays_closed s.held _ users o r (waiting_lessens (waits s p) s p e o r powerless) closed
+step_closed s p e users o r closed are within harmless =
+    stays_closed s.held _ users o r (waiting_lessens (waits s p) s p e o r (acts_powerless s p e users o r closed within harmless)) (stands_closed s.held users o r closed are)

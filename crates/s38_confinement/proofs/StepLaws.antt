@@ -25,14 +25,11 @@ use Rattle.s38_confinement.specs.Confined.{ActsWithin, Exercises, UsesBy}
 use Rattle.s38_confinement.specs.NoWay.{IsHarmless, NoWay}
 use Rattle.s38_confinement.specs.OfPointers.{IsClosed, OfEvent, OfObjects, OfOperand, OfReply, OfVal}
 use Rattle.s38_confinement.proofs.HistoryLaws.{ProcessKeeps, StepKeeps}
-use Rattle.s38_confinement.proofs.MakerLaws.{given_harmless}
+use Rattle.s38_confinement.proofs.MakerLaws.{gives_harmless, harmless_closed}
 use Rattle.s38_confinement.proofs.PlainLaws.{OfDone, effect_kept}
 use Rattle.s38_confinement.proofs.ProcessLaws.{asks, goes_on}
-use Rattle.s38_confinement.proofs.RightLaws.{carried_lacks, lacking, ungoverned, unused}
-use Rattle.s38_confinement.proofs.StandingLaws.{ActsPowerless, IsPowerless, StandsClosed, no_way, powerless, step_closed}
-
-pub harmless_closed : (o r : ℕ) → IsClosed (IsHarmless o r)
-harmless_closed o r object offset other h = record { carries = h.carries; lies = h.lies }
+use Rattle.s38_confinement.proofs.RightLaws.{unused}
+use Rattle.s38_confinement.proofs.StandingLaws.{StandsClosed, no_way, step_closed}
 
 pub processes_keep : (o r : ℕ) → ProcessKeeps o r
 processes_keep o r = record {
@@ -50,31 +47,17 @@ pub record IsShut (users : List ℕ) (o r : ℕ) (s : State) : Type 0 where
 shut_way : (users : List ℕ) (o r : ℕ) (s : State) → IsShut users o r s → NoWay s.held users o r
 shut_way users o r s shut = no_way s.held users o r shut.stands shut.right shut.spaces
 
--- who acts has no power over the object
-act_powerless : (s : State) (p d : ℕ) (request : Request) (users : List ℕ) (o r : ℕ) → IsShut users o r s → All (OfOperand (IsHarmless o r)) request.operands
-    → All (λ u. Contains users u) (acting s p d) → IsPowerless s p d request.operands o r
-act_powerless s p d request users o r shut asked within =
-    let none = shut_way users o r s shut in
-    powerless s p d request.operands users o r shut.stands within
-    (λ x there. ungoverned s.held users (acting s p d) o r x there none within)
-    (λ to. lacking s.held users (acting s p d) o r _ none within (carried_lacks s.held users request.operands 1 Written o r none asked to))
-
-acts_powerless : (s : State) (p : ℕ) (e : Event) (users : List ℕ) (o r : ℕ) → IsShut users o r s → OfEvent (IsHarmless o r) e → ActsWithin users s p e → ActsPowerless s p e o r
-acts_powerless s p Start users o r shut asked within = tt
-acts_powerless s p (Act depth request) users o r shut asked within = act_powerless s p depth request users o r shut asked within
-acts_powerless s p (Finish cause) users o r shut asked within = tt
-
 -- ---- what an effect leaves and gives
 
 permitted_none : (s : State) (p : ℕ) (e : Event) (x : Option Exception) → of_failure s p e x ≡ Permit → x ≡ None
 permitted_none s p e None h = refl
 permitted_none s p e (Some x) h = cc
 
-act_done : (s : State) (p d : ℕ) (request : Request) (users : List ℕ) (o r : ℕ) → o ≢ 0 → IsShut users o r s → All (OfOperand (IsHarmless o r)) request.operands
+act_done : (s : State) (p d : ℕ) (request : Request) (users : List ℕ) (o r : ℕ) → IsShut users o r s → All (OfOperand (IsHarmless o r)) request.operands
     → All (λ u. Contains users u) (acting s p d) → refused_by (row request.op) s p d request ≡ None → OfDone (IsHarmless o r) (effect (row request.op) s p d request)
-act_done s p d request users o r some shut asked within permitted =
+act_done s p d request users o r shut asked within permitted =
     effect_kept (IsHarmless o r) s p d request shut.spaces asked
-    (given_harmless s p d request users o r some (shut_way users o r s shut) within asked permitted)
+    (gives_harmless request.op s p d request users o r (shut_way users o r s shut) within asked permitted)
 
 start_done : (q : Pointer → Type 0) (s : State) (p : ℕ) (x : Option ProcessEntry) → OfObjects q s.held.objects → OfObjects q (start_at s p x).held.objects
 start_done q s p None h = h
@@ -84,31 +67,31 @@ end_done : (q : Pointer → Type 0) (s : State) (p : ℕ) (x : Option ProcessEnt
 end_done q s p None h = h
 end_done q s p (Some x) h = h
 
-permit_done : (s : State) (p : ℕ) (e : Event) (users : List ℕ) (o r : ℕ) → o ≢ 0 → IsShut users o r s → OfEvent (IsHarmless o r) e → ActsWithin users s p e → awake_verdict s p e ≡ Permit
+permit_done : (s : State) (p : ℕ) (e : Event) (users : List ℕ) (o r : ℕ) → IsShut users o r s → OfEvent (IsHarmless o r) e → ActsWithin users s p e → awake_verdict s p e ≡ Permit
     → OfDone (IsHarmless o r) (effect_of s p e)
 unfolding effect_of awake_verdict
-permit_done s p Start users o r some shut asked within permitted = (start_done (IsHarmless o r) s p (process_entry s p) shut.spaces, All-nil (OfVal (IsHarmless o r)))
-permit_done s p (Act depth request) users o r some shut asked within permitted =
-    act_done s p depth request users o r some shut asked within (permitted_none s p (Act depth request) (refused_by (row request.op) s p depth request) permitted)
-permit_done s p (Finish cause) users o r some shut asked within permitted = (end_done (IsHarmless o r) s p (process_entry s p) shut.spaces, All-nil (OfVal (IsHarmless o r)))
+permit_done s p Start users o r shut asked within permitted = (start_done (IsHarmless o r) s p (process_entry s p) shut.spaces, All-nil (OfVal (IsHarmless o r)))
+permit_done s p (Act depth request) users o r shut asked within permitted =
+    act_done s p depth request users o r shut asked within (permitted_none s p (Act depth request) (refused_by (row request.op) s p depth request) permitted)
+permit_done s p (Finish cause) users o r shut asked within permitted = (end_done (IsHarmless o r) s p (process_entry s p) shut.spaces, All-nil (OfVal (IsHarmless o r)))
 
 -- ---- a step
 
-verdict_spaces : (s : State) (p : ℕ) (e : Event) (v : Verdict) (users : List ℕ) (o r : ℕ) → o ≢ 0 → IsShut users o r s → OfEvent (IsHarmless o r) e → ActsWithin users s p e → awake_verdict s p e ≡ v
+verdict_spaces : (s : State) (p : ℕ) (e : Event) (v : Verdict) (users : List ℕ) (o r : ℕ) → IsShut users o r s → OfEvent (IsHarmless o r) e → ActsWithin users s p e → awake_verdict s p e ≡ v
     → OfObjects (IsHarmless o r) (by_verdict s p e v).state.held.objects × OfReply (IsHarmless o r) (by_verdict s p e v).reply
-verdict_spaces s p e Permit users o r some shut asked within is = permit_done s p e users o r some shut asked within is
-verdict_spaces s p e Wait users o r some shut asked within is = (shut.spaces, tt)
-verdict_spaces s p e (Refuse x) users o r some shut asked within is = (shut.spaces, tt)
+verdict_spaces s p e Permit users o r shut asked within is = permit_done s p e users o r shut asked within is
+verdict_spaces s p e Wait users o r shut asked within is = (shut.spaces, tt)
+verdict_spaces s p e (Refuse x) users o r shut asked within is = (shut.spaces, tt)
 
-waiting_spaces : (b : Bool) (s : State) (p : ℕ) (e : Event) (users : List ℕ) (o r : ℕ) → o ≢ 0 → IsShut users o r s → OfEvent (IsHarmless o r) e → ActsWithin users s p e
+waiting_spaces : (b : Bool) (s : State) (p : ℕ) (e : Event) (users : List ℕ) (o r : ℕ) → IsShut users o r s → OfEvent (IsHarmless o r) e → ActsWithin users s p e
     → OfObjects (IsHarmless o r) (by_waiting b s p e).state.held.objects × OfReply (IsHarmless o r) (by_waiting b s p e).reply
-waiting_spaces true s p e users o r some shut asked within = (shut.spaces, tt)
-waiting_spaces false s p e users o r some shut asked within = verdict_spaces s p e (awake_verdict s p e) users o r some shut asked within refl
+waiting_spaces true s p e users o r shut asked within = (shut.spaces, tt)
+waiting_spaces false s p e users o r shut asked within = verdict_spaces s p e (awake_verdict s p e) users o r shut asked within refl
 
-step_spaces : (s : State) (p : ℕ) (e : Event) (users : List ℕ) (o r : ℕ) → o ≢ 0 → IsShut users o r s → OfEvent (IsHarmless o r) e → ActsWithin users s p e
+step_spaces : (s : State) (p : ℕ) (e : Event) (users : List ℕ) (o r : ℕ) → IsShut users o r s → OfEvent (IsHarmless o r) e → ActsWithin users s p e
     → OfObjects (IsHarmless o r) (step s p e).state.held.objects × OfReply (IsHarmless o r) (step s p e).reply
 unfolding step
-step_spaces s p e users o r some shut asked within = waiting_spaces (waits s p) s p e users o r some shut asked within
+step_spaces s p e users o r shut asked within = waiting_spaces (waits s p) s p e users o r shut asked within
 
 -- ---- the right is not used
 
@@ -139,11 +122,11 @@ step_unused s entry users o r some shut asked within uses = waiting_unused (wait
 pub steps_keep : (users : List ℕ) (o r : ℕ) → o ≢ 0 → StepKeeps (IsShut users o r) users o r
 steps_keep users o r some = record {
   stays = λ s p e shut asked within. record {
-    stands = step_closed s p e users o r shut.stands (acts_powerless s p e users o r shut asked within);
+    stands = step_closed s p e users o r (shut_way users o r s shut) shut.stands.rows within asked;
     right = shut.right;
-    spaces = (step_spaces s p e users o r some shut asked within).0;
+    spaces = (step_spaces s p e users o r shut asked within).0;
   };
-  reply = λ s p e shut asked within. (step_spaces s p e users o r some shut asked within).1;
+  reply = λ s p e shut asked within. (step_spaces s p e users o r shut asked within).1;
   unused = λ s e shut asked within uses. step_unused s e users o r some shut asked within uses;
   no_way = λ s shut. shut_way users o r s shut;
 }

@@ -1,7 +1,8 @@
 -- A whole run opens no way to a right.
-use Rattle.std.proofs.Common.{◌≡◌, ℕ, ◌+◌, List, [], ◌∷◌, length, map, refl, sym, ◌∙◌, ap, subst, zero, suc}
+use Rattle.std.proofs.Common.{◌≡◌, ℕ, ◌+◌, Bool, true, false, cond, List, [], ◌∷◌, length, map, refl, sym, ◌∙◌, ap, subst, arith, zero, suc}
 use Rattle.std.proofs.lemmas.List.{length-map}
-use Rattle.std.specs.Prelude.{Option, Some, None, slice_get}
+use Rattle.std.proofs.lemmas.List.Elements.{All-cons, All-head, All-nil, All-tail}
+use Rattle.std.specs.Prelude.{All, Option, Some, None, slice_get}
 use Rattle.std.specs.Option.{option_map, unwrap_or}
 use Rattle.s38_code.specs.declared.deck.Deck.{Deck}
 use Rattle.s38_code.specs.declared.deck.Job.{Job}
@@ -9,12 +10,17 @@ use Rattle.s38_code.specs.declared.entry.Entry.{Entry}
 use Rattle.s38_code.specs.declared.made.CreateResult.{CreateResult}
 use Rattle.s38_code.specs.History.{entries_of}
 use Rattle.s38_process.specs.Process.{ProcessState, RanFrom, fresh}
-use Rattle.s38_rules.specs.Opening.{opened, process_entries}
+use Rattle.s38_rules.specs.declared.object.Object.{Object}
+use Rattle.s38_rules.specs.Headers.{rows_in}
+use Rattle.s38_rules.specs.Held.{has_number, object_in}
+use Rattle.s38_rules.specs.Opening.{general_context, held_first, locked_queue, machine_context, officer, officer_rows, opened, opening, plain_user}
+use Rattle.s38_rules.specs.PrivateRows.{AreRows}
 use Rattle.s38_confinement.specs.Confined.{AreRun}
-use Rattle.s38_confinement.specs.NoWay.{IsHarmless, NoWayIn}
+use Rattle.s38_confinement.specs.NoWay.{IsHarmless, NoWay, NoWayIn}
 use Rattle.s38_confinement.proofs.HistoryLaws.{confined}
 use Rattle.s38_confinement.proofs.ProcessLaws.{begins}
-use Rattle.s38_confinement.proofs.StepLaws.{processes_keep, steps_keep}
+use Rattle.s38_confinement.proofs.StandingLaws.{stands_closed}
+use Rattle.s38_confinement.proofs.StepLaws.{IsShut, processes_keep, steps_keep}
 use Rattle.s38_top.specs.Decks.{IsConfined, IsRunOf, IsRunOfJob, checked_of, made_for, no_program, process_of, processes_of}
 
 some_is : {A : Type 0} (x y : A) → Some x ≡ Some y → x ≡ y
@@ -46,7 +52,36 @@ begins_closed deck o r k d there =
 as_many : (deck : Deck) → length (processes_of deck) ≡ length (opened (checked_of deck) deck.jobs).processes
 as_many deck = length-map deck.jobs (process_of deck) ∙ sym (length-map deck.jobs _)
 
+-- ---- the opening
+
+rows_kept : (os : List Object) (n : ℕ) → All (λ x. AreRows x.rows) os → AreRows (rows_in (object_in os n))
+rows_kept [] n all = tt
+rows_kept (x ∷ os) n all =
+    elim (has_number n x) as (λ b. AreRows (rows_in (cond b (Some x) (object_in os n)))) [
+      | true ↦ All-head (λ x. AreRows x.rows) x os all
+      | false ↦ rows_kept os n (All-tail (λ x. AreRows x.rows) x os all)
+    ]
+
+officer_in_order : AreRows officer_rows
+officer_in_order = (λ e. omega (arith, e), tt, tt)
+
+owned_in_order : (x : Object) (os : List Object) → x.rows ≡ officer_rows → All (λ x. AreRows x.rows) os → All (λ x. AreRows x.rows) (x ∷ os)
+owned_in_order x os own rest = All-cons (λ x. AreRows x.rows) x os (subst AreRows (sym own) officer_in_order) rest
+
+opening_in_order : All (λ x. AreRows x.rows) opening
+unfolding opening
+opening_in_order =
+    owned_in_order machine_context _ refl (owned_in_order officer _ refl (owned_in_order general_context _ refl
+    (owned_in_order plain_user _ refl (owned_in_order locked_queue [] refl (All-nil (λ x. AreRows x.rows))))))
+
+opening_shut : (deck : Deck) (users : List ℕ) (o r : ℕ) → NoWay held_first users o r → IsShut users o r (opened (checked_of deck) deck.jobs)
+opening_shut deck users o r none = record {
+  stands = stands_closed held_first users o r none (rows_kept opening o opening_in_order);
+  right = none.right;
+  spaces = none.spaces;
+}
+
 pub run_confined : (deck : Deck) (history : List Entry) (run : IsRunOf deck history) → IsConfined deck history run.state
-run_confined deck history run users o r none within =
-    confined users o r (steps_keep users o r) (processes_keep o r) (processes_of deck) (opened (checked_of deck) deck.jobs) [] history run.state
-    (as_many deck) none (begins_closed deck o r) run.legal within (each_ran deck history run)
+run_confined deck history run users o r some none within =
+    confined (IsShut users o r) users o r (steps_keep users o r some) (processes_keep o r) (processes_of deck) (opened (checked_of deck) deck.jobs) [] history run.state
+    (as_many deck) (opening_shut deck users o r none) (begins_closed deck o r) run.legal within (each_ran deck history run)

@@ -1,5 +1,5 @@
 -- The checked templates of a deck, and whole runs of its jobs.
-use Rattle.std.specs.Prelude.{◌≡◌, ◌<◌, ℕ, ◌+◌, All, List, [], map, Option, Some, length, slice_get}
+use Rattle.std.specs.Prelude.{◌≡◌, ◌≢◌, ◌<◌, ℕ, ◌+◌, All, List, [], map, Option, Some, length, slice_get}
 use Rattle.std.specs.Option.{option_map, unwrap_or}
 use Rattle.s38_code.specs.declared.deck.Deck.{Deck}
 use Rattle.s38_code.specs.declared.deck.Job.{Job}
@@ -63,7 +63,7 @@ processes_of deck = map (process_of deck) deck.jobs
 -- and no way is open at the end
 abbrev pub IsConfined : Deck → List Entry → State → Type 0
 IsConfined deck history end =
-    (users : List ℕ) (o r : ℕ) → NoWay held_first users o r → AllWithin users (opened (checked_of deck) deck.jobs) history
+    (users : List ℕ) (o r : ℕ) → o ≢ 0 → NoWay held_first users o r → AllWithin users (opened (checked_of deck) deck.jobs) history
     → NeverUsed (opened (checked_of deck) deck.jobs) history o r × StaysClosed (processes_of deck) history end users o r
 
 -- each entry has a mark, and since there is no store all are those of one moment
