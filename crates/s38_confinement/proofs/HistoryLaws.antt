@@ -84,7 +84,7 @@ asked_closed ds done es e o r keeps is run closed =
     let at = there_is ds (e.process - 1) (omega (arith, is.first, is.last)) in
     let next : e.process - 1 + 1 ≡ e.process = place_next e.process is.first in
     let ran : RanFrom at.0 (entries_of (e.process - 1 + 1) done ++ e ∷ entries_of (e.process - 1 + 1) es) =
-        subst (λ (l : List Entry). RanFrom at.0 l) (own_entries (e.process - 1 + 1) done es e (sym next)) (run.each (e.process - 1) at.0 at.1) in
+    subst (λ (l : List Entry). RanFrom at.0 l) (own_entries (e.process - 1 + 1) done es e (sym next)) (run.each (e.process - 1) at.0 at.1) in
     keeps.asks (behind at.0 (entries_of (e.process - 1 + 1) done)) e.event (closed (e.process - 1) at.0 at.1) (ran_next at.0 _ _ e ran)
 
 closed_next : (ds : List ProcessState) (done : List Entry) (e : Entry) (o r : ℕ) → ProcessKeeps o r → OfReply (IsHarmless o r) e.reply → AreClosed ds done o r → AreClosed ds (done ++ e ∷ []) o r
@@ -93,7 +93,7 @@ closed_next ds done e o r keeps reply closed k d there =
       | true ↦ λ q.
           let own : e.process ≡ k + 1 = grind (arith, nat_tests) in
           let at : behind d (entries_of (k + 1) (done ++ e ∷ [])) ≡ absorbed (behind d (entries_of (k + 1) done)) e.reply =
-              ap (behind d) (own_entries (k + 1) done [] e own) ∙ behind_last d (entries_of (k + 1) done) e in
+          ap (behind d) (own_entries (k + 1) done [] e own) ∙ behind_last d (entries_of (k + 1) done) e in
           subst (λ (x : ProcessState). NoWayIn o r x) (sym at) (keeps.goes_on (behind d (entries_of (k + 1) done)) e.reply (closed k d there) reply)
       | false ↦ λ q.
           let same : entries_of (k + 1) (done ++ e ∷ []) ≡ entries_of (k + 1) done = other_entries (k + 1) done [] e q ∙ append-nil (entries_of (k + 1) done) in
@@ -106,18 +106,20 @@ of_process ds s p same is = record { first = is.first; last = rw same is.last }
 pub confined : (closed : State → Type 0) (users : List ℕ) (o r : ℕ) → StepKeeps closed users o r → ProcessKeeps o r → (ds : List ProcessState) (s : State) (done history : List Entry) (end : State)
     → length ds ≡ length s.processes → closed s → AreClosed ds done o r → Leads s done history end → AllWithin users s history → AreRun ds (done ++ history)
     → NeverUsed s history o r × StaysClosed ds (done ++ history) end users o r
-confined closed users o r steps keeps ds s done [] end same holds ways leads within run =
-    (tt, record {
-      objects = subst (λ (t : State). NoWay t.held users o r) leads (steps.no_way s holds);
-      variables = λ k d there. subst (λ (l : List Entry). NoWayIn o r (behind d (entries_of (k + 1) l))) (sym (append-nil done)) (ways k d there);
-    })
+confined closed users o r steps keeps ds s done [] end same holds ways leads within run = (
+  tt,
+  record {
+    objects = subst (λ (t : State). NoWay t.held users o r) leads (steps.no_way s holds);
+    variables = λ k d there. subst (λ (l : List Entry). NoWayIn o r (behind d (entries_of (k + 1) l))) (sym (append-nil done)) (ways k d there);
+  },
+)
 confined closed users o r steps keeps ds s done (e ∷ es) end same holds ways leads within run =
     let one = leads.0 in
     let event = asked_closed ds done es e o r keeps (of_process ds s e.process same one.process) run ways in
     let reply : OfReply (IsHarmless o r) e.reply = subst (λ (x : Reply). OfReply (IsHarmless o r) x) one.reply (steps.reply s e.process e.event holds event within.0) in
     let rest = confined closed users o r steps keeps ds (step s e.process e.event).state (done ++ e ∷ []) es end
-        (same ∙ sym (step_keeps s e.process e.event)) (steps.stays s e.process e.event holds event within.0)
-        (closed_next ds done e o r keeps reply ways) leads.1 within.1
-        (subst (λ (l : List Entry). AreRun ds l) (sym (append_assoc done (e ∷ []) es)) run) in
+    (same ∙ sym (step_keeps s e.process e.event)) (steps.stays s e.process e.event holds event within.0)
+    (closed_next ds done e o r keeps reply ways) leads.1 within.1
+    (subst (λ (l : List Entry). AreRun ds l) (sym (append_assoc done (e ∷ []) es)) run) in
     let never : Exercises s e e.reply o r → ⊥ = subst (λ (x : Reply). Exercises s e x o r → ⊥) one.reply (steps.unused s e holds event within.0) in
     ((never, rest.0), subst (λ (l : List Entry). StaysClosed ds l end users o r) (append_assoc done (e ∷ []) es) rest.1)

@@ -1,5 +1,5 @@
 -- Where no way to a right is open for the users that act, what is permitted does not use it.
-use Rattle.std.proofs.Common.{◌≡◌, ◌≢◌, ℕ, ◌+◌, ◌-◌, ◌<◌, ◌==◌, Bool, true, false, cond, List, [], ◌∷◌, length, max, min, refl, sym, ◌∙◌, ap, subst, arith, bit_and, bit_or, ◌⊎◌, inl, inr, zero, suc}
+use Rattle.std.proofs.Common.{◌≡◌, ◌≢◌, ℕ, ◌+◌, ◌-◌, ◌<◌, ◌==◌, Bool, true, false, cond, List, [], ◌∷◌, length, min, refl, sym, ◌∙◌, ap, subst, arith, bit_and, bit_or, ◌⊎◌, inl, inr, zero, suc}
 use Rattle.std.proofs.lemmas.Bool.Decides.{nat_tests}
 use Rattle.std.proofs.lemmas.List.Elements.{All-cons, All-contains, All-head, All-nil, All-tail, All-weaker}
 use Rattle.std.proofs.lemmas.List.Folds.{list_any_none}
@@ -56,11 +56,6 @@ lacks_both a b r la lb = bit_at_or a b r ∙ rw (la, lb) refl
 
 pub lacks_none : (r : ℕ) → Lacks r rights.no_rights
 lacks_none r = bit_at-zero r
-
-has_either : (a b r : ℕ) → bit_at b r ≡ 1 → Lacks r (bit_or a b) → ⊥
-has_either a b r has lacks =
-    let both : max (bit_at a r) (bit_at b r) ≡ 0 = sym (bit_at_or a b r) ∙ lacks in
-    omega (arith, both, has)
 
 none_by : (operand : ℕ) (b : Bool) (x : Rights) → unauthorized operand (cond b None (Some x)) ≡ None → b ≡ true
 none_by operand true x h = refl

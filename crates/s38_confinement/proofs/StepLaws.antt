@@ -1,35 +1,34 @@
 -- A step keeps every way closed, and so does a process.
-use Rattle.std.proofs.Common.{◌≡◌, ◌≢◌, ℕ, ◌<◌, Bool, true, false, List, [], ◌∷◌, refl, sym, subst}
+use Rattle.std.proofs.Common.{◌≡◌, ◌≢◌, ℕ, ◌<◌, Bool, true, false, [], List, refl}
 use Rattle.std.proofs.lemmas.List.Elements.{All-nil}
 use Rattle.std.specs.List.{Contains}
-use Rattle.std.specs.Prelude.{All, IfSome, Option, Some, None}
+use Rattle.std.specs.Prelude.{All, Option, Some, None}
 use Rattle.s38_base.specs.declared.exception.Exception.{Exception}
 use Rattle.s38_base.specs.declared.pointer.Pointer.{Pointer}
 use Rattle.s38_code.specs.declared.entry.Entry.{Entry}
 use Rattle.s38_code.specs.declared.event.Event.{Event}
 use Rattle.s38_code.specs.declared.event.Event.TheVariants.{Start, Act, Finish}
 use Rattle.s38_code.specs.declared.event.Request.{Request}
-use Rattle.s38_code.specs.declared.reply.Reply.{Reply}
-use Rattle.s38_rules.specs.declared.object.Object.{Object}
 use Rattle.s38_rules.specs.declared.process.ProcessEntry.{ProcessEntry}
-use Rattle.s38_rules.specs.declared.need.Named.TheVariants.{Written}
 use Rattle.s38_rules.specs.declared.verdict.Verdict.{Verdict}
 use Rattle.s38_rules.specs.declared.verdict.Verdict.TheVariants.{Permit, Wait, Refuse}
+use Rattle.s38_process.specs.Process.{ProcessState}
+use Rattle.s38_rules.specs.Legal.{Leads}
 use Rattle.s38_rules.specs.Effect.{effect, effect_of, end_at, start_at}
 use Rattle.s38_rules.specs.Rows.{row}
 use Rattle.s38_rules.specs.State.{State, process_entry, waits}
 use Rattle.s38_rules.specs.Step.{by_verdict, by_waiting, step}
 use Rattle.s38_rules.specs.Users.{acting}
 use Rattle.s38_rules.specs.Verdict.{awake_verdict, of_failure, refused_by}
-use Rattle.s38_confinement.specs.Confined.{ActsWithin, Exercises, UsesBy}
+use Rattle.s38_confinement.specs.Confined.{ActsWithin, AllWithin, AreRun, BeginsClosed, Exercises, NeverUsed, StaysClosed, UsesBy}
 use Rattle.s38_confinement.specs.NoWay.{IsHarmless, NoWay}
-use Rattle.s38_confinement.specs.OfPointers.{IsClosed, OfEvent, OfObjects, OfOperand, OfReply, OfVal}
-use Rattle.s38_confinement.proofs.HistoryLaws.{ProcessKeeps, StepKeeps}
+use Rattle.s38_confinement.specs.OfPointers.{OfEvent, OfObjects, OfOperand, OfReply, OfVal}
+use Rattle.s38_confinement.proofs.HistoryLaws.{ProcessKeeps, StepKeeps, confined}
 use Rattle.s38_confinement.proofs.MakerLaws.{gives_harmless, harmless_closed}
 use Rattle.s38_confinement.proofs.PlainLaws.{OfDone, effect_kept}
 use Rattle.s38_confinement.proofs.ProcessLaws.{asks, goes_on}
 use Rattle.s38_confinement.proofs.RightLaws.{unused}
-use Rattle.s38_confinement.proofs.StandingLaws.{StandsClosed, no_way, step_closed}
+use Rattle.s38_confinement.proofs.StandingLaws.{StandsClosed, no_way, stands_closed, step_closed}
 
 pub processes_keep : (o r : ℕ) → ProcessKeeps o r
 processes_keep o r = record {
@@ -130,3 +129,11 @@ steps_keep users o r some = record {
   unused = λ s e shut asked within uses. step_unused s e users o r some shut asked within uses;
   no_way = λ s shut. shut_way users o r s shut;
 }
+
+-- and so does a history
+pub closed_history : (processes : List ProcessState) (first : State) (history : List Entry) (end : State) (users : List ℕ) (o r : ℕ) → BeginsClosed processes first users o r
+    → Leads first [] history end → AllWithin users first history → AreRun processes history → NeverUsed first history o r × StaysClosed processes history end users o r
+closed_history processes first history end users o r begins leads within run =
+    confined (IsShut users o r) users o r (steps_keep users o r begins.number) (processes_keep o r) processes first [] history end begins.count
+    (record { stands = stands_closed first.held users o r begins.objects begins.rows; right = begins.objects.right; spaces = begins.objects.spaces })
+    begins.variables leads within run

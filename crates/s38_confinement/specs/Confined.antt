@@ -1,5 +1,5 @@
 -- What it is to use a right on an object, and that a history never does.
-use Rattle.std.specs.Prelude.{◌≡◌, ◌⊎◌, ℕ, All, List, [], ◌∷◌, Some, slice_get, ◌+◌}
+use Rattle.std.specs.Prelude.{◌≡◌, ◌≢◌, ◌⊎◌, ℕ, All, List, [], ◌∷◌, Some, length, slice_get, ◌+◌}
 use Rattle.std.specs.Int.{bit_at}
 use Rattle.std.specs.List.{Any, Contains}
 use Rattle.s38_base.specs.Pointers.{object_of}
@@ -16,7 +16,9 @@ use Rattle.s38_process.specs.Process.{ProcessState, RanFrom, behind}
 use Rattle.s38_rules.specs.declared.need.Claim.TheVariants.{Available, Granting, Ownership}
 use Rattle.s38_rules.specs.declared.need.Claim.{Claim}
 use Rattle.s38_rules.specs.declared.need.Need.{Need}
-use Rattle.s38_rules.specs.Held.{Held}
+use Rattle.s38_rules.specs.Headers.{rows_in}
+use Rattle.s38_rules.specs.Held.{Held, object}
+use Rattle.s38_rules.specs.PrivateRows.{AreRows}
 use Rattle.s38_rules.specs.Rows.{row}
 use Rattle.s38_rules.specs.State.{State}
 use Rattle.s38_rules.specs.Step.{step}
@@ -78,6 +80,17 @@ NeverUsed s (e ∷ es) o r = (Exercises s e e.reply o r → ⊥) × NeverUsed (s
 -- the processes run so, each of its place
 pub record AreRun (processes : List ProcessState) (history : List Entry) : Type 0 where
   pub each : (k : ℕ) (d : ProcessState) → slice_get processes k ≡ Some d → RanFrom d (entries_of (k + 1) history)
+
+-- at the beginning no way is open, among the objects and in the variables of every process
+pub record BeginsClosed (processes : List ProcessState) (first : State) (users : List ℕ) (o r : ℕ) : Type 0 where
+  -- the processes are those of the machine
+  pub count : length processes ≡ length first.processes
+  -- 0 is the number of no object
+  pub number : o ≢ 0
+  pub objects : NoWay first.held users o r
+  -- the object's private rows rise by user
+  pub rows : AreRows (rows_in (object first.held o))
+  pub variables : (k : ℕ) (d : ProcessState) → slice_get processes k ≡ Some d → NoWayIn o r d
 
 -- nor is there a way behind it, among the objects and in the variables of every process
 pub record StaysClosed (processes : List ProcessState) (history : List Entry) (end : State) (users : List ℕ) (o r : ℕ) : Type 0 where

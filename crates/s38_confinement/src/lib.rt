@@ -1,12 +1,6 @@
-//! Who can come to a right: where no way to it is open for the users that act, none opens.
+//! Who can come to a right: where no way to it is open for the users that act, none opens, and the right is never used.
 #![tactic(auto)]
 
-ghost use Rattle.std.specs.Prelude.{◌≡◌, true};
+mod laws;
 
-/// A place for laws.
-#[tactic(auto, using(crate::proofs::HistoryLaws::confined, crate::proofs::StepLaws::steps_keep))]
-pub fn none() -> bool
-    ensures { result ≡ true }
-{
-    true
-}
+pub use laws::no_way_opens;
