@@ -1,8 +1,8 @@
-pub mod HistoryLaws
-pub mod MakerLaws
-pub mod NeedLaws
-pub mod PlainLaws
+mod HistoryLaws
+mod MakerLaws
+mod NeedLaws
+mod PlainLaws
 pub mod ProcessLaws
-pub mod RightLaws
-pub mod StandingLaws
+mod RightLaws
+mod StandingLaws
 pub mod StepLaws

@@ -15,12 +15,10 @@ use Rattle.s38_rules.specs.Headers.{rows_in}
 use Rattle.s38_rules.specs.Held.{has_number, object_in}
 use Rattle.s38_rules.specs.Opening.{general_context, held_first, locked_queue, machine_context, officer, officer_rows, opened, opening, plain_user}
 use Rattle.s38_rules.specs.PrivateRows.{AreRows}
-use Rattle.s38_confinement.specs.Confined.{AreRun}
+use Rattle.s38_confinement.specs.Confined.{AreRun, BeginsClosed}
 use Rattle.s38_confinement.specs.NoWay.{IsHarmless, NoWay, NoWayIn}
-use Rattle.s38_confinement.proofs.HistoryLaws.{confined}
 use Rattle.s38_confinement.proofs.ProcessLaws.{begins}
-use Rattle.s38_confinement.proofs.StandingLaws.{stands_closed}
-use Rattle.s38_confinement.proofs.StepLaws.{IsShut, processes_keep, steps_keep}
+use Rattle.s38_confinement.proofs.StepLaws.{closed_history}
 use Rattle.s38_top.specs.Decks.{IsConfined, IsRunOf, IsRunOfJob, checked_of, made_for, no_program, process_of, processes_of}
 
 some_is : {A : Type 0} (x y : A) → Some x ≡ Some y → x ≡ y
@@ -74,14 +72,15 @@ opening_in_order =
     owned_in_order machine_context _ refl (owned_in_order officer _ refl (owned_in_order general_context _ refl
     (owned_in_order plain_user _ refl (owned_in_order locked_queue [] refl (All-nil (λ x. AreRows x.rows))))))
 
-opening_shut : (deck : Deck) (users : List ℕ) (o r : ℕ) → NoWay held_first users o r → IsShut users o r (opened (checked_of deck) deck.jobs)
-opening_shut deck users o r none = record {
-  stands = stands_closed held_first users o r none (rows_kept opening o opening_in_order);
-  right = none.right;
-  spaces = none.spaces;
+begins_shut : (deck : Deck) (users : List ℕ) (o r : ℕ) → o ≢ 0 → NoWay held_first users o r → BeginsClosed (processes_of deck) (opened (checked_of deck) deck.jobs) users o r
+begins_shut deck users o r some none = record {
+  count = as_many deck;
+  number = some;
+  objects = none;
+  rows = rows_kept opening o opening_in_order;
+  variables = begins_closed deck o r;
 }
 
 pub run_confined : (deck : Deck) (history : List Entry) (run : IsRunOf deck history) → IsConfined deck history run.state
 run_confined deck history run users o r some none within =
-    confined (IsShut users o r) users o r (steps_keep users o r some) (processes_keep o r) (processes_of deck) (opened (checked_of deck) deck.jobs) [] history run.state
-    (as_many deck) (opening_shut deck users o r none) (begins_closed deck o r) run.legal within (each_ran deck history run)
+    closed_history (processes_of deck) (opened (checked_of deck) deck.jobs) history run.state users o r (begins_shut deck users o r some none) run.legal within (each_ran deck history run)
