@@ -1,9 +1,9 @@
 -- A whole run opens no way to a right.
-use Rattle.std.proofs.Common.{◌≡◌, ℕ, ◌+◌, Bool, true, false, cond, List, [], ◌∷◌, length, map, refl, sym, ◌∙◌, ap, subst, arith, zero, suc}
+use Rattle.std.proofs.Common.{◌≡◌, ◌≢◌, ℕ, ◌+◌, true, false, cond, List, [], ◌∷◌, length, map, refl, sym, ◌∙◌, ap, subst, arith, zero, suc}
 use Rattle.std.proofs.lemmas.List.{length-map}
 use Rattle.std.proofs.lemmas.List.Elements.{All-cons, All-head, All-nil, All-tail}
-use Rattle.std.specs.Prelude.{All, Option, Some, None, slice_get}
-use Rattle.std.specs.Option.{option_map, unwrap_or}
+use Rattle.std.specs.Prelude.{All, Option, Some, slice_get}
+use Rattle.std.specs.Option.{unwrap_or}
 use Rattle.s38_code.specs.declared.deck.Deck.{Deck}
 use Rattle.s38_code.specs.declared.deck.Job.{Job}
 use Rattle.s38_code.specs.declared.entry.Entry.{Entry}
@@ -19,7 +19,7 @@ use Rattle.s38_confinement.specs.Confined.{AreRun, BeginsClosed}
 use Rattle.s38_confinement.specs.NoWay.{IsHarmless, NoWay, NoWayIn}
 use Rattle.s38_confinement.proofs.ProcessLaws.{begins}
 use Rattle.s38_confinement.proofs.StepLaws.{closed_history}
-use Rattle.s38_top.specs.Decks.{IsConfined, IsRunOf, IsRunOfJob, checked_of, made_for, no_program, process_of, processes_of}
+use Rattle.s38_top.specs.Decks.{IsConfined, IsRunOf, checked_of, made_for, no_program, process_of, processes_of}
 
 some_is : {A : Type 0} (x y : A) → Some x ≡ Some y → x ≡ y
 some_is x y h = cc
@@ -37,9 +37,9 @@ made_is deck job made h = ap (λ (m : Option CreateResult). fresh (unwrap_or m n
 each_ran : (deck : Deck) (history : List Entry) → IsRunOf deck history → AreRun (processes_of deck) history
 each_ran deck history run = record {
   each = λ k d there.
-    let at = mapped_at (process_of deck) deck.jobs k d there in
-    let one = run.each k at.0 at.1 in
-    subst (λ (x : ProcessState). RanFrom x (entries_of (k + 1) history)) (sym (made_is deck at.0 one.made one.is) ∙ at.2) one.ran.by_program;
+      let at = mapped_at (process_of deck) deck.jobs k d there in
+      let one = run.each k at.0 at.1 in
+      subst (λ (x : ProcessState). RanFrom x (entries_of (k + 1) history)) (sym (made_is deck at.0 one.made one.is) ∙ at.2) one.ran.by_program;
 }
 
 begins_closed : (deck : Deck) (o r k : ℕ) (d : ProcessState) → slice_get (processes_of deck) k ≡ Some d → NoWayIn o r d
@@ -69,8 +69,11 @@ owned_in_order x os own rest = All-cons (λ x. AreRows x.rows) x os (subst AreRo
 opening_in_order : All (λ x. AreRows x.rows) opening
 unfolding opening
 opening_in_order =
-    owned_in_order machine_context _ refl (owned_in_order officer _ refl (owned_in_order general_context _ refl
-    (owned_in_order plain_user _ refl (owned_in_order locked_queue [] refl (All-nil (λ x. AreRows x.rows))))))
+    owned_in_order machine_context (officer ∷ general_context ∷ plain_user ∷ locked_queue ∷ []) refl
+    (owned_in_order officer (general_context ∷ plain_user ∷ locked_queue ∷ []) refl
+    (owned_in_order general_context (plain_user ∷ locked_queue ∷ []) refl
+    (owned_in_order plain_user (locked_queue ∷ []) refl
+    (owned_in_order locked_queue [] refl (All-nil (λ x. AreRows x.rows))))))
 
 begins_shut : (deck : Deck) (users : List ℕ) (o r : ℕ) → o ≢ 0 → NoWay held_first users o r → BeginsClosed (processes_of deck) (opened (checked_of deck) deck.jobs) users o r
 begins_shut deck users o r some none = record {
