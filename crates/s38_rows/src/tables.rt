@@ -3,7 +3,7 @@
 use crate::answers::answers;
 use crate::commands::{BAD_DECKS, BAD_LINES, BAD_WORDS, CHECKED, RUN};
 use crate::computed::COMPUTED;
-use crate::confinement::{CLOSED, OPENED};
+use crate::confinement::WAYS;
 use crate::contexts::{CONTEXTS, SHOPS};
 use crate::created::CREATED;
 use crate::decks::DECKS;
@@ -114,8 +114,7 @@ fn every_row_is_answered(rt: HostRuntime) -> Result<(), Fail> {
         &CARRIED,
         &LENT,
         &OWNED,
-        &CLOSED,
-        &OPENED,
+        &WAYS,
     ];
     for table in tables {
         assert_eq!(rt; wrong_call(rt.alloc(), table)?, None);
