@@ -12,19 +12,12 @@ use Rattle.s38_rules.specs.declared.object.Body.TheVariants as bodies
 use Rattle.s38_rules.specs.Held.{Held, pages_of, space_pages}
 use Rattle.s38_rules.specs.Operands.{count_at, target}
 use Rattle.s38_rules.specs.Profiles.{crtup_fails, new_profile}
-use Rattle.s38_rules.specs.Programs.{crtpg_fails, new_program, template_at, template_rule}
 use Rattle.s38_rules.specs.Spaces.{crts_fails, is_space_length, length_at, length_rule, mods_fails, new_space, owner_pays, pages_for_length}
 use Rattle.s38_rules.specs.State.{State}
 use Rattle.s38_rules.specs.Users.{user_of}
 use Rattle.s38_rules.proofs.RuleLaws.{fails_none, first_none, not_false}
 
--- a program that may be made meets the rules of creation
-pub crtpg_created : (s : State) (p : ℕ) (ops : List Operand) → crtpg_fails s p ops ≡ None
-    → (own : Option Exception) × (creation_fails s.held (user_of s p) (new_program s.held ops) own ≡ None)
-unfolding crtpg_fails
-crtpg_created s p ops h = (template_rule (template_at s ops), (first_none _ _ h).0)
-
--- and so does a space
+-- a space that may be made meets the rules of creation
 pub crts_created : (s : State) (p : ℕ) (ops : List Operand) → crts_fails s p ops ≡ None
     → (own : Option Exception) × (creation_fails s.held (user_of s p) (new_space s ops) own ≡ None)
 unfolding crts_fails

@@ -1,6 +1,4 @@
-mod CallLaws
 mod CreationLaws
-mod RoomLaws
 mod ContextLaws
 mod GrantLaws
 mod ListingLaws

@@ -5,20 +5,12 @@ ghost use Rattle.std.specs.Option.{option_copied};
 ghost use Rattle.s38_rules.specs.Grants.{authority_image, concern_image, concerns, concerns_image};
 ghost use Rattle.s38_rules.specs.Headers.{public_in};
 ghost use Rattle.s38_rules.specs.Held.{owner_in};
-ghost use Rattle.s38_rules.specs.Operands.{count_image};
 
 use s38_base::{Bytes, NoMemory, ObjNum, Rights, Seq, UserNum};
 use s38_objects::Objects;
+use s38_operands::count_image;
 use s38_rules::Object;
 use std::alloc::Global;
-
-/// A count, of which the four low bytes are given.
-pub fn count_image(alloc: Global, count: usize) -> Result<Vec<u8>, NoMemory>
-    ensures { IfOk result (λ made. made.items ≡ count_image count) }
-{
-    let bytes = (count as u64).to_be_bytes();
-    Ok(Vec::from_slice(alloc, &bytes[4..])?)
-}
 
 fn owner_in(found: Option<&Object>) -> UserNum
     ensures { result.0 ≡ owner_in (option_copied found.entry) }

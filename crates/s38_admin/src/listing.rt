@@ -2,9 +2,8 @@
 ghost use Rattle.std.specs.Prelude.{◌≡◌, map, IfOk};
 ghost use Rattle.s38_rules.specs.Contexts.{character, name_image, names_image};
 
-use crate::images::count_image;
 use s38_base::{Bytes, Name, NoMemory, ObjNum, Seq};
-use s38_operands::fitted;
+use s38_operands::{count_image, fitted};
 use s38_rules::Listed;
 use s38_strings::ebcdic;
 use std::alloc::Global;

@@ -28,12 +28,15 @@ fn is_context_in(object_used: Option<&Object>) -> bool
 fn may_search(world: &World<Objects>, process: u32, users: &[UserNum], context: ObjNum) -> bool
     ensures { result ≡ may_search world.now process (map (λ u. u.0) users.now) context.0 }
 {
-    let _ = process;
     is_context_in(world.objects.get(context))
         && has_rights(
             Rights::RETRIEVE,
             available(world, users, context, Rights(0)),
         )
+        && world
+            .locks
+            .blocked_by(context, process, Category::Read)
+            .is_none()
 }
 
 #[tactic(auto, unfolding(s38_rules::specs::Resolving::search_in))]

@@ -2,7 +2,7 @@
 ghost use Rattle.std.specs.Prelude.{◌≡◌, ◌≤◌, ◌-◌, length, slice_get};
 ghost use Rattle.std.specs.Option.{option_copied};
 ghost use Rattle.s38_rules.specs.Invocations.{most_frames, stack_in, stack_of};
-ghost use Rattle.s38_rules.specs.State.{is_early, process_entry, ready, started, started_in, waits};
+ghost use Rattle.s38_rules.specs.State.{is_early, is_last_ready, process_entry, ready, started, started_in, waits};
 ghost use Rattle.s38_rules.specs.Users.{contexts_in, contexts_of, user_in, user_of};
 
 use crate::world::World;
@@ -95,6 +95,12 @@ impl<T: Table> World<T> {
         self.waiting.iter().any(|w| *w == process)
     }
 
+    fn waits_at(&self, number: usize) -> bool
+        ensures { result ≡ waits self.now number }
+    {
+        self.waiting.iter().any(|w| *w as usize == number)
+    }
+
     /// Whether some process of an earlier stage has not ended.
     pub fn is_early(&self, stage: u16) -> bool
         ensures { result ≡ is_early self.now.processes stage }
@@ -110,5 +116,22 @@ impl<T: Table> World<T> {
             None => false,
             Some(x) => !x.ended && !self.is_early(x.job.stage) && !self.waits(process),
         }
+    }
+
+    fn ready_at(&self, number: usize) -> bool
+        ensures { result ≡ ready self.now number }
+    {
+        match self.processes.get(number.saturating_sub(1)) {
+            None => false,
+            Some(x) => !x.ended && !self.is_early(x.job.stage) && !self.waits_at(number),
+        }
+    }
+
+    /// Whether no other process is ready: each other of the current stage waits or has ended.
+    pub fn is_last_ready(&self, process: u32) -> bool
+        ensures { result ≡ is_last_ready self.now process }
+    {
+        let process = process as usize;
+        !(1..=self.processes.len()).any(|q| q != process && self.ready_at(q))
     }
 }

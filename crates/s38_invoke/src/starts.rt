@@ -162,7 +162,7 @@ pub fn start<T: Table>(alloc: Global, world: &mut World<T>, process: u32) -> Res
     }
 }
 
-/// A process has ended.
+/// A process has ended, and holds no lock any more.
 pub fn end<T: Table>(world: &mut World<T>, process: u32)
     ensures { world.new ≡ end_at world.old process (process_entry world.old process) }
 {
@@ -170,6 +170,7 @@ pub fn end<T: Table>(world: &mut World<T>, process: u32)
         None => {}
         Some(_) => {
             let at = (process as usize).saturating_sub(1);
+            world.locks.release_all(process);
             set_ended(&mut world.processes, at);
         }
     }

@@ -4,13 +4,14 @@ ghost use Rattle.s38_rules.specs.Kept.{CanBeKept};
 
 use s38_base::NoMemory;
 use s38_code::Checked;
+use s38_locks::LockTable;
 use s38_profiles::Profiles;
 use s38_rules::{ProcessEntry, Table, TableRows};
 use std::alloc::Global;
 use std::marker::Model;
 
-/// The objects, what is kept of users beside them, the deck's templates and the processes. Contracts see it as the
-/// machine's state, which says of users what the objects say.
+/// The objects, what is kept of users beside them, the deck's templates, the processes and their locks. Contracts see
+/// it as the machine's state, which says of users what the objects say.
 #[derive(Drop)]
 pub struct World<T: Table> {
     pub objects: T,
@@ -21,6 +22,7 @@ pub struct World<T: Table> {
     pub templates: Checked,
     pub processes: Vec<ProcessEntry>,
     pub waiting: Vec<u32>,
+    pub locks: LockTable,
 }
 
 impl<T: Table> Model for World<T> {
@@ -37,13 +39,14 @@ impl<T: Table> Model for World<T> {
       templates = w.templates;
       processes = w.processes.items;
       waiting = w.waiting.items;
+      locks = w.locks;
     } };
 
     ghost invariant = { λ w. (w.limit ≤ furthest) × Mirrors w.profiles (T.held w.objects) };
 }
 
 impl<T: TableRows + Drop> World<T> {
-    /// The world of these objects, where nobody waits. `NoMemory` where memory was refused.
+    /// The world of these objects, where nobody waits and no object is locked. `NoMemory` where memory was refused.
     pub fn new(
         alloc: Global,
         objects: T,
@@ -53,7 +56,7 @@ impl<T: TableRows + Drop> World<T> {
     ) -> Result<World<T>, NoMemory>
         requires limit { limit ≤ furthest }
         requires kept { CanBeKept (T.held objects) }
-        ensures { IfOk result (λ world. world ≡ record { held = T.held objects; limit = limit; templates = templates; processes = processes.items; waiting = [] }) }
+        ensures { IfOk result (λ world. world ≡ record { held = T.held objects; limit = limit; templates = templates; processes = processes.items; waiting = []; locks = [] }) }
     {
         let profiles = objects.profiles(alloc)?;
         Ok(World {
@@ -63,6 +66,7 @@ impl<T: TableRows + Drop> World<T> {
             templates,
             processes,
             waiting: Vec::new(alloc),
+            locks: LockTable::new(alloc),
         })
     }
 }

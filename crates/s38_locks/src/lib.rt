@@ -10,6 +10,7 @@ mod states;
 mod table;
 
 pub use fault::LockFault;
+pub use states::rank;
 pub use table::LockTable;
 
 /// What is sent between threads.

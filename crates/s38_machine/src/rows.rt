@@ -2,13 +2,15 @@
 ghost use Rattle.std.specs.Prelude.{◌≡◌, None, IfOk, OnOk, OnErr};
 ghost use Rattle.s38_rules.specs.Rows.{row};
 
-use s38_admin::{contexts, grants, profiles, programs, resolving, spaces};
+use s38_admin::{contexts, grants, profiles, resolving, spaces};
 use s38_base::{Exception, NoMemory, Special};
 use s38_code::{Family, Request, Val, family_of};
 use s38_data::queues;
 use s38_invoke::World;
+use s38_locking::locking;
 use s38_objects::Objects;
 use s38_operands::{Needs, computing_fails, computing_gives, computing_needs};
+use s38_programs::programs;
 use std::alloc::Global;
 
 /// What an instruction needs of its operands, in their order.
@@ -23,6 +25,7 @@ pub fn needs(world: &World<Objects>, process: u32, depth: u16, request: &Request
         Family::Profiles => profiles::needs(world, process, depth, request),
         Family::Grants => grants::needs(world, process, depth, request),
         Family::Programs => programs::needs(world, process, depth, request),
+        Family::Locks => locking::needs(world, process, depth, request),
         Family::Spaces => spaces::needs(world, process, depth, request),
         Family::Queues => queues::needs(world, process, depth, request),
         _ => Needs::none(),
@@ -30,7 +33,7 @@ pub fn needs(world: &World<Objects>, process: u32, depth: u16, request: &Request
 }
 
 /// The special authority that an acting user must have.
-#[tactic(auto, using(s38_rules::proofs::Laws::unspecial_contexts, s38_rules::proofs::Laws::unspecial_programs, s38_rules::proofs::Laws::unspecial_queues, s38_rules::proofs::Laws::unspecial_resolving, s38_rules::proofs::Laws::unspecial_spaces), unfolding(s38_rules::specs::Rows::row_in))]
+#[tactic(auto, using(s38_rules::proofs::Laws::unspecial_contexts, s38_rules::proofs::Laws::unspecial_locks, s38_rules::proofs::Laws::unspecial_programs, s38_rules::proofs::Laws::unspecial_queues, s38_rules::proofs::Laws::unspecial_resolving, s38_rules::proofs::Laws::unspecial_spaces), unfolding(s38_rules::specs::Rows::row_in))]
 pub fn special(world: &World<Objects>, process: u32, depth: u16, request: &Request) -> Special
     ensures { result.0 ≡ (row request.now.op).special world.now process depth request.now }
 {
@@ -58,6 +61,7 @@ pub fn conditions(
         Family::Profiles => profiles::conditions(world, process, depth, request),
         Family::Grants => grants::conditions(world, process, depth, request),
         Family::Programs => programs::conditions(world, process, depth, request),
+        Family::Locks => locking::conditions(world, process, depth, request),
         Family::Spaces => spaces::conditions(world, process, depth, request),
         Family::Queues => queues::conditions(world, process, depth, request),
         _ => None,
@@ -82,6 +86,7 @@ pub fn value(
         Family::Profiles => profiles::value(alloc, world, process, depth, request),
         Family::Grants => grants::value(alloc, world, process, depth, request),
         Family::Programs => programs::value(alloc, world, process, depth, request),
+        Family::Locks => locking::value(alloc, world, process, depth, request),
         Family::Spaces => spaces::value(alloc, world, process, depth, request),
         Family::Queues => queues::value(alloc, world, process, depth, request),
         _ => Ok(None),
@@ -106,6 +111,7 @@ pub fn apply(
         Family::Profiles => profiles::apply(alloc, world, process, depth, request),
         Family::Grants => grants::apply(alloc, world, process, depth, request),
         Family::Programs => programs::apply(alloc, world, process, depth, request),
+        Family::Locks => locking::apply(world, process, depth, request),
         Family::Spaces => spaces::apply(alloc, world, process, depth, request),
         Family::Queues => queues::apply(alloc, world, process, depth, request),
         _ => Ok(()),

@@ -28,7 +28,7 @@ pub use operands::{
 pub use queues::{QueueFacts, oldest, queue_facts};
 pub use reads::{bytes_at, piece_at, pointer_at, size_at, source_cells, target};
 pub use storage::{first_pointer, is_aligned, is_within};
-pub use values::fitted;
+pub use values::{count_image, fitted};
 
 /// What is sent between threads.
 fn sends<T: Send + Sync>() {}

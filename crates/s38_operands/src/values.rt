@@ -1,6 +1,6 @@
 //! Values for their receivers.
 ghost use Rattle.std.specs.Prelude.{◌≡◌, IfOk};
-ghost use Rattle.s38_rules.specs.Operands.{fitted};
+ghost use Rattle.s38_rules.specs.Operands.{count_image, fitted};
 
 use s38_base::{Bytes, NoMemory, Seq};
 use std::alloc::Global;
@@ -12,4 +12,12 @@ pub fn fitted(alloc: Global, len: u16, fill: u8, bytes: &[u8]) -> Result<Bytes, 
     let mut made = Vec::from_slice(alloc, bytes)?;
     made.resize(len as usize, fill)?;
     Ok(Seq::from_vec(made))
+}
+
+/// A count, of which the four low bytes are given.
+pub fn count_image(alloc: Global, count: usize) -> Result<Vec<u8>, NoMemory>
+    ensures { IfOk result (λ made. made.items ≡ count_image count) }
+{
+    let bytes = (count as u64).to_be_bytes();
+    Ok(Vec::from_slice(alloc, &bytes[4..])?)
 }

@@ -182,6 +182,14 @@ keeps_contexts Rename = record { kept = λ s p d r. same_kept p s.processes }
 keeps_contexts Matctx = record { kept = λ s p d r. same_kept p s.processes }
 keeps_contexts _ = record { kept = λ s p d r. same_kept p s.processes }
 
+keeps_locks : (op : Op) → KeepsProcesses (locks_row op)
+unfolding locks_row lock_changes unlock_changes xfrlock_changes
+keeps_locks Lock = record { kept = λ s p d r. same_kept p s.processes }
+keeps_locks Unlock = record { kept = λ s p d r. same_kept p s.processes }
+keeps_locks Xfrlock = record { kept = λ s p d r. same_kept p s.processes }
+keeps_locks Matobjlk = record { kept = λ s p d r. same_kept p s.processes }
+keeps_locks _ = record { kept = λ s p d r. same_kept p s.processes }
+
 keeps_profiles : (op : Op) → KeepsProcesses (profiles_row op)
 unfolding profiles_row crtup_changes
 keeps_profiles Crtup = record { kept = λ s p d r. same_kept p s.processes }
@@ -210,6 +218,7 @@ keeps_row families.Contexts op = keeps_contexts op
 keeps_row families.Profiles op = keeps_profiles op
 keeps_row families.Grants op = keeps_grants op
 keeps_row families.Programs op = keeps_programs op
+keeps_row families.Locks op = keeps_locks op
 keeps_row families.Spaces op = keeps_spaces op
 keeps_row families.Queues op = keeps_queues op
 keeps_row _ op = keeps_inert
@@ -238,6 +247,14 @@ unspecial_programs Callx s p d r = refl
 unspecial_programs Xctl s p d r = refl
 unspecial_programs Despg s p d r = refl
 unspecial_programs _ s p d r = refl
+
+pub unspecial_locks : (op : Op) (s : State) (p d : ℕ) (r : Request) → (locks_row op).special s p d r ≡ 0
+unfolding locks_row
+unspecial_locks Lock s p d r = refl
+unspecial_locks Unlock s p d r = refl
+unspecial_locks Xfrlock s p d r = refl
+unspecial_locks Matobjlk s p d r = refl
+unspecial_locks _ s p d r = refl
 
 pub unspecial_spaces : (op : Op) (s : State) (p d : ℕ) (r : Request) → (spaces_row op).special s p d r ≡ 0
 unfolding spaces_row

@@ -4,6 +4,7 @@ use Rattle.std.specs.Option.{unwrap_or}
 use Rattle.s38_base.specs.declared.id.Id.{Id}
 use Rattle.s38_base.specs.declared.id.ObjNum.{ObjNum}
 use Rattle.s38_base.specs.Limits.{machine_context}
+use Rattle.s38_locks.specs.Table.{released}
 use Rattle.s38_code.specs.declared.deck.Job.{Job}
 use Rattle.s38_code.specs.declared.event.Event.{Event}
 use Rattle.s38_code.specs.declared.event.Event.TheVariants.{Start, Act, Finish}
@@ -42,9 +43,10 @@ abbrev pub start_at : State → ℕ → Option ProcessEntry → State
 start_at s process None = s
 start_at s process (Some x) = set_process s process (record x { started = Some (started_as s.held x.job) })
 
+-- a process has ended, and holds no lock any more
 abbrev pub end_at : State → ℕ → Option ProcessEntry → State
 end_at s process None = s
-end_at s process (Some x) = set_process s process (record x { ended = true })
+end_at s process (Some x) = set_process (record s { locks = released process s.locks }) process (record x { ended = true })
 
 unfoldable pub effect_of : State → ℕ → Event → Done
 effect_of s process Start = record { state = start_at s process (process_entry s process); values = [] }

@@ -1,4 +1,5 @@
 pub mod Authority
+pub mod Blocking
 pub mod Cells
 pub mod Computing
 pub mod Contexts
@@ -13,6 +14,7 @@ pub mod Keeping
 pub mod Kept
 pub mod Legal
 pub mod Lending
+pub mod Locking
 pub mod Needs
 pub mod Opening
 pub mod Operands

@@ -1,5 +1,5 @@
 -- Pointers to objects: RSLVSP finds an object by its identification, SETSPFP names that of a pointer.
-use Rattle.std.specs.Prelude.{ℕ, ◌==◌, Bool, false, ◌&&◌, List, [], ◌∷◌, Option, Some, None, bit_or, if◌then◌else◌}
+use Rattle.std.specs.Prelude.{ℕ, ◌==◌, Bool, false, ◌&&◌, List, [], ◌∷◌, Option, Some, None, is_none, bit_or, if◌then◌else◌}
 use Rattle.std.specs.Option.{option_map}
 use Rattle.s38_base.specs.declared.exception.Exception.{Exception}
 use Rattle.s38_base.specs.declared.id.Id.{Id}
@@ -27,6 +27,7 @@ use Rattle.s38_rules.specs.declared.need.PointerKind.TheVariants as pointer_kind
 use Rattle.s38_rules.specs.declared.need.Sought.TheVariants.{Any, Of}
 use Rattle.s38_rules.specs.declared.object.Object.{Object}
 use Rattle.s38_rules.specs.Authority.{available, has_rights, missing}
+use Rattle.s38_rules.specs.Blocking.{blocked}
 use Rattle.s38_rules.specs.Held.{Held, found, kind_of, object}
 use Rattle.s38_rules.specs.Instruction.{Instruction, inert}
 use Rattle.s38_rules.specs.Needs.{need}
@@ -40,10 +41,11 @@ abbrev pub is_context_in : Option Object → Bool
 is_context_in None = false
 is_context_in (Some o) = same_kind (kind_of o.body) kinds.Context
 
--- the context is there and the acting users may read it
+-- the context is there, the acting users may read it, and no lock of another process keeps them from it
 abbrev pub may_search : State → ℕ → List ℕ → ℕ → Bool
 may_search s p users context =
-    is_context_in (object s.held context) && has_rights rights.retrieve (available s.held users context rights.no_rights)
+    is_context_in (object s.held context)
+    && (has_rights rights.retrieve (available s.held users context rights.no_rights) && is_none (blocked s.locks p context Read))
 
 abbrev pub first_place : ObjNum → Option Object → Option Located → Option Located
 first_place context None later = later

@@ -8,6 +8,7 @@ use Rattle.s38_rules.specs.Computing.{computing}
 use Rattle.s38_rules.specs.Contexts.{contexts_row}
 use Rattle.s38_rules.specs.Grants.{grants_row}
 use Rattle.s38_rules.specs.Instruction.{Instruction, inert}
+use Rattle.s38_rules.specs.Locking.{locks_row}
 use Rattle.s38_rules.specs.Profiles.{profiles_row}
 use Rattle.s38_rules.specs.Programs.{programs_row}
 use Rattle.s38_rules.specs.Queues.{queues_row}
@@ -21,6 +22,7 @@ row_in families.Contexts op = contexts_row op
 row_in families.Profiles op = profiles_row op
 row_in families.Grants op = grants_row op
 row_in families.Programs op = programs_row op
+row_in families.Locks op = locks_row op
 row_in families.Spaces op = spaces_row op
 row_in families.Queues op = queues_row op
 row_in _ op = inert

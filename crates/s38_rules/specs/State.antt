@@ -1,6 +1,7 @@
 -- The machine's state: its objects, the deck's templates, and its processes.
-use Rattle.std.specs.Prelude.{ℕ, ◌-◌, ◌==◌, Bool, false, ◌&&◌, not, List, Option, Some, None, slice_get, slice_set, nat_lt}
-use Rattle.std.specs.List.{list_any}
+use Rattle.std.specs.Prelude.{ℕ, ◌-◌, ◌==◌, Bool, false, ◌&&◌, not, filter, length, List, Option, Some, None, slice_get, slice_set, nat_lt}
+use Rattle.std.specs.List.{list_any, range_with_len}
+use Rattle.s38_locks.specs.Table.{Table}
 use Rattle.s38_code.specs.declared.made.CheckedTemplate.{CheckedTemplate}
 use Rattle.s38_rules.specs.declared.process.ProcessEntry.{ProcessEntry}
 use Rattle.s38_rules.specs.declared.process.Started.{Started}
@@ -16,6 +17,8 @@ pub record State : Type 0 where
   pub processes : List ProcessEntry
   -- which processes wait
   pub waiting : List ℕ
+  -- which processes hold which locks of which objects
+  pub locks : Table
 
 -- ---- processes
 
@@ -49,3 +52,14 @@ ready_in s process (Some x) = not x.ended && (not (is_early s.processes x.job.st
 
 abbrev pub ready : State → ℕ → Bool
 ready s process = ready_in s process (process_entry s process)
+
+-- the processes that are ready, in order of number
+abbrev pub ready_list : State → List ℕ
+ready_list s = filter (ready s) (range_with_len 1 (length s.processes))
+
+abbrev pub other_ready : State → ℕ → ℕ → Bool
+other_ready s process q = not (q == process) && ready s q
+
+-- no other process is ready: each other of the current stage waits or has ended
+abbrev pub is_last_ready : State → ℕ → Bool
+is_last_ready s process = not (list_any (other_ready s process) (range_with_len 1 (length s.processes)))

@@ -6,8 +6,11 @@ use Rattle.s38_base.specs.declared.exception.Exception.{Exception}
 use Rattle.s38_base.specs.declared.id.Id.{Id}
 use Rattle.s38_base.specs.declared.id.Kind.TheVariants as kinds
 use Rattle.s38_base.specs.declared.id.ObjNum.{ObjNum}
+use Rattle.s38_base.specs.declared.op.Op.{Op}
+use Rattle.s38_base.specs.declared.op.Op.TheVariants.{Lock, Deq}
 use Rattle.s38_base.specs.declared.pointer.Pointer.{Pointer}
 use Rattle.s38_base.specs.declared.pointer.Pointer.TheVariants as pointers
+use Rattle.s38_base.specs.declared.words.Category.{Category}
 use Rattle.s38_base.specs.Exceptions as exceptions
 use Rattle.s38_base.specs.Ids.{same_kind}
 use Rattle.s38_base.specs.Limits.{last_operand, machine_context}
@@ -17,6 +20,7 @@ use Rattle.s38_base.specs.Scalar.{is_pointer_attr, length_of, same_attr}
 use Rattle.s38_base.specs.Signals.{fails, first, plain}
 use Rattle.s38_memory.specs.declared.cell.Cell.{Cell}
 use Rattle.s38_memory.specs.Tagged.{is_aligned, is_within}
+use Rattle.s38_locks.specs.Table.{Table}
 use Rattle.s38_code.specs.declared.deck.Job.{Job}
 use Rattle.s38_code.specs.declared.event.Event.{Event}
 use Rattle.s38_code.specs.declared.event.Event.TheVariants.{Start, Act, Finish}
@@ -37,13 +41,14 @@ use Rattle.s38_rules.specs.declared.process.ProcessEntry.{ProcessEntry}
 use Rattle.s38_rules.specs.declared.verdict.Verdict.{Verdict}
 use Rattle.s38_rules.specs.declared.verdict.Verdict.TheVariants.{Permit, Wait, Refuse}
 use Rattle.s38_rules.specs.Authority.{available, is_governed, lacks_special, missing}
+use Rattle.s38_rules.specs.Blocking.{item_lock, use_rule}
 use Rattle.s38_rules.specs.Held.{Held, kind_of, number_found, object}
 use Rattle.s38_rules.specs.Instruction.{Instruction}
 use Rattle.s38_rules.specs.Needs.{first_of}
-use Rattle.s38_rules.specs.Operands.{pointer_at, target}
+use Rattle.s38_rules.specs.Operands.{pointer_at, target, word_at}
 use Rattle.s38_rules.specs.Parts.{space_of}
 use Rattle.s38_rules.specs.Rows.{row}
-use Rattle.s38_rules.specs.State.{State, is_early, process_entry, waits}
+use Rattle.s38_rules.specs.State.{State, is_early, is_last_ready, process_entry, waits}
 use Rattle.s38_rules.specs.Users.{acting}
 
 -- ---- address rules of an item in a space: its base is a pointer into a space, or to the very item; the space
@@ -170,11 +175,19 @@ rights_rule h users ops need =
 unfoldable pub rights_rules : State → ℕ → ℕ → List Operand → List Need → Option Exception
 rights_rules s p d ops wanted = first_of (rights_rule s.held (acting s p d) ops) wanted
 
--- ---- an instruction
+-- ---- locks: an operand in a space reads or changes the space, before what the instruction does to an object
 
--- no instruction locks an object yet, so nothing is blocked
-abbrev pub lock_rules : State → ℕ → List Operand → List Need → Option Exception
-lock_rules s p ops wanted = None
+abbrev pub category_rule : Table → ℕ → ℕ → ℕ → Option Category → Option Exception
+category_rule locks p operand n None = None
+category_rule locks p operand n (Some category) = use_rule locks p operand n category
+
+unfoldable pub lock_rule : State → ℕ → List Operand → Need → Option Exception
+lock_rule s p ops need = category_rule s.locks p need.place (subject s.held ops need.place need.named) need.category
+
+unfoldable pub lock_rules : State → ℕ → Request → List Need → Option Exception
+lock_rules s p r wanted = by_operand (item_lock s.locks p r.op) (lock_rule s p r.operands) wanted 1 r.operands
+
+-- ---- an instruction
 
 -- the special authority comes behind the addresses, and before rights and ownership
 abbrev pub refused_with : Instruction → State → ℕ → ℕ → Request → List Need → Option Exception
@@ -182,7 +195,7 @@ refused_with i s p d r wanted =
     first (address_rules s.held r.operands wanted)
     (first (lacks_special s.held (acting s p d) (i.special s p d r))
     (first (rights_rules s p d r.operands wanted)
-    (first (lock_rules s p r.operands wanted)
+    (first (lock_rules s p r wanted)
     (i.fails s p d r))))
 
 -- the first rule that an instruction fails
@@ -191,10 +204,32 @@ refused_by i s p d r = refused_with i s p d r (i.needs s p d r)
 
 -- ---- events
 
--- a failure of a request; one that may be waited out will be one more case
-abbrev pub of_failure : State → ℕ → Event → Option Exception → Verdict
-of_failure s p event None = Permit
-of_failure s p event (Some x) = Refuse x
+abbrev pub of_failure : Option Exception → Verdict
+of_failure None = Permit
+of_failure (Some x) = Refuse x
+
+-- WAIT stands there
+abbrev pub says_wait : List Operand → ℕ → Bool
+says_wait ops k = word_at ops k == 1
+
+-- a lock that is not granted, and a message that is not there, may be waited for
+unfoldable pub may_wait : Op → List Operand → ℕ → Bool
+may_wait Lock ops id = (id == exceptions.lock_not_grantable) && says_wait ops 3
+may_wait Deq ops id = (id == exceptions.no_message) && says_wait ops 5
+may_wait op ops id = false
+
+-- the last process that is ready doesn't wait: nobody could wake it
+abbrev pub unless_last : Bool → Verdict
+unless_last true = Refuse (plain exceptions.all_wait 0)
+unless_last false = Wait
+
+abbrev pub of_exception : State → ℕ → Request → Exception → Verdict
+of_exception s p r x = if may_wait r.op r.operands x.id then unless_last (is_last_ready s p) else Refuse x
+
+-- what becomes of a request that fails so
+unfoldable pub of_request : State → ℕ → Request → Option Exception → Verdict
+of_request s p r None = Permit
+of_request s p r (Some x) = of_exception s p r x
 
 abbrev pub profile_id : List ℕ → Id
 profile_id name = record { kind = kinds.Profile; sub = 0; name = name }
@@ -219,12 +254,12 @@ start_failure h job = first (absent (number_found h machine_context (profile_id 
 
 abbrev pub start_verdict : State → ℕ → Option ProcessEntry → Verdict
 start_verdict s p None = Permit
-start_verdict s p (Some x) = if is_early s.processes x.job.stage then Wait else of_failure s p Start (start_failure s.held x.job)
+start_verdict s p (Some x) = if is_early s.processes x.job.stage then Wait else of_failure (start_failure s.held x.job)
 
--- a start waits for the earlier stages; an instruction is refused by the first rule that fails; an end never
+-- a start waits for the earlier stages; an instruction is refused by the first rule that fails, or waits; an end never
 unfoldable pub awake_verdict : State → ℕ → Event → Verdict
 awake_verdict s p Start = start_verdict s p (process_entry s p)
-awake_verdict s p (Act depth request) = of_failure s p (Act depth request) (refused_by (row request.op) s p depth request)
+awake_verdict s p (Act depth request) = of_request s p request (refused_by (row request.op) s p depth request)
 awake_verdict s p (Finish cause) = Permit
 
 -- a process that waits goes on waiting

@@ -1,7 +1,7 @@
 use Rattle.std.proofs.Common.{rules, ◌∙◌, ap, sym}
 use Rattle.std.specs.Prelude.{is_none}
-use Rattle.s38_admin.proofs.RoomLaws.{no_room}
-use Rattle.s38_admin.proofs.templates.are_longer.Goals as goal
+use Rattle.s38_programs.proofs.RoomLaws.{no_room}
+use Rattle.s38_programs.proofs.templates.are_longer.Goals as goal
 
 pub returns : goal.returns
 returns c =

@@ -1,0 +1,51 @@
+//! The job to which a lock is handed on.
+ghost use Rattle.std.specs.Prelude.{◌≡◌};
+ghost use Rattle.std.specs.Option.{option_copied};
+ghost use Rattle.s38_rules.specs.Locking.{is_going_in, may_take, process_named, taker};
+
+use s38_code::Operand;
+use s38_invoke::World;
+use s38_objects::Objects;
+use s38_operands::place;
+use s38_rules::ProcessEntry;
+
+/// The process of the job of a name, 0 for none.
+fn process_named(entries: &[ProcessEntry], operand: Option<&Operand>) -> u32
+    ensures { result ≡ process_named entries.now (option_copied operand.entry) }
+{
+    match operand {
+        Some(Operand::Text(name)) => {
+            match entries
+                .iter()
+                .position(|x| x.job.name.as_bytes() == name.as_bytes())
+            {
+                None => 0,
+                Some(at) => (at + 1).min(u32::MAX as usize) as u32,
+            }
+        }
+        _ => 0,
+    }
+}
+
+/// The process of the job that operand 3 names.
+pub fn taker(world: &World<Objects>, operands: &[Operand]) -> u32
+    ensures { result ≡ taker world.now operands.now }
+{
+    process_named(world.processes.as_slice(), place(operands, 3))
+}
+
+fn is_going_in(entry: Option<&ProcessEntry>) -> bool
+    ensures { result ≡ is_going_in (option_copied entry.entry) }
+{
+    match entry {
+        None => false,
+        Some(x) => x.started.is_some() && !x.ended,
+    }
+}
+
+/// Whether this is another process, which has started and has not ended.
+pub fn may_take(world: &World<Objects>, process: u32, taker: u32) -> bool
+    ensures { result ≡ may_take world.now process taker }
+{
+    taker != process && taker != 0 && is_going_in(world.process_entry(taker))
+}
