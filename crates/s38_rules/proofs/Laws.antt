@@ -5,7 +5,7 @@ use Rattle.std.proofs.lemmas.List.Elements.{All-nil, All-push}
 use Rattle.std.specs.Prelude.{Option, Some, None, slice_get, slice_set}
 use Rattle.s38_base.specs.declared.id.ObjNum.{ObjNum}
 use Rattle.s38_base.specs.declared.op.Op.{Op}
-use Rattle.s38_base.specs.declared.op.Op.TheVariants.{Crtctx, Modadr, Rename, Matctx, Desctx, Crtup, Modup, Desup, Grant, Retract, Xfro, Testau, Matau, Matauobj, Rslvsp, Setsppfp, Setspfp, Setdp, Cpybwp, Crtpg, Callx, Xctl, Crtq, Crts, Mods, Despg, Desq, Dess, Enq, Deq}
+use Rattle.s38_base.specs.declared.op.Op.TheVariants.{Crtctx, Modadr, Rename, Matctx, Desctx, Crtup, Modup, Desup, Grant, Retract, Xfro, Testau, Matau, Matauobj, Rslvsp, Setsppfp, Setspfp, Setdp, Cpybwp, Crtpg, Callx, Xctl, Lock, Unlock, Xfrlock, Matobjlk, Crtq, Crts, Mods, Despg, Desq, Dess, Enq, Deq}
 use Rattle.s38_code.specs.declared.entry.Entry.{Entry}
 use Rattle.s38_code.specs.declared.event.Event.{Event}
 use Rattle.s38_code.specs.declared.event.Event.TheVariants.{Start, Act, Finish}
@@ -26,6 +26,7 @@ use Rattle.s38_rules.specs.declared.verdict.Verdict.TheVariants.{Permit, Wait, R
 use Rattle.s38_rules.specs.Computing.{receiver_at, shift_at}
 use Rattle.s38_rules.specs.Contexts.{contexts_row, crtctx_changes}
 use Rattle.s38_rules.specs.Grants.{grants_row}
+use Rattle.s38_rules.specs.Locking.{lock_changes, locks_row, unlock_changes, xfrlock_changes}
 use Rattle.s38_rules.specs.Profiles.{crtup_changes, profiles_row}
 use Rattle.s38_rules.specs.Effect.{effect, effect_of, start_at, end_at}
 use Rattle.s38_rules.specs.Instruction.{AreKept, Instruction, KeepsProcesses, inert, unstacked}

@@ -1,12 +1,11 @@
 -- What is kept of users and of their rows, after one of them was set.
-use Rattle.std.proofs.Common.{◌≡◌, ℕ, ◌≤◌, ◌==◌, Bool, true, false, cond, List, refl, sym, ◌∙◌, ap, subst, arith}
+use Rattle.std.proofs.Common.{◌≡◌, ℕ, ◌≤◌, ◌==◌, true, false, cond, List, refl, sym, ◌∙◌, ap, subst, arith}
 use Rattle.std.proofs.lemmas.Bool.Decides.{nat_tests}
 use Rattle.std.specs.Prelude.{◌&&◌, Option, Some, None, IsSome}
 use Rattle.s38_base.specs.declared.rights.Rights.{Rights}
-use Rattle.s38_base.specs.declared.rights.Special.{Special}
 use Rattle.s38_profiles.specs.declared.profile.Profile.{Profile}
 use Rattle.s38_profiles.specs.Rows.{Rows, SetsRow, row_at, row_key, row_with}
-use Rattle.s38_profiles.specs.Users.{SetsUser, Users, charge_in as charge_of, charged, entered, user_at}
+use Rattle.s38_profiles.specs.Users.{SetsUser, Users, charge_in as charge_of, charged, user_at}
 use Rattle.s38_rules.specs.declared.object.Body.{Body}
 use Rattle.s38_rules.specs.declared.object.Body.TheVariants as bodies
 use Rattle.s38_rules.specs.declared.object.Object.{Object}

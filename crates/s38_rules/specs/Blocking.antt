@@ -1,5 +1,5 @@
 -- What the locks of other processes keep a process from.
-use Rattle.std.specs.Prelude.{ℕ, ◌-◌, List, Option, Some, None, slice_get}
+use Rattle.std.specs.Prelude.{ℕ, ◌-◌, Option, Some, None, slice_get}
 use Rattle.s38_base.specs.declared.exception.Exception.{Exception}
 use Rattle.s38_base.specs.declared.exception.Rule.TheVariants.{Held}
 use Rattle.s38_base.specs.declared.op.Op.{Op}

@@ -1,5 +1,5 @@
 -- Locks: granted, given up, handed on to another job, listed.
-use Rattle.std.specs.Prelude.{ℕ, ◌+◌, ◌-◌, ◌==◌, Bool, false, not, ◌&&◌, List, [], ◌∷◌, ◌++◌, length, min, position, Option, Some, None, is_some, slice_get, if◌then◌else◌}
+use Rattle.std.specs.Prelude.{ℕ, ◌+◌, ◌==◌, Bool, false, not, ◌&&◌, List, [], ◌∷◌, ◌++◌, length, min, position, Option, Some, None, is_some, if◌then◌else◌}
 use Rattle.std.specs.List.{flat_map}
 use Rattle.std.specs.Str.{bytes_eq}
 use Rattle.s38_base.specs.declared.exception.Exception.{Exception}
@@ -16,7 +16,7 @@ use Rattle.s38_locks.specs.declared.fault.LockFault.TheVariants as faults
 use Rattle.s38_locks.specs.Locks as locks
 use Rattle.s38_locks.specs.Refusals.{lock_refusal, transfer_refusal, unlock_refusal}
 use Rattle.s38_locks.specs.States.{rank}
-use Rattle.s38_locks.specs.Table.{Table, locks_of, with_locks}
+use Rattle.s38_locks.specs.Table.{locks_of, with_locks}
 use Rattle.s38_code.specs.declared.operand.Operand.{Operand}
 use Rattle.s38_code.specs.declared.operand.Operand.TheVariants as operands
 use Rattle.s38_code.specs.declared.reply.Val.{Val}
