@@ -1,14 +1,10 @@
 -- The instructions that this machine has: creation refuses the others.
 use Rattle.std.specs.Prelude.{Bool, true, false}
 use Rattle.s38_base.specs.declared.op.Op.{Op}
-use Rattle.s38_base.specs.declared.op.Op.TheVariants.{Lock, Unlock, Xfrlock, Matobjlk, Crtinx, Insinxen, Fndinxen, Rmvinxen, Crtds, Crtcr, Setcr, Insdsen, Retdsen, Updsen, Deldsen, Crtjs, Crtjp, Jrnlobj, Retjent, Crtcb, Commit, Decommit, Ensobj, Desinx, Desds, Descr, Desjs, Desjp, Descb}
+use Rattle.s38_base.specs.declared.op.Op.TheVariants.{Crtinx, Insinxen, Fndinxen, Rmvinxen, Crtds, Crtcr, Setcr, Insdsen, Retdsen, Updsen, Deldsen, Crtjs, Crtjp, Jrnlobj, Retjent, Crtcb, Commit, Decommit, Ensobj, Desinx, Desds, Descr, Desjs, Desjp, Descb}
 
 -- these are not built yet
 unfoldable pub is_built : Op → Bool
-is_built Lock = false
-is_built Unlock = false
-is_built Xfrlock = false
-is_built Matobjlk = false
 is_built Crtinx = false
 is_built Insinxen = false
 is_built Fndinxen = false

@@ -34,9 +34,9 @@ instruction_from op round parsed = record { op = op; round = round; args = map a
 
 -- ---- words that are not built yet
 
--- the next message, whatever its key, and without waiting
+-- the next message, whatever its key
 abbrev pub takes_any : List Arg → Bool
-takes_any args = (word_at args 2 == relation_word Any) && (nothing_at args 3 && (word_at args 4 == 0))
+takes_any args = (word_at args 2 == relation_word Any) && nothing_at args 3
 
 -- in order of arrival, without keys
 abbrev pub is_plain_queue : List Arg → Bool

@@ -11,10 +11,6 @@ pub fn is_built(op: Op) -> bool
     ensures { result ≡ is_built op }
 {
     match op {
-        Op::Lock => false,
-        Op::Unlock => false,
-        Op::Xfrlock => false,
-        Op::Matobjlk => false,
         Op::Crtinx => false,
         Op::Insinxen => false,
         Op::Fndinxen => false,

@@ -10,11 +10,11 @@ use s38_code::{Arg, Instruction, Row};
 /// The most digits of a computation.
 const MOST_DIGITS: u8 = 38;
 
-/// The next message is taken, whatever its key, and without waiting.
+/// The next message is taken, whatever its key.
 fn takes_any(args: &[Arg]) -> bool
     ensures { result ≡ takes_any args.now }
 {
-    word_at(args, 2) == Relation::Any.word() && nothing_at(args, 3) && word_at(args, 4) == 0
+    word_at(args, 2) == Relation::Any.word() && nothing_at(args, 3)
 }
 
 /// The queue keeps its messages in the order of their arrival, without keys.

@@ -1,9 +1,10 @@
 //! The address rules: what a pointer has to be, and where an item in a space has to lie.
-ghost use Rattle.std.specs.Prelude.{◌≡◌, ◌+◌, ◌<◌, ◌^◌, [], length};
+ghost use Rattle.std.specs.Prelude.{◌≡◌, []};
 ghost use Rattle.std.specs.Option.{option_copied, unwrap_or};
-ghost use Rattle.s38_rules.specs.Verdict.{address_rule, address_rules, base_rule, by_operand, cells_rule, is_base, is_looked_at, is_pointer, is_sought, item_rule, named_rule, needs_rule, object_rule, place_rule, pointer_rule, space_rule};
+ghost use Rattle.s38_rules.specs.Verdict.{address_rule, address_rules, base_rule, cells_rule, is_base, is_looked_at, is_pointer, is_sought, item_rule, named_rule, object_rule, place_rule, pointer_rule, space_rule};
 ghost use Rattle.s38_rules.specs.Parts.{space_part};
 
+use crate::by_operand::{OperandRules, by_operand};
 use s38_base::exceptions::{
     BOUNDARY_ALIGNMENT, OBJECT_DESTROYED, OBJECT_TYPE_INVALID, POINTER_MISSING,
     POINTER_TYPE_INVALID, SPACE_ADDRESSING,
@@ -160,46 +161,26 @@ fn address_rule(objects: &Objects, operands: &[Operand], need: &Need) -> Option<
     }
 }
 
-/// The pointers of the needs at one place.
-fn needs_rule(objects: &Objects, operands: &[Operand], needs: &[Need], k: u8) -> Option<Exception>
-    ensures { result ≡ needs_rule (address_rule objects.now operands.now) needs.now k }
-{
-    match needs {
-        [] => None,
-        [need, more @ ..] => {
-            if need.place != k {
-                return needs_rule(objects, operands, more, k);
-            }
-            match address_rule(objects, operands, need) {
-                None => needs_rule(objects, operands, more, k),
-                Some(failure) => Some(failure),
-            }
-        }
-    }
+/// The address rules over the objects and the operands of a request.
+#[derive(Clone, Copy)]
+struct Addresses<'a> {
+    objects: &'a Objects,
+    operands: &'a [Operand],
 }
 
-fn by_operand(
-    objects: &Objects,
-    operands: &[Operand],
-    needs: &[Need],
-    k: u64,
-    rest: &[Operand],
-) -> Option<Exception>
-    requires { k + length rest.now < 2 ^ 64 }
-    ensures { result ≡ by_operand (item_rule objects.now) (address_rule objects.now operands.now) needs.now k rest.now }
-{
-    match rest {
-        [] => needs_rule(objects, operands, needs, 0),
-        [operand, more @ ..] => {
-            let place = k.min(255) as u8;
-            if let Some(failure) = item_rule(objects, place, operand) {
-                return Some(failure);
-            }
-            if let Some(failure) = needs_rule(objects, operands, needs, place) {
-                return Some(failure);
-            }
-            by_operand(objects, operands, needs, k + 1, more)
-        }
+impl<'a> OperandRules for Addresses<'a> {
+    ghost use Rattle.s38_rules.specs.Verdict.{address_rule, item_rule};
+
+    ghost of_item = { λ a. item_rule a.objects.now };
+
+    ghost of_need = { λ a. address_rule a.objects.now a.operands.now };
+
+    fn item(&self, k: u8, operand: &Operand) -> Option<Exception> {
+        item_rule(self.objects, k, operand)
+    }
+
+    fn need(&self, need: &Need) -> Option<Exception> {
+        address_rule(self.objects, self.operands, need)
     }
 }
 
@@ -209,5 +190,5 @@ fn by_operand(
 pub fn address_rules(objects: &Objects, operands: &[Operand], needs: &[Need]) -> Option<Exception>
     ensures { result ≡ address_rules objects.now operands.now needs.now }
 {
-    by_operand(objects, operands, needs, 1, operands)
+    by_operand(&Addresses { objects, operands }, needs, 1, operands)
 }

@@ -2,6 +2,8 @@
 #![tactic(auto)]
 
 mod addresses;
+mod blocking;
+mod by_operand;
 mod deliveries;
 mod effects;
 mod log;

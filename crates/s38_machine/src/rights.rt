@@ -13,7 +13,7 @@ use s38_operands::{fails, pointer_at, target};
 use s38_rules::{Claim, Named, Need};
 
 /// The object that a need speaks of.
-fn subject(objects: &Objects, operands: &[Operand], need: &Need) -> ObjNum
+pub fn subject(objects: &Objects, operands: &[Operand], need: &Need) -> ObjNum
     ensures { result.0 ≡ subject objects.now operands.now need.now.place need.now.named }
 {
     match need.named {

@@ -5,16 +5,19 @@ ghost use Rattle.s38_base.specs.Signals.{first};
 ghost use Rattle.s38_rules.specs.Authority.{lacks_special};
 ghost use Rattle.s38_rules.specs.Rows.{row};
 ghost use Rattle.s38_rules.specs.Users.{acting};
-ghost use Rattle.s38_rules.specs.Verdict.{awake_verdict, of_failure, refused_by, rights_rules, start_verdict, verdict_of};
+ghost use Rattle.s38_rules.specs.Verdict.{awake_verdict, may_wait, of_failure, of_request, refused_by, rights_rules, says_wait, start_verdict, unless_last, verdict_of};
 
 use crate::addresses::address_rules;
+use crate::blocking::lock_rules;
 use crate::rights::first_unmet;
 use crate::rows;
 use s38_authority::lacks_special;
-use s38_base::Exception;
-use s38_code::{Event, Request};
+use s38_base::exceptions::{ALL_WAIT, LOCK_NOT_GRANTABLE, NO_MESSAGE};
+use s38_base::{Exception, Op};
+use s38_code::{Event, Operand, Request};
 use s38_invoke::{World, start_failure};
 use s38_objects::Objects;
+use s38_operands::word_at;
 use s38_rules::{Need, ProcessEntry, Verdict};
 
 /// The special authority, and then the authority over each object, that an instruction needs of the acting users.
@@ -38,7 +41,7 @@ fn authority_rules(
 }
 
 /// The first rule that an instruction fails: address rules, then a special authority, then authority over objects,
-/// then its conditions and limits.
+/// then locks, then its conditions and limits.
 #[tactic(auto, unfolding(s38_rules::specs::Verdict::refused_by))]
 fn refused_by(
     world: &World<Objects>,
@@ -56,23 +59,70 @@ fn refused_by(
     if let Some(failure) = authority_rules(world, process, depth, request, needs.as_slice()) {
         return Some(failure);
     }
+    if let Some(failure) = lock_rules(world, process, request, needs.as_slice()) {
+        return Some(failure);
+    }
     rows::conditions(world, process, depth, request)
 }
 
-fn of_failure(
-    world: &World<Objects>,
-    process: u32,
-    event: &Event,
-    failure: Option<Exception>,
-) -> Verdict
-    ensures { result ≡ of_failure world.now process event.now failure }
+fn of_failure(failure: Option<Exception>) -> Verdict
+    ensures { result ≡ of_failure failure }
 {
-    let _ = world;
-    let _ = process;
-    let _ = event;
     match failure {
         None => Verdict::Permit,
         Some(exception) => Verdict::Refuse(exception),
+    }
+}
+
+/// WAIT stands there.
+fn says_wait(operands: &[Operand], k: usize) -> bool
+    ensures { result ≡ says_wait operands.now k }
+{
+    word_at(operands, k) == 1
+}
+
+/// A lock that is not granted, and a message that is not there, may be waited for.
+#[tactic(auto, unfolding(s38_rules::specs::Verdict::may_wait))]
+fn may_wait(op: Op, operands: &[Operand], id: u16) -> bool
+    ensures { result ≡ may_wait op operands.now id }
+{
+    match op {
+        Op::Lock => id == LOCK_NOT_GRANTABLE && says_wait(operands, 3),
+        Op::Deq => id == NO_MESSAGE && says_wait(operands, 5),
+        _ => false,
+    }
+}
+
+/// The last process that is ready doesn't wait: nobody could wake it.
+fn unless_last(is_last: bool) -> Verdict
+    ensures { result ≡ unless_last is_last }
+{
+    if is_last {
+        Verdict::Refuse(Exception::plain(ALL_WAIT, 0))
+    } else {
+        Verdict::Wait
+    }
+}
+
+/// What becomes of a request that fails so.
+#[tactic(auto, unfolding(s38_rules::specs::Verdict::of_request))]
+fn of_request(
+    world: &World<Objects>,
+    process: u32,
+    request: &Request,
+    failure: Option<Exception>,
+) -> Verdict
+    ensures { result ≡ of_request world.now process request.now failure }
+{
+    match failure {
+        None => Verdict::Permit,
+        Some(exception) => {
+            if may_wait(request.op, request.operands.as_slice(), exception.id) {
+                unless_last(world.is_last_ready(process))
+            } else {
+                Verdict::Refuse(exception)
+            }
+        }
     }
 }
 
@@ -85,14 +135,13 @@ fn start_verdict(world: &World<Objects>, process: u32, entry: Option<&ProcessEnt
             if world.is_early(x.job.stage) {
                 return Verdict::Wait;
             }
-            let failure = start_failure(&world.objects, &x.job);
-            of_failure(world, process, &Event::Start, failure)
+            of_failure(start_failure(&world.objects, &x.job))
         }
     }
 }
 
 /// What becomes of an event of a process that doesn't wait: a start waits for the earlier stages; an instruction is
-/// refused by the first rule that fails; an end never.
+/// refused by the first rule that fails, or waits; an end never.
 #[tactic(auto, unfolding(s38_rules::specs::Verdict::awake_verdict))]
 pub fn awake_verdict(world: &World<Objects>, process: u32, event: &Event) -> Verdict
     ensures { result ≡ awake_verdict world.now process event.now }
@@ -101,7 +150,7 @@ pub fn awake_verdict(world: &World<Objects>, process: u32, event: &Event) -> Ver
         Event::Start => start_verdict(world, process, world.process_entry(process)),
         Event::Act { depth, request } => {
             let failure = refused_by(world, process, *depth, request);
-            of_failure(world, process, event, failure)
+            of_request(world, process, request, failure)
         }
         Event::Finish { .. } => Verdict::Permit,
     }
