@@ -1,38 +1,28 @@
 -- Of what the needs of each instruction speak: one that grants, or gives away, speaks of the object of its first
 -- operand, which is there.
-use Rattle.std.proofs.Common.{◌≡◌, ℕ, true, false, cond, List, [], ◌++◌, refl}
+use Rattle.std.proofs.Common.{◌++◌, ◌≡◌, List, [], cond, false, refl, true, ℕ}
 use Rattle.std.proofs.lemmas.List.Elements.{All-append, All-cons, All-nil}
-use Rattle.std.specs.Prelude.{All, Option, Some, None}
-use Rattle.s38_base.specs.declared.id.Kind.{Kind}
-use Rattle.s38_base.specs.declared.id.Kind.TheVariants as kinds
-use Rattle.s38_base.specs.declared.op.Op.{Op}
-use Rattle.s38_base.specs.declared.op.Op.TheVariants.{Crtctx, Modadr, Rename, Matctx, Desctx, Crtup, Modup, Desup, Grant, Retract, Xfro, Testau, Matau, Matauobj, Rslvsp, Setsppfp, Setspfp, Setdp, Crtpg, Callx, Xctl, Crtq, Crts, Mods, Despg, Desq, Dess, Enq, Deq}
-use Rattle.s38_base.specs.declared.words.Category.{Category}
-use Rattle.s38_base.specs.declared.words.Category.TheVariants.{Change, Read}
+use Rattle.std.specs.Prelude.{All, None, Option, Some}
 use Rattle.s38_base.specs.Limits.{machine_context}
 use Rattle.s38_base.specs.RightNames as rights
+use Rattle.s38_base.specs.declared.id.Kind.TheVariants as kinds
+use Rattle.s38_base.specs.declared.id.Kind.{Kind}
+use Rattle.s38_base.specs.declared.op.Op.TheVariants.{Callx, Crtctx, Crtpg, Crtq, Crts, Crtup, Deq, Desctx, Despg, Desq, Dess, Desup, Enq, Grant, Matau, Matauobj, Matctx, Modadr, Mods, Modup, Rename, Retract, Rslvsp, Setdp, Setspfp, Setsppfp, Testau, Xctl, Xfro}
+use Rattle.s38_base.specs.declared.op.Op.{Op}
+use Rattle.s38_base.specs.declared.words.Category.TheVariants.{Change, Read}
+use Rattle.s38_base.specs.declared.words.Category.{Category}
 use Rattle.s38_code.specs.declared.event.Request.{Request}
-use Rattle.s38_code.specs.declared.family.Family.{Family}
 use Rattle.s38_code.specs.declared.family.Family.TheVariants as families
+use Rattle.s38_code.specs.declared.family.Family.{Family}
 use Rattle.s38_code.specs.declared.operand.Operand.{Operand}
 use Rattle.s38_compute.specs.Computed.{moves_pointer}
-use Rattle.s38_rules.specs.declared.need.Claim.{Claim}
-use Rattle.s38_rules.specs.declared.need.Claim.TheVariants.{Available, Granting, Ownership}
-use Rattle.s38_rules.specs.declared.need.Located.{Located}
-use Rattle.s38_rules.specs.declared.need.Named.{Named}
-use Rattle.s38_rules.specs.declared.need.Named.TheVariants.{Written, Implied}
-use Rattle.s38_rules.specs.declared.need.Need.{Need}
-use Rattle.s38_rules.specs.declared.need.PointerKind.{PointerKind}
-use Rattle.s38_rules.specs.declared.need.PointerKind.TheVariants as pointer_kinds
-use Rattle.s38_rules.specs.declared.need.Sought.{Sought}
-use Rattle.s38_rules.specs.declared.need.Sought.TheVariants.{Any, Of}
 use Rattle.s38_rules.specs.Computing.{computing_needs, offset_needs}
 use Rattle.s38_rules.specs.Contexts.{contexts_row, matctx_needs, modadr_needs, new_address, own_context, rename_needs}
 use Rattle.s38_rules.specs.Creation.{creation_needs, destruction_needs, machine_needs}
 use Rattle.s38_rules.specs.Grants.{grant_needs, grants_row, matau_needs, matauobj_needs, testau_needs, user_needs, xfro_needs}
 use Rattle.s38_rules.specs.Held.{Held, context_in, is_there, object}
 use Rattle.s38_rules.specs.Needs.{governed, need, on_implied, on_object}
-use Rattle.s38_rules.specs.Operands.{is_given, is_list, is_machine, rights_at, target}
+use Rattle.s38_rules.specs.Operands.{is_given, is_list, is_machine, place, rights_at, target}
 use Rattle.s38_rules.specs.Profiles.{modup_needs, profiles_row}
 use Rattle.s38_rules.specs.Programs.{call_needs, programs_row}
 use Rattle.s38_rules.specs.Queues.{deq_needs, enq_needs, queues_row}
@@ -40,6 +30,16 @@ use Rattle.s38_rules.specs.Resolving.{context_read, listed_need, resolved, resol
 use Rattle.s38_rules.specs.Rows.{row_in}
 use Rattle.s38_rules.specs.Spaces.{mods_needs, setdp_needs, setsppfp_needs, spaces_row}
 use Rattle.s38_rules.specs.State.{State}
+use Rattle.s38_rules.specs.declared.need.Claim.TheVariants.{Available, Granting, Ownership}
+use Rattle.s38_rules.specs.declared.need.Claim.{Claim}
+use Rattle.s38_rules.specs.declared.need.Located.{Located}
+use Rattle.s38_rules.specs.declared.need.Named.TheVariants.{Implied, Written}
+use Rattle.s38_rules.specs.declared.need.Named.{Named}
+use Rattle.s38_rules.specs.declared.need.Need.{Need}
+use Rattle.s38_rules.specs.declared.need.PointerKind.TheVariants as pointer_kinds
+use Rattle.s38_rules.specs.declared.need.PointerKind.{PointerKind}
+use Rattle.s38_rules.specs.declared.need.Sought.TheVariants.{Any, Of}
+use Rattle.s38_rules.specs.declared.need.Sought.{Sought}
 
 -- a need of the first operand's object, whatever its kind
 pub record IsOfFirst (need : Need) : Type 0 where
