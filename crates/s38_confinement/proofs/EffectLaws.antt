@@ -15,42 +15,35 @@ use Rattle.s38_base.specs.Signals.{fails}
 use Rattle.s38_base.specs.declared.id.Id.{Id}
 use Rattle.s38_base.specs.declared.id.Kind.TheVariants as kinds
 use Rattle.s38_base.specs.declared.id.ObjNum.{ObjNum}
-use Rattle.s38_base.specs.declared.op.Op.TheVariants.{Callx, Cpybwp, Crtctx, Crtpg, Crtq, Crts, Crtup, Deq, Desctx, Despg, Desq, Dess, Desup, Enq, Grant, Modadr, Mods, Modup, Rename, Retract, Rslvsp, Setdp, Setspfp, Setsppfp, Xctl, Xfro}
+use Rattle.s38_base.specs.declared.op.Op.TheVariants.{Crtctx, Crtpg, Crtq, Crts, Crtup, Desup, Grant, Modup, Retract, Rslvsp, Setdp, Setspfp, Setsppfp, Xfro}
 use Rattle.s38_base.specs.declared.op.Op.{Op}
 use Rattle.s38_base.specs.declared.pointer.Pointer.TheVariants as pointers
 use Rattle.s38_base.specs.declared.pointer.Pointer.{Pointer}
 use Rattle.s38_code.specs.Operations.{family_of}
 use Rattle.s38_code.specs.declared.event.Request.{Request}
-use Rattle.s38_code.specs.declared.family.Family.TheVariants as families
-use Rattle.s38_code.specs.declared.family.Family.{Family}
 use Rattle.s38_code.specs.declared.operand.Operand.{Operand}
 use Rattle.s38_code.specs.declared.program.Program.{Program}
-use Rattle.s38_code.specs.declared.reply.Val.TheVariants as vals
-use Rattle.s38_memory.specs.declared.cell.Cell.{Cell}
 use Rattle.s38_rules.proofs.RowLaws.{row_read, rows_kept}
 use Rattle.s38_rules.proofs.RuleLaws.{fails_none, first_none, not_false}
 use Rattle.s38_rules.specs.Authority.{available, has_special, is_governed, is_special, lacks_special, missing}
-use Rattle.s38_rules.specs.Cells.{first_pointer}
-use Rattle.s38_rules.specs.Computing.{computing, computing_gives, of_operands, receiver_at, shift_at}
-use Rattle.s38_rules.specs.Contexts.{contexts_row, crtctx_changes, matctx_gives, modadr_changes, rename_changes}
+use Rattle.s38_rules.specs.Computing.{receiver_at, shift_at}
+use Rattle.s38_rules.specs.Contexts.{contexts_row, crtctx_changes}
 use Rattle.s38_rules.specs.Creation.{creation_gives, new_pointer}
 use Rattle.s38_rules.specs.Effect.{effect}
-use Rattle.s38_rules.specs.Grants.{grant, grant_changes, grant_needs, grants_row, matau_gives, matauobj_gives, retract_changes, rights_of, testau_gives, user_at, user_needs, with_rights, xfro, xfro_changes, xfro_needs}
+use Rattle.s38_rules.specs.Grants.{grant, grant_changes, grant_needs, grants_row, retract_changes, rights_of, user_at, user_needs, with_rights, xfro, xfro_changes, xfro_needs}
 use Rattle.s38_rules.specs.Held.{Held, object}
 use Rattle.s38_rules.specs.Instruction.{Instruction}
-use Rattle.s38_rules.specs.Invocations.{restack_at}
 use Rattle.s38_rules.specs.Needs.{governed, need, on_object}
-use Rattle.s38_rules.specs.Operands.{attr_at, id_at, is_given, is_in_space, place, pointer_at, rights_at, source_cells, target}
-use Rattle.s38_rules.specs.Parts.{queue_lawful, queue_part}
+use Rattle.s38_rules.specs.Operands.{attr_at, is_given, place, pointer_at, rights_at, target}
 use Rattle.s38_rules.specs.PrivateRows.{row_of}
 use Rattle.s38_rules.specs.Profiles.{crtup, modup, profiles_row}
-use Rattle.s38_rules.specs.Programs.{call_gives, callx_changes, created_program, crtpg_changes, program_at, program_in, programs_row, template_at, xctl_changes}
-use Rattle.s38_rules.specs.Queues.{crtq_changes, deq_changes, deq_gives, enq_changes, queues_row}
+use Rattle.s38_rules.specs.Programs.{created_program, crtpg_changes, program_in, programs_row, template_at}
+use Rattle.s38_rules.specs.Queues.{crtq_changes, queues_row}
 use Rattle.s38_rules.specs.Resolving.{carried_rights, num_of, pointer_to, resolved, resolving_row, rslvsp, rslvsp_fails, rslvsp_gives, setspfp_gives}
 use Rattle.s38_rules.specs.Rows.{row, row_in}
-use Rattle.s38_rules.specs.Spaces.{cpybwp_changes, cpybwp_gives, crts_changes, length_at, mods_changes, setdp, setdp_gives, setdp_needs, setsppfp, setsppfp_gives, setsppfp_needs, spaces_row}
+use Rattle.s38_rules.specs.Spaces.{crts_changes, length_at, setdp, setdp_gives, setdp_needs, setsppfp, setsppfp_gives, setsppfp_needs, spaces_row}
 use Rattle.s38_rules.specs.Standing.{granted, owned_by, restand, standing_of, with_standing}
-use Rattle.s38_rules.specs.State.{State, process_entry}
+use Rattle.s38_rules.specs.State.{State}
 use Rattle.s38_rules.specs.Users.{acting}
 use Rattle.s38_rules.specs.Verdict.{carried_for, granting_rule, is_pointer, refused_by, rights_rule}
 use Rattle.s38_rules.specs.declared.creating.Creating.{Creating}
@@ -61,12 +54,13 @@ use Rattle.s38_rules.specs.declared.need.Need.{Need}
 use Rattle.s38_rules.specs.declared.need.PointerKind.TheVariants as pointer_kinds
 use Rattle.s38_rules.specs.declared.need.Sought.TheVariants.{Of}
 use Rattle.s38_rules.specs.declared.object.Object.{Object}
-use Rattle.s38_rules.specs.declared.process.ProcessEntry.{ProcessEntry}
-use Rattle.s38_confinement.proofs.PointerLaws.{computed_kept, first_kept, pointer_kept, resized_of, source_kept}
+use Rattle.s38_confinement.proofs.PlainLaws.{delivered_keeps, destruction_keeps, row_plain}
+use Rattle.s38_confinement.proofs.PointerLaws.{pointer_kept, resized_of}
 use Rattle.s38_confinement.proofs.RightLaws.{IsPermitted, has_or, lacking, lacks_both, lacks_by, lacks_none, not_lacking, passed, permitted, subject_lacks, ungoverned, used_parts}
-use Rattle.s38_confinement.proofs.StandingLaws.{GivesNoMore, IsPlain, Lessens, cells_lessens, creation_lessens, delivered_plain, destruction_lessens, lessens_same, lessens_then, moved_lessens, nat_same, part_lessens, renamed_lessens, restand_lessens, space_lessens}
+use Rattle.s38_confinement.proofs.StandingLaws.{GivesNoMore, Lessens, creation_lessens, kept_lessens, lessens_same, lessens_then, nat_same, restand_lessens}
 use Rattle.s38_confinement.specs.NoWay.{HasNoWay, IsHarmless, Lacks, NoWay, space_right}
-use Rattle.s38_confinement.specs.OfPointers.{IsClosed, OfCell, OfCells, OfOperand, OfPointer, OfVal}
+use Rattle.s38_confinement.specs.OfPointers.{IsClosed, OfCell, OfOperand, OfPointer, OfVal, OfVals}
+use Rattle.s38_confinement.specs.Plain.{makes_or_gives}
 
 -- ---- a new object
 
@@ -211,7 +205,7 @@ profile_lacked h acting o r closed e =
     list_any_none (has_special h rights.profile) acting (All-weaker (HasNoWay h o r) (λ u. has_special h rights.profile u ≡ false) (λ u has. has.profiles) acting closed.nobody) in
     true≢false (sym (passed (is_special h acting rights.profile) None _ e).0 ∙ none)
 
--- ---- what each row changes and gives
+-- ---- the rows
 
 -- an instruction opens no way where no rule refuses it
 abbrev KeepsShut : Instruction → Type 0
@@ -222,105 +216,46 @@ KeepsShut i = (s : State) (p d : ℕ) (t : Request) (o r : ℕ) → NoWay s.held
 pub harmless_closed : (o r : ℕ) → IsClosed (IsHarmless o r)
 harmless_closed o r object offset other harmless = record { carries = harmless.carries; lies = harmless.lies }
 
-computing_shut : KeepsShut computing
-unfolding computing_gives
-computing_shut s p d t o r closed asked e = (
-  lessens_same s.held o r,
-  computed_kept (IsHarmless o r) (harmless_closed o r) t.op t.round (of_operands s.held t.operands) (pointer_kept (IsHarmless o r) s.held t.operands 2 closed.spaces asked),
-)
-
-resolving_shut : (op : Op) → KeepsShut (resolving_row op)
-unfolding resolving_row setspfp_gives
-resolving_shut Rslvsp s p d t o r closed asked e = (lessens_same s.held o r, resolved_harmless s p d t.operands o r closed (permitted rslvsp s p d t e).fails)
-resolving_shut Setspfp s p d t o r closed asked e = (lessens_same s.held o r, plain_harmless o r (pointer_at s.held t.operands 2))
-resolving_shut _ s p d t o r closed asked e = (lessens_same s.held o r, tt)
-
-contexts_shut : (op : Op) → KeepsShut (contexts_row op)
-unfolding contexts_row crtctx_changes modadr_changes rename_changes matctx_gives
-contexts_shut Crtctx s p d t o r closed asked e = (creation_lessens s.held _ _ _ o r closed.given refl tt, created_harmless s.held _ o r)
-contexts_shut Desctx s p d t o r closed asked e = (destruction_lessens s.held t.operands o r, tt)
-contexts_shut Modadr s p d t o r closed asked e = (moved_lessens s.held (target s.held t.operands 1) _ o r, tt)
-contexts_shut Rename s p d t o r closed asked e = (renamed_lessens s.held (target s.held t.operands 1) (id_at t.operands 2) o r, tt)
-contexts_shut _ s p d t o r closed asked e = (lessens_same s.held o r, tt)
-
-profiles_shut : (op : Op) → KeepsShut (profiles_row op)
-unfolding profiles_row
-profiles_shut Crtup s p d t o r closed asked e = absurd (profile_lacked s.held (acting s p d) o r closed (permitted crtup s p d t e).special)
-profiles_shut Modup s p d t o r closed asked e = absurd (profile_lacked s.held (acting s p d) o r closed (permitted modup s p d t e).special)
-profiles_shut Desup s p d t o r closed asked e = (destruction_lessens s.held t.operands o r, tt)
-profiles_shut _ s p d t o r closed asked e = (lessens_same s.held o r, tt)
-
-grants_shut : (op : Op) → KeepsShut (grants_row op)
-unfolding grants_row testau_gives matau_gives matauobj_gives
-grants_shut Grant s p d t o r closed asked e = (grant_lessens s p d t o r closed asked (permitted grant s p d t e), tt)
-grants_shut Retract s p d t o r closed asked e = (retract_lessens s.held t.operands o r, tt)
-grants_shut Xfro s p d t o r closed asked e = (xfro_lessens s p d t o r closed (permitted xfro s p d t e), tt)
-grants_shut _ s p d t o r closed asked e = (lessens_same s.held o r, tt)
-
 program_lessens : (s : State) (p : ℕ) (ops : List Operand) (program : Option Program) (o r : ℕ) → o < s.held.next → Lessens s.held (created_program s p ops program).held o r
 program_lessens s p ops None o r given = lessens_same s.held o r
 program_lessens s p ops (Some program) o r given = creation_lessens s.held _ _ _ o r given refl tt
 
-restack_lessens : (f : List ObjNum → List ObjNum) (s : State) (p : ℕ) (x : Option ProcessEntry) (o r : ℕ) → Lessens s.held (restack_at f s p x).held o r
-restack_lessens f s p None o r = lessens_same s.held o r
-restack_lessens f s p (Some x) o r = lessens_same s.held o r
-
-code_of : (q : Pointer → Type 0) (program : Option Program) → IfSome (option_map vals.Code program) (OfVal q)
-code_of q None = tt
-code_of q (Some program) = tt
-
-programs_shut : (op : Op) → KeepsShut (programs_row op)
-unfolding programs_row crtpg_changes callx_changes xctl_changes call_gives
-programs_shut Crtpg s p d t o r closed asked e = (program_lessens s p t.operands (program_in (template_at s t.operands)) o r closed.given, created_harmless s.held _ o r)
-programs_shut Callx s p d t o r closed asked e = (restack_lessens _ s p (process_entry s p) o r, code_of (IsHarmless o r) (program_at s.held t.operands))
-programs_shut Xctl s p d t o r closed asked e = (restack_lessens _ s p (process_entry s p) o r, code_of (IsHarmless o r) (program_at s.held t.operands))
-programs_shut Despg s p d t o r closed asked e = (destruction_lessens s.held t.operands o r, tt)
-programs_shut _ s p d t o r closed asked e = (lessens_same s.held o r, tt)
-
--- a pointer of a cell that is copied
-copied_of : (q : Pointer → Type 0) (in_space : Bool) (cells : List Cell) → OfCells q cells → IfSome (cond in_space None (Some (vals.Ptr (first_pointer cells)))) (OfVal q)
-copied_of q true cells of = tt
-copied_of q false cells of = first_kept q cells of
-
-spaces_shut : (op : Op) → KeepsShut (spaces_row op)
-unfolding spaces_row crts_changes mods_changes cpybwp_changes cpybwp_gives
-spaces_shut Setsppfp s p d t o r closed asked e = (lessens_same s.held o r, space_harmless s p d t o r closed asked (permitted setsppfp s p d t e))
-spaces_shut Setdp s p d t o r closed asked e = (lessens_same s.held o r, item_harmless s p d t o r closed asked (permitted setdp s p d t e))
-spaces_shut Cpybwp s p d t o r closed asked e =
-    let of = source_kept (IsHarmless o r) s.held t.operands 2 closed.spaces asked in
-    (cells_lessens s.held (place t.operands 1) (source_cells s.held t.operands 2) o r of, copied_of (IsHarmless o r) (is_in_space (place t.operands 1)) (source_cells s.held t.operands 2) of)
-spaces_shut Crts s p d t o r closed asked e =
+-- those that are not plain
+listed_shut : (op : Op) → makes_or_gives op ≡ true → KeepsShut (row op)
+unfolding row_in family_of contexts_row profiles_row grants_row resolving_row programs_row spaces_row queues_row crtctx_changes crtpg_changes crts_changes crtq_changes setspfp_gives
+listed_shut Crtctx makes s p d t o r closed asked e = (creation_lessens s.held _ _ _ o r closed.given refl tt, created_harmless s.held _ o r)
+listed_shut Crtpg makes s p d t o r closed asked e = (program_lessens s p t.operands (program_in (template_at s t.operands)) o r closed.given, created_harmless s.held _ o r)
+listed_shut Crts makes s p d t o r closed asked e =
     (creation_lessens s.held _ _ _ o r closed.given refl (resized_of (IsHarmless o r) (length_at s t.operands 5) [] (All-nil (OfCell (IsHarmless o r)))), created_harmless s.held _ o r)
-spaces_shut Mods s p d t o r closed asked e = (space_lessens s.held (target s.held t.operands 1) _ o r (λ cells of. resized_of (IsHarmless o r) (length_at s t.operands 2) cells of), tt)
-spaces_shut Dess s p d t o r closed asked e = (destruction_lessens s.held t.operands o r, tt)
-spaces_shut _ s p d t o r closed asked e = (lessens_same s.held o r, tt)
+listed_shut Crtq makes s p d t o r closed asked e = (creation_lessens s.held _ _ _ o r closed.given refl tt, created_harmless s.held _ o r)
+listed_shut Crtup makes s p d t o r closed asked e = absurd (profile_lacked s.held (acting s p d) o r closed (permitted crtup s p d t e).special)
+listed_shut Modup makes s p d t o r closed asked e = absurd (profile_lacked s.held (acting s p d) o r closed (permitted modup s p d t e).special)
+listed_shut Desup makes s p d t o r closed asked e = (kept_lessens s.held _ o r (destruction_keeps (IsHarmless o r) s.held t.operands), tt)
+listed_shut Grant makes s p d t o r closed asked e = (grant_lessens s p d t o r closed asked (permitted grant s p d t e), tt)
+listed_shut Retract makes s p d t o r closed asked e = (retract_lessens s.held t.operands o r, tt)
+listed_shut Xfro makes s p d t o r closed asked e = (xfro_lessens s p d t o r closed (permitted xfro s p d t e), tt)
+listed_shut Rslvsp makes s p d t o r closed asked e = (lessens_same s.held o r, resolved_harmless s p d t.operands o r closed (permitted rslvsp s p d t e).fails)
+listed_shut Setspfp makes s p d t o r closed asked e = (lessens_same s.held o r, plain_harmless o r (pointer_at s.held t.operands 2))
+listed_shut Setsppfp makes s p d t o r closed asked e = (lessens_same s.held o r, space_harmless s p d t o r closed asked (permitted setsppfp s p d t e))
+listed_shut Setdp makes s p d t o r closed asked e = (lessens_same s.held o r, item_harmless s p d t o r closed asked (permitted setdp s p d t e))
+listed_shut _ makes s p d t o r closed asked e = cc
 
-queues_shut : (op : Op) → KeepsShut (queues_row op)
-unfolding queues_row crtq_changes enq_changes deq_changes deq_gives
-queues_shut Crtq s p d t o r closed asked e = (creation_lessens s.held _ _ _ o r closed.given refl tt, created_harmless s.held _ o r)
-queues_shut Desq s p d t o r closed asked e = (destruction_lessens s.held t.operands o r, tt)
-queues_shut Enq s p d t o r closed asked e = (part_lessens queue_part queue_lawful (λ x. refl) s.held (target s.held t.operands 1) _ o r (λ b x e of. tt), tt)
-queues_shut Deq s p d t o r closed asked e = (part_lessens queue_part queue_lawful (λ x. refl) s.held (target s.held t.operands 2) _ o r (λ b x e of. tt), tt)
-queues_shut _ s p d t o r closed asked e = (lessens_same s.held o r, tt)
+-- and a plain one
+row_shut : (op : Op) → KeepsShut (row op)
+row_shut op s p d t o r closed asked e = by (makes_or_gives op) refl
+  where
+    by : (b : Bool) → makes_or_gives op ≡ b → Lessens s.held ((row op).changes s p d t).held o r × IfSome ((row op).gives s p d t) (OfVal (IsHarmless o r))
+    by true makes = listed_shut op makes s p d t o r closed asked e
+    by false other =
+        let kept = row_plain (IsHarmless o r) (harmless_closed o r) (family_of op) op other s p d t closed.spaces asked in
+        (kept_lessens s.held _ o r kept.0, kept.1)
 
-row_shut : (f : Family) (op : Op) → KeepsShut (row_in f op)
-unfolding row_in
-row_shut families.Computing op = computing_shut
-row_shut families.Resolving op = resolving_shut op
-row_shut families.Contexts op = contexts_shut op
-row_shut families.Profiles op = profiles_shut op
-row_shut families.Grants op = grants_shut op
-row_shut families.Programs op = programs_shut op
-row_shut families.Spaces op = spaces_shut op
-row_shut families.Queues op = queues_shut op
-row_shut _ op = λ s p d t o r closed asked e. (lessens_same s.held o r, tt)
-
--- what it leaves, and what goes to its receiver
-pub effect_plain : (s : State) (p d : ℕ) (t : Request) (o r : ℕ) → NoWay s.held (acting s p d) o r → All (OfOperand (IsHarmless o r)) t.operands → refused_by (row t.op) s p d t ≡ None
-    → IsPlain s.held (effect (row t.op) s p d t) o r
+-- what an effect leaves opens no way, and neither does what it gives
+pub effect_lessens : (s : State) (p d : ℕ) (t : Request) (o r : ℕ) → NoWay s.held (acting s p d) o r → All (OfOperand (IsHarmless o r)) t.operands → refused_by (row t.op) s p d t ≡ None
+    → Lessens s.held (effect (row t.op) s p d t).state.held o r × OfVals (IsHarmless o r) (effect (row t.op) s p d t).values
 unfolding effect
-effect_plain s p d t o r closed asked e =
-    let i = row t.op in
-    let shut = row_shut (family_of t.op) t.op s p d t o r closed asked e in
-    let done = delivered_plain (i.changes s p d t) (shift_at s.held t.op t.operands) (receiver_at t.op t.operands) (i.gives s p d t) o r shut.1 in
-    (lessens_then s.held (i.changes s p d t).held _ o r shut.0 done.0, done.1)
+effect_lessens s p d t o r closed asked e =
+    let after = (row t.op).changes s p d t in
+    let shut = row_shut t.op s p d t o r closed asked e in
+    let done = delivered_keeps (IsHarmless o r) after (shift_at s.held t.op t.operands) (receiver_at t.op t.operands) ((row t.op).gives s p d t) shut.1 in
+    (lessens_then s.held after.held _ o r shut.0 (kept_lessens after.held _ o r done.0), done.1)

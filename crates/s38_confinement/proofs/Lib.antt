@@ -1,6 +1,7 @@
 mod EffectLaws
 mod EventLaws
 mod NeedLaws
+mod PlainLaws
 mod PointerLaws
 pub mod ProcessLaws
 mod RightLaws

@@ -1,45 +1,31 @@
--- Where no way is open for users to a right on an object, changes of the objects that let in nobody leave it so: the
--- words by which instructions change them.
-use Rattle.std.proofs.Common.{◌++◌, ◌+◌, ◌<◌, ◌==◌, ◌∙◌, ◌∷◌, ◌≡◌, ◌≢◌, ◌≤◌, List, [], ap, arith, cond, false, refl, subst, sym, true, ℕ}
+-- Where no way is open for users to a right on an object, changes of the objects that let in nobody leave it so: plain
+-- ones, other standings that give nobody the right, and new objects.
+use Rattle.std.proofs.Common.{◌++◌, ◌<◌, ◌==◌, ◌∙◌, ◌∷◌, ◌≡◌, ◌≢◌, ◌≤◌, List, [], ap, arith, cond, false, refl, subst, sym, true, ℕ}
 use Rattle.std.proofs.lemmas.Bool.Decides.{nat_tests}
 use Rattle.std.proofs.lemmas.Bool.{cond_both}
-use Rattle.std.proofs.lemmas.List.Elements.{All-append, All-cons, All-filter, All-nil, All-weaker}
+use Rattle.std.proofs.lemmas.List.Elements.{All-append, All-cons, All-nil, All-weaker}
 use Rattle.std.proofs.lemmas.List.Folds.{find-append}
 use Rattle.std.proofs.lemmas.Nat.Bits.{bit_at-zero}
 use Rattle.std.specs.Option.{option_map, option_or}
-use Rattle.std.specs.Prelude.{IfSome, None, Option, Some, not}
-use Rattle.s38_base.specs.Pointers.{start_of, target_of}
+use Rattle.std.specs.Prelude.{None, Option, Some}
 use Rattle.s38_base.specs.RightNames as rights
-use Rattle.s38_base.specs.Signals.{plain}
 use Rattle.s38_base.specs.declared.id.Id.{Id}
-use Rattle.s38_base.specs.declared.id.ObjNum.{ObjNum}
-use Rattle.s38_base.specs.declared.pointer.Pointer.{Pointer}
-use Rattle.s38_code.specs.declared.operand.Operand.TheVariants as operands
-use Rattle.s38_code.specs.declared.operand.Operand.{Operand}
-use Rattle.s38_code.specs.declared.reply.Val.TheVariants as vals
-use Rattle.s38_code.specs.declared.reply.Val.{Val}
-use Rattle.s38_memory.specs.declared.cell.Cell.TheVariants.{Bytes}
-use Rattle.s38_memory.specs.declared.cell.Cell.{Cell}
-use Rattle.s38_rules.proofs.ChargeLaws.{KeepsNumber, object_changed, object_without}
+use Rattle.s38_rules.proofs.ChargeLaws.{object_changed}
 use Rattle.s38_rules.specs.Authority.{has_rights}
-use Rattle.s38_rules.specs.Cells.{with_bytes, with_cells, with_pointer}
-use Rattle.s38_rules.specs.Contexts.{renamed_by}
-use Rattle.s38_rules.specs.Creation.{created, creation_changes, destruction_changes, new_object}
+use Rattle.s38_rules.specs.Creation.{created, creation_changes, new_object}
 use Rattle.s38_rules.specs.Headers.{public_in, row_in, rows_in, special_in, special_of}
-use Rattle.s38_rules.specs.Held.{Held, change, has_number, moved, object, object_in, with_object, without}
-use Rattle.s38_rules.specs.Operands.{Done, deliver, delivered, put_value, target}
-use Rattle.s38_rules.specs.Parts.{IsPart, Part, on_space, over, over_body, over_object, over_part, space_lawful, space_part}
-use Rattle.s38_rules.specs.PrivateRows.{AreRows}
+use Rattle.s38_rules.specs.Held.{Held, has_number, object, object_in, with_object}
+use Rattle.s38_rules.specs.PrivateRows.{AreRows, row_of}
 use Rattle.s38_rules.specs.Rows.{row}
-use Rattle.s38_rules.specs.Spaces.{cells_put}
 use Rattle.s38_rules.specs.Standing.{Standing, restand, standing_of, with_standing}
-use Rattle.s38_rules.specs.State.{State}
 use Rattle.s38_rules.specs.declared.creating.Creating.{Creating}
 use Rattle.s38_rules.specs.declared.object.Body.{Body}
 use Rattle.s38_rules.specs.declared.object.Object.{Object}
-use Rattle.s38_confinement.proofs.PointerLaws.{bytes_put, cells_laid, change_kept, pointer_put}
+use Rattle.s38_confinement.proofs.PlainLaws.{Keeps}
+use Rattle.s38_confinement.proofs.PointerLaws.{change_kept}
 use Rattle.s38_confinement.specs.NoWay.{HasNoWay, IsHarmless, Lacks, NoWay}
-use Rattle.s38_confinement.specs.OfPointers.{OfBody, OfCells, OfObject, OfObjects, OfVal, OfVals}
+use Rattle.s38_confinement.specs.OfPointers.{OfBody, OfObject, OfObjects}
+use Rattle.s38_confinement.specs.Plain.{IsAsBefore}
 
 pub nat_same : (a b : ℕ) → (a == b) ≡ true → a ≡ b
 nat_same a b h = grind (arith, nat_tests)
@@ -68,10 +54,6 @@ gives_same r x = record { owner = λ user g. g; row = λ user a g. g; everybody 
 gives_none : (r : ℕ) (x : Option Object) → GivesNoMore r x None
 gives_none r x = record { owner = λ user g. tt; row = λ user a g. bit_at-zero r; everybody = λ g. bit_at-zero r; rows = λ a. tt }
 
--- another name, context or body
-gives_as_before : (r : ℕ) (x : Object) (id : Id) (context : ObjNum) (body : Body) → GivesNoMore r (Some x) (Some (record x { id = id; context = context; body = body }))
-gives_as_before r x id context body = record { owner = λ user g. g; row = λ user a g. g; everybody = λ g. g; rows = λ a. a }
-
 -- a user has no special authority that it did not have
 abbrev pub SpecialStays : Option Object → Option Object → Type 0
 SpecialStays x y = (needed : ℕ) → needed ≢ 0 → has_rights needed (special_in x) ≡ false → has_rights needed (special_in y) ≡ false
@@ -81,7 +63,7 @@ none_special x y none needed some lacks =
     let off : (0 == needed) ≡ false = grind (arith, nat_tests) in
     ap (λ (n : ℕ). has_rights needed n) none ∙ off
 
--- a plain change of the objects: the one of the number gives no more, no user has another special authority, and no
+-- a change of the objects by which the one of the number gives no more, no user has another special authority, and no
 -- pointer opens a way
 pub record Lessens (h k : Held) (o r : ℕ) : Type 0 where
   pub next : h.next ≤ k.next
@@ -132,80 +114,54 @@ stays_shut h k users o r less shut = record {
   rows = less.standing.rows shut.rows;
 }
 
--- ---- the words of change
+-- ---- plain changes, and other standings
 
-mapped_more : (r : ℕ) (f : Object → Object) (x : Option Object) → ((y : Object) → x ≡ Some y → GivesNoMore r (Some y) (Some (f y))) → GivesNoMore r x (option_map f x)
-mapped_more r f None each = gives_same r None
-mapped_more r f (Some y) each = each y refl
-
-mapped_special : (f : Object → Object) (x : Option Object) → ((y : Object) → special_of (f y).body ≡ special_of y.body) → SpecialStays x (option_map f x)
-mapped_special f None same needed some lacks = lacks
-mapped_special f (Some y) same needed some lacks = ap (λ (n : ℕ). has_rights needed n) (same y) ∙ lacks
-
--- the object of a number is another one, whose body opens no way: it is not that of the right, or gives no more
-change_lessens : (h : Held) (n : ℕ) (f : Object → Object) (o r : ℕ) → KeepsNumber f → ((x : Object) → special_of (f x).body ≡ special_of x.body)
-    → ((x : Object) → OfObject (IsHarmless o r) x → OfObject (IsHarmless o r) (f x)) → (n ≡ o → (x : Object) → object h o ≡ Some x → GivesNoMore r (Some x) (Some (f x))) → Lessens h (change h n f) o r
-change_lessens h n f o r keeps special pointers here = record {
-  next = omega arith;
-  standing = subst (GivesNoMore r (object h o)) (sym (object_changed n o f h.objects keeps))
-      (cond_both (n == o) (option_map f (object h o)) (object h o) (GivesNoMore r (object h o)) (λ q. mapped_more r f (object h o) (here (nat_same n o q))) (λ q. gives_same r (object h o)));
-  special = λ user. subst (SpecialStays (object h user)) (sym (object_changed n user f h.objects keeps))
-      (cond_both (n == user) (option_map f (object h user)) (object h user) (SpecialStays (object h user)) (λ q. mapped_special f (object h user) special) (λ q needed some lacks. lacks));
-  pointers = λ of. change_kept (IsHarmless o r) n f h.objects pointers of;
+more_by : (r : ℕ) (x y : Option Object) → IsAsBefore x y → GivesNoMore r x y
+more_by r x None before = gives_none r x
+more_by r None (Some y) before = absurd before
+more_by r (Some x) (Some y) before = record {
+  owner = λ user free. subst (λ (z : Standing). z.owner.0 ≢ user) (sym before.standing) free;
+  row = λ user a none. subst (λ (z : Standing). Lacks r (row_of z.rows user)) (sym before.standing) none;
+  everybody = λ none. subst (λ (z : Standing). Lacks r z.public.0) (sym before.standing) none;
+  rows = λ a. subst (λ (z : Standing). AreRows z.rows) (sym before.standing) a;
 }
+
+special_by : (x y : Option Object) → IsAsBefore x y → SpecialStays x y
+special_by x None before = none_special x None refl
+special_by None (Some y) before = absurd before
+special_by (Some x) (Some y) before = λ needed some lacks. ap (λ (n : ℕ). has_rights needed n) before.special ∙ lacks
+
+pub kept_lessens : (h k : Held) (o r : ℕ) → Keeps (IsHarmless o r) h k → Lessens h k o r
+kept_lessens h k o r kept = record {
+  next = omega (arith, kept.next);
+  standing = more_by r (object h o) (object k o) (kept.objects o);
+  special = λ user. special_by (object h user) (object k user) (kept.objects user);
+  pointers = kept.pointers;
+}
+
+restood_more : (r : ℕ) (f : Object → Object) (x : Option Object) → ((y : Object) → x ≡ Some y → GivesNoMore r (Some y) (Some (f y))) → GivesNoMore r x (option_map f x)
+restood_more r f None each = gives_same r None
+restood_more r f (Some y) each = each y refl
+
+restood_special : (g : Standing → Standing) (x : Option Object) → SpecialStays x (option_map (λ y. with_standing (g (standing_of y)) y) x)
+restood_special g None needed some lacks = lacks
+restood_special g (Some y) needed some lacks = lacks
 
 -- the object of a number stands otherwise: it is another one, or is not there, or gives nobody the right
 pub restand_lessens : (h : Held) (n : ℕ) (g : Standing → Standing) (o r : ℕ)
     → (n ≡ o → (x : Object) → object h o ≡ Some x → GivesNoMore r (Some x) (Some (with_standing (g (standing_of x)) x))) → Lessens h (restand h n g) o r
-restand_lessens h n g o r here = change_lessens h n (λ x. with_standing (g (standing_of x)) x) o r (λ x. refl) (λ x. refl) (λ x of. of) here
-
-pub renamed_lessens : (h : Held) (n : ℕ) (id : Option Id) (o r : ℕ) → Lessens h (renamed_by h n id) o r
-renamed_lessens h n None o r = lessens_same h o r
-renamed_lessens h n (Some id) o r = change_lessens h n (λ x. record x { id = id }) o r (λ x. refl) (λ x. refl) (λ x of. of) (λ same x found. gives_as_before r x id x.context x.body)
-
-pub moved_lessens : (h : Held) (n : ℕ) (context : ObjNum) (o r : ℕ) → Lessens h (moved h n context) o r
-moved_lessens h n context o r = change_lessens h n (λ x. record x { context = context }) o r (λ x. refl) (λ x. refl) (λ x of. of) (λ same x found. gives_as_before r x x.id context x.body)
-
--- ---- bodies that are no user's
-
-over_special : {T : Type 0} (p : Part T) → IsPart T p → ((x : T) → special_of (p.make x) ≡ 0) → (f : T → T) (b : Body) (x : Option T) → p.of b ≡ x → special_of (over p f b x) ≡ special_of b
-over_special p lawful plain f b None e = refl
-over_special p lawful plain f b (Some x) e = plain (f x) ∙ sym (ap special_of (lawful.back b x e) ∙ plain x)
-
-over_of : {T : Type 0} (q : Pointer → Type 0) (part : Part T) (f : T → T) (b : Body) (r : Option T) → ((x : T) → r ≡ Some x → OfBody q (part.make (f x))) → OfBody q b → OfBody q (over part f b r)
-over_of q part f b None puts of = of
-over_of q part f b (Some x) puts of = puts x refl
-
--- what the object of a number holds is something else, where no user's profile is of the kind
-pub part_lessens : {T : Type 0} (p : Part T) → IsPart T p → ((x : T) → special_of (p.make x) ≡ 0) → (h : Held) (n : ℕ) (f : T → T) (o r : ℕ)
-    → ((b : Body) (x : T) → b ≡ p.make x → OfBody (IsHarmless o r) b → OfBody (IsHarmless o r) (p.make (f x))) → Lessens h (over_part p h n f) o r
-part_lessens p lawful plain h n f o r puts = change_lessens h n (over_object p f) o r (λ x. refl) (λ x. over_special p lawful plain f x.body (p.of x.body) refl)
-    (λ x of. over_of (IsHarmless o r) p f x.body (p.of x.body) (λ y e. puts x.body y (lawful.back x.body y e) of) of) (λ same x found. gives_as_before r x x.id x.context (over_body p f x.body))
-
-pub space_lessens : (h : Held) (n : ℕ) (f : List Cell → List Cell) (o r : ℕ) → ((cells : List Cell) → OfCells (IsHarmless o r) cells → OfCells (IsHarmless o r) (f cells)) → Lessens h (on_space h n f) o r
-space_lessens h n f o r keeps = part_lessens space_part space_lawful (λ x. refl) h n f o r (λ b x e of. keeps x (subst (OfBody (IsHarmless o r)) e of))
-
--- cells that are copied into a space
-pub cells_lessens : (h : Held) (operand : Option Operand) (piece : List Cell) (o r : ℕ) → OfCells (IsHarmless o r) piece → Lessens h (cells_put h operand piece) o r
-cells_lessens h (Some (operands.InSpace base offset attr)) piece o r given =
-    space_lessens h (target_of base) (with_cells (start_of base offset) piece) o r (λ cells of. cells_laid (IsHarmless o r) (start_of base offset) piece cells given of)
-cells_lessens h _ piece o r given = lessens_same h o r
-
--- ---- objects that come and go
-
-pub destruction_lessens : (h : Held) (ops : List Operand) (o r : ℕ) → Lessens h (destruction_changes h ops) o r
-unfolding destruction_changes
-destruction_lessens h ops o r = gone (target h ops 1)
-  where
-    gone : (n : ℕ) → Lessens h (without h n) o r
-    gone n = record {
+restand_lessens h n g o r here =
+    let f : Object → Object = λ x. with_standing (g (standing_of x)) x in
+    record {
       next = omega arith;
-      standing = subst (GivesNoMore r (object h o)) (sym (object_without n o h.objects))
-          (cond_both (n == o) None (object h o) (GivesNoMore r (object h o)) (λ q. gives_none r (object h o)) (λ q. gives_same r (object h o)));
-      special = λ user. subst (SpecialStays (object h user)) (sym (object_without n user h.objects))
-          (cond_both (n == user) None (object h user) (SpecialStays (object h user)) (λ q. none_special (object h user) None refl) (λ q needed some lacks. lacks));
-      pointers = λ of. All-filter (λ x. not (has_number n x)) (OfObject (IsHarmless o r)) h.objects of;
+      standing = subst (GivesNoMore r (object h o)) (sym (object_changed n o f h.objects (λ x. refl)))
+          (cond_both (n == o) (option_map f (object h o)) (object h o) (GivesNoMore r (object h o)) (λ q. restood_more r f (object h o) (here (nat_same n o q))) (λ q. gives_same r (object h o)));
+      special = λ user. subst (SpecialStays (object h user)) (sym (object_changed n user f h.objects (λ x. refl)))
+          (cond_both (n == user) (option_map f (object h user)) (object h user) (SpecialStays (object h user)) (λ q. restood_special g (object h user)) (λ q needed some lacks. lacks));
+      pointers = λ of. change_kept (IsHarmless o r) n f h.objects (λ x here. here) of;
     }
+
+-- ---- new objects
 
 -- behind the others an object is found by its own number alone
 last_found : (P : Option Object → Type 0) (m : ℕ) (x : Object) (os : List Object) → P (object_in os m) → ((x.number.0 == m) ≡ true → P (Some x)) → P (object_in (os ++ x ∷ []) m)
@@ -231,23 +187,3 @@ creation_lessens h owner made body o r given none of = by made.id
     by : (id : Option Id) → Lessens h (created h owner made body id) o r
     by None = lessens_same h o r
     by (Some id) = added_lessens h (new_object h owner made id body) o r given refl none of
-
--- ---- what comes back
-
--- what a receiver in a space gets
-put_lessens : (h : Held) (n at : ℕ) (v : Val) (o r : ℕ) → OfVal (IsHarmless o r) v → Lessens h (put_value h n at v) o r
-put_lessens h n at (vals.Bytes bytes) o r given = space_lessens h n (with_bytes at bytes) o r (λ cells of. bytes_put (IsHarmless o r) at bytes cells of)
-put_lessens h n at (vals.Ptr p) o r given = space_lessens h n (with_pointer at p) o r (λ cells of. pointer_put (IsHarmless o r) at p cells given of)
-put_lessens h n at _ o r given = lessens_same h o r
-
--- what an effect leaves opens no way, and neither does what it gives
-abbrev pub IsPlain : Held → Done → ℕ → ℕ → Type 0
-IsPlain h done o r = Lessens h done.state.held o r × OfVals (IsHarmless o r) done.values
-
-deliver_plain : (s : State) (shift : ℕ) (receiver : Option Operand) (v : Val) (o r : ℕ) → OfVal (IsHarmless o r) v → IsPlain s.held (deliver s shift receiver v) o r
-deliver_plain s shift (Some (operands.InSpace base offset attr)) v o r given = (put_lessens s.held (target_of base) (start_of base offset + shift) v o r given, All-nil (OfVal (IsHarmless o r)))
-deliver_plain s shift _ v o r given = (lessens_same s.held o r, All-cons (OfVal (IsHarmless o r)) v [] given (All-nil (OfVal (IsHarmless o r))))
-
-pub delivered_plain : (s : State) (shift : ℕ) (receiver : Option Operand) (v : Option Val) (o r : ℕ) → IfSome v (OfVal (IsHarmless o r)) → IsPlain s.held (delivered s shift receiver v) o r
-delivered_plain s shift receiver None o r given = (lessens_same s.held o r, All-nil (OfVal (IsHarmless o r)))
-delivered_plain s shift receiver (Some v) o r given = deliver_plain s shift receiver v o r given

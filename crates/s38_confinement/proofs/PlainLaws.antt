@@ -1,0 +1,259 @@
+-- What most instructions do is plain: the words by which they change the objects, and each of their rows.
+use Rattle.std.proofs.Common.{◌+◌, ◌==◌, ◌∙◌, ◌≡◌, Bool, List, [], ap, cond, false, refl, subst, sym, true, ℕ}
+use Rattle.std.proofs.lemmas.Bool.{cond_both}
+use Rattle.std.proofs.lemmas.List.Elements.{All-cons, All-filter, All-nil}
+use Rattle.std.specs.Option.{option_map}
+use Rattle.std.specs.Prelude.{All, IfSome, None, Option, Some, not}
+use Rattle.s38_base.specs.Pointers.{start_of, target_of}
+use Rattle.s38_base.specs.Signals.{plain}
+use Rattle.s38_base.specs.declared.id.Id.{Id}
+use Rattle.s38_base.specs.declared.id.ObjNum.{ObjNum}
+use Rattle.s38_base.specs.declared.op.Op.TheVariants.{Callx, Cpybwp, Crtctx, Crtpg, Crtq, Crts, Crtup, Deq, Desctx, Despg, Desq, Dess, Desup, Enq, Grant, Modadr, Mods, Modup, Rename, Retract, Rslvsp, Setdp, Setspfp, Setsppfp, Xctl, Xfro}
+use Rattle.s38_base.specs.declared.op.Op.{Op}
+use Rattle.s38_base.specs.declared.pointer.Pointer.{Pointer}
+use Rattle.s38_code.specs.Operations.{family_of}
+use Rattle.s38_code.specs.declared.event.Request.{Request}
+use Rattle.s38_code.specs.declared.family.Family.TheVariants as families
+use Rattle.s38_code.specs.declared.family.Family.{Family}
+use Rattle.s38_code.specs.declared.operand.Operand.TheVariants as operands
+use Rattle.s38_code.specs.declared.operand.Operand.{Operand}
+use Rattle.s38_code.specs.declared.program.Program.{Program}
+use Rattle.s38_code.specs.declared.reply.Val.TheVariants as vals
+use Rattle.s38_code.specs.declared.reply.Val.{Val}
+use Rattle.s38_memory.specs.declared.cell.Cell.TheVariants.{Bytes}
+use Rattle.s38_memory.specs.declared.cell.Cell.{Cell}
+use Rattle.s38_rules.proofs.ChargeLaws.{KeepsNumber, object_changed, object_without}
+use Rattle.s38_rules.specs.Cells.{first_pointer, with_bytes, with_cells, with_pointer}
+use Rattle.s38_rules.specs.Computing.{computing, computing_gives, of_operands, receiver_at, shift_at}
+use Rattle.s38_rules.specs.Contexts.{contexts_row, matctx_gives, modadr_changes, rename_changes, renamed_by}
+use Rattle.s38_rules.specs.Creation.{destruction_changes}
+use Rattle.s38_rules.specs.Effect.{effect}
+use Rattle.s38_rules.specs.Grants.{grants_row, matau_gives, matauobj_gives, testau_gives}
+use Rattle.s38_rules.specs.Headers.{special_of}
+use Rattle.s38_rules.specs.Held.{Held, change, has_number, moved, object}
+use Rattle.s38_rules.specs.Instruction.{Instruction}
+use Rattle.s38_rules.specs.Invocations.{restack_at}
+use Rattle.s38_rules.specs.Operands.{Done, deliver, delivered, id_at, is_in_space, place, put_value, source_cells, target}
+use Rattle.s38_rules.specs.Parts.{IsPart, Part, on_space, over, over_object, over_part, queue_lawful, queue_part, space_lawful, space_part}
+use Rattle.s38_rules.specs.Profiles.{profiles_row}
+use Rattle.s38_rules.specs.Programs.{call_gives, callx_changes, program_at, programs_row, xctl_changes}
+use Rattle.s38_rules.specs.Queues.{deq_changes, deq_gives, enq_changes, queues_row}
+use Rattle.s38_rules.specs.Resolving.{resolving_row}
+use Rattle.s38_rules.specs.Rows.{row, row_in}
+use Rattle.s38_rules.specs.Spaces.{cells_put, cpybwp_changes, cpybwp_gives, length_at, mods_changes, spaces_row}
+use Rattle.s38_rules.specs.State.{State, process_entry}
+use Rattle.s38_rules.specs.declared.object.Body.{Body}
+use Rattle.s38_rules.specs.declared.object.Object.{Object}
+use Rattle.s38_rules.specs.declared.process.ProcessEntry.{ProcessEntry}
+use Rattle.s38_confinement.proofs.PointerLaws.{bytes_put, cells_laid, change_kept, computed_kept, first_kept, pointer_kept, pointer_put, resized_of, source_kept}
+use Rattle.s38_confinement.specs.OfPointers.{IsClosed, OfBody, OfCells, OfObject, OfObjects, OfOperand, OfVal, OfVals}
+use Rattle.s38_confinement.specs.Plain.{IsAsBefore, IsPlain, Passes, StandsSo, makes_or_gives}
+
+-- ---- objects that stand as they stood
+
+as_before : (x : Option Object) → IsAsBefore x x
+as_before None = tt
+as_before (Some x) = record { standing = refl; special = refl }
+
+as_before_then : (x y z : Option Object) → IsAsBefore x y → IsAsBefore y z → IsAsBefore x z
+as_before_then x y None a b = tt
+as_before_then x None (Some z) a b = absurd b
+as_before_then None (Some y) (Some z) a b = a
+as_before_then (Some x) (Some y) (Some z) a b = record { standing = b.standing ∙ a.standing; special = b.special ∙ a.special }
+
+mapped_as_before : (f : Object → Object) (x : Option Object) → ((y : Object) → StandsSo y (f y)) → IsAsBefore x (option_map f x)
+mapped_as_before f None stands = tt
+mapped_as_before f (Some x) stands = stands x
+
+-- other objects, none of them new, that stand as they stood, and of whose pointers the same holds
+pub record Keeps (q : Pointer → Type 0) (h k : Held) : Type 0 where
+  pub next : k.next ≡ h.next
+  pub objects : (n : ℕ) → IsAsBefore (object h n) (object k n)
+  pub pointers : OfObjects q h.objects → OfObjects q k.objects
+
+keeps_same : (q : Pointer → Type 0) (h : Held) → Keeps q h h
+keeps_same q h = record { next = refl; objects = λ n. as_before (object h n); pointers = λ of. of }
+
+keeps_then : (q : Pointer → Type 0) (h j k : Held) → Keeps q h j → Keeps q j k → Keeps q h k
+keeps_then q h j k a b = record {
+  next = b.next ∙ a.next;
+  objects = λ n. as_before_then (object h n) (object j n) (object k n) (a.objects n) (b.objects n);
+  pointers = λ of. b.pointers (a.pointers of);
+}
+
+-- ---- the words of change
+
+change_keeps : (q : Pointer → Type 0) (h : Held) (n : ℕ) (f : Object → Object) → KeepsNumber f → ((x : Object) → StandsSo x (f x)) → ((x : Object) → OfObject q x → OfObject q (f x)) → Keeps q h (change h n f)
+change_keeps q h n f number stands pointers = record {
+  next = refl;
+  objects = λ m. subst (IsAsBefore (object h m)) (sym (object_changed n m f h.objects number))
+      (cond_both (n == m) (option_map f (object h m)) (object h m) (IsAsBefore (object h m)) (λ e. mapped_as_before f (object h m) stands) (λ e. as_before (object h m)));
+  pointers = λ of. change_kept q n f h.objects pointers of;
+}
+
+renamed_keeps : (q : Pointer → Type 0) (h : Held) (n : ℕ) (id : Option Id) → Keeps q h (renamed_by h n id)
+renamed_keeps q h n None = keeps_same q h
+renamed_keeps q h n (Some id) = change_keeps q h n (λ x. record x { id = id }) (λ x. refl) (λ x. record { standing = refl; special = refl }) (λ x of. of)
+
+moved_keeps : (q : Pointer → Type 0) (h : Held) (n : ℕ) (context : ObjNum) → Keeps q h (moved h n context)
+moved_keeps q h n context = change_keeps q h n (λ x. record x { context = context }) (λ x. refl) (λ x. record { standing = refl; special = refl }) (λ x of. of)
+
+over_special : {T : Type 0} (p : Part T) → IsPart T p → ((x : T) → special_of (p.make x) ≡ 0) → (f : T → T) (b : Body) (x : Option T) → p.of b ≡ x → special_of (over p f b x) ≡ special_of b
+over_special p lawful plain f b None e = refl
+over_special p lawful plain f b (Some x) e = plain (f x) ∙ sym (ap special_of (lawful.back b x e) ∙ plain x)
+
+over_of : {T : Type 0} (q : Pointer → Type 0) (part : Part T) (f : T → T) (b : Body) (r : Option T) → ((x : T) → r ≡ Some x → OfBody q (part.make (f x))) → OfBody q b → OfBody q (over part f b r)
+over_of q part f b None puts of = of
+over_of q part f b (Some x) puts of = puts x refl
+
+-- what the object of a number holds is something else, where no user's profile is of the kind
+part_keeps : {T : Type 0} (q : Pointer → Type 0) (p : Part T) → IsPart T p → ((x : T) → special_of (p.make x) ≡ 0) → (h : Held) (n : ℕ) (f : T → T)
+    → ((b : Body) (x : T) → b ≡ p.make x → OfBody q b → OfBody q (p.make (f x))) → Keeps q h (over_part p h n f)
+part_keeps q p lawful plain h n f puts = change_keeps q h n (over_object p f) (λ x. refl) (λ x. record { standing = refl; special = over_special p lawful plain f x.body (p.of x.body) refl })
+    (λ x of. over_of q p f x.body (p.of x.body) (λ y e. puts x.body y (lawful.back x.body y e) of) of)
+
+space_keeps : (q : Pointer → Type 0) (h : Held) (n : ℕ) (f : List Cell → List Cell) → ((cells : List Cell) → OfCells q cells → OfCells q (f cells)) → Keeps q h (on_space h n f)
+space_keeps q h n f keeps = part_keeps q space_part space_lawful (λ x. refl) h n f (λ b x e of. keeps x (subst (OfBody q) e of))
+
+-- cells that are copied into a space
+cells_keep : (q : Pointer → Type 0) (h : Held) (operand : Option Operand) (piece : List Cell) → OfCells q piece → Keeps q h (cells_put h operand piece)
+cells_keep q h (Some (operands.InSpace base offset attr)) piece given =
+    space_keeps q h (target_of base) (with_cells (start_of base offset) piece) (λ cells of. cells_laid q (start_of base offset) piece cells given of)
+cells_keep q h _ piece given = keeps_same q h
+
+pub destruction_keeps : (q : Pointer → Type 0) (h : Held) (ops : List Operand) → Keeps q h (destruction_changes h ops)
+unfolding destruction_changes
+destruction_keeps q h ops = record {
+  next = refl;
+  objects = λ m. subst (IsAsBefore (object h m)) (sym (object_without (target h ops 1) m h.objects))
+      (cond_both (target h ops 1 == m) None (object h m) (IsAsBefore (object h m)) (λ e. tt) (λ e. as_before (object h m)));
+  pointers = λ of. All-filter (λ x. not (has_number (target h ops 1) x)) (OfObject q) h.objects of;
+}
+
+-- ---- what comes back
+
+-- what a receiver in a space gets
+value_keeps : (q : Pointer → Type 0) (h : Held) (n at : ℕ) (v : Val) → OfVal q v → Keeps q h (put_value h n at v)
+value_keeps q h n at (vals.Bytes bytes) given = space_keeps q h n (with_bytes at bytes) (λ cells of. bytes_put q at bytes cells of)
+value_keeps q h n at (vals.Ptr p) given = space_keeps q h n (with_pointer at p) (λ cells of. pointer_put q at p cells given of)
+value_keeps q h n at _ given = keeps_same q h
+
+-- what an effect leaves, and what it gives
+abbrev pub KeepsDone : (Pointer → Type 0) → Held → Done → Type 0
+KeepsDone q h done = Keeps q h done.state.held × OfVals q done.values
+
+deliver_keeps : (q : Pointer → Type 0) (s : State) (shift : ℕ) (receiver : Option Operand) (v : Val) → OfVal q v → KeepsDone q s.held (deliver s shift receiver v)
+deliver_keeps q s shift (Some (operands.InSpace base offset attr)) v given = (value_keeps q s.held (target_of base) (start_of base offset + shift) v given, All-nil (OfVal q))
+deliver_keeps q s shift _ v given = (keeps_same q s.held, All-cons (OfVal q) v [] given (All-nil (OfVal q)))
+
+pub delivered_keeps : (q : Pointer → Type 0) (s : State) (shift : ℕ) (receiver : Option Operand) (v : Option Val) → IfSome v (OfVal q) → KeepsDone q s.held (delivered s shift receiver v)
+delivered_keeps q s shift receiver None given = (keeps_same q s.held, All-nil (OfVal q))
+delivered_keeps q s shift receiver (Some v) given = deliver_keeps q s shift receiver v given
+
+-- ---- what each row changes and gives
+
+-- a row is plain, whatever holds of the pointers
+abbrev pub PlainRow : (Pointer → Type 0) → Instruction → Type 0
+PlainRow q i = (s : State) (p d : ℕ) (t : Request) → OfObjects q s.held.objects → All (OfOperand q) t.operands → Keeps q s.held (i.changes s p d t).held × IfSome (i.gives s p d t) (OfVal q)
+
+computing_plain : (q : Pointer → Type 0) → IsClosed q → PlainRow q computing
+unfolding computing_gives
+computing_plain q closed s p d t of asked =
+    (keeps_same q s.held, computed_kept q closed t.op t.round (of_operands s.held t.operands) (pointer_kept q s.held t.operands 2 of asked))
+
+resolving_plain : (q : Pointer → Type 0) (op : Op) → makes_or_gives op ≡ false → PlainRow q (resolving_row op)
+unfolding resolving_row
+resolving_plain q Rslvsp other = cc
+resolving_plain q Setspfp other = cc
+resolving_plain q _ other = λ s p d t of asked. (keeps_same q s.held, tt)
+
+contexts_plain : (q : Pointer → Type 0) (op : Op) → makes_or_gives op ≡ false → PlainRow q (contexts_row op)
+unfolding contexts_row modadr_changes rename_changes matctx_gives
+contexts_plain q Crtctx other = cc
+contexts_plain q Desctx other = λ s p d t of asked. (destruction_keeps q s.held t.operands, tt)
+contexts_plain q Modadr other = λ s p d t of asked. (moved_keeps q s.held (target s.held t.operands 1) _, tt)
+contexts_plain q Rename other = λ s p d t of asked. (renamed_keeps q s.held (target s.held t.operands 1) (id_at t.operands 2), tt)
+contexts_plain q _ other = λ s p d t of asked. (keeps_same q s.held, tt)
+
+profiles_plain : (q : Pointer → Type 0) (op : Op) → makes_or_gives op ≡ false → PlainRow q (profiles_row op)
+unfolding profiles_row
+profiles_plain q Crtup other = cc
+profiles_plain q Modup other = cc
+profiles_plain q Desup other = cc
+profiles_plain q _ other = λ s p d t of asked. (keeps_same q s.held, tt)
+
+grants_plain : (q : Pointer → Type 0) (op : Op) → makes_or_gives op ≡ false → PlainRow q (grants_row op)
+unfolding grants_row testau_gives matau_gives matauobj_gives
+grants_plain q Grant other = cc
+grants_plain q Retract other = cc
+grants_plain q Xfro other = cc
+grants_plain q _ other = λ s p d t of asked. (keeps_same q s.held, tt)
+
+restack_keeps : (q : Pointer → Type 0) (f : List ObjNum → List ObjNum) (s : State) (p : ℕ) (x : Option ProcessEntry) → Keeps q s.held (restack_at f s p x).held
+restack_keeps q f s p None = keeps_same q s.held
+restack_keeps q f s p (Some x) = keeps_same q s.held
+
+code_of : (q : Pointer → Type 0) (program : Option Program) → IfSome (option_map vals.Code program) (OfVal q)
+code_of q None = tt
+code_of q (Some program) = tt
+
+programs_plain : (q : Pointer → Type 0) (op : Op) → makes_or_gives op ≡ false → PlainRow q (programs_row op)
+unfolding programs_row callx_changes xctl_changes call_gives
+programs_plain q Crtpg other = cc
+programs_plain q Callx other = λ s p d t of asked. (restack_keeps q _ s p (process_entry s p), code_of q (program_at s.held t.operands))
+programs_plain q Xctl other = λ s p d t of asked. (restack_keeps q _ s p (process_entry s p), code_of q (program_at s.held t.operands))
+programs_plain q Despg other = λ s p d t of asked. (destruction_keeps q s.held t.operands, tt)
+programs_plain q _ other = λ s p d t of asked. (keeps_same q s.held, tt)
+
+-- a pointer of a cell that is copied
+copied_of : (q : Pointer → Type 0) (in_space : Bool) (cells : List Cell) → OfCells q cells → IfSome (cond in_space None (Some (vals.Ptr (first_pointer cells)))) (OfVal q)
+copied_of q true cells of = tt
+copied_of q false cells of = first_kept q cells of
+
+spaces_plain : (q : Pointer → Type 0) (op : Op) → makes_or_gives op ≡ false → PlainRow q (spaces_row op)
+unfolding spaces_row mods_changes cpybwp_changes cpybwp_gives
+spaces_plain q Setsppfp other = cc
+spaces_plain q Setdp other = cc
+spaces_plain q Crts other = cc
+spaces_plain q Cpybwp other = λ s p d t of asked.
+    let cells = source_kept q s.held t.operands 2 of asked in
+    (cells_keep q s.held (place t.operands 1) (source_cells s.held t.operands 2) cells, copied_of q (is_in_space (place t.operands 1)) (source_cells s.held t.operands 2) cells)
+spaces_plain q Mods other = λ s p d t of asked. (space_keeps q s.held (target s.held t.operands 1) _ (λ cells here. resized_of q (length_at s t.operands 2) cells here), tt)
+spaces_plain q Dess other = λ s p d t of asked. (destruction_keeps q s.held t.operands, tt)
+spaces_plain q _ other = λ s p d t of asked. (keeps_same q s.held, tt)
+
+queues_plain : (q : Pointer → Type 0) (op : Op) → makes_or_gives op ≡ false → PlainRow q (queues_row op)
+unfolding queues_row enq_changes deq_changes deq_gives
+queues_plain q Crtq other = cc
+queues_plain q Desq other = λ s p d t of asked. (destruction_keeps q s.held t.operands, tt)
+queues_plain q Enq other = λ s p d t of asked. (part_keeps q queue_part queue_lawful (λ x. refl) s.held (target s.held t.operands 1) _ (λ b x e here. tt), tt)
+queues_plain q Deq other = λ s p d t of asked. (part_keeps q queue_part queue_lawful (λ x. refl) s.held (target s.held t.operands 2) _ (λ b x e here. tt), tt)
+queues_plain q _ other = λ s p d t of asked. (keeps_same q s.held, tt)
+
+pub row_plain : (q : Pointer → Type 0) → IsClosed q → (f : Family) (op : Op) → makes_or_gives op ≡ false → PlainRow q (row_in f op)
+unfolding row_in
+row_plain q closed families.Computing op other = computing_plain q closed
+row_plain q closed families.Resolving op other = resolving_plain q op other
+row_plain q closed families.Contexts op other = contexts_plain q op other
+row_plain q closed families.Profiles op other = profiles_plain q op other
+row_plain q closed families.Grants op other = grants_plain q op other
+row_plain q closed families.Programs op other = programs_plain q op other
+row_plain q closed families.Spaces op other = spaces_plain q op other
+row_plain q closed families.Queues op other = queues_plain q op other
+row_plain q closed _ op other = λ s p d t of asked. (keeps_same q s.held, tt)
+
+effect_keeps : (q : Pointer → Type 0) → IsClosed q → (s : State) (p d : ℕ) (t : Request) → makes_or_gives t.op ≡ false → OfObjects q s.held.objects → All (OfOperand q) t.operands
+    → KeepsDone q s.held (effect (row t.op) s p d t)
+unfolding effect
+effect_keeps q closed s p d t other of asked =
+    let i = row t.op in
+    let kept = row_plain q closed (family_of t.op) t.op other s p d t of asked in
+    let done = delivered_keeps q (i.changes s p d t) (shift_at s.held t.op t.operands) (receiver_at t.op t.operands) (i.gives s p d t) kept.1 in
+    (keeps_then q s.held (i.changes s p d t).held _ kept.0 done.0, done.1)
+
+-- an effect is plain
+pub effects_plain : (test : Pointer → Bool) (s : State) (p d : ℕ) (t : Request) → makes_or_gives t.op ≡ false → IsClosed (Passes test) → OfObjects (Passes test) s.held.objects
+    → All (OfOperand (Passes test)) t.operands → IsPlain test s.held (effect (row t.op) s p d t)
+effects_plain test s p d t other closed of asked =
+    let kept = effect_keeps (Passes test) closed s p d t other of asked in
+    record { next = kept.0.next; objects = kept.0.objects; pointers = kept.0.pointers of; values = kept.1 }
