@@ -275,8 +275,7 @@ claim_refused Ownership h acting o r carried k given lacks un passed claims =
 need_ungoverned : (claim : Claim) (i : Instruction) (s : State) (p d : ℕ) (t : Request) (need : Need) (o r : ℕ) → o ≢ 0 → NoWay s.held (acting s p d) o r → IsPermitted i s p d t
     → Contains (i.needs s p d t) need → Speaks claim need → subject s.held t.operands need.place need.named ≡ o → Ungoverned claim s.held o (acting s p d)
 need_ungoverned Available i s p d t need o r real closed may there speaks to = tt
-need_ungoverned Granting i s p d t need o r real closed may there speaks to = first_ungoverned i s p d t need o r real closed may there speaks to
-need_ungoverned Ownership i s p d t need o r real closed may there speaks to = first_ungoverned i s p d t need o r real closed may there speaks to
+need_ungoverned _ i s p d t need o r real closed may there speaks to = first_ungoverned i s p d t need o r real closed may there speaks to
 
 -- a need of the object that claims the right is refused
 need_unused : (i : Instruction) (s : State) (p d : ℕ) (t : Request) (o r : ℕ) (need : Need) → o ≢ 0 → NoWay s.held (acting s p d) o r → All (OfOperand (IsHarmless o r)) t.operands
