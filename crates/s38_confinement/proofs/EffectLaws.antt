@@ -115,8 +115,9 @@ space_harmless : (s : State) (p d : ℕ) (t : Request) (o r : ℕ) → NoWay s.h
 unfolding setsppfp_gives setsppfp_needs rights_rule
 space_harmless s p d t o r closed asked may =
     let carried : ℕ = carried_for s.held t.operands 2 Written in
-    let rule : missing 2 rights.space (available s.held (acting s p d) (target s.held t.operands 2) carried) ≡ None = All-head (λ need. rights_rule s.held (acting s p d) t.operands need ≡ None) _ [] may.rights in
-    first_byte_harmless o r (pointer_at s.held t.operands 2) (λ to space. not_lacking 2 rights.space (available s.held (acting s p d) (target s.held t.operands 2) carried) r rule (space_has r space)
+    let there : ℕ = available s.held (acting s p d) (target s.held t.operands 2) carried in
+    let rule : missing 2 rights.space there ≡ None = All-head (λ need. rights_rule s.held (acting s p d) t.operands need ≡ None) _ [] may.rights in
+    first_byte_harmless o r (pointer_at s.held t.operands 2) (λ to space. not_lacking 2 rights.space there r rule (space_has r space)
     (subject_lacks s.held (acting s p d) t.operands 2 Written o r closed asked to))
 
 -- ---- SETDP
@@ -134,7 +135,8 @@ item_harmless : (s : State) (p d : ℕ) (t : Request) (o r : ℕ) → NoWay s.he
 unfolding setdp_gives setdp_needs
 item_harmless s p d t o r closed asked may = by (pointer_at s.held t.operands 2) refl (pointer_kept (IsHarmless o r) s.held t.operands 2 closed.spaces asked)
   where
-    by : (x : Option Pointer) → pointer_at s.held t.operands 2 ≡ x → OfPointer (IsHarmless o r) x → OfPointer (IsHarmless o r) (option_map (λ b. pointers.Item (num_of b) (offset_of b) (attr_at t.operands 3)) x)
+    by : (x : Option Pointer) → pointer_at s.held t.operands 2 ≡ x → OfPointer (IsHarmless o r) x
+        → OfPointer (IsHarmless o r) (option_map (λ b. pointers.Item (num_of b) (offset_of b) (attr_at t.operands 3)) x)
     by None is harmless = tt
     by (Some base) is harmless =
         let parts = used_parts setdp s p d t space_used 1 base may (0, omega arith, refl) refl (omega arith) refl is in
@@ -148,7 +150,8 @@ rights_more : (r : ℕ) (given : Bool) (user : ObjNum) (new : ℕ → ℕ) (x : 
 rights_more r true user new x lacks = record {
   owner = λ other free. free;
   row = λ other a none. subst (Lacks r) (sym (row_read x.rows user (record { 0 = new (row_of x.rows user.0) }) other a))
-      (cond_both (user.0 == other) (new (row_of x.rows user.0)) (row_of x.rows other) (Lacks r) (λ q. lacks (row_of x.rows user.0) (subst (λ n. Lacks r (row_of x.rows n)) (sym (nat_same user.0 other q)) none)) (λ q. none));
+      (cond_both (user.0 == other) (new (row_of x.rows user.0)) (row_of x.rows other) (Lacks r)
+      (λ q. lacks (row_of x.rows user.0) (subst (λ n. Lacks r (row_of x.rows n)) (sym (nat_same user.0 other q)) none)) (λ q. none));
   everybody = λ none. none;
   rows = λ a. rows_kept x.rows user (record { 0 = new (row_of x.rows user.0) }) a;
 }
@@ -165,13 +168,15 @@ rights_lessens : (h : Held) (n : ℕ) (given : Bool) (user : ObjNum) (new : ℕ 
 rights_lessens h n given user new o r lacks =
     restand_lessens h n (λ z. with_rights given user (new (rights_of given user z)) z) o r (λ same x found. rights_more r given user new x (lacks same x found))
 
-grant_lessens : (s : State) (p d : ℕ) (t : Request) (o r : ℕ) → NoWay s.held (acting s p d) o r → All (OfOperand (IsHarmless o r)) t.operands → IsPermitted grant s p d t → Lessens s.held (grant_changes s.held t.operands) o r
+grant_lessens : (s : State) (p d : ℕ) (t : Request) (o r : ℕ) → NoWay s.held (acting s p d) o r → All (OfOperand (IsHarmless o r)) t.operands → IsPermitted grant s p d t
+    → Lessens s.held (grant_changes s.held t.operands) o r
 unfolding grant_changes grant_needs rights_rule
 grant_lessens s p d t o r closed asked may =
     let ops = t.operands in
     let n = target s.held ops 1 in
     let there = available s.held (acting s p d) n (carried_in (pointer_at s.held ops 1)) in
-    let rule : granting_rule (is_governed s.held n (acting s p d)) 1 (rights_at ops 3) there ≡ None = All-head (λ need. rights_rule s.held (acting s p d) ops need ≡ None) _ (user_needs ops 2) may.rights in
+    let rule : granting_rule (is_governed s.held n (acting s p d)) 1 (rights_at ops 3) there ≡ None =
+    All-head (λ need. rights_rule s.held (acting s p d) ops need ≡ None) _ (user_needs ops 2) may.rights in
     rights_lessens s.held n (is_given ops 2) (user_at s.held ops 2) (λ old. bit_or old (rights_at ops 3)) o r (λ same x found old none. lacks_both old (rights_at ops 3) r none
     (granting_lacks (is_governed s.held n (acting s p d)) 1 (rights_at ops 3) there r (ap (λ m. is_governed s.held m (acting s p d)) same ∙ ungoverned s.held (acting s p d) o r x found closed) rule
     (subject_lacks s.held (acting s p d) ops 1 Written o r closed asked same)))
@@ -190,7 +195,8 @@ unfolding xfro_changes xfro_needs rights_rule
 xfro_lessens s p d t o r closed may =
     let ops = t.operands in
     let n = target s.held ops 1 in
-    let rule : fails (not (is_governed s.held n (acting s p d))) exceptions.ownership_required 1 ≡ None = All-head (λ need. rights_rule s.held (acting s p d) ops need ≡ None) _ (on_object 2 (Of kinds.Profile) rights.no_rights None) may.rights in
+    let rule : fails (not (is_governed s.held n (acting s p d))) exceptions.ownership_required 1 ≡ None =
+    All-head (λ need. rights_rule s.held (acting s p d) ops need ≡ None) _ (on_object 2 (Of kinds.Profile) rights.no_rights None) may.rights in
     let owned = not_false _ (fails_none _ _ _ rule) in
     restand_lessens s.held n (λ z. owned_by (user_at s.held ops 2) (granted (user_at s.held ops 2) (record { 0 = rights.all_rights }) z)) o r
     (λ same x found. absurd (true≢false (sym owned ∙ ap (λ m. is_governed s.held m (acting s p d)) same ∙ ungoverned s.held (acting s p d) o r x found closed)))

@@ -83,7 +83,8 @@ keeps_then q h j k a b = record {
 
 -- ---- the words of change
 
-change_keeps : (q : Pointer → Type 0) (h : Held) (n : ℕ) (f : Object → Object) → KeepsNumber f → ((x : Object) → StandsSo x (f x)) → ((x : Object) → OfObject q x → OfObject q (f x)) → Keeps q h (change h n f)
+change_keeps : (q : Pointer → Type 0) (h : Held) (n : ℕ) (f : Object → Object) → KeepsNumber f → ((x : Object) → StandsSo x (f x)) → ((x : Object) → OfObject q x → OfObject q (f x))
+    → Keeps q h (change h n f)
 change_keeps q h n f number stands pointers = record {
   next = refl;
   objects = λ m. subst (IsAsBefore (object h m)) (sym (object_changed n m f h.objects number))

@@ -184,7 +184,8 @@ argument_pointed q homes values None h = tt
 argument_pointed q homes values (Some (args.Item i)) h = pointed q (value_of_item homes values i) (held q values (slice_get homes i) h)
 argument_pointed q homes values (Some arg) h = tt
 
-came_kept : (q : Pointer → Type 0) (homes : List ℕ) (values : List Val) (i : Instruction) (o : Option (Result Given Exception)) → OfVals q values → OfComputed q o → OfVals q (came homes values i o).values
+came_kept : (q : Pointer → Type 0) (homes : List ℕ) (values : List Val) (i : Instruction) (o : Option (Result Given Exception)) → OfVals q values → OfComputed q o
+    → OfVals q (came homes values i o).values
 came_kept q homes values i (Some (Ok (givens.Number attr z))) h new = changed_kept q values (receiver_of homes i.args) (with_number attr z) (number_there q attr z) h
 came_kept q homes values i (Some (Ok (givens.Bytes bytes))) h new = changed_kept q values (receiver_of homes i.args) (with_bytes bytes) (bytes_there q bytes) h
 came_kept q homes values i (Some (Ok (givens.Pointer p))) h new = set_kept q values (receiver_of homes i.args) (vals.Ptr (Some p)) h new

@@ -284,10 +284,13 @@ unfolding rights_rule
 need_unused i s p d t o r need real closed asked may so there claims =
     let carried = carried_for s.held t.operands need.place need.named in
     let rule : rights_rule s.held (acting s p d) t.operands need ≡ None = All-contains (λ n. rights_rule s.held (acting s p d) t.operands n ≡ None) (i.needs s p d t) need may.rights there in
-    let of_object : claim_rule need.claim s.held (acting s p d) o carried need.place need.rights.0 ≡ None = subst (λ n. claim_rule need.claim s.held (acting s p d) n carried need.place need.rights.0 ≡ None) claims.object rule in
-    let lacks : Lacks r (available s.held (acting s p d) o carried) = lacking s.held (acting s p d) o r carried closed (carried_lacks s.held (acting s p d) t.operands need.place need.named o r closed asked claims.object) in
+    let of_object : claim_rule need.claim s.held (acting s p d) o carried need.place need.rights.0 ≡ None =
+    subst (λ n. claim_rule need.claim s.held (acting s p d) n carried need.place need.rights.0 ≡ None) claims.object rule in
+    let lacks : Lacks r (available s.held (acting s p d) o carried) =
+    lacking s.held (acting s p d) o r carried closed (carried_lacks s.held (acting s p d) t.operands need.place need.named o r closed asked claims.object) in
     let speaks = All-contains SpeaksSo (i.needs s p d t) need so there in
-    claim_refused need.claim s.held (acting s p d) o r carried need.place need.rights.0 lacks (need_ungoverned need.claim i s p d t need o r real closed may there speaks claims.object) of_object claims.right
+    claim_refused need.claim s.held (acting s p d) o r carried need.place need.rights.0 lacks
+    (need_ungoverned need.claim i s p d t need o r real closed may there speaks claims.object) of_object claims.right
 
 base_unused : (o r offset : ℕ) (attr : Attr) (base : Pointer) → is_base base offset attr ≡ true → r ≡ space_right → IsHarmless o r base → object_of base ≡ o → ⊥
 base_unused o r offset attr (pointers.System n carried) is space harmless to = cc

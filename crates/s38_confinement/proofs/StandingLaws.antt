@@ -180,7 +180,8 @@ added_lessens h x o r given next none of = record {
   pointers = λ all. All-append (OfObject (IsHarmless o r)) h.objects (x ∷ []) all (All-cons (OfObject (IsHarmless o r)) x [] of (All-nil (OfObject (IsHarmless o r))));
 }
 
-pub creation_lessens : (h : Held) (owner : ℕ) (made : Creating) (body : Body) (o r : ℕ) → o < h.next → special_of body ≡ 0 → OfBody (IsHarmless o r) body → Lessens h (creation_changes h owner made body) o r
+pub creation_lessens : (h : Held) (owner : ℕ) (made : Creating) (body : Body) (o r : ℕ) → o < h.next → special_of body ≡ 0 → OfBody (IsHarmless o r) body
+    → Lessens h (creation_changes h owner made body) o r
 unfolding creation_changes
 creation_lessens h owner made body o r given none of = by made.id
   where

@@ -59,7 +59,8 @@ there_is (x ∷ xs) zero h = (x, refl)
 there_is (x ∷ xs) (suc k) h = there_is xs k (omega (arith, h))
 
 -- the entry's event opens no way
-asked_closed : (ds : List ProcessState) (done es : List Entry) (e : Entry) (o r : ℕ) → 0 < e.process → e.process ≤ length ds → AreRun ds (done ++ e ∷ es) → AreClosed ds done o r → OfEvent (IsHarmless o r) e.event
+asked_closed : (ds : List ProcessState) (done es : List Entry) (e : Entry) (o r : ℕ) → 0 < e.process → e.process ≤ length ds → AreRun ds (done ++ e ∷ es)
+    → AreClosed ds done o r → OfEvent (IsHarmless o r) e.event
 asked_closed ds done es e o r first last run closed =
     let at = there_is ds (e.process - 1) (omega (arith, first, last)) in
     let next : e.process ≡ e.process - 1 + 1 = omega (arith, first) in
@@ -71,7 +72,8 @@ closed_next ds done e o r reply closed k d there =
     elim (e.process == k + 1) as (λ b. (e.process == k + 1) ≡ b → NoWayIn o r (behind d (entries_of (k + 1) (done ++ e ∷ [])))) [
       | true ↦ λ q.
           let now = behind d (entries_of (k + 1) done) in
-          let at : behind d (entries_of (k + 1) (done ++ e ∷ [])) ≡ absorbed now e.reply = ap (behind d) (own_entries (k + 1) done [] e (nat_same e.process (k + 1) q)) ∙ behind_last d (entries_of (k + 1) done) e in
+          let at : behind d (entries_of (k + 1) (done ++ e ∷ [])) ≡ absorbed now e.reply =
+          ap (behind d) (own_entries (k + 1) done [] e (nat_same e.process (k + 1) q)) ∙ behind_last d (entries_of (k + 1) done) e in
           subst (NoWayIn o r) (sym at) (goes_on (IsHarmless o r) (harmless_closed o r) now e.reply (closed k d there) reply)
       | false ↦ λ q. subst (λ l. NoWayIn o r (behind d l)) (sym (other_entries (k + 1) done [] e q ∙ append-nil (entries_of (k + 1) done))) (closed k d there)
     ] refl
