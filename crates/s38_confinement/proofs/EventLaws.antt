@@ -12,7 +12,6 @@ use Rattle.s38_rules.specs.State.{State, process_entry, waits}
 use Rattle.s38_rules.specs.Step.{Stepped, by_verdict, by_waiting, step}
 use Rattle.s38_rules.specs.Users.{acting}
 use Rattle.s38_rules.specs.Verdict.{awake_verdict, of_failure, refused_by}
-use Rattle.s38_rules.specs.declared.process.ProcessEntry.{ProcessEntry}
 use Rattle.s38_rules.specs.declared.verdict.Verdict.TheVariants.{Permit}
 use Rattle.s38_rules.specs.declared.verdict.Verdict.{Verdict}
 use Rattle.s38_confinement.proofs.EffectLaws.{effect_lessens}
@@ -32,24 +31,18 @@ permitted_none : (s : State) (p : ℕ) (e : Event) (x : Option Exception) → of
 permitted_none s p e None h = refl
 permitted_none s p e (Some x) h = cc
 
-started_lessens : (s : State) (p : ℕ) (x : Option ProcessEntry) (o r : ℕ) → Lessens s.held (start_at s p x).held o r
-started_lessens s p None o r = lessens_same s.held o r
-started_lessens s p (Some x) o r = lessens_same s.held o r
-
-ended_lessens : (s : State) (p : ℕ) (x : Option ProcessEntry) (o r : ℕ) → Lessens s.held (end_at s p x).held o r
-ended_lessens s p None o r = lessens_same s.held o r
-ended_lessens s p (Some x) o r = lessens_same s.held o r
-
 event_lessens : (s : State) (p : ℕ) (e : Event) (users : List ℕ) (o r : ℕ) → o ≢ 0 → NoWay s.held users o r → OfEvent (IsHarmless o r) e → ActsWithin users s p e → awake_verdict s p e ≡ Permit
     → Lessens s.held (effect_of s p e).state.held o r × OfVals (IsHarmless o r) (effect_of s p e).values × (UsesBy s p e o r → ⊥)
 unfolding effect_of awake_verdict
-event_lessens s p Start users o r some closed asked within may = (started_lessens s p (process_entry s p) o r, All-nil (OfVal (IsHarmless o r)), λ uses. uses)
+event_lessens s p Start users o r some closed asked within may =
+    (elim (process_entry s p) as (λ x. Lessens s.held (start_at s p x).held o r) [ None ↦ lessens_same s.held o r | Some x ↦ lessens_same s.held o r ], All-nil (OfVal (IsHarmless o r)), λ uses. uses)
 event_lessens s p (Act d t) users o r some closed asked within may =
     let none = permitted_none s p (Act d t) (refused_by (row t.op) s p d t) may in
     let way = among s.held users (acting s p d) o r closed within in
     let done = effect_lessens s p d t o r way asked none in
     (done.0, done.1, unused s p d t o r some way asked none)
-event_lessens s p (Finish cause) users o r some closed asked within may = (ended_lessens s p (process_entry s p) o r, All-nil (OfVal (IsHarmless o r)), λ uses. uses)
+event_lessens s p (Finish cause) users o r some closed asked within may =
+    (elim (process_entry s p) as (λ x. Lessens s.held (end_at s p x).held o r) [ None ↦ lessens_same s.held o r | Some x ↦ lessens_same s.held o r ], All-nil (OfVal (IsHarmless o r)), λ uses. uses)
 
 verdict_kept : (users : List ℕ) (o r : ℕ) (s : State) (e : Entry) (v : Verdict) → o ≢ 0 → IsShut s.held users o r → OfEvent (IsHarmless o r) e.event → ActsWithin users s e.process e.event
     → awake_verdict s e.process e.event ≡ v → KeepsOut users o r s e (by_verdict s e.process e.event v)

@@ -4,7 +4,7 @@ use Rattle.std.proofs.Common.{◌++◌, ◌==◌, ◌∷◌, ◌≡◌, Bool, Li
 use Rattle.std.proofs.lemmas.Bool.{and_parts, cond_both}
 use Rattle.std.proofs.lemmas.List.Elements.{All-cons, All-nil}
 use Rattle.std.specs.List.{list_all}
-use Rattle.std.specs.Prelude.{◌&&◌, ◌||◌, All, None, Option, Some}
+use Rattle.std.specs.Prelude.{◌||◌, All, None, Option, Some}
 use Rattle.s38_base.specs.RightNames as rights
 use Rattle.s38_base.specs.declared.op.Op.TheVariants.{Crtpg, Crtq, Crts, Grant, Matau, Matctx, Modadr, Modup, Rename, Retract, Rslvsp}
 use Rattle.s38_base.specs.declared.op.Op.{Op}
@@ -61,37 +61,25 @@ abbrev asks_rights : Claim → Bool
 asks_rights Available = true
 asks_rights _ = false
 
-abbrev is_written : Named → Bool
-is_written Written = true
-is_written _ = false
-
-abbrev is_any : Sought → Bool
-is_any Any = true
-is_any _ = false
+abbrev is_of_first : ℕ → Named → Sought → Bool
+is_of_first place Written Any = place == 1
+is_of_first _ _ _ = false
 
 abbrev speaks : Need → Bool
-speaks need = asks_rights need.claim || ((need.place == 1) && (is_written need.named && is_any need.sought))
+speaks need = asks_rights need.claim || is_of_first need.place need.named need.sought
 
 abbrev AreSo : List Need → Type 0
 AreSo wanted = list_all speaks wanted ≡ true
 
-written_by : (named : Named) → is_written named ≡ true → named ≡ Written
-written_by Written h = refl
-written_by _ h = cc
+first_by : (place : ℕ) (named : Named) (sought : Sought) → is_of_first place named sought ≡ true → (place ≡ 1) × (named ≡ Written) × (sought ≡ Any)
+first_by place Written Any h = (nat_same place 1 h, refl, refl)
+first_by place _ _ h = cc
 
-any_by : (sought : Sought) → is_any sought ≡ true → sought ≡ Any
-any_by Any h = refl
-any_by _ h = cc
-
-first_by : (need : Need) → ((need.place == 1) && (is_written need.named && is_any need.sought)) ≡ true → IsOfFirst need
-first_by need h =
-    let place = and_parts (need.place == 1) _ h in
-    let other = and_parts (is_written need.named) _ place.1 in
-    record { place = nat_same need.place 1 place.0; named = written_by need.named other.0; sought = any_by need.sought other.1 }
-
-speaks_by : (claim : Claim) (need : Need) → (asks_rights claim || ((need.place == 1) && (is_written need.named && is_any need.sought))) ≡ true → Speaks claim need
+speaks_by : (claim : Claim) (need : Need) → (asks_rights claim || is_of_first need.place need.named need.sought) ≡ true → Speaks claim need
 speaks_by Available need h = tt
-speaks_by _ need h = first_by need h
+speaks_by _ need h =
+    let parts = first_by need.place need.named need.sought h in
+    record { place = parts.0; named = parts.1; sought = parts.2 }
 
 all_so : (wanted : List Need) → AreSo wanted → SpeakSo wanted
 all_so [] h = All-nil SpeaksSo
