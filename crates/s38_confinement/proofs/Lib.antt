@@ -1,7 +1,8 @@
-mod HistoryLaws
-mod MakerLaws
+mod EffectLaws
+mod EventLaws
 mod NeedLaws
 mod PlainLaws
+mod PointerLaws
 pub mod ProcessLaws
 mod RightLaws
 mod StandingLaws

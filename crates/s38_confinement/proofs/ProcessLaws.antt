@@ -3,15 +3,13 @@
 use Rattle.std.proofs.Common.{◌≡◌, ℕ, zero, suc, ◌-◌, Bool, true, false, List, [], ◌∷◌, take, subst}
 use Rattle.std.proofs.lemmas.Bool.{cond_both}
 use Rattle.std.proofs.lemmas.List.Elements.{All-append, All-cons, All-head, All-nil, All-tail, All-set, All-take}
-use Rattle.std.specs.Prelude.{All, Option, Some, None, Result, Ok, Err, ℤ, nat_le, nat_lt, slice_get, if◌then◌else◌}
+use Rattle.std.specs.Prelude.{All, IfSome, Option, Some, None, Result, Ok, ℤ, nat_le, nat_lt, slice_get, if◌then◌else◌}
 use Rattle.s38_base.specs.declared.attr.Attr.{Attr}
 use Rattle.s38_base.specs.declared.attr.Attr.TheVariants as attrs
 use Rattle.s38_base.specs.declared.exception.Exception.{Exception}
-use Rattle.s38_base.specs.declared.id.ObjNum.{ObjNum}
 use Rattle.s38_base.specs.declared.op.Op.{Op}
 use Rattle.s38_base.specs.declared.op.Op.TheVariants.{Callx, Retexcpd, Xctl}
 use Rattle.s38_base.specs.declared.pointer.Pointer.{Pointer}
-use Rattle.s38_base.specs.declared.pointer.Pointer.TheVariants as pointers
 use Rattle.s38_code.specs.Operations.{classes}
 use Rattle.s38_code.specs.declared.class.Class.{Class}
 use Rattle.s38_code.specs.declared.entry.Entry.{Entry}
@@ -32,9 +30,7 @@ use Rattle.s38_code.specs.declared.reply.Val.{Val}
 use Rattle.s38_code.specs.declared.reply.Val.TheVariants as vals
 use Rattle.s38_compute.specs.declared.given.Given.{Given}
 use Rattle.s38_compute.specs.declared.given.Given.TheVariants as givens
-use Rattle.s38_compute.specs.Compute.{pointer_moved, pointing, space_moved}
-use Rattle.s38_compute.specs.Computed.{as_branch, as_bytes, as_number, as_pointer, bytes_given, computed, computes_number, computes_string, is_branch, moves_pointer, number_given, pointer_given, test_given}
-use Rattle.s38_compute.specs.Readings.{Readings}
+use Rattle.s38_compute.specs.Computed.{computed}
 use Rattle.s38_local.specs.declared.frame.Frame.{Frame}
 use Rattle.s38_local.specs.declared.local_end.LocalEnd.{LocalEnd}
 use Rattle.s38_local.specs.declared.local_end.LocalEnd.TheVariants as ends
@@ -44,34 +40,24 @@ use Rattle.s38_local.specs.Received.{changed_at, changed_there, with_bytes, with
 use Rattle.s38_local.specs.Variables.{form_in, place_of, pointer_of, put_at, value_at, value_of_item, value_pointer}
 use Rattle.s38_process.specs.declared.invocation.Invocation.{Invocation}
 use Rattle.s38_process.specs.declared.status.Status.{Status}
-use Rattle.s38_process.specs.declared.status.Status.TheVariants.{Fresh, Running, Ending, Ended}
+use Rattle.s38_process.specs.declared.status.Status.TheVariants.{Running}
 use Rattle.s38_process.specs.Exceptions.{Offered, label_by, offered, offered_from, or_else}
 use Rattle.s38_process.specs.Invocations.{Stack, blank_bytes, blank_values, deepest, depth_of, entered, first_by, first_value, first_values, instruction_of, popped_to, rows_in, with_blank}
 use Rattle.s38_process.specs.Process.{ProcessState, absorbed, act_of, acts, after_asked, after_event, after_local, after_run, alone, asks as asks_of, behind, event_of, fresh, is_return, local_step, local_steps, program_in, ran, returns, settled, went_by, went_into, went_on, with_frame}
 use Rattle.s38_process.specs.Replies.{merged, put, received, takes_value}
 use Rattle.s38_process.specs.Requests.{is_receiver, item_by, item_operand, operand_of, operands_of, request_of, source_by}
+use Rattle.s38_confinement.proofs.PointerLaws.{OfComputed, computed_kept, get_of}
 use Rattle.s38_confinement.specs.OfPointers.{IsClosed, OfEvent, OfOperand, OfPointer, OfReply, OfVal, OfVals}
 
 -- ---- variables
 
--- what a place holds
-abbrev OfHeld : (Pointer → Type 0) → Option Val → Type 0
-OfHeld q None = Unit {0}
-OfHeld q (Some v) = OfVal q v
-
-got : (q : Pointer → Type 0) (values : List Val) (place : ℕ) → OfVals q values → OfHeld q (slice_get values place)
-got q [] place h = tt
-got q (v ∷ values) zero h = All-head (OfVal q) v values h
-got q (v ∷ values) (suc place) h = got q values place (All-tail (OfVal q) v values h)
-
-held : (q : Pointer → Type 0) (values : List Val) (o : Option ℕ) → OfVals q values → OfHeld q (value_at values o)
+held : (q : Pointer → Type 0) (values : List Val) (o : Option ℕ) → OfVals q values → IfSome (value_at values o) (OfVal q)
 held q values None h = tt
-held q values (Some place) h = got q values place h
+held q values (Some place) h = get_of (OfVal q) values place h
 
-pointed : (q : Pointer → Type 0) (o : Option Val) → OfHeld q o → OfPointer q (value_pointer o)
-pointed q None h = tt
+pointed : (q : Pointer → Type 0) (o : Option Val) → IfSome o (OfVal q) → OfPointer q (value_pointer o)
 pointed q (Some (vals.Ptr p)) h = h
-pointed q (Some v) h = tt
+pointed q _ h = tt
 
 set_kept : (q : Pointer → Type 0) (values : List Val) (o : Option ℕ) (v : Val) → OfVals q values → OfVal q v → OfVals q (put_at values o v)
 set_kept q values None v h new = h
@@ -106,11 +92,11 @@ begins q made budget =
 
 -- ---- what it asks
 
-source_kept : (q : Pointer → Type 0) (attr : Attr) (v : Option Val) → OfHeld q v → OfOperand q (source_by attr v)
+source_kept : (q : Pointer → Type 0) (attr : Attr) (v : Option Val) → IfSome v (OfVal q) → OfOperand q (source_by attr v)
 source_kept q attrs.Pointer v h = pointed q v h
 source_kept q attr v h = tt
 
-variable_kept : (q : Pointer → Type 0) (receiver : Bool) (attr : Attr) (v : Option Val) → OfHeld q v → OfOperand q (item_operand receiver attr v)
+variable_kept : (q : Pointer → Type 0) (receiver : Bool) (attr : Attr) (v : Option Val) → IfSome v (OfVal q) → OfOperand q (item_operand receiver attr v)
 variable_kept q true attr v h = tt
 variable_kept q false attr v h = source_kept q attr v h
 
@@ -130,13 +116,9 @@ operand_kept q rows homes values class arg h = tt
 operands_kept : (q : Pointer → Type 0) (rows : List Row) (homes : List ℕ) (values : List Val) (classes : List Class) (given : List Arg) → OfVals q values
     → All (OfOperand q) (operands_of rows homes values classes given)
 operands_kept q rows homes values (class ∷ more) (arg ∷ rest) h =
-    All-cons (OfOperand q) (operand_of rows homes values class arg) (operands_of rows homes values more rest) (operand_kept q rows homes values class arg h) (operands_kept q rows homes values more rest h)
-operands_kept q rows homes values [] given h = All-nil (OfOperand q)
-operands_kept q rows homes values (class ∷ more) [] h = All-nil (OfOperand q)
-
-abbrev OfAsked : (Pointer → Type 0) → Option Event → Type 0
-OfAsked q None = Unit {0}
-OfAsked q (Some e) = OfEvent q e
+    All-cons (OfOperand q) (operand_of rows homes values class arg) (operands_of rows homes values more rest)
+    (operand_kept q rows homes values class arg h) (operands_kept q rows homes values more rest h)
+operands_kept q rows homes values _ _ h = All-nil (OfOperand q)
 
 act_kept : (q : Pointer → Type 0) (s : Stack) (i : Instruction) → OfVals q s.values → OfEvent q (act_of s i)
 unfolding request_of
@@ -146,17 +128,15 @@ acts_kept : (q : Pointer → Type 0) (d : ProcessState) (o : Option Instruction)
 acts_kept q d None h = tt
 acts_kept q d (Some i) h = cond_both (is_return i.op) (returns d) (act_of d.stack i) (OfEvent q) (λ back. tt) (λ on. act_kept q d.stack i h)
 
-asked_kept : (q : Pointer → Type 0) (d : ProcessState) (status : Status) → OfVals q d.stack.values → OfAsked q (asks_of d status)
-asked_kept q d Fresh h = tt
+asked_kept : (q : Pointer → Type 0) (d : ProcessState) (status : Status) → OfVals q d.stack.values → IfSome (asks_of d status) (OfEvent q)
 asked_kept q d Running h =
     let o = instruction_of d.stack.top in
     cond_both (nat_le d.budget d.done) (Finish causes.Budget) (acts d o) (OfEvent q) (λ spent. tt) (λ left. acts_kept q d o h)
-asked_kept q d (Ending cause) h = tt
-asked_kept q d Ended h = tt
+asked_kept q d _ h = tt
 
 pub asks : (q : Pointer → Type 0) (d : ProcessState) (e : Event) → OfVals q d.stack.values → event_of d ≡ Some e → OfEvent q e
 unfolding event_of
-asks q d e h is = subst (OfAsked q) is (asked_kept q d d.status h)
+asks q d e h is = subst (λ x. IfSome x (OfEvent q)) is (asked_kept q d d.status h)
 
 -- ---- invocations end
 
@@ -181,64 +161,13 @@ offered_from_kept q code values top (caller ∷ more) h =
 offered_kept : (q : Pointer → Type 0) (code : ℕ) (s : Stack) → OfVals q s.values → OfVals q (offered code s).stack.values
 offered_kept q code s h = offered_from_kept q code s.values s.top s.callers h
 
--- ---- what is computed
-
-abbrev pub OfGiven : (Pointer → Type 0) → Given → Type 0
-OfGiven q (givens.Pointer p) = q p
-OfGiven q _ = Unit {0}
-
-abbrev pub OfComputed : (Pointer → Type 0) → Option (Result Given Exception) → Type 0
-OfComputed q None = Unit {0}
-OfComputed q (Some (Err x)) = Unit {0}
-OfComputed q (Some (Ok given)) = OfGiven q given
-
-pointing_kept : (q : Pointer → Type 0) → IsClosed q → (object : ObjNum) (offset : ℕ) (o : Option ℕ) → q (pointers.Space object offset) → OfComputed q (Some (as_pointer (pointing object o)))
-pointing_kept q closed object offset None h = tt
-pointing_kept q closed object offset (Some other) h = closed object offset other h
-
-space_kept : (q : Pointer → Type 0) → IsClosed q → (op : Op) (object : ObjNum) (offset : ℕ) (a : Attr) (x : Option ℤ) → q (pointers.Space object offset)
-    → OfComputed q (Some (as_pointer (space_moved op object offset a x)))
-space_kept q closed op object offset a None h = tt
-space_kept q closed op object offset a (Some x) h = pointing_kept q closed object offset _ h
-
--- a pointer that is moved stays one into its object
-moved_kept : (q : Pointer → Type 0) → IsClosed q → (op : Op) (o : Option Pointer) (a : Attr) (x : Option ℤ) → OfPointer q o → OfComputed q (Some (as_pointer (pointer_moved op o a x)))
-moved_kept q closed op None a x h = tt
-moved_kept q closed op (Some (pointers.Space object offset)) a x h = space_kept q closed op object offset a x h
-moved_kept q closed op (Some p) a x h = tt
-
-number_plain : (q : Pointer → Type 0) (attr : Attr) (r : Result ℤ Exception) → OfComputed q (Some (as_number attr r))
-number_plain q attr (Ok z) = tt
-number_plain q attr (Err x) = tt
-
-branch_plain : (q : Pointer → Type 0) (r : Result Bool Exception) → OfComputed q (Some (as_branch r))
-branch_plain q (Ok taken) = tt
-branch_plain q (Err x) = tt
-
-bytes_plain : (q : Pointer → Type 0) (r : Result (List ℕ) Exception) → OfComputed q (Some (as_bytes r))
-bytes_plain q (Ok bytes) = tt
-bytes_plain q (Err x) = tt
-
--- a computation gives a pointer where one is moved alone
-pub computed_kept : (q : Pointer → Type 0) → IsClosed q → (op : Op) (round : Bool) (r : Readings) → OfPointer q (r.pointer 2) → OfComputed q (computed op round r)
-unfolding computed pointer_given
-computed_kept q closed op round r h =
-    let P = OfComputed q in
-    let by_pointer : Option (Result Given Exception) = if moves_pointer op then Some (as_pointer (pointer_given op r)) else None in
-    let by_string : Option (Result Given Exception) = if computes_string op then Some (as_bytes (bytes_given op r)) else by_pointer in
-    let by_test : Option (Result Given Exception) = if is_branch op then Some (as_branch (test_given op r)) else by_string in
-    cond_both (computes_number op) (Some (as_number r.receiver (number_given op round r))) by_test P (λ yes. number_plain q r.receiver (number_given op round r)) (λ no.
-    cond_both (is_branch op) (Some (as_branch (test_given op r))) by_string P (λ yes. branch_plain q (test_given op r)) (λ no.
-    cond_both (computes_string op) (Some (as_bytes (bytes_given op r))) by_pointer P (λ yes. bytes_plain q (bytes_given op r)) (λ no.
-    cond_both (moves_pointer op) (Some (as_pointer (pointer_given op r))) None P (λ yes. moved_kept q closed op (r.pointer 2) (r.attr 3) (r.number 3) h) (λ no. tt))))
-
 -- ---- local instructions
 
 -- bytes that go to a variable leave it without a pointer, or as it was
 changed_kept : (q : Pointer → Type 0) (values : List Val) (place : Option ℕ) (f : Val → Val) → ((v : Val) → OfVal q v → OfVal q (f v)) → OfVals q values → OfVals q (changed_at values place f)
 changed_kept q values place f keeps h = by (value_at values place) (held q values place h)
   where
-    by : (o : Option Val) → OfHeld q o → OfVals q (changed_there values place f o)
+    by : (o : Option Val) → IfSome o (OfVal q) → OfVals q (changed_there values place f o)
     by None old = h
     by (Some v) old = set_kept q values place (f v) h (keeps v old)
 
@@ -255,13 +184,12 @@ argument_pointed q homes values None h = tt
 argument_pointed q homes values (Some (args.Item i)) h = pointed q (value_of_item homes values i) (held q values (slice_get homes i) h)
 argument_pointed q homes values (Some arg) h = tt
 
-came_kept : (q : Pointer → Type 0) (homes : List ℕ) (values : List Val) (i : Instruction) (o : Option (Result Given Exception)) → OfVals q values → OfComputed q o → OfVals q (came homes values i o).values
-came_kept q homes values i None h new = h
-came_kept q homes values i (Some (Err x)) h new = h
+came_kept : (q : Pointer → Type 0) (homes : List ℕ) (values : List Val) (i : Instruction) (o : Option (Result Given Exception)) → OfVals q values → OfComputed q o
+    → OfVals q (came homes values i o).values
 came_kept q homes values i (Some (Ok (givens.Number attr z))) h new = changed_kept q values (receiver_of homes i.args) (with_number attr z) (number_there q attr z) h
 came_kept q homes values i (Some (Ok (givens.Bytes bytes))) h new = changed_kept q values (receiver_of homes i.args) (with_bytes bytes) (bytes_there q bytes) h
 came_kept q homes values i (Some (Ok (givens.Pointer p))) h new = set_kept q values (receiver_of homes i.args) (vals.Ptr (Some p)) h new
-came_kept q homes values i (Some (Ok (givens.Branch taken))) h new = h
+came_kept q homes values i _ h new = h
 
 computed_run_kept : (q : Pointer → Type 0) → IsClosed q → (rows : List Row) (homes : List ℕ) (values : List Val) (i : Instruction) → OfVals q values → OfVals q (computed_run rows homes values i).values
 computed_run_kept q closed rows homes values i h =
@@ -283,10 +211,9 @@ run_kept q closed rows frame values (Some i) h =
     (λ other. computed_run_kept q closed rows frame.homes values i h)
 
 after_local_kept : (q : Pointer → Type 0) (d : ProcessState) (went : Went) (e : LocalEnd) → OfVals q went.values → OfVals q (after_local d went e).stack.values
-after_local_kept q d went ends.Next h = h
-after_local_kept q d went (ends.Jump at) h = h
 after_local_kept q d went ends.Return h = popped_kept q (with_frame d.stack went.values went.frame) d.stack.callers h
 after_local_kept q d went (ends.Signal x) h = offered_kept q x.id (with_frame d.stack went.values went.frame) h
+after_local_kept q d went _ h = h
 
 step_kept : (q : Pointer → Type 0) → IsClosed q → (d : ProcessState) → OfVals q d.stack.values → OfVals q (local_step d).stack.values
 unfolding local_step
@@ -309,13 +236,10 @@ settled_kept q closed d h = steps_kept q closed (d.budget - d.done) d h
 
 merged_kept : (q : Pointer → Type 0) (op : Op) (old : Option Val) (v : Val) → OfVal q v → OfVal q (merged op old v)
 merged_kept q op (Some (vals.Bytes old)) (vals.Bytes new) h = tt
-merged_kept q op (Some (vals.Bytes old)) v h = h
-merged_kept q op (Some old) v h = h
-merged_kept q op None v h = h
+merged_kept q op _ v h = h
 
 received_kept : (q : Pointer → Type 0) (op : Op) (rows : List Row) (homes : List ℕ) (classes : List Class) (given : List Arg) (vs values : List Val) → OfVals q vs → OfVals q values
     → OfVals q (received op rows homes classes given vs values)
-received_kept q op rows homes (class ∷ more) (arg ∷ rest) [] values new h = h
 received_kept q op rows homes (class ∷ more) (arg ∷ rest) (v ∷ vs) values new h =
     let at = place_of homes (Some arg) in
     let w = merged op (value_at values at) v in
@@ -323,8 +247,7 @@ received_kept q op rows homes (class ∷ more) (arg ∷ rest) (v ∷ vs) values 
     (λ takes. received_kept q op rows homes more rest vs (put op values at v) (All-tail (OfVal q) v vs new)
     (set_kept q values at w h (merged_kept q op (value_at values at) v (All-head (OfVal q) v vs new))))
     (λ stays. received_kept q op rows homes more rest (v ∷ vs) values new h)
-received_kept q op rows homes [] given vs values new h = h
-received_kept q op rows homes (class ∷ more) [] vs values new h = h
+received_kept q op rows homes _ _ _ values new h = h
 
 went_on_kept : (q : Pointer → Type 0) (s : Stack) (o : Option Instruction) (vs : List Val) → OfVals q s.values → OfVals q vs → OfVals q (went_on s o vs).values
 went_on_kept q s None vs h new = h
@@ -348,13 +271,9 @@ went_by_kept q s (Some i) vs h new = went_into_kept q s vs i i.op (program_in vs
 after_event_kept : (q : Pointer → Type 0) (d : ProcessState) (e : Event) (r : Reply) → OfVals q d.stack.values → OfReply q r → OfVals q (after_event d e r).stack.values
 after_event_kept q d (Act depth request) (replies.Done vs) h new = went_by_kept q d.stack (instruction_of d.stack.top) vs h new
 after_event_kept q d (Act depth request) (replies.Signal x) h new = offered_kept q x.id d.stack h
-after_event_kept q d (Act depth request) replies.MustWait h new = h
 after_event_kept q d Start (replies.Done vs) h new = h
-after_event_kept q d Start (replies.Signal x) h new = h
-after_event_kept q d Start replies.MustWait h new = h
 after_event_kept q d (Finish cause) (replies.Done vs) h new = h
-after_event_kept q d (Finish cause) (replies.Signal x) h new = h
-after_event_kept q d (Finish cause) replies.MustWait h new = h
+after_event_kept q d _ _ h new = h
 
 after_asked_kept : (q : Pointer → Type 0) (d : ProcessState) (o : Option Event) (r : Reply) → OfVals q d.stack.values → OfReply q r → OfVals q (after_asked d o r).stack.values
 after_asked_kept q d None r h new = h
@@ -366,4 +285,5 @@ goes_on q closed d r h new = settled_kept q closed (after_asked d (event_of d) r
 
 pub behind_kept : (q : Pointer → Type 0) → IsClosed q → (d : ProcessState) (es : List Entry) → OfVals q d.stack.values → All (λ e. OfReply q e.reply) es → OfVals q (behind d es).stack.values
 behind_kept q closed d [] h news = h
-behind_kept q closed d (e ∷ es) h news = behind_kept q closed (absorbed d e.reply) es (goes_on q closed d e.reply h (All-head (λ e. OfReply q e.reply) e es news)) (All-tail (λ e. OfReply q e.reply) e es news)
+behind_kept q closed d (e ∷ es) h news =
+    behind_kept q closed (absorbed d e.reply) es (goes_on q closed d e.reply h (All-head (λ e. OfReply q e.reply) e es news)) (All-tail (λ e. OfReply q e.reply) e es news)

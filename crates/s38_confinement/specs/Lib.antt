@@ -1,3 +1,4 @@
 pub mod OfPointers
 pub mod NoWay
 pub mod Confined
+pub mod Plain

@@ -1,10 +1,16 @@
-//! What every history promises to those who keep others out.
-ghost use Rattle.std.specs.Prelude.{◌≡◌, ℕ, List, []};
+//! What every history promises to those who keep others out, and what most instructions leave as it is.
+ghost use Rattle.s38_base.specs.declared.pointer.Pointer.{Pointer};
 ghost use Rattle.s38_code.specs.declared.entry.Entry.{Entry};
+ghost use Rattle.s38_code.specs.declared.event.Request.{Request};
 ghost use Rattle.s38_confinement.specs.Confined.{AllWithin, AreRun, BeginsClosed, NeverUsed, StaysClosed};
+ghost use Rattle.s38_confinement.specs.OfPointers.{IsClosed, OfObjects, OfOperand};
+ghost use Rattle.s38_confinement.specs.Plain.{IsPlain, Passes, makes_or_gives};
 ghost use Rattle.s38_process.specs.Process.{ProcessState};
+ghost use Rattle.s38_rules.specs.Effect.{effect};
 ghost use Rattle.s38_rules.specs.Legal.{Leads};
+ghost use Rattle.s38_rules.specs.Rows.{row};
 ghost use Rattle.s38_rules.specs.State.{State};
+ghost use Rattle.std.specs.Prelude.{◌≡◌, ℕ, All, Bool, List, [], false};
 
 /// A history of the one-thread machine, made by processes from where no way to a right on an object was open for some
 /// users, and in which these users alone act: none of its entries uses the right, and no way is open at its end.
@@ -12,4 +18,11 @@ pub fn no_way_opens()
     ensures confined { (processes : List ProcessState) (first : State) (history : List Entry) (end : State) (users : List ℕ) (o : ℕ) (r : ℕ)
         → BeginsClosed processes first users o r → Leads first [] history end → AllWithin users first history → AreRun processes history
         → NeverUsed first history o r × StaysClosed processes history end users o r }
+{}
+
+/// The effect of an instruction that neither makes an object or a pointer, nor destroys a user, nor changes who may do
+/// what: no object is new, each that is there stands as it stood, and no pointer is new, whatever the state is.
+pub fn effects_are_plain()
+    ensures plain { (test : Pointer → Bool) (s : State) (p : ℕ) (d : ℕ) (t : Request) → makes_or_gives t.op ≡ false → IsClosed (Passes test)
+        → OfObjects (Passes test) s.held.objects → All (OfOperand (Passes test)) t.operands → IsPlain test s.held (effect (row t.op) s p d t) }
 {}

@@ -1,7 +1,9 @@
 -- A whole run opens no way to a right.
-use Rattle.std.proofs.Common.{◌≡◌, ◌≢◌, ℕ, ◌+◌, true, false, cond, List, [], ◌∷◌, length, map, refl, sym, ◌∙◌, ap, subst, arith, zero, suc}
+use Rattle.std.proofs.Common.{◌≡◌, ◌≢◌, ℕ, ◌+◌, List, [], ◌∷◌, length, map, refl, sym, ◌∙◌, ap, subst, arith, zero, suc}
+use Rattle.std.proofs.lemmas.Bool.{cond_both}
 use Rattle.std.proofs.lemmas.List.{length-map}
 use Rattle.std.proofs.lemmas.List.Elements.{All-cons, All-head, All-nil, All-tail}
+use Rattle.std.proofs.lemmas.Option.{same_Some}
 use Rattle.std.specs.Prelude.{All, Option, Some, slice_get}
 use Rattle.std.specs.Option.{unwrap_or}
 use Rattle.s38_code.specs.declared.deck.Deck.{Deck}
@@ -21,13 +23,10 @@ use Rattle.s38_confinement.proofs.ProcessLaws.{begins}
 use Rattle.s38_confinement.proofs.StepLaws.{closed_history}
 use Rattle.s38_top.specs.Decks.{IsConfined, IsRunOf, checked_of, made_for, no_program, process_of, processes_of}
 
-some_is : {A : Type 0} (x y : A) → Some x ≡ Some y → x ≡ y
-some_is x y h = cc
-
 -- what stands at a place of a list that was mapped
 mapped_at : {A B : Type 0} (f : A → B) (xs : List A) (k : ℕ) (y : B) → slice_get (map f xs) k ≡ Some y → (x : A) × (slice_get xs k ≡ Some x) × (f x ≡ y)
 mapped_at f [] k y h = cc
-mapped_at f (x ∷ xs) zero y h = (x, refl, some_is (f x) y h)
+mapped_at f (x ∷ xs) zero y h = (x, refl, same_Some (f x) y h)
 mapped_at f (x ∷ xs) (suc k) y h = mapped_at f xs k y h
 
 made_is : (deck : Deck) (job : Job) (made : CreateResult) → made_for deck job ≡ Some made → process_of deck job ≡ fresh made job.budget
@@ -55,10 +54,8 @@ as_many deck = length-map deck.jobs (process_of deck) ∙ sym (length-map deck.j
 rows_kept : (os : List Object) (n : ℕ) → All (λ x. AreRows x.rows) os → AreRows (rows_in (object_in os n))
 rows_kept [] n all = tt
 rows_kept (x ∷ os) n all =
-    elim (has_number n x) as (λ b. AreRows (rows_in (cond b (Some x) (object_in os n)))) [
-      | true ↦ All-head (λ x. AreRows x.rows) x os all
-      | false ↦ rows_kept os n (All-tail (λ x. AreRows x.rows) x os all)
-    ]
+    cond_both (has_number n x) (Some x) (object_in os n) (λ y. AreRows (rows_in y))
+    (λ yes. All-head (λ x. AreRows x.rows) x os all) (λ no. rows_kept os n (All-tail (λ x. AreRows x.rows) x os all))
 
 officer_in_order : AreRows officer_rows
 officer_in_order = (λ e. omega (arith, e), tt, tt)

@@ -1,0 +1,267 @@
+-- Where no way to a right is open for the users that act, an instruction that no rule refuses opens none, whatever it
+-- changes and gives.
+use Rattle.std.proofs.Common.{◌<◌, ◌==◌, ◌∙◌, ◌≡◌, Bool, List, [], ap, arith, bit_or, cond, false, refl, subst, sym, true, ℕ}
+use Rattle.std.proofs.lemmas.Bool.{cond_both, true≢false}
+use Rattle.std.proofs.lemmas.List.Elements.{All-head, All-nil, All-weaker}
+use Rattle.std.proofs.lemmas.List.Folds.{list_any_none}
+use Rattle.std.proofs.lemmas.Nat.Bits.{bit_at_and}
+use Rattle.std.specs.Int.{bit_at}
+use Rattle.std.specs.Option.{option_map}
+use Rattle.std.specs.Prelude.{◌-◌, ◌^◌, All, IfSome, None, Option, Some, bit_and, not}
+use Rattle.s38_base.specs.Exceptions as exceptions
+use Rattle.s38_base.specs.Pointers.{carried_in, offset_of, target_of}
+use Rattle.s38_base.specs.RightNames as rights
+use Rattle.s38_base.specs.Signals.{fails}
+use Rattle.s38_base.specs.declared.id.Id.{Id}
+use Rattle.s38_base.specs.declared.id.Kind.TheVariants as kinds
+use Rattle.s38_base.specs.declared.id.ObjNum.{ObjNum}
+use Rattle.s38_base.specs.declared.op.Op.TheVariants.{Crtctx, Crtpg, Crtq, Crts, Crtup, Desup, Grant, Modup, Retract, Rslvsp, Setdp, Setspfp, Setsppfp, Xfro}
+use Rattle.s38_base.specs.declared.op.Op.{Op}
+use Rattle.s38_base.specs.declared.pointer.Pointer.TheVariants as pointers
+use Rattle.s38_base.specs.declared.pointer.Pointer.{Pointer}
+use Rattle.s38_code.specs.Operations.{family_of}
+use Rattle.s38_code.specs.declared.event.Request.{Request}
+use Rattle.s38_code.specs.declared.operand.Operand.{Operand}
+use Rattle.s38_code.specs.declared.program.Program.{Program}
+use Rattle.s38_rules.proofs.RowLaws.{row_read, rows_kept}
+use Rattle.s38_rules.proofs.RuleLaws.{fails_none, first_none, not_false}
+use Rattle.s38_rules.specs.Authority.{available, has_special, is_governed, is_special, lacks_special, missing}
+use Rattle.s38_rules.specs.Computing.{receiver_at, shift_at}
+use Rattle.s38_rules.specs.Contexts.{contexts_row, crtctx_changes}
+use Rattle.s38_rules.specs.Creation.{creation_gives, new_pointer}
+use Rattle.s38_rules.specs.Effect.{effect}
+use Rattle.s38_rules.specs.Grants.{grant, grant_changes, grant_needs, grants_row, retract_changes, rights_of, user_at, user_needs, with_rights, xfro, xfro_changes, xfro_needs}
+use Rattle.s38_rules.specs.Held.{Held, object}
+use Rattle.s38_rules.specs.Instruction.{Instruction}
+use Rattle.s38_rules.specs.Needs.{governed, need, on_object}
+use Rattle.s38_rules.specs.Operands.{attr_at, is_given, place, pointer_at, rights_at, target}
+use Rattle.s38_rules.specs.PrivateRows.{row_of}
+use Rattle.s38_rules.specs.Profiles.{crtup, modup, profiles_row}
+use Rattle.s38_rules.specs.Programs.{created_program, crtpg_changes, program_in, programs_row, template_at}
+use Rattle.s38_rules.specs.Queues.{crtq_changes, queues_row}
+use Rattle.s38_rules.specs.Resolving.{carried_rights, num_of, pointer_to, resolved, resolving_row, rslvsp, rslvsp_fails, rslvsp_gives, setspfp_gives}
+use Rattle.s38_rules.specs.Rows.{row, row_in}
+use Rattle.s38_rules.specs.Spaces.{crts_changes, length_at, setdp, setdp_gives, setdp_needs, setsppfp, setsppfp_gives, setsppfp_needs, spaces_row}
+use Rattle.s38_rules.specs.Standing.{granted, owned_by, restand, standing_of, with_standing}
+use Rattle.s38_rules.specs.State.{State}
+use Rattle.s38_rules.specs.Users.{acting}
+use Rattle.s38_rules.specs.Verdict.{carried_for, granting_rule, is_pointer, refused_by, rights_rule}
+use Rattle.s38_rules.specs.declared.creating.Creating.{Creating}
+use Rattle.s38_rules.specs.declared.need.Claim.TheVariants.{Available}
+use Rattle.s38_rules.specs.declared.need.Located.{Located}
+use Rattle.s38_rules.specs.declared.need.Named.TheVariants.{Written}
+use Rattle.s38_rules.specs.declared.need.Need.{Need}
+use Rattle.s38_rules.specs.declared.need.PointerKind.TheVariants as pointer_kinds
+use Rattle.s38_rules.specs.declared.need.Sought.TheVariants.{Of}
+use Rattle.s38_rules.specs.declared.object.Object.{Object}
+use Rattle.s38_confinement.proofs.PlainLaws.{delivered_keeps, destruction_keeps, row_plain}
+use Rattle.s38_confinement.proofs.PointerLaws.{pointer_kept, resized_of}
+use Rattle.s38_confinement.proofs.RightLaws.{IsPermitted, has_or, lacking, lacks_both, lacks_by, lacks_none, not_lacking, passed, permitted, subject_lacks, ungoverned, used_parts}
+use Rattle.s38_confinement.proofs.StandingLaws.{GivesNoMore, Lessens, creation_lessens, kept_lessens, lessens_same, lessens_then, nat_same, restand_lessens}
+use Rattle.s38_confinement.specs.NoWay.{HasNoWay, IsHarmless, Lacks, NoWay, space_right}
+use Rattle.s38_confinement.specs.OfPointers.{IsClosed, OfCell, OfOperand, OfPointer, OfVal, OfVals}
+use Rattle.s38_confinement.specs.Plain.{makes_or_gives}
+
+-- ---- a new object
+
+new_harmless : (h : Held) (id : Option Id) (o r : ℕ) → OfPointer (IsHarmless o r) (new_pointer h id)
+new_harmless h None o r = tt
+new_harmless h (Some id) o r = record { carries = λ to. lacks_none r; lies = λ to space. refl }
+
+-- a pointer to a new object carries nothing
+created_harmless : (h : Held) (made : Creating) (o r : ℕ) → OfVal (IsHarmless o r) (creation_gives h made)
+unfolding creation_gives
+created_harmless h made o r = new_harmless h made.id o r
+
+-- ---- RSLVSP
+
+-- rights that are available do not have the one that is lacking
+asked_lacks : (h : Held) (acts : List ℕ) (word n o r : ℕ) → NoWay h acts o r → n ≡ o
+    → cond (word == rights.no_rights) None (missing 0 (bit_or rights.autptr word) (available h acts n rights.no_rights)) ≡ None → Lacks r word
+asked_lacks h acts word n o r closed to rule =
+    elim (word == rights.no_rights) as (λ b. (word == rights.no_rights) ≡ b → cond b None (missing 0 (bit_or rights.autptr word) (available h acts n rights.no_rights)) ≡ None → Lacks r word) [
+      | true ↦ λ q e. subst (Lacks r) (sym (nat_same word rights.no_rights q)) (lacks_none r)
+      | false ↦ λ q e. lacks_by word r (λ has. not_lacking 0 (bit_or rights.autptr word) (available h acts n rights.no_rights) r e (has_or rights.autptr word r has)
+          (subst (λ i. Lacks r (available h acts i rights.no_rights)) (sym to) (lacking h acts o r rights.no_rights closed (lacks_none r))))
+    ] refl rule
+
+found_harmless : (h : Held) (acts : List ℕ) (word o r : ℕ) (found : Option Located) → NoWay h acts o r → carried_rights h acts word found ≡ None → OfPointer (IsHarmless o r) (pointer_to word found)
+found_harmless h acts word o r None closed e = tt
+found_harmless h acts word o r (Some l) closed e = record { carries = λ to. asked_lacks h acts word l.object.0 o r closed to e; lies = λ to space. refl }
+
+-- what a pointer is to carry is available
+resolved_harmless : (s : State) (p d : ℕ) (ops : List Operand) (o r : ℕ) → NoWay s.held (acting s p d) o r → rslvsp_fails s p d ops ≡ None → OfVal (IsHarmless o r) (rslvsp_gives s p d ops)
+unfolding rslvsp_fails rslvsp_gives
+resolved_harmless s p d ops o r closed e = found_harmless s.held (acting s p d) (rights_at ops 4) o r (resolved s p d ops) closed e
+
+-- ---- SETSPFP
+
+plain_harmless : (o r : ℕ) (x : Option Pointer) → OfPointer (IsHarmless o r) (option_map (λ p. pointers.System (num_of p) (record { 0 = rights.no_rights })) x)
+plain_harmless o r None = tt
+plain_harmless o r (Some p) = record { carries = λ to. lacks_none r; lies = λ to space. refl }
+
+-- ---- SETSPPFP
+
+first_byte_harmless : (o r : ℕ) (x : Option Pointer) → (target_of x ≡ o → r ≡ space_right → ⊥) → OfPointer (IsHarmless o r) (option_map (λ p. pointers.Space (num_of p) 0) x)
+first_byte_harmless o r None refused = tt
+first_byte_harmless o r (Some p) refused = record { carries = λ to. lacks_none r; lies = λ to space. absurd (refused to space) }
+
+space_has : (r : ℕ) → r ≡ space_right → bit_at rights.space r ≡ 1
+space_has r e = rw e refl
+
+-- the right over the space is available
+space_harmless : (s : State) (p d : ℕ) (t : Request) (o r : ℕ) → NoWay s.held (acting s p d) o r → All (OfOperand (IsHarmless o r)) t.operands → IsPermitted setsppfp s p d t
+    → OfVal (IsHarmless o r) (setsppfp_gives s.held t.operands)
+unfolding setsppfp_gives setsppfp_needs rights_rule
+space_harmless s p d t o r closed asked may =
+    let carried : ℕ = carried_for s.held t.operands 2 Written in
+    let there : ℕ = available s.held (acting s p d) (target s.held t.operands 2) carried in
+    let rule : missing 2 rights.space there ≡ None = All-head (λ need. rights_rule s.held (acting s p d) t.operands need ≡ None) _ [] may.rights in
+    first_byte_harmless o r (pointer_at s.held t.operands 2) (λ to space. not_lacking 2 rights.space there r rule (space_has r space)
+    (subject_lacks s.held (acting s p d) t.operands 2 Written o r closed asked to))
+
+-- ---- SETDP
+
+one_kind : (p : Pointer) → is_pointer pointer_kinds.Space p ≡ true → is_pointer pointer_kinds.System p ≡ true → ⊥
+one_kind (pointers.System n carried) space system = cc
+one_kind _ space system = cc
+
+abbrev space_used : Need
+space_used = record { place = 2; named = Written; pointer = pointer_kinds.Space; sought = Of kinds.Space; rights = record { 0 = rights.no_rights }; claim = Available; category = None }
+
+-- a pointer to an item comes of a space pointer
+item_harmless : (s : State) (p d : ℕ) (t : Request) (o r : ℕ) → NoWay s.held (acting s p d) o r → All (OfOperand (IsHarmless o r)) t.operands → IsPermitted setdp s p d t
+    → OfVal (IsHarmless o r) (setdp_gives s.held t.operands)
+unfolding setdp_gives setdp_needs
+item_harmless s p d t o r closed asked may = by (pointer_at s.held t.operands 2) refl (pointer_kept (IsHarmless o r) s.held t.operands 2 closed.spaces asked)
+  where
+    by : (x : Option Pointer) → pointer_at s.held t.operands 2 ≡ x → OfPointer (IsHarmless o r) x
+        → OfPointer (IsHarmless o r) (option_map (λ b. pointers.Item (num_of b) (offset_of b) (attr_at t.operands 3)) x)
+    by None is harmless = tt
+    by (Some base) is harmless =
+        let parts = used_parts setdp s p d t space_used 1 base may (0, omega arith, refl) refl (omega arith) refl is in
+        record { carries = λ to. lacks_none r; lies = λ to space. absurd (one_kind base parts.0 (harmless.lies to space)) }
+
+-- ---- GRANT, RETRACT and XFRO
+
+-- the rights of a user's row, or of everybody, become others that have no more of the right
+rights_more : (r : ℕ) (given : Bool) (user : ObjNum) (new : ℕ → ℕ) (x : Object) → ((n : ℕ) → Lacks r n → Lacks r (new n))
+    → GivesNoMore r (Some x) (Some (with_standing (with_rights given user (new (rights_of given user (standing_of x))) (standing_of x)) x))
+rights_more r true user new x lacks = record {
+  owner = λ other free. free;
+  row = λ other a none. subst (Lacks r) (sym (row_read x.rows user (record { 0 = new (row_of x.rows user.0) }) other a))
+      (cond_both (user.0 == other) (new (row_of x.rows user.0)) (row_of x.rows other) (Lacks r)
+      (λ q. lacks (row_of x.rows user.0) (subst (λ n. Lacks r (row_of x.rows n)) (sym (nat_same user.0 other q)) none)) (λ q. none));
+  everybody = λ none. none;
+  rows = λ a. rows_kept x.rows user (record { 0 = new (row_of x.rows user.0) }) a;
+}
+rights_more r false user new x lacks = record { owner = λ other free. free; row = λ other a none. none; everybody = λ none. lacks x.public.0 none; rows = λ a. a }
+
+-- who does not govern an object gives of it only what is available
+granting_lacks : (governed : Bool) (k given there r : ℕ) → governed ≡ false → granting_rule governed k given there ≡ None → Lacks r there → Lacks r given
+granting_lacks true k given there r free rule none = cc
+granting_lacks false k given there r free rule none =
+    lacks_by given r (λ has. not_lacking k (bit_or rights.objmgt given) there r (first_none _ _ rule).0 (has_or rights.objmgt given r has) none)
+
+rights_lessens : (h : Held) (n : ℕ) (given : Bool) (user : ObjNum) (new : ℕ → ℕ) (o r : ℕ) → (n ≡ o → (x : Object) → object h o ≡ Some x → (old : ℕ) → Lacks r old → Lacks r (new old))
+    → Lessens h (restand h n (λ z. with_rights given user (new (rights_of given user z)) z)) o r
+rights_lessens h n given user new o r lacks =
+    restand_lessens h n (λ z. with_rights given user (new (rights_of given user z)) z) o r (λ same x found. rights_more r given user new x (lacks same x found))
+
+grant_lessens : (s : State) (p d : ℕ) (t : Request) (o r : ℕ) → NoWay s.held (acting s p d) o r → All (OfOperand (IsHarmless o r)) t.operands → IsPermitted grant s p d t
+    → Lessens s.held (grant_changes s.held t.operands) o r
+unfolding grant_changes grant_needs rights_rule
+grant_lessens s p d t o r closed asked may =
+    let ops = t.operands in
+    let n = target s.held ops 1 in
+    let there = available s.held (acting s p d) n (carried_in (pointer_at s.held ops 1)) in
+    let rule : granting_rule (is_governed s.held n (acting s p d)) 1 (rights_at ops 3) there ≡ None =
+    All-head (λ need. rights_rule s.held (acting s p d) ops need ≡ None) _ (user_needs ops 2) may.rights in
+    rights_lessens s.held n (is_given ops 2) (user_at s.held ops 2) (λ old. bit_or old (rights_at ops 3)) o r (λ same x found old none. lacks_both old (rights_at ops 3) r none
+    (granting_lacks (is_governed s.held n (acting s p d)) 1 (rights_at ops 3) there r (ap (λ m. is_governed s.held m (acting s p d)) same ∙ ungoverned s.held (acting s p d) o r x found closed) rule
+    (subject_lacks s.held (acting s p d) ops 1 Written o r closed asked same)))
+
+lacks_common : (r a b : ℕ) → Lacks r a → Lacks r (bit_and a b)
+lacks_common r a b none = omega (arith, bit_at_and a b r, none)
+
+retract_lessens : (h : Held) (ops : List Operand) (o r : ℕ) → Lessens h (retract_changes h ops) o r
+unfolding retract_changes
+retract_lessens h ops o r = rights_lessens h (target h ops 1) (is_given ops 2) (user_at h ops 2) (λ n. bit_and n (2 ^ 8 - 1 - rights_at ops 3)) o r
+    (λ same x found n none. lacks_common r n (2 ^ 8 - 1 - rights_at ops 3) none)
+
+-- who does not govern the object does not give it away
+xfro_lessens : (s : State) (p d : ℕ) (t : Request) (o r : ℕ) → NoWay s.held (acting s p d) o r → IsPermitted xfro s p d t → Lessens s.held (xfro_changes s.held t.operands) o r
+unfolding xfro_changes xfro_needs rights_rule
+xfro_lessens s p d t o r closed may =
+    let ops = t.operands in
+    let n = target s.held ops 1 in
+    let rule : fails (not (is_governed s.held n (acting s p d))) exceptions.ownership_required 1 ≡ None =
+    All-head (λ need. rights_rule s.held (acting s p d) ops need ≡ None) _ (on_object 2 (Of kinds.Profile) rights.no_rights None) may.rights in
+    let owned = not_false _ (fails_none _ _ _ rule) in
+    restand_lessens s.held n (λ z. owned_by (user_at s.held ops 2) (granted (user_at s.held ops 2) (record { 0 = rights.all_rights }) z)) o r
+    (λ same x found. absurd (true≢false (sym owned ∙ ap (λ m. is_governed s.held m (acting s p d)) same ∙ ungoverned s.held (acting s p d) o r x found closed)))
+
+-- ---- CRTUP and MODUP
+
+-- the acting users lack the special authority over profiles
+profile_lacked : (h : Held) (acting : List ℕ) (o r : ℕ) → NoWay h acting o r → lacks_special h acting rights.profile ≡ None → ⊥
+unfolding lacks_special
+profile_lacked h acting o r closed e =
+    let none : is_special h acting rights.profile ≡ false =
+    list_any_none (has_special h rights.profile) acting (All-weaker (HasNoWay h o r) (λ u. has_special h rights.profile u ≡ false) (λ u has. has.profiles) acting closed.nobody) in
+    true≢false (sym (passed (is_special h acting rights.profile) None _ e).0 ∙ none)
+
+-- ---- the rows
+
+-- an instruction opens no way where no rule refuses it
+abbrev KeepsShut : Instruction → Type 0
+KeepsShut i = (s : State) (p d : ℕ) (t : Request) (o r : ℕ) → NoWay s.held (acting s p d) o r → All (OfOperand (IsHarmless o r)) t.operands → refused_by i s p d t ≡ None
+    → Lessens s.held (i.changes s p d t).held o r × IfSome (i.gives s p d t) (OfVal (IsHarmless o r))
+
+-- harm does not hang on the byte to which a space pointer points
+pub harmless_closed : (o r : ℕ) → IsClosed (IsHarmless o r)
+harmless_closed o r object offset other harmless = record { carries = harmless.carries; lies = harmless.lies }
+
+program_lessens : (s : State) (p : ℕ) (ops : List Operand) (program : Option Program) (o r : ℕ) → o < s.held.next → Lessens s.held (created_program s p ops program).held o r
+program_lessens s p ops None o r given = lessens_same s.held o r
+program_lessens s p ops (Some program) o r given = creation_lessens s.held _ _ _ o r given refl tt
+
+-- those that are not plain
+listed_shut : (op : Op) → makes_or_gives op ≡ true → KeepsShut (row op)
+unfolding row_in family_of contexts_row profiles_row grants_row resolving_row programs_row spaces_row queues_row crtctx_changes crtpg_changes crts_changes crtq_changes setspfp_gives
+listed_shut Crtctx makes s p d t o r closed asked e = (creation_lessens s.held _ _ _ o r closed.given refl tt, created_harmless s.held _ o r)
+listed_shut Crtpg makes s p d t o r closed asked e = (program_lessens s p t.operands (program_in (template_at s t.operands)) o r closed.given, created_harmless s.held _ o r)
+listed_shut Crts makes s p d t o r closed asked e =
+    (creation_lessens s.held _ _ _ o r closed.given refl (resized_of (IsHarmless o r) (length_at s t.operands 5) [] (All-nil (OfCell (IsHarmless o r)))), created_harmless s.held _ o r)
+listed_shut Crtq makes s p d t o r closed asked e = (creation_lessens s.held _ _ _ o r closed.given refl tt, created_harmless s.held _ o r)
+listed_shut Crtup makes s p d t o r closed asked e = absurd (profile_lacked s.held (acting s p d) o r closed (permitted crtup s p d t e).special)
+listed_shut Modup makes s p d t o r closed asked e = absurd (profile_lacked s.held (acting s p d) o r closed (permitted modup s p d t e).special)
+listed_shut Desup makes s p d t o r closed asked e = (kept_lessens s.held _ o r (destruction_keeps (IsHarmless o r) s.held t.operands), tt)
+listed_shut Grant makes s p d t o r closed asked e = (grant_lessens s p d t o r closed asked (permitted grant s p d t e), tt)
+listed_shut Retract makes s p d t o r closed asked e = (retract_lessens s.held t.operands o r, tt)
+listed_shut Xfro makes s p d t o r closed asked e = (xfro_lessens s p d t o r closed (permitted xfro s p d t e), tt)
+listed_shut Rslvsp makes s p d t o r closed asked e = (lessens_same s.held o r, resolved_harmless s p d t.operands o r closed (permitted rslvsp s p d t e).fails)
+listed_shut Setspfp makes s p d t o r closed asked e = (lessens_same s.held o r, plain_harmless o r (pointer_at s.held t.operands 2))
+listed_shut Setsppfp makes s p d t o r closed asked e = (lessens_same s.held o r, space_harmless s p d t o r closed asked (permitted setsppfp s p d t e))
+listed_shut Setdp makes s p d t o r closed asked e = (lessens_same s.held o r, item_harmless s p d t o r closed asked (permitted setdp s p d t e))
+listed_shut _ makes s p d t o r closed asked e = cc
+
+-- and a plain one
+row_shut : (op : Op) → KeepsShut (row op)
+row_shut op s p d t o r closed asked e = by (makes_or_gives op) refl
+  where
+    by : (b : Bool) → makes_or_gives op ≡ b → Lessens s.held ((row op).changes s p d t).held o r × IfSome ((row op).gives s p d t) (OfVal (IsHarmless o r))
+    by true makes = listed_shut op makes s p d t o r closed asked e
+    by false other =
+        let kept = row_plain (IsHarmless o r) (harmless_closed o r) (family_of op) op other s p d t closed.spaces asked in
+        (kept_lessens s.held _ o r kept.0, kept.1)
+
+-- what an effect leaves opens no way, and neither does what it gives
+pub effect_lessens : (s : State) (p d : ℕ) (t : Request) (o r : ℕ) → NoWay s.held (acting s p d) o r → All (OfOperand (IsHarmless o r)) t.operands → refused_by (row t.op) s p d t ≡ None
+    → Lessens s.held (effect (row t.op) s p d t).state.held o r × OfVals (IsHarmless o r) (effect (row t.op) s p d t).values
+unfolding effect
+effect_lessens s p d t o r closed asked e =
+    let after = (row t.op).changes s p d t in
+    let shut = row_shut t.op s p d t o r closed asked e in
+    let done = delivered_keeps (IsHarmless o r) after (shift_at s.held t.op t.operands) (receiver_at t.op t.operands) ((row t.op).gives s p d t) shut.1 in
+    (lessens_then s.held after.held _ o r shut.0 (kept_lessens after.held _ o r done.0), done.1)

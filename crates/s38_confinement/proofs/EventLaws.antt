@@ -1,0 +1,61 @@
+-- A step opens no way, and does not use the right.
+use Rattle.std.proofs.Common.{◌≡◌, ◌≢◌, Bool, List, false, refl, true, ℕ}
+use Rattle.std.proofs.lemmas.List.Elements.{All-nil}
+use Rattle.std.specs.Prelude.{None, Option, Some}
+use Rattle.s38_base.specs.declared.exception.Exception.{Exception}
+use Rattle.s38_code.specs.declared.entry.Entry.{Entry}
+use Rattle.s38_code.specs.declared.event.Event.TheVariants.{Act, Finish, Start}
+use Rattle.s38_code.specs.declared.event.Event.{Event}
+use Rattle.s38_rules.specs.Effect.{effect_of, end_at, start_at}
+use Rattle.s38_rules.specs.Rows.{row}
+use Rattle.s38_rules.specs.State.{State, process_entry, waits}
+use Rattle.s38_rules.specs.Step.{Stepped, by_verdict, by_waiting, step}
+use Rattle.s38_rules.specs.Users.{acting}
+use Rattle.s38_rules.specs.Verdict.{awake_verdict, of_failure, refused_by}
+use Rattle.s38_rules.specs.declared.verdict.Verdict.TheVariants.{Permit}
+use Rattle.s38_rules.specs.declared.verdict.Verdict.{Verdict}
+use Rattle.s38_confinement.proofs.EffectLaws.{effect_lessens}
+use Rattle.s38_confinement.proofs.RightLaws.{among, unused}
+use Rattle.s38_confinement.proofs.StandingLaws.{IsShut, Lessens, lessens_same, stays_shut}
+use Rattle.s38_confinement.specs.Confined.{ActsWithin, Exercises, UsesBy}
+use Rattle.s38_confinement.specs.NoWay.{IsHarmless, NoWay}
+use Rattle.s38_confinement.specs.OfPointers.{OfEvent, OfReply, OfVal, OfVals}
+
+-- what opens no way: an event's reply, and the state behind it; the right is not used
+pub record KeepsOut (users : List ℕ) (o r : ℕ) (s : State) (e : Entry) (t : Stepped) : Type 0 where
+  pub shut : IsShut t.state.held users o r
+  pub reply : OfReply (IsHarmless o r) t.reply
+  pub unused : Exercises s e t.reply o r → ⊥
+
+permitted_none : (s : State) (p : ℕ) (e : Event) (x : Option Exception) → of_failure s p e x ≡ Permit → x ≡ None
+permitted_none s p e None h = refl
+permitted_none s p e (Some x) h = cc
+
+event_lessens : (s : State) (p : ℕ) (e : Event) (users : List ℕ) (o r : ℕ) → o ≢ 0 → NoWay s.held users o r → OfEvent (IsHarmless o r) e → ActsWithin users s p e → awake_verdict s p e ≡ Permit
+    → Lessens s.held (effect_of s p e).state.held o r × OfVals (IsHarmless o r) (effect_of s p e).values × (UsesBy s p e o r → ⊥)
+unfolding effect_of awake_verdict
+event_lessens s p Start users o r some closed asked within may =
+    (elim (process_entry s p) as (λ x. Lessens s.held (start_at s p x).held o r) [ None ↦ lessens_same s.held o r | Some x ↦ lessens_same s.held o r ], All-nil (OfVal (IsHarmless o r)), λ uses. uses)
+event_lessens s p (Act d t) users o r some closed asked within may =
+    let none = permitted_none s p (Act d t) (refused_by (row t.op) s p d t) may in
+    let way = among s.held users (acting s p d) o r closed within in
+    let done = effect_lessens s p d t o r way asked none in
+    (done.0, done.1, unused s p d t o r some way asked none)
+event_lessens s p (Finish cause) users o r some closed asked within may =
+    (elim (process_entry s p) as (λ x. Lessens s.held (end_at s p x).held o r) [ None ↦ lessens_same s.held o r | Some x ↦ lessens_same s.held o r ], All-nil (OfVal (IsHarmless o r)), λ uses. uses)
+
+verdict_kept : (users : List ℕ) (o r : ℕ) (s : State) (e : Entry) (v : Verdict) → o ≢ 0 → IsShut s.held users o r → OfEvent (IsHarmless o r) e.event → ActsWithin users s e.process e.event
+    → awake_verdict s e.process e.event ≡ v → KeepsOut users o r s e (by_verdict s e.process e.event v)
+verdict_kept users o r s e Permit some shut asked within is =
+    let done = event_lessens s e.process e.event users o r some shut.way asked within is in
+    record { shut = stays_shut s.held _ users o r done.0 shut; reply = done.1; unused = done.2 }
+verdict_kept users o r s e _ some shut asked within is = record { shut = shut; reply = tt; unused = λ uses. uses }
+
+pub step_kept : (users : List ℕ) (o r : ℕ) (s : State) (e : Entry) → o ≢ 0 → IsShut s.held users o r → OfEvent (IsHarmless o r) e.event → ActsWithin users s e.process e.event
+    → KeepsOut users o r s e (step s e.process e.event)
+unfolding step
+step_kept users o r s e some shut asked within = by (waits s e.process)
+  where
+    by : (b : Bool) → KeepsOut users o r s e (by_waiting b s e.process e.event)
+    by true = record { shut = shut; reply = tt; unused = λ uses. uses }
+    by false = verdict_kept users o r s e (awake_verdict s e.process e.event) some shut asked within refl
