@@ -1,18 +1,19 @@
 -- A step opens no way, and does not use the right.
-use Rattle.std.proofs.Common.{◌≡◌, ◌≢◌, Bool, List, false, refl, true, ℕ}
+use Rattle.std.proofs.Common.{◌≡◌, ◌≢◌, Bool, List, cond, false, refl, true, ℕ}
 use Rattle.std.proofs.lemmas.List.Elements.{All-nil}
 use Rattle.std.specs.Prelude.{None, Option, Some}
 use Rattle.s38_base.specs.declared.exception.Exception.{Exception}
 use Rattle.s38_code.specs.declared.entry.Entry.{Entry}
 use Rattle.s38_code.specs.declared.event.Event.TheVariants.{Act, Finish, Start}
 use Rattle.s38_code.specs.declared.event.Event.{Event}
+use Rattle.s38_code.specs.declared.event.Request.{Request}
 use Rattle.s38_rules.specs.Effect.{effect_of, end_at, start_at}
 use Rattle.s38_rules.specs.Rows.{row}
-use Rattle.s38_rules.specs.State.{State, process_entry, waits}
+use Rattle.s38_rules.specs.State.{State, is_last_ready, process_entry, waits}
 use Rattle.s38_rules.specs.Step.{Stepped, by_verdict, by_waiting, step}
 use Rattle.s38_rules.specs.Users.{acting}
-use Rattle.s38_rules.specs.Verdict.{awake_verdict, of_failure, refused_by}
-use Rattle.s38_rules.specs.declared.verdict.Verdict.TheVariants.{Permit}
+use Rattle.s38_rules.specs.Verdict.{awake_verdict, may_wait, of_request, refused_by, unless_last}
+use Rattle.s38_rules.specs.declared.verdict.Verdict.TheVariants.{Permit, Refuse}
 use Rattle.s38_rules.specs.declared.verdict.Verdict.{Verdict}
 use Rattle.s38_confinement.proofs.EffectLaws.{effect_lessens}
 use Rattle.s38_confinement.proofs.RightLaws.{among, unused}
@@ -27,9 +28,15 @@ pub record KeepsOut (users : List ℕ) (o r : ℕ) (s : State) (e : Entry) (t : 
   pub reply : OfReply (IsHarmless o r) t.reply
   pub unused : Exercises s e t.reply o r → ⊥
 
-permitted_none : (s : State) (p : ℕ) (e : Event) (x : Option Exception) → of_failure s p e x ≡ Permit → x ≡ None
-permitted_none s p e None h = refl
-permitted_none s p e (Some x) h = cc
+no_permit : (waits last : Bool) (x : Exception) → cond waits (unless_last last) (Refuse x) ≡ Permit → ⊥
+no_permit true true x h = cc
+no_permit true false x h = cc
+no_permit false last x h = cc
+
+permitted_none : (s : State) (p : ℕ) (t : Request) (x : Option Exception) → of_request s p t x ≡ Permit → x ≡ None
+unfolding of_request
+permitted_none s p t None h = refl
+permitted_none s p t (Some x) h = absurd (no_permit (may_wait t.op t.operands x.id) (is_last_ready s p) x h)
 
 event_lessens : (s : State) (p : ℕ) (e : Event) (users : List ℕ) (o r : ℕ) → o ≢ 0 → NoWay s.held users o r → OfEvent (IsHarmless o r) e → ActsWithin users s p e → awake_verdict s p e ≡ Permit
     → Lessens s.held (effect_of s p e).state.held o r × OfVals (IsHarmless o r) (effect_of s p e).values × (UsesBy s p e o r → ⊥)
@@ -37,7 +44,7 @@ unfolding effect_of awake_verdict
 event_lessens s p Start users o r some closed asked within may =
     (elim (process_entry s p) as (λ x. Lessens s.held (start_at s p x).held o r) [ None ↦ lessens_same s.held o r | Some x ↦ lessens_same s.held o r ], All-nil (OfVal (IsHarmless o r)), λ uses. uses)
 event_lessens s p (Act d t) users o r some closed asked within may =
-    let none = permitted_none s p (Act d t) (refused_by (row t.op) s p d t) may in
+    let none = permitted_none s p t (refused_by (row t.op) s p d t) may in
     let way = among s.held users (acting s p d) o r closed within in
     let done = effect_lessens s p d t o r way asked none in
     (done.0, done.1, unused s p d t o r some way asked none)

@@ -6,7 +6,7 @@ use Rattle.std.proofs.lemmas.List.Elements.{All-cons, All-nil}
 use Rattle.std.specs.List.{list_all}
 use Rattle.std.specs.Prelude.{◌||◌, All, None, Option, Some}
 use Rattle.s38_base.specs.RightNames as rights
-use Rattle.s38_base.specs.declared.op.Op.TheVariants.{Crtpg, Crtq, Crts, Grant, Matau, Matctx, Modadr, Modup, Rename, Retract, Rslvsp}
+use Rattle.s38_base.specs.declared.op.Op.TheVariants.{Crtpg, Crtq, Crts, Grant, Lock, Matau, Matctx, Modadr, Modup, Rename, Retract, Rslvsp}
 use Rattle.s38_base.specs.declared.op.Op.{Op}
 use Rattle.s38_code.specs.declared.event.Request.{Request}
 use Rattle.s38_code.specs.declared.family.Family.TheVariants as families
@@ -23,6 +23,7 @@ use Rattle.s38_rules.specs.Needs.{need}
 use Rattle.s38_rules.specs.Operands.{is_given, is_list, is_machine, place, target}
 use Rattle.s38_rules.specs.Profiles.{modup_needs, profiles_row}
 use Rattle.s38_rules.specs.Programs.{call_needs, programs_row}
+use Rattle.s38_rules.specs.Locking.{lock_needs, locks_row, matobjlk_needs, unlock_needs}
 use Rattle.s38_rules.specs.Queues.{deq_needs, enq_needs, queues_row}
 use Rattle.s38_rules.specs.Resolving.{listed_need, resolved, resolving_row, rslvsp_needs, setspfp_needs}
 use Rattle.s38_rules.specs.Rows.{row_in}
@@ -137,6 +138,11 @@ grants_so Retract s p d t = user_so t.operands 2
 grants_so Matau s p d t = user_so t.operands 3
 grants_so _ s p d t = refl
 
+locks_so : (op : Op) → RowSpeaks (locks_row op)
+unfolding locks_row lock_needs unlock_needs matobjlk_needs
+locks_so Lock s p d t = refl
+locks_so _ s p d t = refl
+
 programs_so : (op : Op) → RowSpeaks (programs_row op)
 unfolding programs_row call_needs destruction_needs
 programs_so Crtpg s p d t = creation_so t.operands
@@ -160,6 +166,7 @@ row_so families.Contexts op = contexts_so op
 row_so families.Profiles op = profiles_so op
 row_so families.Grants op = grants_so op
 row_so families.Programs op = programs_so op
+row_so families.Locks op = locks_so op
 row_so families.Spaces op = spaces_so op
 row_so families.Queues op = queues_so op
 row_so _ op = λ s p d t. refl

@@ -8,7 +8,7 @@ use Rattle.s38_base.specs.Pointers.{start_of, target_of}
 use Rattle.s38_base.specs.Signals.{plain}
 use Rattle.s38_base.specs.declared.id.Id.{Id}
 use Rattle.s38_base.specs.declared.id.ObjNum.{ObjNum}
-use Rattle.s38_base.specs.declared.op.Op.TheVariants.{Callx, Cpybwp, Crtctx, Crtpg, Crtq, Crts, Crtup, Deq, Desctx, Despg, Desq, Dess, Desup, Enq, Grant, Modadr, Mods, Modup, Rename, Retract, Rslvsp, Setdp, Setspfp, Setsppfp, Xctl, Xfro}
+use Rattle.s38_base.specs.declared.op.Op.TheVariants.{Callx, Cpybwp, Crtctx, Crtpg, Crtq, Crts, Crtup, Deq, Desctx, Despg, Desq, Dess, Desup, Enq, Grant, Lock, Modadr, Mods, Modup, Rename, Retract, Rslvsp, Setdp, Setspfp, Setsppfp, Xctl, Xfro}
 use Rattle.s38_base.specs.declared.op.Op.{Op}
 use Rattle.s38_base.specs.declared.pointer.Pointer.{Pointer}
 use Rattle.s38_code.specs.Operations.{family_of}
@@ -37,6 +37,7 @@ use Rattle.s38_rules.specs.Operands.{Done, deliver, delivered, id_at, is_in_spac
 use Rattle.s38_rules.specs.Parts.{IsPart, Part, on_space, over, over_object, over_part, queue_lawful, queue_part, space_lawful, space_part}
 use Rattle.s38_rules.specs.Profiles.{profiles_row}
 use Rattle.s38_rules.specs.Programs.{call_gives, callx_changes, program_at, programs_row, xctl_changes}
+use Rattle.s38_rules.specs.Locking.{lock_changes, locks_row, matobjlk_gives, unlock_changes, xfrlock_changes}
 use Rattle.s38_rules.specs.Queues.{deq_changes, deq_gives, enq_changes, queues_row}
 use Rattle.s38_rules.specs.Resolving.{resolving_row}
 use Rattle.s38_rules.specs.Rows.{row, row_in}
@@ -183,6 +184,11 @@ profiles_plain q Modup other = cc
 profiles_plain q Desup other = cc
 profiles_plain q _ other = λ s p d t of asked. (keeps_same q s.held, tt)
 
+locks_plain : (q : Pointer → Type 0) (op : Op) → PlainRow q (locks_row op)
+unfolding locks_row lock_changes unlock_changes xfrlock_changes matobjlk_gives
+locks_plain q Lock = λ s p d t of asked. (keeps_same q s.held, tt)
+locks_plain q _ = λ s p d t of asked. (keeps_same q s.held, tt)
+
 grants_plain : (q : Pointer → Type 0) (op : Op) → makes_or_gives op ≡ false → PlainRow q (grants_row op)
 unfolding grants_row testau_gives matau_gives matauobj_gives
 grants_plain q Grant other = cc
@@ -239,6 +245,7 @@ row_plain q closed families.Contexts op other = contexts_plain q op other
 row_plain q closed families.Profiles op other = profiles_plain q op other
 row_plain q closed families.Grants op other = grants_plain q op other
 row_plain q closed families.Programs op other = programs_plain q op other
+row_plain q closed families.Locks op other = locks_plain q op
 row_plain q closed families.Spaces op other = spaces_plain q op other
 row_plain q closed families.Queues op other = queues_plain q op other
 row_plain q closed _ op other = λ s p d t of asked. (keeps_same q s.held, tt)

@@ -34,7 +34,7 @@ use Rattle.s38_rules.specs.Operands.{place, pointer_at, pointer_of, target}
 use Rattle.s38_rules.specs.Rows.{row}
 use Rattle.s38_rules.specs.State.{State}
 use Rattle.s38_rules.specs.Users.{acting}
-use Rattle.s38_rules.specs.Verdict.{address_rule, address_rules, by_operand, carried_for, claim_rule, granting_rule, is_base, is_looked_at, is_pointer, item_rule, named_rule, needs_rule, object_rule, pointer_rule, refused_by, rights_rule, rights_rules, stands_at, subject}
+use Rattle.s38_rules.specs.Verdict.{address_rule, address_rules, by_operand, carried_for, claim_rule, granting_rule, is_base, is_looked_at, is_pointer, item_rule, lock_rules, named_rule, needs_rule, object_rule, pointer_rule, refused_by, rights_rule, rights_rules, stands_at, subject}
 use Rattle.s38_rules.specs.declared.need.Claim.TheVariants.{Available, Granting, Ownership}
 use Rattle.s38_rules.specs.declared.need.Claim.{Claim}
 use Rattle.s38_rules.specs.declared.need.Named.TheVariants.{Implied, Written}
@@ -201,7 +201,8 @@ permitted i s p d t h =
     let one = first_none (address_rules s.held t.operands (i.needs s p d t)) _ h in
     let two = first_none (lacks_special s.held (acting s p d) (i.special s p d t)) _ one.1 in
     let three = first_none (first_of (rights_rule s.held (acting s p d) t.operands) (i.needs s p d t)) _ two.1 in
-    record { addresses = one.0; special = two.0; rights = each_passed (rights_rule s.held (acting s p d) t.operands) (i.needs s p d t) three.0; fails = three.1 }
+    let four = first_none (lock_rules s p t (i.needs s p d t)) _ three.1 in
+    record { addresses = one.0; special = two.0; rights = each_passed (rights_rule s.held (acting s p d) t.operands) (i.needs s p d t) three.0; fails = four.1 }
 
 -- an operand of a permitted instruction passed its rule, and so did each need of it
 operand_passed : (i : Instruction) (s : State) (p d : ℕ) (t : Request) (j : ℕ) (operand : Operand) → IsPermitted i s p d t → slice_get t.operands j ≡ Some operand
