@@ -29,7 +29,7 @@ pub static CREATED: Table = Table {
         ("CRTQ P,*NONE,QUEUE/00/Q,NONE,FIFO,0,-5", "2A04 1"),
         ("CRTPG P,*NONE,PROGRAM/00/X,NONE,T,T", "2A04 1"),
         ("DEQ C,P,EQ,*NONE,NOWAIT", "2A04 1"),
-        ("DEQ C,P,ANY,*NONE,WAIT", "2A04 1"),
+        ("DEQ C,P,EQ,*NONE,WAIT", "2A04 1"),
         ("CRTQ P,*NONE,QUEUE/00/Q,NONE,KEYED,4,8", "2A04 1"),
         ("MODEXCPD H,DISABLE", "2A04 1"),
         ("CALLX", "2A04 1"),
