@@ -1,8 +1,8 @@
 //! The processes of a world: how far each has come, and which are ready.
-ghost use Rattle.std.specs.Prelude.{◌≡◌, ◌≤◌, ◌-◌, length, slice_get};
+ghost use Rattle.std.specs.Prelude.{◌≡◌, ◌≤◌, ◌-◌, ◌+◌, ◌<◌, ◌^◌, Some, length, slice_get};
 ghost use Rattle.std.specs.Option.{option_copied};
 ghost use Rattle.s38_rules.specs.Invocations.{most_frames, stack_in, stack_of};
-ghost use Rattle.s38_rules.specs.State.{is_early, is_last_ready, process_entry, ready, started, started_in, waits};
+ghost use Rattle.s38_rules.specs.State.{is_early, is_last_ready, others_stand, process_entry, ready, ready_in, started, started_in, waits};
 ghost use Rattle.s38_rules.specs.Users.{contexts_in, contexts_of, user_in, user_of};
 
 use crate::world::World;
@@ -95,10 +95,10 @@ impl<T: Table> World<T> {
         self.waiting.iter().any(|w| *w == process)
     }
 
-    fn waits_at(&self, number: usize) -> bool
+    fn waits_at(&self, number: u64) -> bool
         ensures { result ≡ waits self.now number }
     {
-        self.waiting.iter().any(|w| *w as usize == number)
+        self.waiting.iter().any(|w| u64::from(*w) == number)
     }
 
     /// Whether some process of an earlier stage has not ended.
@@ -118,20 +118,37 @@ impl<T: Table> World<T> {
         }
     }
 
-    fn ready_at(&self, number: usize) -> bool
-        ensures { result ≡ ready self.now number }
+    fn is_ready(&self, number: u64, entry: &ProcessEntry) -> bool
+        ensures { result ≡ ready_in self.now number (Some entry.now) }
     {
-        match self.processes.get(number.saturating_sub(1)) {
-            None => false,
-            Some(x) => !x.ended && !self.is_early(x.job.stage) && !self.waits_at(number),
-        }
+        !entry.ended && !self.waits_at(number) && !self.is_early(entry.job.stage)
     }
 
     /// Whether no other process is ready: each other of the current stage waits or has ended.
     pub fn is_last_ready(&self, process: u32) -> bool
         ensures { result ≡ is_last_ready self.now process }
     {
-        let process = process as usize;
-        !(1..=self.processes.len()).any(|q| q != process && self.ready_at(q))
+        others_stand(self, process, 1, self.processes.as_slice())
+    }
+}
+
+/// Whether of the processes from a number on no other is ready.
+fn others_stand<T: Table>(
+    world: &World<T>,
+    process: u32,
+    number: u64,
+    entries: &[ProcessEntry],
+) -> bool
+    requires { number + length entries.now < 2 ^ 64 }
+    ensures { result ≡ others_stand world.now process number entries.now }
+{
+    match entries {
+        [] => true,
+        [entry, more @ ..] => {
+            if number != u64::from(process) && world.is_ready(number, entry) {
+                return false;
+            }
+            others_stand(world, process, number + 1, more)
+        }
     }
 }

@@ -1,28 +1,40 @@
 //! The job to which a lock is handed on.
-ghost use Rattle.std.specs.Prelude.{◌≡◌};
+ghost use Rattle.std.specs.Prelude.{◌≡◌, position};
 ghost use Rattle.std.specs.Option.{option_copied};
-ghost use Rattle.s38_rules.specs.Locking.{is_going_in, may_take, process_named, taker};
+ghost use Rattle.s38_rules.specs.Locking.{is_going_in, is_job, may_take, numbered, process_named, taker};
 
+use s38_base::Name;
 use s38_code::Operand;
 use s38_invoke::World;
 use s38_objects::Objects;
 use s38_operands::place;
 use s38_rules::ProcessEntry;
 
+/// The place of the job of a name.
+fn place_of_job(entries: &[ProcessEntry], name: &Name) -> Option<usize>
+    ensures { result ≡ position (is_job name.now) entries.now }
+{
+    entries
+        .iter()
+        .position(|x| x.job.name.as_bytes() == name.as_bytes())
+}
+
+/// The number of the process at a place, 0 for none.
+fn numbered(at: Option<usize>) -> u32
+    ensures { result ≡ numbered at }
+{
+    match at {
+        None => 0,
+        Some(at) => at.saturating_add(1).min(u32::MAX as usize) as u32,
+    }
+}
+
 /// The process of the job of a name, 0 for none.
 fn process_named(entries: &[ProcessEntry], operand: Option<&Operand>) -> u32
     ensures { result ≡ process_named entries.now (option_copied operand.entry) }
 {
     match operand {
-        Some(Operand::Text(name)) => {
-            match entries
-                .iter()
-                .position(|x| x.job.name.as_bytes() == name.as_bytes())
-            {
-                None => 0,
-                Some(at) => (at + 1).min(u32::MAX as usize) as u32,
-            }
-        }
+        Some(Operand::Text(name)) => numbered(place_of_job(entries, name)),
         _ => 0,
     }
 }

@@ -86,10 +86,7 @@ fn lock_fails(world: &World<Objects>, process: u32, operands: &[Operand]) -> Opt
     ensures { result ≡ lock_fails world.now process operands.now }
 {
     let object = target(&world.objects, operands, 1);
-    match world
-        .locks
-        .can_lock(object, process, state_asked(operands))
-    {
+    match world.locks.can_lock(object, process, state_asked(operands)) {
         Ok(()) => None,
         Err(fault) => of_fault(fault),
     }
@@ -284,11 +281,7 @@ pub fn value(
     let _ = process;
     let _ = depth;
     match request.op {
-        Op::Matobjlk => Ok(Some(matobjlk_gives(
-            alloc,
-            world,
-            request.operands.as_slice(),
-        )?)),
+        Op::Matobjlk => Ok(Some(matobjlk_gives(alloc, world, request.operands.as_slice())?)),
         _ => Ok(None),
     }
 }

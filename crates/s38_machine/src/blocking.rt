@@ -68,13 +68,7 @@ fn use_at(op: Op, k: u8) -> Category
 
 /// An item in a space, which is read or changed.
 #[tactic(auto, unfolding(s38_rules::specs::Blocking::item_lock))]
-fn item_lock(
-    locks: &LockTable,
-    process: u32,
-    op: Op,
-    k: u8,
-    operand: &Operand,
-) -> Option<Exception>
+fn item_lock(locks: &LockTable, process: u32, op: Op, k: u8, operand: &Operand) -> Option<Exception>
     ensures { result ≡ item_lock locks.now process op k operand.now }
 {
     match operand {

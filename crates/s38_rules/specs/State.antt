@@ -1,5 +1,5 @@
 -- The machine's state: its objects, the deck's templates, and its processes.
-use Rattle.std.specs.Prelude.{ℕ, ◌-◌, ◌==◌, Bool, false, ◌&&◌, not, filter, length, List, Option, Some, None, slice_get, slice_set, nat_lt}
+use Rattle.std.specs.Prelude.{ℕ, ◌+◌, ◌-◌, ◌==◌, Bool, true, false, ◌&&◌, ◌||◌, not, filter, length, List, [], ◌∷◌, Option, Some, None, slice_get, slice_set, nat_lt}
 use Rattle.std.specs.List.{list_any, range_with_len}
 use Rattle.s38_locks.specs.Table.{Table}
 use Rattle.s38_code.specs.declared.made.CheckedTemplate.{CheckedTemplate}
@@ -57,9 +57,12 @@ ready s process = ready_in s process (process_entry s process)
 abbrev pub ready_list : State → List ℕ
 ready_list s = filter (ready s) (range_with_len 1 (length s.processes))
 
-abbrev pub other_ready : State → ℕ → ℕ → Bool
-other_ready s process q = not (q == process) && ready s q
+-- of the processes from a number on no other is ready
+abbrev pub others_stand : State → ℕ → ℕ → List ProcessEntry → Bool
+others_stand s process number [] = true
+others_stand s process number (x ∷ xs) =
+    ((number == process) || not (ready_in s number (Some x))) && others_stand s process (number + 1) xs
 
 -- no other process is ready: each other of the current stage waits or has ended
 abbrev pub is_last_ready : State → ℕ → Bool
-is_last_ready s process = not (list_any (other_ready s process) (range_with_len 1 (length s.processes)))
+is_last_ready s process = others_stand s process 1 s.processes

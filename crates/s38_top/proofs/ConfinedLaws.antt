@@ -34,8 +34,8 @@ made_is : (deck : Deck) (job : Job) (made : CreateResult) → made_for deck job 
 made_is deck job made h = ap (λ (m : Option CreateResult). fresh (unwrap_or m no_program) job.budget) h
 
 -- each process of the deck ran by its job
-each_ran : (deck : Deck) (history : List Entry) → IsRunOf deck history → AreRun (processes_of deck) history
-each_ran deck history run = record {
+each_ran : (picks : List ℕ) (deck : Deck) (history : List Entry) → IsRunOf picks deck history → AreRun (processes_of deck) history
+each_ran picks deck history run = record {
   each = λ k d there.
       let at = mapped_at (process_of deck) deck.jobs k d there in
       let one = run.each k at.0 at.1 in
@@ -84,6 +84,6 @@ begins_shut deck users o r some none = record {
   variables = begins_closed deck o r;
 }
 
-pub run_confined : (deck : Deck) (history : List Entry) (run : IsRunOf deck history) → IsConfined deck history run.state
-run_confined deck history run users o r some none within =
-    closed_history (processes_of deck) (opened (checked_of deck) deck.jobs) history run.state users o r (begins_shut deck users o r some none) run.legal within (each_ran deck history run)
+pub run_confined : (picks : List ℕ) (deck : Deck) (history : List Entry) (run : IsRunOf picks deck history) → IsConfined deck history run.state
+run_confined picks deck history run users o r some none within =
+    closed_history (processes_of deck) (opened (checked_of deck) deck.jobs) history run.state users o r (begins_shut deck users o r some none) run.legal within (each_ran picks deck history run)

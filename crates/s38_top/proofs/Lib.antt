@@ -1,3 +1,4 @@
 pub mod DeckLaws
 pub mod TopLaws
 mod ConfinedLaws
+mod CommandLaws

@@ -11,7 +11,7 @@ use Rattle.s38_code.specs.declared.made.CreateResult.{CreateResult}
 use Rattle.s38_rules.specs.State.{State}
 use Rattle.s38_rules.specs.Legal.{IsSound, IsUnstored, Leads, Run, begun}
 use Rattle.s38_rules.specs.Opening.{opened}
-use Rattle.s38_run.specs.Order.{InOrder}
+use Rattle.s38_run.specs.Picked.{Picked}
 use Rattle.s38_run.specs.Whole.{AllRan}
 use Rattle.std.specs.Io.KnownBytes.{Appends}
 use Rattle.s38_base.specs.Faults.{Rose}
@@ -36,16 +36,16 @@ there_is (x ∷ xs) (suc k) h = there_is xs k (omega arith)
 
 -- a sound machine that was begun with the deck's checked templates, and ran each job by what is made of its
 -- template, has the history of the deck
-pub run_of : (deck : Deck) (made : List CreateResult) (ts : List CheckedTemplate) (begun_by m : Run) → length made ≡ length deck.jobs
+pub run_of : (picks : List ℕ) (deck : Deck) (made : List CreateResult) (ts : List CheckedTemplate) (begun_by m : Run) → length made ≡ length deck.jobs
     → ((k : ℕ) (job : Job) (one : CreateResult) → slice_get deck.jobs k ≡ Some job → slice_get made k ≡ Some one → made_for deck job ≡ Some one)
     → ts ≡ checked_of deck → begun_by ≡ begun (opened ts deck.jobs)
-    → IsSound m → m.origin ≡ opened begun_by.state.templates deck.jobs → InOrder m.origin m.history → AllRan made deck.jobs m.history → IsRunOf deck m.history
-run_of deck made ts begun_by m count each checked begins sound origin order ran =
+    → IsSound m → m.origin ≡ opened begun_by.state.templates deck.jobs → Picked picks m.origin m.history → AllRan made deck.jobs m.history → IsRunOf picks deck m.history
+run_of picks deck made ts begun_by m count each checked begins sound origin order ran =
     let first : m.origin ≡ opened ts deck.jobs = origin ∙ ap (λ (r : Run). opened r.state.templates deck.jobs) begins in
     record {
       state = m.state;
       legal = subst (λ (s : State). Leads s [] m.history m.state) (first ∙ ap (λ xs. opened xs deck.jobs) checked) sound.legal;
-      order = subst (λ (s : State). InOrder s m.history) (first ∙ ap (λ xs. opened xs deck.jobs) checked) order;
+      order = subst (λ (s : State). Picked picks s m.history) (first ∙ ap (λ xs. opened xs deck.jobs) checked) order;
       each = λ k job at.
           let one = there_is made k (omega (arith, count, slice_get_within deck.jobs k job at)) in
           record { made = one.0; is = each k job one.0 at one.1; ran = ran.each k job one.0 at one.1 };
@@ -86,7 +86,7 @@ text_holds words old new before now command text (BadDeck line code) is read of 
     (rw is refl, record { text = text; read = read; first = of.0; none = of.1 })
 text_holds words old new before now command text DeckFault is read of = absurd of
 text_holds words old new before now command text NoMemory is read of = tt
-text_holds words old new before now command text (Complete whole) is read of =
+text_holds words old new before now command text (Complete pick whole) is read of =
     (is ∙ ap Some of.0, (record { taken = record { text = text; read = read; is = of.1.0 }; run = of.1.1.0 }, of.1.1.1))
 text_holds words old new before now command text (Checked checked) is read of =
     (is ∙ ap Some of.0, record { taken = record { text = text; read = read; is = of.1.0 }; each = of.1.1 })
@@ -125,7 +125,7 @@ faulted_not BadWords h = omega arith
 faulted_not (BadDeck line code) h = omega arith
 faulted_not DeckFault h = omega arith
 faulted_not NoMemory h = omega arith
-faulted_not (Complete whole) h = omega arith
+faulted_not (Complete pick whole) h = omega arith
 faulted_not (Checked checked) h = omega arith
 
 -- a text that spells a deck is not cut by the limit of what is taken, so nothing is left behind it
@@ -148,12 +148,12 @@ serves_by words left left' taken taken' written written' BadWords history holds 
 serves_by words left left' taken taken' written written' (BadDeck line code) history holds told s h = absurd (omega arith)
 serves_by words left left' taken taken' written written' DeckFault history holds told s h = absurd (omega arith)
 serves_by words left left' taken taken' written written' NoMemory history holds told s h = absurd (omega arith)
-serves_by words left left' taken taken' written written' (Complete whole) history holds told s h =
-    let complete : IsComplete left left' written written' history =
-    subst (λ (es : List Entry). IsComplete left left' written written' es) (sym h) (record {
+serves_by words left left' taken taken' written written' (Complete pick whole) history holds told s h =
+    let complete : IsComplete pick left left' written written' history =
+    subst (λ (es : List Entry). IsComplete pick left left' written written' es) (sym h) (record {
       deck = whole.deck;
       ran = holds.1.0;
-      confined = run_confined whole.deck whole.history.items holds.1.0.run;
+      confined = run_confined _ whole.deck whole.history.items holds.1.0.run;
       told = told;
       finished = λ xs e. read_out left left' whole.deck xs holds.1.0.taken e;
     }) in
@@ -193,7 +193,7 @@ good_by words left left' taken taken' put put' (BadDeck line code) good holds =
     absurd (holds.1.none good.deck (subst (λ (t : List ℕ). Spells t good.deck) (sym (read_is left left' good.text holds.1.text good.told holds.1.read)) good.is))
 good_by words left left' taken taken' put put' DeckFault good holds = absurd (good.source holds.1)
 good_by words left left' taken taken' put put' NoMemory good holds = inr refl
-good_by words left left' taken taken' put put' (Complete whole) good holds = inl refl
+good_by words left left' taken taken' put put' (Complete pick whole) good holds = inl refl
 good_by words left left' taken taken' put put' (Checked checked) good holds = inl refl
 
 pub good_of : (words : List (List ℕ)) (left left' : Option (List ℕ)) (taken taken' : ℕ) (written written' : Option (List ℕ)) (put put' : ℕ) (status : ℕ) (history : List Entry) (marks : List ℕ)

@@ -1,15 +1,31 @@
 -- Which command the words are.
-use Rattle.std.specs.Prelude.{ℕ, List, [], ◌∷◌, Option, Some, None, codes, if◌then◌else◌}
+use Rattle.std.specs.Prelude.{ℕ, ◌&&◌, List, [], ◌∷◌, Option, Some, None, codes, nat_le, if◌then◌else◌}
 use Rattle.std.specs.Str.{bytes_eq}
+use Rattle.s38_words.specs.Number.{natural_of}
 use Rattle.s38_top.specs.declared.command.Command.{Command}
 use Rattle.s38_top.specs.declared.command.Command.TheVariants.{Serial, Check}
 
+abbrev pub greatest_pick : ℕ
+greatest_pick = 4294967295
+
 abbrev pub command_by : List ℕ → Option Command
 command_by word =
-    if bytes_eq word (codes "serial") then Some Serial else (if bytes_eq word (codes "check") then Some Check else None)
+    if bytes_eq word (codes "serial") then Some (Serial 0) else (if bytes_eq word (codes "check") then Some Check else None)
 
--- each command is one word
+-- a number of at most 32 bits
+abbrev pub pick_of : Option ℕ → Option Command
+pick_of None = None
+pick_of (Some n) = if nat_le n greatest_pick then Some (Serial n) else None
+
+-- the number is decimal digits without a leading zero
+abbrev pub picked_by : List ℕ → List ℕ → List ℕ → Option Command
+picked_by word option number =
+    if bytes_eq word (codes "serial") && bytes_eq option (codes "--pick") then pick_of (natural_of number) else None
+
+-- `serial`, `serial --pick n`, `check`
 abbrev pub command_of : List (List ℕ) → Option Command
 command_of [] = None
 command_of (word ∷ []) = command_by word
-command_of (word ∷ other ∷ words) = None
+command_of (word ∷ option ∷ []) = None
+command_of (word ∷ option ∷ number ∷ []) = picked_by word option number
+command_of (word ∷ option ∷ number ∷ other ∷ words) = None

@@ -17,7 +17,7 @@ use Rattle.s38_top.specs.declared.command.Command.TheVariants.{Serial, Check}
 use Rattle.s38_top.specs.declared.outcome.Outcome.{Outcome}
 use Rattle.s38_top.specs.declared.outcome.Outcome.TheVariants.{BadWords, BadDeck, DeckFault, NoMemory, Complete, Checked}
 use Rattle.s38_top.specs.Commands.{command_of}
-use Rattle.s38_top.specs.Decks.{AreMarks, IsConfined, IsRunOf, checked_of}
+use Rattle.s38_top.specs.Decks.{AreMarks, IsConfined, IsRunOf, checked_of, picks_by}
 
 -- how many bytes of a deck are taken at most
 abbrev pub most : ℕ
@@ -30,7 +30,7 @@ status_of BadWords = 1
 status_of (BadDeck line code) = 2
 status_of DeckFault = 5
 status_of NoMemory = 7
-status_of (Complete whole) = 0
+status_of (Complete pick whole) = 0
 status_of (Checked checked) = 0
 
 abbrev pub history_of : Outcome → List Entry
@@ -38,7 +38,7 @@ history_of BadWords = []
 history_of (BadDeck line code) = []
 history_of DeckFault = []
 history_of NoMemory = []
-history_of (Complete whole) = whole.history.items
+history_of (Complete pick whole) = whole.history.items
 history_of (Checked checked) = []
 
 abbrev pub marks_of : Outcome → List ℕ
@@ -46,7 +46,7 @@ marks_of BadWords = []
 marks_of (BadDeck line code) = []
 marks_of DeckFault = []
 marks_of NoMemory = []
-marks_of (Complete whole) = whole.marks.items
+marks_of (Complete pick whole) = whole.marks.items
 marks_of (Checked checked) = []
 
 abbrev pub line : List ℕ → List ℕ
@@ -65,7 +65,7 @@ text_of BadWords = line (codes "BAD WORDS")
 text_of (BadDeck number code) = bad_line number code
 text_of DeckFault = line (codes "DECK FAULT")
 text_of NoMemory = line (codes "NO MEMORY")
-text_of (Complete whole) = run_text whole.deck whole.history.items
+text_of (Complete pick whole) = run_text whole.deck whole.history.items
 text_of (Checked checked) = checked_text checked.templates
 
 -- ---- what it rests on
@@ -87,10 +87,10 @@ pub record HasDeck (old new : Option (List ℕ)) (deck : Deck) : Type 0 where
   pub read : ReadsAll most old new text
   pub is : Spells text deck
 
--- the history is that of the whole runs of its jobs
-pub record RanDeck (old new : Option (List ℕ)) (deck : Deck) (history : List Entry) : Type 0 where
+-- the history is that of the whole runs of its jobs, in turns of the picker that begins at a number
+pub record RanDeck (pick : ℕ) (old new : Option (List ℕ)) (deck : Deck) (history : List Entry) : Type 0 where
   pub taken : HasDeck old new deck
-  pub run : IsRunOf deck history
+  pub run : IsRunOf (picks_by pick (length history)) deck history
 
 -- each of its templates was checked
 pub record CheckedAll (old new : Option (List ℕ)) (deck : Deck) (templates : List CheckedTemplate) : Type 0 where
@@ -103,8 +103,8 @@ Holds words old new before now BadWords = (command_of words ≡ None) × Keeps o
 Holds words old new before now (BadDeck line code) = IsServed words × NoDeck old new line code
 Holds words old new before now DeckFault = IsServed words × Rose before now
 Holds words old new before now NoMemory = Unit {0}
-Holds words old new before now (Complete whole) =
-    (command_of words ≡ Some Serial) × (RanDeck old new whole.deck whole.history.items × AreMarks whole.marks.items whole.history.items)
+Holds words old new before now (Complete pick whole) =
+    (command_of words ≡ Some (Serial pick)) × (RanDeck pick old new whole.deck whole.history.items × AreMarks whole.marks.items whole.history.items)
 Holds words old new before now (Checked checked) = (command_of words ≡ Some Check) × CheckedAll old new checked.deck checked.templates
 
 -- ---- how it is told
@@ -115,7 +115,7 @@ faulted BadWords = 6
 faulted (BadDeck line code) = 6
 faulted DeckFault = 6
 faulted NoMemory = 7
-faulted (Complete whole) = 6
+faulted (Complete pick whole) = 6
 faulted (Checked checked) = 6
 
 -- the text was written, or the sink failed and a prefix of it was
@@ -136,9 +136,9 @@ pub record Ends (words : List (List ℕ)) (left left' : Option (List ℕ)) (take
 
 -- a deck was spelled, the history is that of its whole runs and opens no way to a right, its text was written, and the
 -- input was read to its end
-pub record IsComplete (left left' written written' : Option (List ℕ)) (history : List Entry) : Type 0 where
+pub record IsComplete (pick : ℕ) (left left' written written' : Option (List ℕ)) (history : List Entry) : Type 0 where
   pub deck : Deck
-  pub ran : RanDeck left left' deck history
+  pub ran : RanDeck pick left left' deck history
   pub confined : IsConfined deck history ran.run.state
   pub told : Appends written written' (run_text deck history)
   pub finished : (bytes : List ℕ) → left ≡ Some bytes → left' ≡ Some []
@@ -155,7 +155,7 @@ pub record IsChecked (left left' written written' : Option (List ℕ)) (history 
 -- what status 0 says of each command
 abbrev pub Serves : Option Command → Option (List ℕ) → Option (List ℕ) → Option (List ℕ) → Option (List ℕ) → List Entry → Type 0
 Serves None left left' written written' history = ⊥
-Serves (Some Serial) left left' written written' history = IsComplete left left' written written' history
+Serves (Some (Serial pick)) left left' written written' history = IsComplete pick left left' written written' history
 Serves (Some Check) left left' written written' history = IsChecked left left' written written' history
 
 -- ---- completeness
@@ -176,6 +176,6 @@ OfText command text BadWords = ⊥
 OfText command text (BadDeck line code) = (read_of text ≡ Err (faults.Bad line code)) × ((deck : Deck) → Spells text deck → ⊥)
 OfText command text DeckFault = ⊥
 OfText command text NoMemory = Unit {0}
-OfText command text (Complete whole) =
-    (command ≡ Serial) × (Spells text whole.deck × (IsRunOf whole.deck whole.history.items × AreMarks whole.marks.items whole.history.items))
+OfText command text (Complete pick whole) =
+    (command ≡ Serial pick) × (Spells text whole.deck × (IsRunOf (picks_by pick (length whole.history.items)) whole.deck whole.history.items × AreMarks whole.marks.items whole.history.items))
 OfText command text (Checked checked) = (command ≡ Check) × (Spells text checked.deck × (checked.templates ≡ checked_of checked.deck))

@@ -1,11 +1,14 @@
 ghost use Rattle.std.specs.Prelude.{◌≡◌, map};
-ghost use Rattle.s38_top.specs.Commands.{command_by, command_of};
+ghost use Rattle.s38_words.specs.Number.{natural_of};
+ghost use Rattle.s38_top.specs.Commands.{command_by, command_of, pick_of, picked_by};
+
+use s38_words::natural;
 
 /// What the program is asked to do.
 #[derive(Clone, Copy, PartialEq, Eq, Debug)]
 pub enum Command {
-    /// The jobs of a deck are run on one thread.
-    Serial,
+    /// The jobs of a deck are run on one thread; the picker begins at this number.
+    Serial { pick: u32 },
     /// The templates of a deck are checked.
     Check,
 }
@@ -14,7 +17,7 @@ fn command_by(word: &[u8]) -> Option<Command>
     ensures { result ≡ command_by word.now }
 {
     if word == b"serial".as_slice() {
-        Some(Command::Serial)
+        Some(Command::Serial { pick: 0 })
     } else if word == b"check".as_slice() {
         Some(Command::Check)
     } else {
@@ -22,13 +25,44 @@ fn command_by(word: &[u8]) -> Option<Command>
     }
 }
 
-/// The command that the words are; each is one word.
+/// A number of at most 32 bits, in decimal digits without a leading zero.
+#[tactic(auto, using(crate::proofs::CommandLaws::pick_held))]
+fn pick_of(number: &[u8]) -> Option<Command>
+    ensures { result ≡ pick_of (natural_of number.now) }
+{
+    match natural(number) {
+        None => None,
+        Some(pick) => {
+            if pick <= u64::from(u32::MAX) {
+                Some(Command::Serial { pick: pick as u32 })
+            } else {
+                None
+            }
+        }
+    }
+}
+
+fn picked_by(word: &[u8], option: &[u8], number: &[u8]) -> Option<Command>
+    ensures { result ≡ picked_by word.now option.now number.now }
+{
+    if word == b"serial".as_slice() && option == b"--pick".as_slice() {
+        pick_of(number)
+    } else {
+        None
+    }
+}
+
+/// The command that the words are: `serial`, `serial --pick n`, `check`.
 pub fn command_of(words: &[&str]) -> Option<Command>
     ensures { result ≡ command_of (map (λ w. w.now) words.now) }
 {
     match words {
         [] => None,
         [word] => command_by(word.as_bytes()),
-        [_, _, ..] => None,
+        [_, _] => None,
+        [word, option, number] => {
+            picked_by(word.as_bytes(), option.as_bytes(), number.as_bytes())
+        }
+        [_, _, _, _, ..] => None,
     }
 }

@@ -8,4 +8,7 @@ mod tell;
 mod templates;
 mod top;
 
+pub use outcome::Whole;
+pub use run::run_deck;
+pub use templates::checked_templates;
 pub use top::{Report, plain_top};

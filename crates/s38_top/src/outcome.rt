@@ -26,8 +26,8 @@ pub enum Outcome {
     DeckFault,
     /// Memory was refused.
     NoMemory,
-    /// Each job ran to its end.
-    Complete(Whole),
+    /// Each job ran to its end; the picker began at this number.
+    Complete { pick: u32, whole: Whole },
     /// Each template was checked.
     Checked(CheckedDeck),
 }

@@ -2,6 +2,7 @@ ghost use Rattle.std.specs.Prelude.{◌≡◌, ◌≤◌, ℕ, List, IfOk, Some,
 ghost use Rattle.s38_code.specs.declared.deck.Job.{Job};
 ghost use Rattle.s38_template.specs.Grammar.{Spells};
 ghost use Rattle.s38_template.specs.Places.{HasTemplate};
+ghost use Rattle.s38_run.specs.Pickers.{picks_of};
 ghost use Rattle.s38_top.specs.Commands.{command_of};
 ghost use Rattle.s38_top.specs.Decks.{AreMarks, IsRunOf, checked_of};
 ghost use Rattle.s38_top.specs.Outcome.{Holds, OfText};
@@ -13,25 +14,36 @@ use s38_base::NoMemory;
 use s38_code::{Checked, Deck};
 use s38_io::{ReadFault, Source, read_to_end};
 use s38_machine::Machine;
-use s38_run::serial;
+use s38_run::{NumberPicker, Picker, serial};
 use s38_template::{DeckFault, each_job_has_its_template, read_deck};
 use std::alloc::Global;
 
 /// How many bytes of a deck are taken at most: with them the line that passes 4,194,304 bytes is decided.
 const MOST: usize = 4_194_560;
 
-/// Runs the jobs of a deck whose templates were checked.
-fn run_deck(alloc: Global, deck: Deck, templates: Checked) -> Result<Whole, NoMemory>
+/// Runs the jobs of a deck whose templates were checked, in turns that a picker chooses.
+pub fn run_deck<P: Picker>(
+    alloc: Global,
+    deck: Deck,
+    templates: Checked,
+    picker: &mut P,
+) -> Result<Whole, NoMemory>
     requires has { (k : ℕ) (job : Job) → slice_get deck.jobs k ≡ Some job → HasTemplate deck job }
     requires checked { templates ≡ checked_of deck }
     requires few { length deck.jobs ≤ 256 }
     ensures deck { IfOk result (λ whole. whole.deck ≡ deck) }
-    ensures run { IfOk result (λ whole. IsRunOf deck whole.history.items) }
+    ensures run { IfOk result (λ whole. IsRunOf (picks_of P.answer P.after (length whole.history.items) picker.old) deck whole.history.items) }
     ensures marks { IfOk result (λ whole. AreMarks whole.marks.items whole.history.items) }
 {
     let made = made_of_jobs(alloc, &deck, templates.as_slice())?;
     let machine = Machine::start(alloc, templates, deck.jobs.as_slice())?;
-    let machine = serial(alloc, machine, deck.jobs.as_slice(), made.as_slice())?;
+    let machine = serial(
+        alloc,
+        machine,
+        deck.jobs.as_slice(),
+        made.as_slice(),
+        picker,
+    )?;
     let (history, marks) = machine.end();
     Ok(Whole {
         deck,
@@ -41,16 +53,17 @@ fn run_deck(alloc: Global, deck: Deck, templates: Checked) -> Result<Whole, NoMe
 }
 
 /// What the run of a deck whose templates were checked comes to.
-fn of_run(alloc: Global, text: &[u8], deck: Deck, templates: Checked) -> Outcome
+fn of_run(alloc: Global, pick: u32, text: &[u8], deck: Deck, templates: Checked) -> Outcome
     requires spelled { Spells text.now deck }
     requires checked { templates ≡ checked_of deck }
-    ensures { OfText Command.Serial text.now result }
+    ensures { OfText (Command.Serial pick) text.now result }
 {
     let _ = text;
     each_job_has_its_template();
-    match run_deck(alloc, deck, templates) {
+    let mut picker = NumberPicker::new(u64::from(pick));
+    match run_deck(alloc, deck, templates, &mut picker) {
         Err(_) => Outcome::NoMemory,
-        Ok(whole) => Outcome::Complete(whole),
+        Ok(whole) => Outcome::Complete { pick, whole },
     }
 }
 
@@ -62,7 +75,7 @@ fn of_deck(alloc: Global, command: Command, text: &[u8], deck: Deck) -> Outcome
     match checked_templates(alloc, deck.templates.as_slice()) {
         Err(_) => Outcome::NoMemory,
         Ok(templates) => match command {
-            Command::Serial => of_run(alloc, text, deck, templates),
+            Command::Serial { pick } => of_run(alloc, pick, text, deck, templates),
             Command::Check => Outcome::Checked(CheckedDeck { deck, templates }),
         },
     }

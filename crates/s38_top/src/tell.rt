@@ -65,14 +65,14 @@ fn tell_text<O: Sink>(outcome: Outcome, text: &[u8], out: &mut O) -> Told
     Told { outcome, written }
 }
 
-fn tell_run<O: Sink>(alloc: Global, whole: Whole, out: &mut O) -> Told
-    ensures outcome { (result.outcome ≡ Outcome.Complete whole) ⊎ (result.outcome ≡ Outcome.NoMemory) }
+fn tell_run<O: Sink>(alloc: Global, pick: u32, whole: Whole, out: &mut O) -> Told
+    ensures outcome { (result.outcome ≡ Outcome.Complete pick whole) ⊎ (result.outcome ≡ Outcome.NoMemory) }
     ensures told { MatchBool result.written (Appends (O.written out.old) (O.written out.new) (text_of result.outcome))
         (Rose (O.faults out.old) (O.faults out.new) × AppendsFront (O.written out.old) (O.written out.new) (text_of result.outcome)) }
 {
     match run_text(alloc, &whole.deck, whole.history.as_slice()) {
         Err(_) => tell_text(Outcome::NoMemory, b"NO MEMORY\n", out),
-        Ok(text) => tell_text(Outcome::Complete(whole), text.as_slice(), out),
+        Ok(text) => tell_text(Outcome::Complete { pick, whole }, text.as_slice(), out),
     }
 }
 
@@ -109,7 +109,7 @@ pub fn tell<O: Sink>(alloc: Global, outcome: Outcome, out: &mut O) -> Told
         Outcome::BadDeck { line, code } => tell_bad(alloc, line, code, out),
         Outcome::DeckFault => tell_text(Outcome::DeckFault, b"DECK FAULT\n", out),
         Outcome::NoMemory => tell_text(Outcome::NoMemory, b"NO MEMORY\n", out),
-        Outcome::Complete(whole) => tell_run(alloc, whole, out),
+        Outcome::Complete { pick, whole } => tell_run(alloc, pick, whole, out),
         Outcome::Checked(checked) => tell_check(alloc, checked, out),
     }
 }

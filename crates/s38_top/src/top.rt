@@ -28,7 +28,7 @@ fn status(told: &Told) -> u8
         Outcome::BadDeck { .. } => { if written { 2 } else { 6 } }
         Outcome::DeckFault => { if written { 5 } else { 6 } }
         Outcome::NoMemory => 7,
-        Outcome::Complete(_) => { if written { 0 } else { 6 } }
+        Outcome::Complete { .. } => { if written { 0 } else { 6 } }
         Outcome::Checked(_) => { if written { 0 } else { 6 } }
     }
 }
@@ -39,7 +39,7 @@ fn entries(alloc: Global, outcome: Outcome) -> (Vec<Entry>, Vec<u64>)
     ensures marks { result.1.items ≡ marks_of outcome }
 {
     match outcome {
-        Outcome::Complete(whole) => {
+        Outcome::Complete { pick: _, whole } => {
             let Whole {
                 deck: _,
                 history,
