@@ -1,6 +1,6 @@
 //! What each command answers to good and bad words and decks.
 
-use crate::tables::{CHECK, SERIAL, Table};
+use crate::tables::{CHECK, Table};
 
 /// Two users put a message into the locked queue; the second has no right to.
 pub const TWO_JOBS: &str =
@@ -14,9 +14,13 @@ pub const TWO_LOGS: &str =
 5 FINISH RETURN;JOB 2 B USER QUSER;6 START OK;7 RSLVSP OK S5/00;8 ENQ 0A01 1 INSERT
 9 FINISH UNHANDLED 0A01;DONE 9;";
 
-/// Decks that are run.
+/// Decks that are run, in the same order with each pick, since no stage has two jobs.
 pub static RUN: Table = Table {
-    calls: SERIAL,
+    calls: &[
+        &["serial"],
+        &["serial", "--pick", "0"],
+        &["serial", "--pick", "4294967295"],
+    ],
     deck: ("", ""),
     text: ("", ""),
     status: 0,
@@ -61,6 +65,17 @@ pub static BAD_WORDS: Table = Table {
         &["Serial"],
         &["--help"],
         &[""],
+        &["serial", "1"],
+        &["serial", "--pick"],
+        &["serial", "--pick", ""],
+        &["serial", "--pick", "x"],
+        &["serial", "--pick", "01"],
+        &["serial", "--pick", "-1"],
+        &["serial", "--pick", "4294967296"],
+        &["serial", "--pick", "1", "2"],
+        &["serial", "--picks", "1"],
+        &["--pick", "1", "serial"],
+        &["check", "--pick", "1"],
     ],
     deck: ("", ""),
     text: ("", ""),

@@ -24,6 +24,8 @@ mod grants;
 #[cfg(test)]
 mod invocations;
 #[cfg(test)]
+mod locks;
+#[cfg(test)]
 mod pages;
 #[cfg(test)]
 mod profiles;
@@ -37,3 +39,5 @@ mod rules;
 mod spaces;
 #[cfg(test)]
 mod tables;
+#[cfg(test)]
+mod waits;

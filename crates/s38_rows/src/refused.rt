@@ -7,7 +7,7 @@ const BEFORE: &str =
     "PROGRAM GOOD;DCL A PKD:20:0;DCL B PKD:18:0;DCL C PKD:31:0;MULT C,A,B;END;PROGRAM P;";
 
 /// What is behind them: the jobs of both templates.
-const BEHIND: &str = "END;STAGE;JOB A USER QSECOFR RUN P;JOB B USER QSECOFR RUN GOOD;";
+const BEHIND: &str = "END;STAGE;JOB A USER QSECOFR RUN P;STAGE;JOB B USER QSECOFR RUN GOOD;";
 
 /// The lines of a template, and its cause.
 const REFUSED: &[(&str, &str)] = &[
@@ -34,12 +34,12 @@ const REFUSED: &[(&str, &str)] = &[
     ("DCL A PARM 1 CHAR:16;DCL B BASED A 0 PTR;", "2A03 2"),
     ("DCL A PTR;DCL A EXCM * BACK;LABEL BACK;", "2A03 2"),
     (
-        "DCL Q PTR;RTX;LABEL L;B L;LABEL M;B NOWHERE;LOCK Q,LSRD,NOWAIT;",
+        "DCL Q PTR;RTX;LABEL L;B L;LABEL M;B NOWHERE;COMMIT Q;",
         "2A08 3",
     ),
     ("DCL P PTR;CRTQ P,*NONE,SPACE/00/Q,NONE,FIFO,0,8;", "2A05 1"),
     ("DCL P PTR;CRTQ P,*NONE,QUEUE/00/Q,NONE,LIFO,0,8;", "2A04 1"),
-    ("DCL P PTR;LOCK P,LSRD,NOWAIT;", "2A04 1"),
+    ("DCL P PTR;COMMIT P;", "2A04 1"),
     ("RTX;ENQ Q,*NONE,'A';", "2A07 2"),
 ];
 

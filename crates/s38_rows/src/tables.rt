@@ -10,11 +10,13 @@ use crate::decks::DECKS;
 use crate::exceptions::EXCEPTIONS;
 use crate::grants::{CARRIED, GRANTED, LENT, OWNED, SEEN};
 use crate::invocations::{ADOPTED, CALLED, MISMATCHED, OFFERED, PASSED};
+use crate::locks::{BLOCKED, LOCKING, PAIRS};
 use crate::profiles::{PAID, PROFILES, USERS};
 use crate::programs::PROGRAMS;
 use crate::refused::{CHECKS, JOBS};
 use crate::rules::RULES;
 use crate::spaces::{LIMITS, SPACES};
+use crate::waits::WAITS;
 use s38_base::NoMemory;
 use std::alloc::Global;
 use std::test::Fail;
@@ -36,6 +38,16 @@ pub struct Acts {
     /// The text up to that user, from there to the entry, and the rest.
     pub text: (&'static str, &'static str, &'static str),
     /// What each row has: the user, the instruction, and its entry.
+    pub rows: &'static [(&'static str, &'static str, &'static str)],
+}
+
+/// Rows of a lock of one job, and of what another job asks beside it.
+pub struct Between {
+    /// The deck up to the lock, from there to what is asked, and the rest.
+    pub deck: (&'static str, &'static str, &'static str),
+    /// The text up to what is answered, and the rest.
+    pub text: (&'static str, &'static str),
+    /// What each row has: the lock, what is asked, and what is answered.
     pub rows: &'static [(&'static str, &'static str, &'static str)],
 }
 
@@ -83,6 +95,21 @@ fn wrong_act(alloc: Global, acts: &Acts) -> Result<Option<(&'static str, &'stati
     Ok(None)
 }
 
+/// The lock and what is asked of the first row that is answered otherwise, if there is one.
+fn wrong_pair(
+    alloc: Global,
+    between: &Between,
+) -> Result<Option<(&'static str, &'static str)>, NoMemory> {
+    for (lock, asked, answer) in between.rows {
+        let deck = [between.deck.0, lock, between.deck.1, asked, between.deck.2];
+        let text = [between.text.0, answer, between.text.1];
+        if !answers(alloc, &["serial"], &deck, &text, 0)? {
+            return Ok(Some((*lock, *asked)));
+        }
+    }
+    Ok(None)
+}
+
 #[test]
 fn every_row_is_answered(rt: HostRuntime) -> Result<(), Fail> {
     let tables = [
@@ -115,6 +142,7 @@ fn every_row_is_answered(rt: HostRuntime) -> Result<(), Fail> {
         &LENT,
         &OWNED,
         &WAYS,
+        &WAITS,
     ];
     for table in tables {
         assert_eq!(rt; wrong_call(rt.alloc(), table)?, None);
@@ -124,8 +152,16 @@ fn every_row_is_answered(rt: HostRuntime) -> Result<(), Fail> {
 
 #[test]
 fn every_act_is_answered(rt: HostRuntime) -> Result<(), Fail> {
-    for acts in [&CONTEXTS, &PROFILES] {
+    for acts in [&CONTEXTS, &PROFILES, &LOCKING] {
         assert_eq!(rt; wrong_act(rt.alloc(), acts)?, None);
+    }
+    Ok(())
+}
+
+#[test]
+fn every_pair_is_answered(rt: HostRuntime) -> Result<(), Fail> {
+    for between in [&PAIRS, &BLOCKED] {
+        assert_eq!(rt; wrong_pair(rt.alloc(), between)?, None);
     }
     Ok(())
 }
