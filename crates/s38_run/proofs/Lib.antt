@@ -1,5 +1,6 @@
 pub mod Asking
 pub mod JobLaws
-pub mod OrderLaws
+pub mod ReadyLaws
 pub mod Running
 pub mod Stepping
+pub mod TurnLaws

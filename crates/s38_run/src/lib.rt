@@ -1,7 +1,11 @@
-//! Whole runs: the jobs of a deck, one after another.
+//! Whole runs: the jobs of a deck, whose processes take turns.
 #![tactic(auto)]
 
+mod job_state;
 mod jobs;
-mod one;
+mod outcome;
+mod picker;
+mod turn;
 
 pub use jobs::serial;
+pub use picker::{ListPicker, NumberPicker, Picker};
