@@ -94,8 +94,8 @@ unbegun_at (job ∷ jobs) zero state h = sym (same_Some _ _ h)
 unbegun_at (job ∷ jobs) (suc k) state h = unbegun_at jobs k state h
 
 fresh_stands : (one : CreateResult) (budget : ℕ) (ended : Bool) (state : JobState) → ended ≡ false → state ≡ Unbegun → Stands one budget ended [] state
-fresh_stands one budget ended state open is =
-    subst (λ (b : Bool). Stands one budget b [] state) (sym open)
+fresh_stands one budget ended state still is =
+    subst (λ (b : Bool). Stands one budget b [] state) (sym still)
     (subst (λ (s : JobState). Stands one budget false [] s) (sym is) (record { by_program = tt; is = (refl, going) }))
   where
     going : Fresh ≢ Ended

@@ -1,6 +1,7 @@
 -- Who is ready: by what it changes, and by what it does not.
 use Rattle.std.proofs.Common.{◌≡◌, ◌≢◌, ℕ, zero, suc, ◌+◌, ◌-◌, ◌<◌, ◌≤◌, ◌==◌, Bool, true, false, cond, not, ◌&&◌, ◌||◌, List, [], ◌∷◌, length, map, refl, sym, ◌∙◌, ap, arith}
 use Rattle.std.proofs.lemmas.List.Elements.{filter_agree}
+use Rattle.std.proofs.lemmas.Option.{same_Some}
 use Rattle.std.proofs.lemmas.List.FromFn.{length-range_with_len}
 use Rattle.std.specs.Prelude.{Option, Some, None, filter, nat_lt, slice_get, slice_set}
 use Rattle.std.specs.Option.{option_map}
@@ -55,19 +56,13 @@ same_ready s t p same waiting =
 
 -- where the outline is the same, so is whether the process at a place has ended
 pub same_ended : (xs ys : List ProcessEntry) (k : ℕ) (x y : ProcessEntry) → outline ys ≡ outline xs → slice_get xs k ≡ Some x → slice_get ys k ≡ Some y → y.ended ≡ x.ended
-same_ended xs ys k x y same x_at y_at = some_first (sym (ap (option_map outline_of) y_at) ∙ sym (get_outline ys k) ∙ ap (λ os. slice_get os k) same ∙ get_outline xs k ∙ ap (option_map outline_of) x_at)
-  where
-    some_first : Some (outline_of y) ≡ Some (outline_of x) → y.ended ≡ x.ended
-    some_first h = cc
+same_ended xs ys k x y same x_at y_at = ap (λ (o : Outline). o.0) (same_Some (outline_of y) (outline_of x) (sym (ap (option_map outline_of) y_at) ∙ sym (get_outline ys k) ∙ ap (λ os. slice_get os k) same ∙ get_outline xs k ∙ ap (option_map outline_of) x_at))
 
 -- ---- a start
 
 set_outline : (xs : List ProcessEntry) (k : ℕ) (x y : ProcessEntry) → slice_get xs k ≡ Some x → outline_of y ≡ outline_of x → outline (slice_set xs k y) ≡ outline xs
 set_outline [] k x y h e = refl
-set_outline (z ∷ xs) zero x y h e = ap (λ o. o ∷ outline xs) (e ∙ ap outline_of (some_is x z (sym h)))
-  where
-    some_is : (a b : ProcessEntry) → Some a ≡ Some b → a ≡ b
-    some_is a b g = cc
+set_outline (z ∷ xs) zero x y h e = ap (λ o. o ∷ outline xs) (e ∙ ap outline_of (same_Some x z (sym h)))
 set_outline (z ∷ xs) (suc k) x y h e = ap (λ os. outline_of z ∷ os) (set_outline xs k x y h e)
 
 pub start_outline : (s : State) (p : ℕ) (o : Option ProcessEntry) → process_entry s p ≡ o → outline (start_at s p o).processes ≡ outline s.processes
@@ -89,10 +84,7 @@ kept_outline p xs ys kept = sym (unstacked_outline ys) ∙ ap outline kept.stays
 cons_get : {A : Type 0} (f : A → Bool) (x : A) (xs : List A) (b : Bool) (i : ℕ) (y : A) → f x ≡ b → slice_get (cond b (x ∷ filter f xs) (filter f xs)) i ≡ Some y
     → ((j : ℕ) → slice_get (filter f xs) j ≡ Some y → (f y ≡ true) × ((k : ℕ) × (slice_get xs k ≡ Some y)))
     → (f y ≡ true) × ((k : ℕ) × (slice_get (x ∷ xs) k ≡ Some y))
-cons_get f x xs true zero y e h more = let same : x ≡ y = some_is x y h in (sym (ap f same) ∙ e, (zero, h))
-  where
-    some_is : {A : Type 0} (a b : A) → Some a ≡ Some b → a ≡ b
-    some_is a b g = cc
+cons_get f x xs true zero y e h more = (sym (ap f (same_Some x y h)) ∙ e, (zero, h))
 cons_get f x xs true (suc i) y e h more = let rest = more i h in (rest.0, (suc rest.1.0, rest.1.1))
 cons_get f x xs false i y e h more = let rest = more i h in (rest.0, (suc rest.1.0, rest.1.1))
 
@@ -107,15 +99,13 @@ not_cons x xs h = cc
 -- where none is kept, none passes
 pub none_kept : {A : Type 0} (f : A → Bool) (xs : List A) (k : ℕ) (y : A) → filter f xs ≡ [] → slice_get xs k ≡ Some y → f y ≡ false
 none_kept f [] k y h at = cc
-none_kept f (x ∷ xs) k y h at = by_test (f x) refl h k at
+none_kept {A = A} f (x ∷ xs) k y h at = by_test (f x) refl h k at (λ g j there. none_kept f xs j y g there)
   where
-    some_is : (a b : A) → Some a ≡ Some b → a ≡ b
-    some_is a b g = cc
-
-    by_test : (b : Bool) → f x ≡ b → cond b (x ∷ filter f xs) (filter f xs) ≡ [] → (k : ℕ) → slice_get (x ∷ xs) k ≡ Some y → f y ≡ false
-    by_test true e h k at = absurd (not_cons x (filter f xs) h)
-    by_test false e h zero at = sym (ap f (some_is x y at)) ∙ e
-    by_test false e h (suc k) at = none_kept f xs k y h at
+    by_test : (b : Bool) → f x ≡ b → cond b (x ∷ filter f xs) (filter f xs) ≡ [] → (k : ℕ) → slice_get (x ∷ xs) k ≡ Some y
+        → (filter f xs ≡ [] → (j : ℕ) → slice_get xs j ≡ Some y → f y ≡ false) → f y ≡ false
+    by_test true e h k at more = absurd (not_cons x (filter f xs) h)
+    by_test false e h zero at more = sym (ap f (same_Some x y at)) ∙ e
+    by_test false e h (suc k) at more = more h k at
 
 pub filter_twice : {A : Type 0} (f g : A → Bool) (xs : List A) → filter f (filter g xs) ≡ filter (λ x. g x && f x) xs
 filter_twice f g [] = refl
@@ -137,10 +127,7 @@ filter_few f (x ∷ xs) = by_test (f x) (filter_few f xs)
 -- what does not pass is missing
 pub filter_fewer : {A : Type 0} (f : A → Bool) (xs : List A) (i : ℕ) (y : A) → slice_get xs i ≡ Some y → f y ≡ false → length (filter f xs) < length xs
 filter_fewer f [] i y h e = cc
-filter_fewer f (x ∷ xs) zero y h e = let here : f x ≡ false = ap f (some_is x y h) ∙ e in rw here (omega (arith, filter_few f xs))
-  where
-    some_is : (a b : A) → Some a ≡ Some b → a ≡ b
-    some_is a b g = cc
+filter_fewer f (x ∷ xs) zero y h e = let here : f x ≡ false = ap f (same_Some x y h) ∙ e in rw here (omega (arith, filter_few f xs))
 filter_fewer f (x ∷ xs) (suc i) y h e = by_test (f x) (filter_fewer f xs i y h e)
   where
     by_test : (b : Bool) → length (filter f xs) < length xs → length (cond b (x ∷ filter f xs) (filter f xs)) < length (x ∷ xs)
@@ -154,10 +141,7 @@ range_has a (suc n) (suc k) h = let on : a + 1 + k ≡ a + suc k = omega arith i
 
 range_within : (a n k x : ℕ) → slice_get (range_with_len a n) k ≡ Some x → (a ≤ x) × (x < a + n)
 range_within a zero k x h = cc
-range_within a (suc n) zero x h = let same : a ≡ x = some_is a x h in (omega arith, omega arith)
-  where
-    some_is : (a b : ℕ) → Some a ≡ Some b → a ≡ b
-    some_is a b g = cc
+range_within a (suc n) zero x h = let same : a ≡ x = same_Some a x h in (omega arith, omega arith)
 range_within a (suc n) (suc k) x h = let rest = range_within (a + 1) n k x h in (omega (arith, rest.0), omega (arith, rest.1))
 
 -- ---- those that are ready

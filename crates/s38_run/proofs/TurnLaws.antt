@@ -38,7 +38,12 @@ anyone ws = not (length ws == 0)
 
 nobody : (ws : List ℕ) → anyone ws ≡ false → ws ≡ []
 nobody [] h = refl
-nobody (w ∷ ws) h = cc
+nobody (w ∷ ws) h =
+    let some : (suc (length ws) == 0) ≡ false = grind (arith, nat_tests) in
+    absurd (no_both (sym (ap not some) ∙ h))
+  where
+    no_both : true ≡ false → ⊥
+    no_both g = cc
 
 changed_list : (s t : State) (p : ℕ) (b : Bool) (was : List ℕ) → anyone s.waiting ≡ b → was ≡ ready_list s → length t.processes ≡ length s.processes → outline t.processes ≡ outline s.processes → t.waiting ≡ []
     → ready_behind t p b Changed was ≡ ready_list t
@@ -166,7 +171,7 @@ kept_process one budget (Finish cause) r d f = cc
 stands_on : (one : CreateResult) (budget : ℕ) (state : JobState) (was is : Bool) (es : List Entry) (entry : Entry) → Stands one budget was es state → was ≡ false
     → event_of (doing one budget state) ≡ Some entry.event → (is_finish entry.event ≡ true → is ≡ true) → (is_finish entry.event ≡ false → is ≡ false)
     → Stands one budget is (es ++ entry ∷ []) (state_behind (outcome_of entry.event entry.reply) (absorbed (doing one budget state) entry.reply))
-stands_on one budget state was is es entry stands open asks over going = record {
+stands_on one budget state was is es entry stands still asks over going = record {
   by_program = ran_more (fresh one budget) es entry stands.by_program (ap event_of here ∙ asks);
   is = elim (true_or_false (is_finish entry.event)) as (λ _. MatchBool is (ends_by_finish (es ++ entry ∷ []) ≡ true)
       ((behind (fresh one budget) (es ++ entry ∷ []) ≡ doing one budget next) × ((doing one budget next).status ≢ Ended))) [
@@ -179,7 +184,7 @@ stands_on one budget state was is es entry stands open asks over going = record 
 }
   where
     here : behind (fresh one budget) es ≡ doing one budget state
-    here = (when_false was _ _ open stands.is).0
+    here = (when_false was _ _ still stands.is).0
 
     next : JobState
     next = state_behind (outcome_of entry.event entry.reply) (absorbed (doing one budget state) entry.reply)

@@ -58,12 +58,12 @@ outcome_of (Act depth request) reply = outcome_by reply
 outcome_of (Finish cause) reply = outcomes.Finished
 
 -- one event was asked, and answered
-pub record Turned (number : ℕ) (m : Run) (d : ProcessState) (outcome : Outcome) (m' : Run) (d' : ProcessState) : Type 0 where
+pub record Turned (number : ℕ) (m : Run) (d : ProcessState) (o : Outcome) (m' : Run) (d' : ProcessState) : Type 0 where
   pub event : Event
   pub asks : event_of d ≡ Some event
   pub machine : m' ≡ after m no_moment number event
   pub process : d' ≡ absorbed d (step m.state number event).reply
-  pub outcome : outcome ≡ outcome_of event (step m.state number event).reply
+  pub outcome : o ≡ outcome_of event (step m.state number event).reply
 
 -- the process of a job; it is fresh before its first turn
 abbrev pub doing : CreateResult → ℕ → JobState → ProcessState
@@ -79,10 +79,10 @@ state_behind outcomes.Refused process = states.Running process
 state_behind outcomes.Changed process = states.Running process
 
 -- a job took a turn
-pub record TookTurn (number : ℕ) (made : CreateResult) (budget : ℕ) (m : Run) (state : JobState) (outcome : Outcome) (m' : Run) (state' : JobState) : Type 0 where
+pub record TookTurn (number : ℕ) (made : CreateResult) (budget : ℕ) (m : Run) (old : JobState) (outcome : Outcome) (m' : Run) (new : JobState) : Type 0 where
   pub process : ProcessState
-  pub turned : Turned number m (doing made budget state) outcome m' process
-  pub state : state' ≡ state_behind outcome process
+  pub turned : Turned number m (doing made budget old) outcome m' process
+  pub state : new ≡ state_behind outcome process
 
 -- who is ready behind a turn, by who was before it, and by whether some process waited then
 abbrev pub ready_behind : State → ℕ → Bool → Outcome → List ℕ → List ℕ
@@ -108,12 +108,12 @@ pub record EachStands (made : List CreateResult) (jobs : List Job) (m : Run) (st
       → slice_get states k ≡ Some state → Stands one job.budget x.ended (entries_of (k + 1) m.history) state
 
 -- between two turns
-pub record IsBetween (made : List CreateResult) (jobs : List Job) (m : Run) (states : List JobState) (ready : List ℕ) : Type 0 where
+pub record IsBetween (made : List CreateResult) (jobs : List Job) (m : Run) (states : List JobState) (list : List ℕ) : Type 0 where
   pub sound : IsSound m
   pub begun : m.origin ≡ opened m.origin.templates jobs
   pub count_made : length made ≡ length jobs
   pub count_states : length states ≡ length jobs
-  pub ready : ready ≡ ready_list m.state
+  pub ready : list ≡ ready_list m.state
   pub awake : ready_list m.state ≡ [] → m.state.waiting ≡ []
   pub each : EachStands made jobs m states
 

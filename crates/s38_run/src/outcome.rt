@@ -31,7 +31,7 @@ pub fn outcome_of(event: &Event, reply: &Reply) -> Outcome
     ensures { result ≡ outcome_of event.now reply.now }
 {
     match event {
-        Event::Finish(_) => Outcome::Finished,
+        Event::Finish { .. } => Outcome::Finished,
         _ => outcome_by(reply),
     }
 }
