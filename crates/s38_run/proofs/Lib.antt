@@ -1,4 +1,5 @@
 pub mod Asking
+pub mod HistoryLaws
 pub mod JobLaws
 pub mod ReadyLaws
 pub mod Running

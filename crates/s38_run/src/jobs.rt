@@ -1,4 +1,4 @@
-ghost use Rattle.std.specs.Prelude.{◌≡◌, ◌+◌, ◌-◌, ◌<◌, ◌^◌, [], not, IfOk, OnOk, length, vec_len};
+ghost use Rattle.std.specs.Prelude.{◌≡◌, ◌-◌, ◌<◌, ◌^◌, ◌==◌, not, IfOk, OnOk, filter, length, vec_len};
 ghost use Rattle.s38_rules.specs.Legal.{IsSound, begun};
 ghost use Rattle.s38_rules.specs.Opening.{opened};
 ghost use Rattle.s38_run.specs.Picked.{Picked};

@@ -3,9 +3,11 @@
 
 mod job_state;
 mod jobs;
+mod laws;
 mod outcome;
 mod picker;
 mod turn;
 
 pub use jobs::serial;
+pub use laws::the_picks_decide;
 pub use picker::{ListPicker, NumberPicker, Picker};
