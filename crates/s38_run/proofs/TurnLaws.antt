@@ -375,3 +375,12 @@ going made jobs m all was place p job one state between at job_at one_at state_a
     let is = is_listed made jobs m all was place p between at in
     let old = there_is m.state.processes (p - 1) (omega (arith, is.1.first, is.1.last)) in
     (when_false old.0.ended _ _ (ready_open m.state p old.0 old.1 is.0) (between.each.each (p - 1) old.0 job one state old.1 job_at one_at state_at).is).1
+
+-- the machine has as many processes as before
+pub took_count : (made : List CreateResult) (jobs : List Job) (m : Run) (all : List JobState) (was : List ℕ) (place p : ℕ) (job : Job) (one : CreateResult) (state : JobState) (o : Outcome) (m' : Run) (state' : JobState)
+    → IsBetween made jobs m all was → slice_get was place ≡ Some p → slice_get jobs (p - 1) ≡ Some job → slice_get made (p - 1) ≡ Some one → slice_get all (p - 1) ≡ Some state
+    → TookTurn p one job.budget m state o m' state' → length m'.state.processes ≡ length jobs
+unfolding after
+took_count made jobs m all was place p job one state o m' state' between listed job_at one_at state_at took =
+    ap (λ (n : Run). length n.state.processes) took.turned.machine
+    ∙ count_then made jobs m all was place p job one state took.turned.event (record { between = between; listed = listed; job_at = job_at; one_at = one_at; state_at = state_at; asks = took.turned.asks })

@@ -20,6 +20,10 @@ number_after x = (x * 6364136223846793005 + 1442695040888963407) % 2 ^ 64
 abbrev pub number_answer : ℕ → ℕ
 number_answer x = number_after x / 2 ^ 33
 
+-- the first answers of the picker of a number
+abbrev pub picks_by : ℕ → ℕ → List ℕ
+picks_by n count = picks_of number_answer number_after count n
+
 -- ---- by a list, and 0 behind its end
 
 abbrev pub list_answer : List ℕ → ℕ

@@ -11,7 +11,8 @@ use Rattle.s38_code.specs.declared.made.CreateResult.{CreateResult}
 use Rattle.s38_rules.specs.State.{State}
 use Rattle.s38_rules.specs.Legal.{IsSound, IsUnstored, Leads, Run, begun}
 use Rattle.s38_rules.specs.Opening.{opened}
-use Rattle.s38_run.specs.Order.{InOrder}
+use Rattle.s38_run.specs.Picked.{Picked}
+use Rattle.s38_run.specs.Pickers.{picks_by}
 use Rattle.s38_run.specs.Whole.{AllRan}
 use Rattle.std.specs.Io.KnownBytes.{Appends}
 use Rattle.s38_base.specs.Faults.{Rose}
@@ -39,13 +40,13 @@ there_is (x ∷ xs) (suc k) h = there_is xs k (omega arith)
 pub run_of : (deck : Deck) (made : List CreateResult) (ts : List CheckedTemplate) (begun_by m : Run) → length made ≡ length deck.jobs
     → ((k : ℕ) (job : Job) (one : CreateResult) → slice_get deck.jobs k ≡ Some job → slice_get made k ≡ Some one → made_for deck job ≡ Some one)
     → ts ≡ checked_of deck → begun_by ≡ begun (opened ts deck.jobs)
-    → IsSound m → m.origin ≡ opened begun_by.state.templates deck.jobs → InOrder m.origin m.history → AllRan made deck.jobs m.history → IsRunOf deck m.history
-run_of deck made ts begun_by m count each checked begins sound origin order ran =
+    → IsSound m → m.origin ≡ opened begun_by.state.templates deck.jobs → Picked (picks_by 0 (length m.history)) m.origin m.history → AllRan made deck.jobs m.history → IsRunOf deck m.history
+run_of deck made ts begun_by m count each checked begins sound origin picked ran =
     let first : m.origin ≡ opened ts deck.jobs = origin ∙ ap (λ (r : Run). opened r.state.templates deck.jobs) begins in
     record {
       state = m.state;
       legal = subst (λ (s : State). Leads s [] m.history m.state) (first ∙ ap (λ xs. opened xs deck.jobs) checked) sound.legal;
-      order = subst (λ (s : State). InOrder s m.history) (first ∙ ap (λ xs. opened xs deck.jobs) checked) order;
+      picked = subst (λ (s : State). Picked (picks_by 0 (length m.history)) s m.history) (first ∙ ap (λ xs. opened xs deck.jobs) checked) picked;
       each = λ k job at.
           let one = there_is made k (omega (arith, count, slice_get_within deck.jobs k job at)) in
           record { made = one.0; is = each k job one.0 at one.1; ran = ran.each k job one.0 at one.1 };

@@ -15,7 +15,8 @@ use Rattle.s38_rules.specs.State.{State}
 use Rattle.s38_rules.specs.Legal.{IsUnstored, Leads}
 use Rattle.s38_rules.specs.Opening.{held_first, opened}
 use Rattle.s38_process.specs.Process.{ProcessState, fresh}
-use Rattle.s38_run.specs.Order.{InOrder}
+use Rattle.s38_run.specs.Picked.{Picked}
+use Rattle.s38_run.specs.Pickers.{picks_by}
 use Rattle.s38_run.specs.Whole.{RanWhole}
 use Rattle.s38_template.specs.Grammar.{name_of}
 use Rattle.s38_template.specs.Places.{template_of}
@@ -39,11 +40,11 @@ pub record IsRunOfJob (deck : Deck) (job : Job) (entries : List Entry) : Type 0 
   pub ran : RanWhole made job.budget entries
 
 -- the history is the one-thread machine's, from its opening with the deck's templates, for the whole runs of all
--- jobs of the deck; each entry is that of a job, made by the first process that is ready
+-- jobs of the deck; each entry is that of a job, made by the process that its pick chooses of those that are ready
 pub record IsRunOf (deck : Deck) (history : List Entry) : Type 0 where
   pub state : State
   pub legal : Leads (opened (checked_of deck) deck.jobs) [] history state
-  pub order : InOrder (opened (checked_of deck) deck.jobs) history
+  pub picked : Picked (picks_by 0 (length history)) (opened (checked_of deck) deck.jobs) history
   pub each : (k : ℕ) (job : Job) → slice_get deck.jobs k ≡ Some job → IsRunOfJob deck job (entries_of (k + 1) history)
 
 -- ---- confinement

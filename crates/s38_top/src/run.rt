@@ -13,7 +13,7 @@ use s38_base::NoMemory;
 use s38_code::{Checked, Deck};
 use s38_io::{ReadFault, Source, read_to_end};
 use s38_machine::Machine;
-use s38_run::serial;
+use s38_run::{NumberPicker, serial};
 use s38_template::{DeckFault, each_job_has_its_template, read_deck};
 use std::alloc::Global;
 
@@ -31,7 +31,14 @@ fn run_deck(alloc: Global, deck: Deck, templates: Checked) -> Result<Whole, NoMe
 {
     let made = made_of_jobs(alloc, &deck, templates.as_slice())?;
     let machine = Machine::start(alloc, templates, deck.jobs.as_slice())?;
-    let machine = serial(alloc, machine, deck.jobs.as_slice(), made.as_slice())?;
+    let mut picker = NumberPicker::new(0);
+    let machine = serial(
+        alloc,
+        machine,
+        deck.jobs.as_slice(),
+        made.as_slice(),
+        &mut picker,
+    )?;
     let (history, marks) = machine.end();
     Ok(Whole {
         deck,

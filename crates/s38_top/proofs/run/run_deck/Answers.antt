@@ -12,7 +12,7 @@ returns-clause-run c =
     (rw c.as_slice-2.ensures.items at c.in_ok-machine.ensures)
     c.in_ok-machine-2.ensures.sound
     (rw c.as_slice-3.ensures.items at c.in_ok-machine-2.ensures.origin)
-    c.in_ok-machine-2.ensures.order
+    (rw c.new.ensures at c.in_ok-machine-2.ensures.picked)
     (rw (c.as_slice-3.ensures.items, c.as_slice-4.ensures.value) at c.in_ok-machine-2.ensures.ran))
 
 pub returns-clause-marks : goal.returns-clause-marks
