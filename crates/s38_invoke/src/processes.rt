@@ -1,12 +1,12 @@
 //! The processes of a world: how far each has come, and which are ready.
-ghost use Rattle.std.specs.Prelude.{◌≡◌, ◌≤◌, ◌-◌, ◌+◌, ◌<◌, ◌^◌, Some, length, slice_get};
+ghost use Rattle.std.specs.Prelude.{◌≡◌, ◌≤◌, ◌<◌, ◌+◌, ◌-◌, ◌^◌, ◌++◌, ◌∷◌, [], ℕ, OnOk, Some, if◌then◌else◌, length, nat_lt, slice_get};
 ghost use Rattle.std.specs.Option.{option_copied};
 ghost use Rattle.s38_rules.specs.Invocations.{most_frames, stack_in, stack_of};
-ghost use Rattle.s38_rules.specs.State.{is_early, is_last_ready, others_stand, process_entry, ready, ready_in, started, started_in, waits};
+ghost use Rattle.s38_rules.specs.State.{is_early, is_last_ready, others_stand, process_entry, ready, ready_in, ready_list, started, started_in, waits};
 ghost use Rattle.s38_rules.specs.Users.{contexts_in, contexts_of, user_in, user_of};
 
 use crate::world::World;
-use s38_base::{ObjNum, UserNum};
+use s38_base::{NoMemory, ObjNum, UserNum};
 use s38_rules::{ProcessEntry, Started, Table};
 
 fn entry_in(entries: &[ProcessEntry], process: u32) -> Option<&ProcessEntry>
@@ -56,6 +56,28 @@ fn is_early_in(entries: &[ProcessEntry], stage: u16) -> bool
     ensures { result ≡ is_early entries.now stage }
 {
     entries.iter().any(|x| !x.ended && x.job.stage < stage)
+}
+
+/// The least stage of a process that has not ended.
+fn current_stage(entries: &[ProcessEntry]) -> u16
+    ensures { (stage : ℕ) → stage < 2 ^ 16 → is_early entries.now stage ≡ nat_lt result stage }
+{
+    let mut least = u16::MAX;
+    for x in entries {
+        if !x.ended && x.job.stage < least {
+            least = x.job.stage;
+        }
+    }
+    least
+}
+
+fn push_if(is_ready: bool, into: &mut Vec<u32>, process: u32) -> Result<(), NoMemory>
+    ensures { OnOk result (into.new.items ≡ into.old.items ++ (if is_ready then process ∷ [] else [])) }
+{
+    if is_ready {
+        into.push(process)?;
+    }
+    Ok(())
 }
 
 impl<T: Table> World<T> {
@@ -129,6 +151,31 @@ impl<T: Table> World<T> {
         ensures { result ≡ is_last_ready self.now process }
     {
         others_stand(self, process, 1, self.processes.as_slice())
+    }
+
+    /// Whether a process is ready, by the current stage.
+    fn is_ready_in(&self, stage: u16, process: u32) -> bool
+        requires { (k : ℕ) → k < 2 ^ 16 → is_early self.now.processes k ≡ nat_lt stage k }
+        ensures { result ≡ ready self.now process }
+    {
+        match self.process_entry(process) {
+            None => false,
+            Some(x) => !x.ended && x.job.stage <= stage && !self.waits(process),
+        }
+    }
+
+    /// Lists the processes that are ready, in order of their numbers.
+    pub fn ready_list(&self, into: &mut Vec<u32>) -> Result<(), NoMemory>
+        requires { length self.now.processes < 2 ^ 32 - 1 }
+        ensures { OnOk result (into.new.items ≡ ready_list self.now) }
+    {
+        let stage = current_stage(self.processes.as_slice());
+        into.clear();
+        for at in 0..self.processes.len() {
+            let process = at as u32 + 1;
+            push_if(self.is_ready_in(stage, process), into, process)?;
+        }
+        Ok(())
     }
 }
 

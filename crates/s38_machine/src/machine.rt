@@ -1,8 +1,8 @@
-ghost use Rattle.std.specs.Prelude.{◌≡◌, ◌<◌, ◌≤◌, IfOk, IsErrOf, OnErr, length};
+ghost use Rattle.std.specs.Prelude.{◌≡◌, ◌-◌, ◌<◌, ◌≤◌, ◌==◌, ◌^◌, not, IfOk, IsErrOf, OnErr, OnOk, length};
 ghost use Rattle.s38_rules.specs.declared.verdict.Verdict.{Verdict};
 ghost use Rattle.s38_rules.specs.Legal.{IsProcess, IsSound, after, after_by, begun, no_moment};
 ghost use Rattle.s38_rules.specs.Opening.{opened};
-ghost use Rattle.s38_rules.specs.State.{ready};
+ghost use Rattle.s38_rules.specs.State.{ready, ready_list};
 ghost use Rattle.s38_rules.specs.Step.{by_verdict, step};
 ghost use Rattle.s38_rules.specs.Verdict.{awake_verdict, verdict_of};
 
@@ -91,6 +91,21 @@ impl Machine {
         ensures { result ≡ ready self.now.state process }
     {
         self.world.ready(process)
+    }
+
+    /// Lists the processes that are ready, in order of their numbers.
+    pub fn ready_list(&self, into: &mut Vec<u32>) -> Result<(), NoMemory>
+        requires { length self.now.state.processes < 2 ^ 32 - 1 }
+        ensures { OnOk result (into.new.items ≡ ready_list self.now.state) }
+    {
+        self.world.ready_list(into)
+    }
+
+    /// Whether some process waits.
+    pub fn somebody_waits(&self) -> bool
+        ensures { result ≡ not (length self.now.state.waiting == 0) }
+    {
+        !self.world.waiting.is_empty()
     }
 
     /// Whether an event may take effect, waits, or is refused by the first rule that fails.

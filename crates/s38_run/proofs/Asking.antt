@@ -124,7 +124,7 @@ later_left d e h = elim h.status as (λ _. left e ≤ left d) [
 ]
 
 -- local instructions bring a process no further from its end
-settled_left : (d : ProcessState) → left (settled d) ≤ left d
+pub settled_left : (d : ProcessState) → left (settled d) ≤ left d
 settled_left d = later_left d (settled d) (settled_later d)
 
 -- each reply but MustWait brings it nearer
@@ -132,6 +132,16 @@ pub falls : (d : ProcessState) (e : Event) (r : Reply) → event_of d ≡ Some e
 falls d e r h w =
     let nearer : left (settled (after_event d e r)) < left d = omega (arith, falls_by d e r w (asking d e h), settled_left (after_event d e r)) in
     subst (λ (x : ProcessState). left x < left d) (sym (absorbed_by d e r h)) nearer
+
+-- and MustWait leaves it where it was
+waits_still : (d : ProcessState) (e : Event) → after_event d e MustWait ≡ d
+waits_still d Start = refl
+waits_still d (Act depth request) = refl
+waits_still d (Finish cause) = refl
+
+pub waits_left : (d : ProcessState) (e : Event) → event_of d ≡ Some e → left (absorbed d MustWait) ≤ left d
+waits_left d e h =
+    subst (λ (x : ProcessState). left x ≤ left d) (sym (absorbed_by d e MustWait h ∙ ap settled (waits_still d e))) (settled_left d)
 
 -- a process that is fresh behind its local run was so before, and one that has ended too
 was_fresh : (d : ProcessState) → (settled d).status ≡ Fresh → d.status ≡ Fresh

@@ -1,9 +1,9 @@
--- One job after another, until none is ready.
-use Rattle.std.proofs.Common.{◌≡◌, ◌≢◌, ℕ, zero, suc, ◌+◌, ◌-◌, ◌<◌, ◌==◌, ◌⊎◌, ◌&&◌, ◌||◌, not, Bool, true, false, List, [], ◌∷◌, ◌++◌, length, get_or, inl, inr, refl, sym, ◌∙◌, ap, subst, arith}
+-- The beginning of a run and its end.
+use Rattle.std.proofs.Common.{◌≡◌, ◌≢◌, ℕ, zero, suc, ◌+◌, ◌-◌, ◌<◌, ◌==◌, ◌&&◌, ◌||◌, not, Bool, true, false, List, [], ◌∷◌, ◌++◌, length, refl, sym, ◌∙◌, ap, subst, arith}
 use Rattle.std.proofs.lemmas.List.{length-map}
 use Rattle.std.proofs.lemmas.Bool.Decides.{nat_tests}
-use Rattle.std.proofs.lemmas.Option.{slice_get_cases, slice_get_within, slice_get-get_or, get_or_from_slice_get}
-use Rattle.std.specs.Prelude.{MatchBool, Option, Some, nat_lt, slice_get, slice_index_or}
+use Rattle.std.proofs.lemmas.Option.{same_Some, slice_get-map, slice_get_within}
+use Rattle.std.specs.Prelude.{MatchBool, Option, Some, None, nat_lt, slice_get}
 use Rattle.std.specs.List.{list_any}
 use Rattle.s38_code.specs.declared.deck.Job.{Job}
 use Rattle.s38_code.specs.declared.entry.Entry.{Entry}
@@ -11,38 +11,21 @@ use Rattle.s38_code.specs.declared.made.CheckedTemplate.{CheckedTemplate}
 use Rattle.s38_code.specs.declared.made.CreateResult.{CreateResult}
 use Rattle.s38_code.specs.History.{entries_of}
 use Rattle.s38_rules.specs.declared.process.ProcessEntry.{ProcessEntry}
-use Rattle.s38_rules.specs.State.{State, is_early, ready, ready_in, runs_before, process_entry, waits}
-use Rattle.s38_rules.specs.Legal.{IsProcess, Run, begun}
+use Rattle.s38_rules.specs.State.{State, is_early, ready, ready_in, runs_before, process_entry, waits, ready_list}
+use Rattle.s38_rules.specs.Legal.{IsSound, Leads, Run, begun}
 use Rattle.s38_rules.specs.Opening as opening
-use Rattle.s38_process.specs.Process.{ProcessState, RanFrom, ends_by_finish, fresh}
+use Rattle.s38_rules.specs.Step.{step}
+use Rattle.s38_process.specs.declared.status.Status.TheVariants.{Fresh, Ended}
+use Rattle.s38_process.specs.Process.{RanFrom, ends_by_finish, fresh}
 use Rattle.s38_rules.proofs.Laws.{sound_begun}
-use Rattle.s38_run.specs.Running.{EachWholeOrNone, HasEnded, IsBetween, JobRan, OthersStay, RanOn, unended}
+use Rattle.s38_run.specs.declared.job_state.JobState.{JobState}
+use Rattle.s38_run.specs.declared.job_state.JobState.TheVariants.{Unbegun}
+use Rattle.s38_run.specs.Picked.{Picked, chosen}
+use Rattle.s38_run.specs.Pickers.{behind_picks, picks_of}
+use Rattle.s38_run.specs.Running.{EachStands, IsBetween, Stands, doing, unbegun}
 use Rattle.s38_run.specs.Whole.{AllRan, RanWhole}
-
--- ---- fewer have not ended
-
-same_unended : (xs ys : List ProcessEntry) → length ys ≡ length xs → ((k : ℕ) (d : ProcessEntry) → slice_index_or ys k d ≡ slice_index_or xs k d) → unended ys ≡ unended xs
-same_unended [] [] n h = refl
-same_unended [] (y ∷ ys) n h = absurd (omega arith)
-same_unended (x ∷ xs) [] n h = absurd (omega arith)
-same_unended (x ∷ xs) (y ∷ ys) n h =
-    let rest = same_unended xs ys (omega arith) (λ k d. h (suc k) d) in
-    let first : y ≡ x = h 0 x in
-    rw (first, rest) refl
-
-fewer_unended : (xs ys : List ProcessEntry) (at : ℕ) → at < length xs → OthersStay xs ys at → ((d : ProcessEntry) → (slice_index_or xs at d).ended ≡ false) → HasEnded ys at → unended ys < unended xs
-fewer_unended [] ys at lt stay opened done = absurd (omega arith)
-fewer_unended (x ∷ xs) [] at lt stay opened done = absurd (omega (arith, stay.count))
-fewer_unended (x ∷ xs) (y ∷ ys) zero lt stay opened done =
-    let rest = same_unended xs ys (omega (arith, stay.count)) (λ k d. stay.same (suc k) d (omega arith)) in
-    let was : x.ended ≡ false = opened x in
-    let is : y.ended ≡ true = done.is y in
-    rw (was, is, rest) (omega arith)
-fewer_unended (x ∷ xs) (y ∷ ys) (suc at) lt stay opened done =
-    let first : y ≡ x = stay.same 0 x (omega arith) in
-    let rest = fewer_unended xs ys at (omega arith)
-    (record { count = omega (arith, stay.count); same = λ k d h. stay.same (suc k) d (omega arith) }) opened (record { is = done.is }) in
-    rw first (omega (arith, rest))
+use Rattle.s38_run.proofs.ReadyLaws.{none_listed}
+use Rattle.s38_run.proofs.TurnLaws.{processes_count, there_is, when_true}
 
 -- ---- where none is ready, all have ended
 
@@ -98,168 +81,63 @@ ended_or false h = absurd (h refl)
 all_ended : (s : State) → s.waiting ≡ [] → NoneReady s → (k : ℕ) (x : ProcessEntry) → slice_get s.processes k ≡ Some x → x.ended ≡ true
 all_ended s w none k x at = ended_or x.ended (λ e. none_open (x.job.stage + 1) s k x w none at e (omega arith))
 
--- ---- between jobs
-
-at_get : (xs : List ProcessEntry) (k : ℕ) (x : ProcessEntry) → slice_get xs k ≡ Some x → get_or xs k x ≡ x
-at_get xs k x h = get_or_from_slice_get xs k x x h
-
-some_same : {A : Type 0} (o : Option A) (a b : A) → o ≡ Some a → o ≡ Some b → a ≡ b
-some_same o a b p q = both (sym p ∙ q)
-  where
-    both : Some a ≡ Some b → a ≡ b
-    both g = cc
-
-ready_open : (s : State) (k : ℕ) (x : ProcessEntry) → slice_get s.processes k ≡ Some x → ready s (k + 1) ≡ true → x.ended ≡ false
-ready_open s k x at r =
-    let here : k + 1 - 1 ≡ k = omega arith in
-    let there : process_entry s (k + 1) ≡ Some x = ap (λ i. slice_get s.processes i) here ∙ at in
-    first_false x.ended (sym (ap (ready_in s (k + 1)) there) ∙ r)
-  where
-    first_false : (ended : Bool) → (not ended && (not (is_early s.processes x.job.stage) && not (waits s (k + 1)))) ≡ true → ended ≡ false
-    first_false true h = cc
-    first_false false h = refl
-
--- the whole run of the job that ran
-ran_whole : (n : ℕ) (one : CreateResult) (budget : ℕ) (m m' : Run) → JobRan n one budget m m' → entries_of n m.history ≡ [] → RanWhole one budget (entries_of n m'.history)
-ran_whole n one budget m m' job none =
-    let own : entries_of n m'.history ≡ job.ran.own = job.ran.added ∙ ap (λ es. es ++ job.ran.own) none in
-    record {
-      by_program = subst (λ es. RanFrom (fresh one budget) es) (sym own) job.ran.asked;
-      whole = ap ends_by_finish own ∙ (job.ran.ended job.ended).1;
-    }
-
-open_none : (b : Bool) (A : Type 0) (es : List Entry) → b ≡ false → MatchBool b A (es ≡ []) → es ≡ []
-open_none true A es e h = cc
-open_none false A es e h = h
-
-closed_yes : (b : Bool) (A B : Type 0) → b ≡ true → A → MatchBool b A B
-closed_yes true A B e h = h
-closed_yes false A B e h = cc
-
-abbrev Here : List CreateResult → List Job → Run → ℕ → Type 0
-Here made jobs m k = (x : ProcessEntry) (job : Job) (one : CreateResult) → slice_get m.state.processes k ≡ Some x → slice_get jobs k ≡ Some job → slice_get made k ≡ Some one
-    → MatchBool x.ended (RanWhole one job.budget (entries_of (k + 1) m.history)) (entries_of (k + 1) m.history ≡ [])
-
--- of the process that ran: its whole run stands in the history
-here_ran : (made : List CreateResult) (jobs : List Job) (m m' : Run) (at : ℕ) (x0 : ProcessEntry) (job : Job) (one : CreateResult)
-    → EachWholeOrNone made jobs m → JobRan (at + 1) one job.budget m m' → slice_get m.state.processes at ≡ Some x0 → x0.ended ≡ false
-    → slice_get jobs at ≡ Some job → slice_get made at ≡ Some one → Here made jobs m' at
-here_ran made jobs m m' at x0 job one each ran x0_at x0_open job_at one_at x job' one' x_at job'_at one'_at =
-    let index : at + 1 - 1 ≡ at = omega arith in
-    let none = open_none x0.ended (RanWhole one job.budget (entries_of (at + 1) m.history)) (entries_of (at + 1) m.history) x0_open (each.each at x0 job one x0_at job_at one_at) in
-    let whole = ran_whole (at + 1) one job.budget m m' ran none in
-    let ended : x.ended ≡ true = ap (λ (y : ProcessEntry). y.ended) (sym (at_get m'.state.processes at x x_at)) ∙ subst (λ i. (get_or m'.state.processes i x).ended ≡ true) index ((ran.ran.ended ran.ended).0.is x) in
-    closed_yes x.ended _ _ ended
-    (subst (λ (j : Job). RanWhole one' j.budget (entries_of (at + 1) m'.history)) (some_same (slice_get jobs at) job job' job_at job'_at)
-    (subst (λ (p : CreateResult). RanWhole p job.budget (entries_of (at + 1) m'.history)) (some_same (slice_get made at) one one' one_at one'_at) whole))
-
-same_place : (xs ys : List ProcessEntry) (at k : ℕ) (x : ProcessEntry) → OthersStay xs ys at → k ≢ at → slice_get ys k ≡ Some x → slice_get xs k ≡ Some x
-same_place xs ys at k x stay ne h =
-    slice_get-get_or xs k x (omega (arith, slice_get_within ys k x h, stay.count)) ∙ ap Some (sym (stay.same k x ne) ∙ at_get ys k x h)
-
--- of the others: as before
-here_other : (made : List CreateResult) (jobs : List Job) (m m' : Run) (at : ℕ) (d0 d : ProcessState) (k : ℕ) → k ≢ at → EachWholeOrNone made jobs m → RanOn (at + 1) m d0 m' d → Here made jobs m' k
-here_other made jobs m m' at d0 d k ne each ran x job one x_at job_at one_at =
-    let same = ran.others (k + 1) (λ g. ne (omega (arith, g))) in
-    let was = same_place m.state.processes m'.state.processes (at + 1 - 1) k x ran.stay (λ g. ne (omega (arith, g))) x_at in
-    subst (λ es. MatchBool x.ended (RanWhole one job.budget es) (es ≡ [])) (sym same) (each.each k x job one was job_at one_at)
-
-same_or_not : (a b : ℕ) → (a ≡ b) ⊎ (a ≢ b)
-same_or_not a b = by_test (a == b) refl
-  where
-    by_test : (t : Bool) → (a == b) ≡ t → (a ≡ b) ⊎ (a ≢ b)
-    by_test true e = inl (grind (arith, nat_tests))
-    by_test false e = inr (λ g. absurd (grind (arith, nat_tests)))
-
-at_place : (made : List CreateResult) (jobs : List Job) (m m' : Run) (at : ℕ) (x0 : ProcessEntry) (job : Job) (one : CreateResult)
-    → EachWholeOrNone made jobs m → JobRan (at + 1) one job.budget m m' → slice_get m.state.processes at ≡ Some x0 → x0.ended ≡ false
-    → slice_get jobs at ≡ Some job → slice_get made at ≡ Some one → (k : ℕ) → (k ≡ at) ⊎ (k ≢ at) → Here made jobs m' k
-at_place made jobs m m' at x0 job one each ran x0_at x0_open job_at one_at k (inl e) =
-    subst (λ i. Here made jobs m' i) (sym e) (here_ran made jobs m m' at x0 job one each ran x0_at x0_open job_at one_at)
-at_place made jobs m m' at x0 job one each ran x0_at x0_open job_at one_at k (inr n) =
-    here_other made jobs m m' at (fresh one job.budget) ran.doing k n each ran.ran
-
-between_at : (templates : List CheckedTemplate) (made : List CreateResult) (jobs : List Job) (m m' : Run) (at : ℕ) (x0 : ProcessEntry) (job : Job) (one : CreateResult)
-    → IsBetween templates made jobs m → JobRan (at + 1) one job.budget m m' → slice_get m.state.processes at ≡ Some x0 → ready m.state (at + 1) ≡ true
-    → slice_get jobs at ≡ Some job → slice_get made at ≡ Some one → IsBetween templates made jobs m'
-between_at templates made jobs m m' at x0 job one between ran x0_at r job_at one_at =
-    let x0_open = ready_open m.state at x0 x0_at r in
-    record {
-      sound = ran.ran.sound;
-      origin = ran.ran.origin ∙ between.origin;
-      awake = ran.ran.awake;
-      order = ran.ran.order;
-      each = record { each = λ k. at_place made jobs m m' at x0 job one between.each ran x0_at x0_open job_at one_at k (same_or_not k at) };
-    }
-
--- one more job has run
-pub between_more : (templates : List CheckedTemplate) (made : List CreateResult) (jobs : List Job) (m m' : Run) (at : ℕ) (job : Job) (one : CreateResult)
-    → IsBetween templates made jobs m → JobRan (at + 1) one job.budget m m' → at < length m.state.processes → ready m.state (at + 1) ≡ true
-    → slice_get jobs at ≡ Some job → slice_get made at ≡ Some one → IsBetween templates made jobs m'
-between_more templates made jobs m m' at job one between ran lt r job_at one_at =
-    elim (slice_get_cases m.state.processes at).1 as (λ _. IsBetween templates made jobs m') [
-      | inl w ↦ between_at templates made jobs m m' at w.0 job one between ran w.2 r job_at one_at
-      | inr w ↦ absurd (omega (arith, w.0, lt))
-    ]
-
-open_at : (s : State) (at : ℕ) → at < length s.processes → ready s (at + 1) ≡ true → (d : ProcessEntry) → (slice_index_or s.processes at d).ended ≡ false
-open_at s at lt r d = ready_open s at (get_or s.processes at d) (slice_get-get_or s.processes at d lt) r
-
--- and fewer are left
-pub between_falls : (n : ℕ) (one : CreateResult) (budget : ℕ) (m m' : Run) (at : ℕ) → n ≡ at + 1 → JobRan n one budget m m' → at < length m.state.processes → ready m.state (at + 1) ≡ true
-    → unended m'.state.processes < unended m.state.processes
-between_falls n one budget m m' at e ran lt r =
-    let index : n - 1 ≡ at = omega arith in
-    fewer_unended m.state.processes m'.state.processes at lt
-    (subst (λ i. OthersStay m.state.processes m'.state.processes i) index ran.ran.stay)
-    (open_at m.state at lt r)
-    (subst (λ i. HasEnded m'.state.processes i) index (ran.ran.ended ran.ended).0)
-
--- ---- the beginning and the end
+-- ---- the beginning
 
 fresh_open : (jobs : List Job) (k : ℕ) (x : ProcessEntry) → slice_get (opening.process_entries jobs) k ≡ Some x → x.ended ≡ false
 fresh_open [] k x h = cc
-fresh_open (job ∷ jobs) zero x h = ap (λ (y : ProcessEntry). y.ended) (sym (some_same _ _ _ refl h))
+fresh_open (job ∷ jobs) zero x h = ap (λ (y : ProcessEntry). y.ended) (sym (same_Some _ _ h))
 fresh_open (job ∷ jobs) (suc k) x h = fresh_open jobs k x h
 
-open_is : (b : Bool) (A B : Type 0) → b ≡ false → B → MatchBool b A B
-open_is true A B e h = cc
-open_is false A B e h = h
+unbegun_at : (jobs : List Job) (k : ℕ) (state : JobState) → slice_get (unbegun jobs) k ≡ Some state → state ≡ Unbegun
+unbegun_at [] k state h = cc
+unbegun_at (job ∷ jobs) zero state h = sym (same_Some _ _ h)
+unbegun_at (job ∷ jobs) (suc k) state h = unbegun_at jobs k state h
 
-pub between_begun : (templates : List CheckedTemplate) (made : List CreateResult) (jobs : List Job) → IsBetween templates made jobs (begun (opening.opened templates jobs))
-between_begun templates made jobs = record {
+fresh_stands : (one : CreateResult) (budget : ℕ) (ended : Bool) (state : JobState) → ended ≡ false → state ≡ Unbegun → Stands one budget ended [] state
+fresh_stands one budget ended state still is =
+    subst (λ (b : Bool). Stands one budget b [] state) (sym still)
+    (subst (λ (s : JobState). Stands one budget false [] s) (sym is) (record { by_program = tt; is = (refl, going) }))
+  where
+    going : Fresh ≢ Ended
+    going g = cc
+
+pub between_begun : (templates : List CheckedTemplate) (made : List CreateResult) (jobs : List Job) → length made ≡ length jobs
+    → IsBetween made jobs (begun (opening.opened templates jobs)) (unbegun jobs) (ready_list (opening.opened templates jobs))
+between_begun templates made jobs count = record {
   sound = sound_begun (opening.opened templates jobs);
-  origin = refl;
-  awake = refl;
-  order = tt;
-  each = record { each = λ k x job one at job_at one_at. open_is x.ended _ _ (fresh_open jobs k x at) refl };
+  begun = refl;
+  count_made = count;
+  count_states = length-map jobs _;
+  ready = refl;
+  awake = λ h. refl;
+  each = record { each = λ k x job one state x_at job_at one_at state_at. fresh_stands one job.budget x.ended state (fresh_open jobs k x x_at) (unbegun_at jobs k state state_at) };
 }
 
-closed_is : (b : Bool) (A B : Type 0) → b ≡ true → MatchBool b A B → A
-closed_is true A B e h = h
-closed_is false A B e h = cc
-
-pub places : (templates : List CheckedTemplate) (made : List CreateResult) (jobs : List Job) (m : Run) → IsBetween templates made jobs m → length m.state.processes ≡ length jobs
-places templates made jobs m between =
-    between.sound.kept ∙ ap (λ (s : State). length s.processes) between.origin ∙ length-map jobs _
-
-there_is : {A : Type 0} (xs : List A) (k : ℕ) → k < length xs → (x : A) × (slice_get xs k ≡ Some x)
-there_is [] k h = absurd (omega arith)
-there_is (x ∷ xs) zero h = (x, refl)
-there_is (x ∷ xs) (suc k) h = there_is xs k (omega arith)
+-- ---- the end
 
 -- where no job is ready, each has run whole
-pub between_none : (templates : List CheckedTemplate) (made : List CreateResult) (jobs : List Job) (m : Run) → IsBetween templates made jobs m → ((k : ℕ) → k < length jobs → ready m.state (k + 1) ≡ false) → AllRan made jobs m.history
+pub between_none : (made : List CreateResult) (jobs : List Job) (m : Run) (all : List JobState) (was : List ℕ) → IsBetween made jobs m all was → was ≡ [] → AllRan made jobs m.history
 unfolding NoneReady
-between_none templates made jobs m between none = record {
-  each = λ k job one job_at one_at.
-      let count = places templates made jobs m between in
-      let x = there_is m.state.processes k (omega (arith, count, slice_get_within jobs k job job_at)) in
-      let ended = all_ended m.state between.awake (λ i lt. none i (omega (arith, count))) k x.0 x.1 in
-      closed_is x.0.ended _ _ ended (between.each.each k x.0 job one x.1 job_at one_at);
-}
+between_none made jobs m all was between none =
+    let listed : ready_list m.state ≡ [] = sym between.ready ∙ none in
+    let count = processes_count made jobs m all was between in
+    record {
+      each = λ k job one job_at one_at.
+          let within = slice_get_within jobs k job job_at in
+          let x = there_is m.state.processes k (omega (arith, count, within)) in
+          let state = there_is all k (omega (arith, between.count_states, within)) in
+          let stands = between.each.each k x.0 job one state.0 x.1 job_at one_at state.1 in
+          let ended = all_ended m.state (between.awake listed) (λ i lt. none_listed m.state (i + 1) listed (record { first = omega arith; last = omega (arith, lt) })) k x.0 x.1 in
+          record { by_program = stands.by_program; whole = when_true x.0.ended _ _ ended stands.is };
+    }
 
-pub may_run : (templates : List CheckedTemplate) (made : List CreateResult) (jobs : List Job) (m : Run) (at n : ℕ) → n ≡ at + 1 → IsBetween templates made jobs m → at < length jobs → IsProcess m.origin n
-may_run templates made jobs m at n e between lt =
-    let count = places templates made jobs m between in
-    record { first = omega arith; last = omega (arith, count, between.sound.kept) }
+-- ---- the picks
+
+pub picked_more : {S : Type 0} (answer : S → ℕ) (after : S → S) (x : S) (s : State) (past es : List Entry) (t : State) (e : Entry) → Leads s past es t → Picked (picks_of answer after (length es) x) s es
+    → chosen t (answer (behind_picks after (length es) x)) ≡ Some e.process → Picked (picks_of answer after (length (es ++ e ∷ [])) x) s (es ++ e ∷ [])
+picked_more answer after x s past [] t e leads picked by = (subst (λ (u : State). chosen u (answer x) ≡ Some e.process) (sym leads) by, tt)
+picked_more answer after x s past (y ∷ es) t e leads picked by = (picked.0, picked_more answer after (after x) (step s y.process y.event).state (past ++ y ∷ []) es t e leads.1 picked.1 by)
+
+pub behind_one_more : {S : Type 0} (after : S → S) (x : S) (es : List Entry) (e : Entry) → behind_picks after (length (es ++ e ∷ [])) x ≡ after (behind_picks after (length es) x)
+behind_one_more after x [] e = refl
+behind_one_more after x (y ∷ es) e = behind_one_more after (after x) es e

@@ -1,5 +1,8 @@
 pub mod Asking
+pub mod HistoryLaws
 pub mod JobLaws
-pub mod OrderLaws
+pub mod ReadyLaws
 pub mod Running
 pub mod Stepping
+pub mod TurnLaws
+mod WaitLaws

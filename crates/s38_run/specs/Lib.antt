@@ -1,3 +1,4 @@
-pub mod Order
+pub mod Picked
+pub mod Pickers
 pub mod Running
 pub mod Whole

@@ -1,22 +1,30 @@
--- How far a process has come, while it is run.
-use Rattle.std.specs.Prelude.{◌≡◌, ◌≢◌, ℕ, ◌+◌, ◌-◌, true, MatchBool, List, [], ◌∷◌, ◌++◌, length, slice_get, slice_index_or, Some, None, if◌then◌else◌}
+-- How far the jobs have come, while they are run.
+use Rattle.std.specs.Prelude.{◌≡◌, ◌≢◌, ℕ, ◌+◌, ◌-◌, ◌*◌, ◌<◌, ◌==◌, Bool, true, false, not, MatchBool, List, [], ◌∷◌, ◌++◌, filter, length, map, slice_get, slice_index_or, Option, Some, None, if◌then◌else◌}
 use Rattle.s38_code.specs.declared.deck.Job.{Job}
 use Rattle.s38_code.specs.declared.entry.Entry.{Entry}
 use Rattle.s38_code.specs.declared.event.Event.{Event}
-use Rattle.s38_code.specs.declared.made.CheckedTemplate.{CheckedTemplate}
+use Rattle.s38_code.specs.declared.event.Event.TheVariants.{Start, Act, Finish}
 use Rattle.s38_code.specs.declared.made.CreateResult.{CreateResult}
+use Rattle.s38_code.specs.declared.reply.Reply.{Reply}
+use Rattle.s38_code.specs.declared.reply.Reply.TheVariants.{Done, Signal, MustWait}
 use Rattle.s38_code.specs.History.{entries_of}
 use Rattle.s38_rules.specs.declared.process.ProcessEntry.{ProcessEntry}
 use Rattle.s38_process.specs.declared.status.Status.{Status}
 use Rattle.s38_process.specs.declared.status.Status.TheVariants.{Fresh, Running, Ending, Ended}
+use Rattle.s38_rules.specs.State.{State}
 use Rattle.s38_rules.specs.Step.{step}
 use Rattle.s38_rules.specs.Legal.{Run, IsSound, after, no_moment}
 use Rattle.s38_process.specs.Process.{ProcessState, RanFrom, absorbed, behind, ends_by_finish, event_of, fresh}
 use Rattle.s38_rules.specs.Opening.{opened}
-use Rattle.s38_run.specs.Order.{InOrder, IsFirstReady}
-use Rattle.s38_run.specs.Whole.{RanWhole}
+use Rattle.s38_run.specs.declared.job_state.JobState.{JobState}
+use Rattle.s38_run.specs.declared.job_state.JobState.TheVariants as states
+use Rattle.s38_run.specs.declared.outcome.Outcome.{Outcome}
+use Rattle.s38_run.specs.declared.outcome.Outcome.TheVariants as outcomes
+use Rattle.s38_run.specs.Picked.{ready_list}
 
--- how many events a process asks at most before its end
+-- ---- one process
+
+-- how many events a process asks at most before its end, but for those that it asks again
 abbrev pub left_by : ProcessState → Status → ℕ
 left_by d Fresh = d.budget + 3
 left_by d Running = d.budget - d.done + 2
@@ -35,54 +43,100 @@ pub record OthersStay (xs ys : List ProcessEntry) (at : ℕ) : Type 0 where
 pub record HasEnded (xs : List ProcessEntry) (at : ℕ) : Type 0 where
   pub is : (d : ProcessEntry) → (slice_index_or xs at d).ended ≡ true
 
--- one process has run from one machine to another, and no other
-pub record RanOn (number : ℕ) (m0 : Run) (d0 : ProcessState) (m : Run) (d : ProcessState) : Type 0 where
-  pub sound : IsSound m
-  pub origin : m.origin ≡ m0.origin
-  pub awake : m.state.waiting ≡ []
-  pub stay : OthersStay m0.state.processes m.state.processes (number - 1)
-  pub others : (q : ℕ) → q ≢ number → entries_of q m.history ≡ entries_of q m0.history
-  pub own : List Entry
-  pub added : entries_of number m.history ≡ entries_of number m0.history ++ own
-  pub asked : RanFrom d0 own
-  pub stands : behind d0 own ≡ d
-  pub order : InOrder m.origin m.history
-  pub turn : d.status ≢ Ended → IsFirstReady m.state number
-  pub ended : d.status ≡ Ended → HasEnded m.state.processes (number - 1) × (ends_by_finish own ≡ true)
+-- ---- one turn
 
--- of each process either the whole run is in the history, or nothing
-pub record EachWholeOrNone (made : List CreateResult) (jobs : List Job) (m : Run) : Type 0 where
-  pub each : (k : ℕ) (x : ProcessEntry) (job : Job) (one : CreateResult) → slice_get m.state.processes k ≡ Some x → slice_get jobs k ≡ Some job → slice_get made k ≡ Some one
-      → MatchBool x.ended (RanWhole one job.budget (entries_of (k + 1) m.history)) (entries_of (k + 1) m.history ≡ [])
+-- what a reply is for those that are ready
+abbrev pub outcome_by : Reply → Outcome
+outcome_by (Done vs) = outcomes.Changed
+outcome_by (Signal x) = outcomes.Refused
+outcome_by MustWait = outcomes.Waits
+
+-- what an event and its reply are for those that are ready
+abbrev pub outcome_of : Event → Reply → Outcome
+outcome_of Start reply = outcome_by reply
+outcome_of (Act depth request) reply = outcome_by reply
+outcome_of (Finish cause) reply = outcomes.Finished
 
 -- one event was asked, and answered
-pub record Turned (number : ℕ) (m : Run) (d : ProcessState) (m' : Run) (d' : ProcessState) : Type 0 where
+pub record Turned (number : ℕ) (m : Run) (d : ProcessState) (o : Outcome) (m' : Run) (d' : ProcessState) : Type 0 where
   pub event : Event
   pub asks : event_of d ≡ Some event
   pub machine : m' ≡ after m no_moment number event
   pub process : d' ≡ absorbed d (step m.state number event).reply
+  pub outcome : o ≡ outcome_of event (step m.state number event).reply
 
--- or the process has ended before, and nothing was asked
-pub record Rested (m : Run) (d : ProcessState) (m' : Run) (d' : ProcessState) : Type 0 where
-  pub none : event_of d ≡ None
-  pub machine : m' ≡ m
-  pub process : d' ≡ d
+-- the process of a job; it is fresh before its first turn
+abbrev pub doing : CreateResult → ℕ → JobState → ProcessState
+doing made budget states.Unbegun = fresh made budget
+doing made budget (states.Running process) = process
+doing made budget states.Over = record (fresh made budget) { status = Ended }
 
--- the process of a job has run from its start to its end
-pub record JobRan (number : ℕ) (made : CreateResult) (budget : ℕ) (m m' : Run) : Type 0 where
-  pub doing : ProcessState
-  pub ran : RanOn number m (fresh made budget) m' doing
-  pub ended : doing.status ≡ Ended
+-- how far a job has come behind a turn; its process is kept up to its end
+abbrev pub state_behind : Outcome → ProcessState → JobState
+state_behind outcomes.Finished process = states.Over
+state_behind outcomes.Waits process = states.Running process
+state_behind outcomes.Refused process = states.Running process
+state_behind outcomes.Changed process = states.Running process
 
--- between two jobs; the machine began with these templates
-pub record IsBetween (templates : List CheckedTemplate) (made : List CreateResult) (jobs : List Job) (m : Run) : Type 0 where
+-- a job took a turn
+pub record TookTurn (number : ℕ) (made : CreateResult) (budget : ℕ) (m : Run) (old : JobState) (outcome : Outcome) (m' : Run) (new : JobState) : Type 0 where
+  pub process : ProcessState
+  pub turned : Turned number m (doing made budget old) outcome m' process
+  pub state : new ≡ state_behind outcome process
+
+-- who is ready behind a turn, by who was before it, and by whether some process waited then
+abbrev pub ready_behind : State → ℕ → Bool → Outcome → List ℕ → List ℕ
+ready_behind s process waited outcomes.Finished ready = ready_list s
+ready_behind s process waited outcomes.Waits ready = filter (λ q. not (process == q)) ready
+ready_behind s process waited outcomes.Refused ready = ready
+ready_behind s process waited outcomes.Changed ready = if waited then ready_list s else ready
+
+-- ---- all jobs
+
+-- before the first turn
+abbrev pub unbegun : List Job → List JobState
+unbegun jobs = map (λ job. states.Unbegun) jobs
+
+-- the entries are what a job's process asked up to here: it has ended, or stands so
+pub record Stands (made : CreateResult) (budget : ℕ) (ended : Bool) (entries : List Entry) (state : JobState) : Type 0 where
+  pub by_program : RanFrom (fresh made budget) entries
+  pub is : MatchBool ended (ends_by_finish entries ≡ true)
+      ((behind (fresh made budget) entries ≡ doing made budget state) × ((doing made budget state).status ≢ Ended))
+
+pub record EachStands (made : List CreateResult) (jobs : List Job) (m : Run) (states : List JobState) : Type 0 where
+  pub each : (k : ℕ) (x : ProcessEntry) (job : Job) (one : CreateResult) (state : JobState) → slice_get m.state.processes k ≡ Some x → slice_get jobs k ≡ Some job → slice_get made k ≡ Some one
+      → slice_get states k ≡ Some state → Stands one job.budget x.ended (entries_of (k + 1) m.history) state
+
+-- between two turns
+pub record IsBetween (made : List CreateResult) (jobs : List Job) (m : Run) (states : List JobState) (list : List ℕ) : Type 0 where
   pub sound : IsSound m
-  pub origin : m.origin ≡ opened templates jobs
-  pub awake : m.state.waiting ≡ []
-  pub order : InOrder m.origin m.history
-  pub each : EachWholeOrNone made jobs m
+  pub begun : m.origin ≡ opened m.origin.templates jobs
+  pub count_made : length made ≡ length jobs
+  pub count_states : length states ≡ length jobs
+  pub ready : list ≡ ready_list m.state
+  pub awake : ready_list m.state ≡ [] → m.state.waiting ≡ []
+  pub each : EachStands made jobs m states
 
--- how many processes have not ended
-abbrev pub unended : List ProcessEntry → ℕ
-unended [] = 0
-unended (x ∷ xs) = (if x.ended then 0 else 1) + unended xs
+-- how many events a job asks at most
+abbrev pub left_of : Job → JobState → ℕ
+left_of job states.Unbegun = job.budget + 3
+left_of job (states.Running process) = left process
+left_of job states.Over = 0
+
+abbrev pub left_in_all : List Job → List JobState → ℕ
+left_in_all [] more = 0
+left_in_all (job ∷ jobs) [] = 0
+left_in_all (job ∷ jobs) (state ∷ more) = left_of job state + left_in_all jobs more
+
+-- how many turns there are at most: each brings a process nearer to its end, or makes one wait until then
+abbrev pub turns_left : List Job → List JobState → List ℕ → ℕ
+turns_left jobs all ready = left_in_all jobs all * (length jobs + 1) + length ready
+
+-- one turn was taken, by the process at a place of those that were ready
+pub record WentOn (made : List CreateResult) (jobs : List Job) (m : Run) (all : List JobState) (ready : List ℕ) (place : ℕ) (m' : Run) (all' : List JobState) (ready' : List ℕ) : Type 0 where
+  pub between : IsBetween made jobs m' all' ready'
+  pub origin : m'.origin ≡ m.origin
+  pub entry : Entry
+  pub added : m'.history ≡ m.history ++ entry ∷ []
+  pub by : slice_get ready place ≡ Some entry.process
+  pub fewer : turns_left jobs all' ready' < turns_left jobs all ready

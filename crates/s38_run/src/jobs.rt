@@ -1,75 +1,103 @@
-ghost use Rattle.std.specs.Prelude.{◌≡◌, ◌+◌, ◌-◌, ◌<◌, ◌^◌, [], ℕ, true, false, IfOk, MatchOption, OnOk, length};
-ghost use Rattle.s38_rules.specs.State.{ready};
-ghost use Rattle.s38_rules.specs.Legal.{IsSound, IsProcess, begun};
+ghost use Rattle.std.specs.Prelude.{◌≡◌, ◌-◌, ◌<◌, ◌^◌, ◌==◌, not, IfOk, OnOk, filter, length, vec_len};
+ghost use Rattle.s38_rules.specs.Legal.{IsSound, begun};
 ghost use Rattle.s38_rules.specs.Opening.{opened};
-ghost use Rattle.s38_run.specs.Order.{InOrder, IsFirstReady};
-ghost use Rattle.s38_run.specs.Running.{IsBetween, JobRan};
+ghost use Rattle.s38_run.specs.Picked.{Picked};
+ghost use Rattle.s38_run.specs.Pickers.{behind_picks, picks_of};
+ghost use Rattle.s38_run.specs.Running.{IsBetween, WentOn, ready_behind};
 ghost use Rattle.s38_run.specs.Whole.{AllRan};
 
-use crate::one::run_process;
-use s38_base::{NoMemory, TryClone};
+use crate::job_state::{JobState, unbegun};
+use crate::outcome::Outcome;
+use crate::picker::Picker;
+use crate::turn::take_turn;
+use s38_base::NoMemory;
 use s38_code::{CreateResult, Job};
 use s38_machine::Machine;
-use s38_process::Process;
 use std::alloc::Global;
 
-/// The place of the first job whose process is ready.
-fn first_ready(machine: &Machine, jobs: usize) -> Option<usize>
-    requires { jobs < 2 ^ 32 - 1 }
-    ensures { MatchOption result
-        ((k : ℕ) → k < jobs → ready machine.now.state (k + 1) ≡ false)
-        (λ at. (at < jobs) × ((ready machine.now.state (at + 1) ≡ true) × ((k : ℕ) → k < at → ready machine.now.state (k + 1) ≡ false))) }
+/// Takes out of those that are ready a process that waits.
+fn leave(ready: &mut Vec<u32>, process: u32)
+    ensures { ready.new.items ≡ filter (λ q. not (process == q)) ready.old.items }
 {
-    for at in 0..jobs {
-        if machine.ready(at as u32 + 1) {
-            return Some(at);
+    ready.retain(|q| process != *q);
+}
+
+/// Who is ready behind a turn of a process. The machine is asked only where others may be ready now.
+fn update(
+    machine: &Machine,
+    ready: &mut Vec<u32>,
+    process: u32,
+    waited: bool,
+    outcome: Outcome,
+) -> Result<(), NoMemory>
+    requires few { length machine.now.state.processes < 2 ^ 32 - 1 }
+    ensures { OnOk result (ready.new.items ≡ ready_behind machine.now.state process waited outcome ready.old.items) }
+{
+    match outcome {
+        Outcome::Finished => machine.ready_list(ready),
+        Outcome::Waits => {
+            leave(ready, process);
+            Ok(())
+        }
+        Outcome::Refused => Ok(()),
+        Outcome::Changed => {
+            if waited {
+                machine.ready_list(ready)
+            } else {
+                Ok(())
+            }
         }
     }
-    None
 }
 
-/// Runs a job whose process goes first, from its start to its end.
-#[tactic(auto, using(crate::proofs::Running::ran_on_none))]
-fn run_job(
+/// The process at a place of those that are ready takes a turn.
+fn go_on(
     alloc: Global,
     machine: &mut Machine,
-    job: &Job,
-    made: &CreateResult,
-    number: u32,
+    states: &mut Vec<JobState>,
+    ready: &mut Vec<u32>,
+    jobs: &[Job],
+    made: &[CreateResult],
+    place: usize,
 ) -> Result<(), NoMemory>
-    requires sound { IsSound machine.old }
-    requires awake { machine.old.state.waiting ≡ [] }
-    requires order { InOrder machine.old.origin machine.old.history }
-    requires first { IsFirstReady machine.old.state number }
-    requires may { IsProcess machine.old.origin number }
-    ensures { OnOk result (JobRan number made.now job.now.budget machine.old machine.new) }
+    requires between { IsBetween made.now jobs.now machine.old states.old.items ready.old.items }
+    requires few { length jobs.now < 2 ^ 32 - 1 }
+    requires place { place < vec_len ready.old }
+    ensures { OnOk result (WentOn made.now jobs.now machine.old states.old.items ready.old.items place machine.new states.new.items ready.new.items) }
 {
-    let own = made.try_clone(alloc)?;
-    match Process::begin(alloc, job, own) {
-        Err(fault) => Err(fault),
-        Ok(mut process) => run_process(machine, &mut process, number),
-    }
+    let number = ready[place];
+    let at = number as usize - 1;
+    let waited = machine.somebody_waits();
+    let outcome = take_turn(alloc, machine, &mut states[at], &jobs[at], &made[at], number)?;
+    update(machine, ready, number, waited, outcome)
 }
 
-/// Runs the jobs, each by what creation made of its template, at its place: the first that is ready each time, until
-/// none is.
-pub fn serial(
+/// Runs the jobs, each by what creation made of its template, at its place, until each has ended. Each pick says which
+/// of the ready processes, in order of number, does its next event: the one at the place of the pick modulo their
+/// count.
+pub fn serial<P: Picker>(
     alloc: Global,
     machine: Machine,
     jobs: &[Job],
     made: &[CreateResult],
+    picker: &mut P,
 ) -> Result<Machine, NoMemory>
     requires begun { machine ≡ begun (opened machine.state.templates jobs.now) }
     requires made { length made.now ≡ length jobs.now }
     requires few { length jobs.now < 2 ^ 32 - 1 }
     ensures sound { IfOk result IsSound }
     ensures origin { IfOk result (λ m. m.origin ≡ opened machine.state.templates jobs.now) }
-    ensures order { IfOk result (λ m. InOrder m.origin m.history) }
+    ensures picked { IfOk result (λ m. Picked (picks_of P.answer P.after (length m.history) picker.old) m.origin m.history) }
+    ensures picker { IfOk result (λ m. picker.new ≡ behind_picks P.after (length m.history) picker.old) }
     ensures ran { IfOk result (λ m. AllRan made.now jobs.now m.history) }
 {
     let mut machine = machine;
-    while let Some(at) = first_ready(&machine, jobs.len()) {
-        match run_job(alloc, &mut machine, &jobs[at], &made[at], at as u32 + 1) {
+    let mut states = unbegun(alloc, jobs)?;
+    let mut ready = Vec::new(alloc);
+    machine.ready_list(&mut ready)?;
+    while !ready.is_empty() {
+        let place = picker.pick() as usize % ready.len();
+        match go_on(alloc, &mut machine, &mut states, &mut ready, jobs, made, place) {
             Ok(()) => {}
             Err(fault) => return Err(fault),
         }

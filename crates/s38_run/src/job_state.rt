@@ -1,0 +1,47 @@
+ghost use Rattle.std.specs.Prelude.{◌≡◌, ◌≢◌, IfOk};
+ghost use Rattle.s38_process.specs.declared.status.Status.{Status};
+ghost use Rattle.s38_run.specs.Running.{doing, unbegun};
+
+use s38_base::{NoMemory, TryClone};
+use s38_code::{CreateResult, Job};
+use s38_process::Process;
+use std::alloc::Global;
+
+/// How far a job has come. Its process takes memory from its first turn to its end.
+#[derive(Drop)]
+pub enum JobState {
+    Unbegun,
+    Running(Process),
+    Over,
+}
+
+/// The states of jobs before their first turn.
+pub fn unbegun(alloc: Global, jobs: &[Job]) -> Result<Vec<JobState>, NoMemory>
+    ensures { IfOk result (λ states. states.items ≡ unbegun jobs.now) }
+{
+    let mut states = Vec::with_capacity(alloc, jobs.len())?;
+    for _ in jobs {
+        states.push(JobState::Unbegun)?;
+    }
+    Ok(states)
+}
+
+/// The process of a job that is not over: it begins where it has not begun.
+pub fn process_of(
+    alloc: Global,
+    state: JobState,
+    job: &Job,
+    made: &CreateResult,
+) -> Result<Process, NoMemory>
+    requires { (doing made.now job.now.budget state).status ≢ Status.Ended }
+    ensures { IfOk result (λ process. process ≡ doing made.now job.now.budget state) }
+{
+    match state {
+        JobState::Unbegun => {
+            let own = made.try_clone(alloc)?;
+            Process::begin(alloc, job, own)
+        }
+        JobState::Running(process) => Ok(process),
+        JobState::Over => unreachable!(),
+    }
+}

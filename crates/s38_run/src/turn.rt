@@ -1,0 +1,57 @@
+ghost use Rattle.std.specs.Prelude.{◌≡◌, ◌≢◌, IfOk};
+ghost use Rattle.s38_process.specs.declared.status.Status.{Status};
+ghost use Rattle.s38_rules.specs.Legal.{IsSound, IsProcess};
+ghost use Rattle.s38_run.specs.Running.{TookTurn, Turned, doing};
+
+use crate::job_state::{JobState, process_of};
+use crate::outcome::{Outcome, outcome_of};
+use s38_base::NoMemory;
+use s38_code::{CreateResult, Job};
+use s38_machine::Machine;
+use s38_process::{Next, Process};
+use std::alloc::Global;
+use std::mem;
+
+/// One event of a process that has not ended is asked and answered.
+#[tactic(auto, using(crate::proofs::Asking::none_asked))]
+fn turn(machine: &mut Machine, process: &mut Process, number: u32) -> Result<Outcome, NoMemory>
+    requires sound { IsSound machine.old }
+    requires may { IsProcess machine.old.origin number }
+    requires going { process.old.status ≢ Status.Ended }
+    ensures { IfOk result (λ outcome. Turned number machine.old process.old outcome machine.new process.new) }
+{
+    match process.next() {
+        Err(fault) => Err(fault),
+        Ok(Next::Ended) => unreachable!(),
+        Ok(Next::Step(event)) => match machine.step(number, &event) {
+            Err(_) => Err(NoMemory),
+            Ok(reply) => match process.absorb(&reply) {
+                Err(fault) => Err(fault),
+                Ok(()) => Ok(outcome_of(&event, &reply)),
+            },
+        },
+    }
+}
+
+/// A job that is not over takes a turn. Its process begins at its first turn, and is dropped at its end.
+pub fn take_turn(
+    alloc: Global,
+    machine: &mut Machine,
+    state: &mut JobState,
+    job: &Job,
+    made: &CreateResult,
+    number: u32,
+) -> Result<Outcome, NoMemory>
+    requires sound { IsSound machine.old }
+    requires may { IsProcess machine.old.origin number }
+    requires going { (doing made.now job.now.budget state.old).status ≢ Status.Ended }
+    ensures { IfOk result (λ outcome. TookTurn number made.now job.now.budget machine.old state.old outcome machine.new state.new) }
+{
+    let mut process = process_of(alloc, mem::replace(state, JobState::Over), job, made)?;
+    let outcome = turn(machine, &mut process, number)?;
+    match outcome {
+        Outcome::Finished => {}
+        _ => *state = JobState::Running(process),
+    }
+    Ok(outcome)
+}
