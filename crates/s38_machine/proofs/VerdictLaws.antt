@@ -1,5 +1,5 @@
 -- What a permitted instruction has met.
-use Rattle.std.proofs.Common.{◌≡◌, ℕ, Bool, true, false, ⊥, None, Some, Option, refl, absurd, cond}
+use Rattle.std.proofs.Common.{◌≡◌, ℕ, Bool, true, false, None, Some, Option, refl, cond}
 use Rattle.s38_base.specs.declared.exception.Exception.{Exception}
 use Rattle.s38_base.specs.Signals.{first}
 use Rattle.s38_code.specs.declared.event.Event.{Event}

@@ -68,12 +68,24 @@ fn use_at(op: Op, k: u8) -> Category
 
 /// An item in a space, which is read or changed.
 #[tactic(auto, unfolding(s38_rules::specs::Blocking::item_lock))]
-fn item_lock(locks: &LockTable, process: u32, op: Op, k: u8, operand: &Operand) -> Option<Exception>
-    ensures { result ≡ item_lock locks.now process op k operand.now }
+fn item_lock(
+    world: &World<Objects>,
+    process: u32,
+    op: Op,
+    k: u8,
+    operand: &Operand,
+) -> Option<Exception>
+    ensures { result ≡ item_lock world.now.locks process op k operand.now }
 {
     match operand {
         Operand::InSpace { base, .. } => {
-            use_rule(locks, process, k, Pointer::target(*base), use_at(op, k))
+            use_rule(
+                &world.locks,
+                process,
+                k,
+                Pointer::target(*base),
+                use_at(op, k),
+            )
         }
         _ => None,
     }
@@ -125,7 +137,7 @@ impl<'a> OperandRules for Uses<'a> {
     ghost of_need = { λ u. lock_rule u.world.now u.process u.request.now.operands };
 
     fn item(&self, k: u8, operand: &Operand) -> Option<Exception> {
-        item_lock(&self.world.locks, self.process, self.request.op, k, operand)
+        item_lock(self.world, self.process, self.request.op, k, operand)
     }
 
     fn need(&self, need: &Need) -> Option<Exception> {
