@@ -33,8 +33,8 @@ use Rattle.s38_rules.specs.Effect.{effect}
 use Rattle.s38_rules.specs.Grants.{grant, grant_changes, grant_needs, grants_row, retract_changes, rights_of, user_at, user_needs, with_rights, xfro, xfro_changes, xfro_needs}
 use Rattle.s38_rules.specs.Held.{Held, object}
 use Rattle.s38_rules.specs.Instruction.{Instruction}
-use Rattle.s38_rules.specs.Needs.{governed, need, on_object}
-use Rattle.s38_rules.specs.Operands.{attr_at, is_given, place, pointer_at, rights_at, target}
+use Rattle.s38_rules.specs.Needs.{on_object}
+use Rattle.s38_rules.specs.Operands.{attr_at, is_given, pointer_at, rights_at, target}
 use Rattle.s38_rules.specs.PrivateRows.{row_of}
 use Rattle.s38_rules.specs.Profiles.{crtup, modup, profiles_row}
 use Rattle.s38_rules.specs.Programs.{created_program, crtpg_changes, program_in, programs_row, template_at}

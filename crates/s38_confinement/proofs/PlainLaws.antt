@@ -20,7 +20,6 @@ use Rattle.s38_code.specs.declared.operand.Operand.{Operand}
 use Rattle.s38_code.specs.declared.program.Program.{Program}
 use Rattle.s38_code.specs.declared.reply.Val.TheVariants as vals
 use Rattle.s38_code.specs.declared.reply.Val.{Val}
-use Rattle.s38_memory.specs.declared.cell.Cell.TheVariants.{Bytes}
 use Rattle.s38_memory.specs.declared.cell.Cell.{Cell}
 use Rattle.s38_rules.proofs.ChargeLaws.{KeepsNumber, object_changed, object_without}
 use Rattle.s38_rules.specs.Cells.{first_pointer, with_bytes, with_cells, with_pointer}

@@ -23,14 +23,13 @@ use Rattle.s38_code.specs.Operations.{family_of}
 use Rattle.s38_code.specs.declared.event.Request.{Request}
 use Rattle.s38_code.specs.declared.operand.Operand.TheVariants as operands
 use Rattle.s38_code.specs.declared.operand.Operand.{Operand}
-use Rattle.s38_memory.specs.Tagged.{written}
 use Rattle.s38_rules.proofs.RuleLaws.{first_none}
 use Rattle.s38_rules.specs.Authority.{available, counted, governs, has_rights, is_governed, is_profile, lacks_special, missing, row_on, source_by, sources_by, sources_on, unauthorized}
 use Rattle.s38_rules.specs.Headers.{public_in, row_in}
 use Rattle.s38_rules.specs.Held.{Held, object}
 use Rattle.s38_rules.specs.Instruction.{Instruction}
 use Rattle.s38_rules.specs.Needs.{first_of, need}
-use Rattle.s38_rules.specs.Operands.{place, pointer_at, pointer_of, target}
+use Rattle.s38_rules.specs.Operands.{pointer_at, pointer_of, target}
 use Rattle.s38_rules.specs.Rows.{row}
 use Rattle.s38_rules.specs.State.{State}
 use Rattle.s38_rules.specs.Users.{acting}

@@ -16,7 +16,6 @@ use Rattle.s38_rules.specs.Creation.{created, creation_changes, new_object}
 use Rattle.s38_rules.specs.Headers.{public_in, row_in, rows_in, special_in, special_of}
 use Rattle.s38_rules.specs.Held.{Held, has_number, object, object_in, with_object}
 use Rattle.s38_rules.specs.PrivateRows.{AreRows, row_of}
-use Rattle.s38_rules.specs.Rows.{row}
 use Rattle.s38_rules.specs.Standing.{Standing, restand, standing_of, with_standing}
 use Rattle.s38_rules.specs.declared.creating.Creating.{Creating}
 use Rattle.s38_rules.specs.declared.object.Body.{Body}

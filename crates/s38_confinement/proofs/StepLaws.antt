@@ -13,7 +13,6 @@ use Rattle.s38_rules.specs.Step.{step}
 use Rattle.s38_confinement.proofs.EffectLaws.{harmless_closed}
 use Rattle.s38_confinement.proofs.EventLaws.{step_kept}
 use Rattle.s38_confinement.proofs.ProcessLaws.{asks, goes_on}
-use Rattle.s38_confinement.proofs.RightLaws.{unused}
 use Rattle.s38_confinement.proofs.StandingLaws.{IsShut, nat_same}
 use Rattle.s38_confinement.specs.Confined.{AllWithin, AreRun, BeginsClosed, Exercises, NeverUsed, StaysClosed}
 use Rattle.s38_confinement.specs.NoWay.{IsHarmless, NoWay, NoWayIn}
