@@ -1,5 +1,5 @@
 -- The beginning of a run and its end.
-use Rattle.std.proofs.Common.{◌≡◌, ◌≢◌, ℕ, zero, suc, ◌+◌, ◌-◌, ◌<◌, ◌==◌, ◌&&◌, ◌||◌, not, Bool, true, false, List, [], ◌∷◌, ◌++◌, length, refl, sym, ◌∙◌, ap, subst, arith}
+use Rattle.std.proofs.Common.{◌≡◌, ◌≢◌, ℕ, zero, suc, ◌+◌, ◌-◌, ◌%◌, ◌<◌, ◌==◌, ◌&&◌, ◌||◌, not, Bool, true, false, List, [], ◌∷◌, ◌++◌, length, refl, sym, ◌∙◌, ap, subst, arith}
 use Rattle.std.proofs.lemmas.List.{length-map}
 use Rattle.std.proofs.lemmas.Bool.Decides.{nat_tests}
 use Rattle.std.proofs.lemmas.Option.{same_Some, slice_get-map, slice_get_within}
@@ -22,23 +22,12 @@ use Rattle.s38_run.specs.declared.job_state.JobState.{JobState}
 use Rattle.s38_run.specs.declared.job_state.JobState.TheVariants.{Unbegun}
 use Rattle.s38_run.specs.Picked.{Picked, chosen}
 use Rattle.s38_run.specs.Pickers.{behind_picks, picks_of}
-use Rattle.s38_run.specs.Running.{EachStands, IsBetween, Stands, doing, unbegun}
+use Rattle.s38_run.specs.Running.{EachStands, IsBetween, Stands, WentOn, doing, unbegun}
 use Rattle.s38_run.specs.Whole.{AllRan, RanWhole}
-use Rattle.s38_run.proofs.ReadyLaws.{none_listed}
+use Rattle.s38_run.proofs.ReadyLaws.{any_some, none_listed}
 use Rattle.s38_run.proofs.TurnLaws.{processes_count, there_is, when_true}
 
 -- ---- where none is ready, all have ended
-
-abbrev Among : {A : Type 0} → (A → Bool) → List A → Type 0
-Among {A} p xs = (j : ℕ) × ((y : A) × ((slice_get xs j ≡ Some y) × (p y ≡ true)))
-
-among_first : {A : Type 0} (p : A → Bool) (x : A) (xs : List A) (b : Bool) → p x ≡ b → (b || list_any p xs) ≡ true → (list_any p xs ≡ true → Among p xs) → Among p (x ∷ xs)
-among_first p x xs true e g more = (0, (x, (refl, e)))
-among_first p x xs false e g more = let there = more g in (suc there.0, (there.1.0, there.1.1))
-
-any_some : {A : Type 0} (p : A → Bool) (xs : List A) → list_any p xs ≡ true → Among p xs
-any_some p [] h = cc
-any_some p (x ∷ xs) h = among_first p x xs (p x) refl h (any_some p xs)
 
 -- a process that has not ended and does not wait is ready unless an earlier stage runs
 not_ready : (ended early waiting : Bool) → ended ≡ false → waiting ≡ false → (not ended && (not early && not waiting)) ≡ false → early ≡ true
@@ -141,3 +130,40 @@ picked_more answer after x s past (y ∷ es) t e leads picked by = (picked.0, pi
 pub behind_one_more : {S : Type 0} (after : S → S) (x : S) (es : List Entry) (e : Entry) → behind_picks after (length (es ++ e ∷ [])) x ≡ after (behind_picks after (length es) x)
 behind_one_more after x [] e = refl
 behind_one_more after x (y ∷ es) e = behind_one_more after (after x) es e
+
+-- ---- between two turns of a whole run
+
+-- the jobs have come so far, by the picks from x up to y
+pub record ComesOn {S : Type 0} (answer : S → ℕ) (after : S → S) (x : S) (templates : List CheckedTemplate) (made : List CreateResult) (jobs : List Job) (m : Run) (all : List JobState) (list : List ℕ) (y : S) : Type 0 where
+  pub between : IsBetween made jobs m all list
+  pub origin : m.origin ≡ opening.opened templates jobs
+  pub picked : Picked (picks_of answer after (length m.history) x) m.origin m.history
+  pub picker : y ≡ behind_picks after (length m.history) x
+
+pub comes_begun : {S : Type 0} (answer : S → ℕ) (after : S → S) (x : S) (templates : List CheckedTemplate) (made : List CreateResult) (jobs : List Job) (m : Run) (all : List JobState) (list : List ℕ) → length made ≡ length jobs
+    → m ≡ begun (opening.opened templates jobs) → all ≡ unbegun jobs → list ≡ ready_list m.state → ComesOn answer after x templates made jobs m all list x
+comes_begun answer after x templates made jobs m all list count is unbegun_yet listed =
+    let first : list ≡ ready_list (opening.opened templates jobs) = listed ∙ ap (λ (n : Run). ready_list n.state) is in
+    subst (λ (n : Run). ComesOn answer after x templates made jobs n all list x) (sym is)
+    (subst (λ (ys : List JobState). ComesOn answer after x templates made jobs (begun (opening.opened templates jobs)) ys list x) (sym unbegun_yet)
+    (subst (λ (qs : List ℕ). ComesOn answer after x templates made jobs (begun (opening.opened templates jobs)) (unbegun jobs) qs x) (sym first)
+    (record { between = between_begun templates made jobs count; origin = refl; picked = tt; picker = refl })))
+
+pub comes_on : {S : Type 0} (answer : S → ℕ) (after : S → S) (x : S) (templates : List CheckedTemplate) (made : List CreateResult) (jobs : List Job) (m : Run) (all : List JobState) (list : List ℕ) (y : S) (place : ℕ) (m' : Run)
+    (all' : List JobState) (list' : List ℕ) → ComesOn answer after x templates made jobs m all list y → place ≡ answer y % length list → WentOn made jobs m all list place m' all' list'
+    → ComesOn answer after x templates made jobs m' all' list' (after y)
+comes_on answer after x templates made jobs m all list y place m' all' list' comes at went =
+    let listed = comes.between.ready in
+    let pick : answer y ≡ answer (behind_picks after (length m.history) x) = ap answer comes.picker in
+    let by : chosen m.state (answer (behind_picks after (length m.history) x)) ≡ Some went.entry.process =
+        subst (λ n. chosen m.state n ≡ Some went.entry.process) pick
+        (subst (λ (qs : List ℕ). slice_get qs (answer y % length qs) ≡ Some went.entry.process) listed
+        (subst (λ i. slice_get list i ≡ Some went.entry.process) at went.by)) in
+    let more = picked_more answer after x m.origin [] m.history m.state went.entry comes.between.sound.legal comes.picked by in
+    record {
+      between = went.between;
+      origin = went.origin ∙ comes.origin;
+      picked = subst (λ (s : State). Picked (picks_of answer after (length m'.history) x) s m'.history) (sym went.origin)
+          (subst (λ (es : List Entry). Picked (picks_of answer after (length es) x) m.origin es) (sym went.added) more);
+      picker = ap after comes.picker ∙ sym (behind_one_more after x m.history went.entry) ∙ ap (λ (es : List Entry). behind_picks after (length es) x) (sym went.added);
+    }

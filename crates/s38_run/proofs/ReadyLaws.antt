@@ -3,6 +3,7 @@ use Rattle.std.proofs.Common.{◌≡◌, ◌≢◌, ℕ, zero, suc, ◌+◌, ◌
 use Rattle.std.proofs.lemmas.List.Elements.{filter_agree}
 use Rattle.std.proofs.lemmas.Option.{same_Some}
 use Rattle.std.proofs.lemmas.List.FromFn.{length-range_with_len}
+use Rattle.std.proofs.lemmas.Bool.Decides.{nat_tests}
 use Rattle.std.specs.Prelude.{Option, Some, None, filter, nat_lt, slice_get, slice_set}
 use Rattle.std.specs.Option.{option_map}
 use Rattle.std.specs.List.{list_any, range_with_len}
@@ -137,6 +138,18 @@ filter_fewer f (x ∷ xs) (suc i) y h e = by_test (f x) (filter_fewer f xs i y h
     by_test true h = omega arith
     by_test false h = omega arith
 
+-- where some element passes, one of them
+abbrev pub Among : {A : Type 0} → (A → Bool) → List A → Type 0
+Among {A} p xs = (j : ℕ) × ((y : A) × ((slice_get xs j ≡ Some y) × (p y ≡ true)))
+
+among_first : {A : Type 0} (p : A → Bool) (x : A) (xs : List A) (b : Bool) → p x ≡ b → (b || list_any p xs) ≡ true → (list_any p xs ≡ true → Among p xs) → Among p (x ∷ xs)
+among_first p x xs true e g more = (0, (x, (refl, e)))
+among_first p x xs false e g more = let there = more g in (suc there.0, (there.1.0, there.1.1))
+
+pub any_some : {A : Type 0} (p : A → Bool) (xs : List A) → list_any p xs ≡ true → Among p xs
+any_some p [] h = cc
+any_some p (x ∷ xs) h = among_first p x xs (p x) refl h (any_some p xs)
+
 range_has : (a n k : ℕ) → k < n → slice_get (range_with_len a n) k ≡ Some (a + k)
 range_has a zero k h = absurd (omega arith)
 range_has a (suc n) zero h = let here : a ≡ a + 0 = omega arith in ap Some here
@@ -205,3 +218,21 @@ pub record OtherReady (s : State) (p : ℕ) : Type 0 where
   pub is : IsProcess s number
   pub other : number ≢ p
   pub ready : ready s number ≡ true
+
+both_tests : (a b : Bool) → (a && b) ≡ true → (a ≡ true) × (b ≡ true)
+both_tests true true h = (refl, refl)
+both_tests true false h = cc
+both_tests false b h = cc
+
+-- where some other process is found ready, another is
+pub other_found : (s : State) (p : ℕ) → list_any (λ q. not (q == p) && ready s q) (process_numbers s) ≡ true → OtherReady s p
+other_found s p h =
+    let found = any_some (λ q. not (q == p) && ready s q) (process_numbers s) h in
+    let tests = both_tests (not (found.1.0 == p)) (ready s found.1.0) found.1.1.1 in
+    let within = range_within 1 (length s.processes) found.0 found.1.0 found.1.1.0 in
+    record {
+      number = found.1.0;
+      is = record { first = omega (arith, within.0); last = omega (arith, within.1) };
+      other = grind (arith, nat_tests, tests.0);
+      ready = tests.1;
+    }

@@ -3,7 +3,7 @@ use Rattle.std.proofs.Common.{◌≡◌, ◌≢◌, ℕ, zero, suc, ◌+◌, ◌
 use Rattle.std.proofs.lemmas.List.{length-map}
 use Rattle.std.proofs.lemmas.Bool.Decides.{nat_tests}
 use Rattle.std.proofs.lemmas.Option.{get_or_from_slice_get, same_Some, slice_get_cases, slice_get_within, slice_get-get_or}
-use Rattle.std.specs.Prelude.{MatchBool, Option, Some, None, filter, slice_get, slice_set, slice_index_or}
+use Rattle.std.specs.Prelude.{MatchBool, OnOk, Option, Some, None, Result, Ok, Err, filter, slice_get, slice_set, slice_index_or}
 use Rattle.s38_code.specs.declared.deck.Job.{Job}
 use Rattle.s38_code.specs.declared.entry.Entry.{Entry}
 use Rattle.s38_code.specs.declared.event.Event.{Event}
@@ -383,3 +383,21 @@ unfolding after
 took_count made jobs m all was place p job one state o m' state' between listed job_at one_at state_at took =
     ap (λ (n : Run). length n.state.processes) took.turned.machine
     ∙ count_then made jobs m all was place p job one state took.turned.event (record { between = between; listed = listed; job_at = job_at; one_at = one_at; state_at = state_at; asks = took.turned.asks })
+
+-- who is listed is the process of a job
+pub within_jobs : (made : List CreateResult) (jobs : List Job) (m : Run) (all : List JobState) (was : List ℕ) (place p : ℕ) → IsBetween made jobs m all was → slice_get was place ≡ Some p → (0 < p) × (p - 1 < length jobs)
+within_jobs made jobs m all was place p between listed =
+    let is = is_listed made jobs m all was place p between listed in
+    (is.1.first, omega (arith, is.1.first, is.1.last, processes_count made jobs m all was between))
+
+on_ok : {T E : Type 0} (P Q : Type 0) (r : Result T E) → (P → Q) → OnOk r P → OnOk r Q
+on_ok P Q (Ok x) f h = f h
+on_ok P Q (Err e) f h = tt
+
+-- where who is ready was listed anew
+pub went_listed : {T E : Type 0} (r : Result T E) (made : List CreateResult) (jobs : List Job) (m : Run) (all : List JobState) (was : List ℕ) (place p : ℕ) (job : Job) (one : CreateResult) (state : JobState) (o : Outcome) (m' : Run)
+    (state' : JobState) (waited : Bool) (now : List ℕ) → IsBetween made jobs m all was → slice_get was place ≡ Some p → slice_get jobs (p - 1) ≡ Some job → slice_get made (p - 1) ≡ Some one → slice_get all (p - 1) ≡ Some state
+    → TookTurn p one job.budget m state o m' state' → waited ≡ anyone m.state.waiting → OnOk r (now ≡ ready_behind m'.state p waited o was) → OnOk r (WentOn made jobs m all was place m' (slice_set all (p - 1) state') now)
+went_listed r made jobs m all was place p job one state o m' state' waited now between listed job_at one_at state_at took waits now_is =
+    on_ok _ _ r (λ is. went_on made jobs m all was place p job one state o m' state' (slice_set all (p - 1) state') now between listed job_at one_at state_at took refl
+      (is ∙ ap (λ b. ready_behind m'.state p b o was) waits)) now_is
