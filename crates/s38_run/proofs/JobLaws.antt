@@ -156,9 +156,9 @@ comes_on answer after x templates made jobs m all list y place m' all' list' com
     let listed = comes.between.ready in
     let pick : answer y ≡ answer (behind_picks after (length m.history) x) = ap answer comes.picker in
     let by : chosen m.state (answer (behind_picks after (length m.history) x)) ≡ Some went.entry.process =
-        subst (λ n. chosen m.state n ≡ Some went.entry.process) pick
-        (subst (λ (qs : List ℕ). slice_get qs (answer y % length qs) ≡ Some went.entry.process) listed
-        (subst (λ i. slice_get list i ≡ Some went.entry.process) at went.by)) in
+    subst (λ n. chosen m.state n ≡ Some went.entry.process) pick
+    (subst (λ (qs : List ℕ). slice_get qs (answer y % length qs) ≡ Some went.entry.process) listed
+    (subst (λ i. slice_get list i ≡ Some went.entry.process) at went.by)) in
     let more = picked_more answer after x m.origin [] m.history m.state went.entry comes.between.sound.legal comes.picked by in
     record {
       between = went.between;

@@ -75,18 +75,18 @@ another_from s p n [] h = cc
 another_from s p n (x ∷ xs) h =
     elim (stands_by (n == p) (ready_in s n (Some x)) (others_stand s p (n + 1) xs) h) as (λ _. Another s p n (x ∷ xs)) [
       | inl w ↦
-        let first : n ≡ n + 0 = omega arith in
-        record { place = 0; entry = x; there = refl; other = subst (λ (m : ℕ). m ≢ p) first (differ n p w.0); ready = subst (λ (m : ℕ). ready_in s m (Some x) ≡ true) first w.1 }
+          let first : n ≡ n + 0 = omega arith in
+          record { place = 0; entry = x; there = refl; other = subst (λ (m : ℕ). m ≢ p) first (differ n p w.0); ready = subst (λ (m : ℕ). ready_in s m (Some x) ≡ true) first w.1 }
       | inr g ↦
-        let rest = another_from s p (n + 1) xs g in
-        let on : n + 1 + rest.place ≡ n + suc rest.place = omega arith in
-        record {
-          place = suc rest.place;
-          entry = rest.entry;
-          there = rest.there;
-          other = subst (λ (m : ℕ). m ≢ p) on rest.other;
-          ready = subst (λ (m : ℕ). ready_in s m (Some rest.entry) ≡ true) on rest.ready;
-        }
+          let rest = another_from s p (n + 1) xs g in
+          let on : n + 1 + rest.place ≡ n + suc rest.place = omega arith in
+          record {
+            place = suc rest.place;
+            entry = rest.entry;
+            there = rest.there;
+            other = subst (λ (m : ℕ). m ≢ p) on rest.other;
+            ready = subst (λ (m : ℕ). ready_in s m (Some rest.entry) ≡ true) on rest.ready;
+          }
     ]
 
 ready_entry : (s : State) (k : ℕ) (x : ProcessEntry) (o : Option ProcessEntry) → o ≡ Some x → ready_in s k (Some x) ≡ true → ready_in s k o ≡ true
