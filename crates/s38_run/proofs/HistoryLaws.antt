@@ -1,5 +1,5 @@
 -- A history is that of its picks.
-use Rattle.std.proofs.Common.{◌≡◌, ◌≢◌, ℕ, zero, suc, ◌+◌, ◌-◌, ◌<◌, ◌≤◌, ◌==◌, Bool, true, false, cond, List, [], ◌∷◌, ◌++◌, length, refl, sym, ◌∙◌, ap, subst, arith}
+use Rattle.std.proofs.Common.{◌≡◌, ◌≢◌, ℕ, ◌+◌, ◌-◌, ◌<◌, ◌≤◌, ◌==◌, Bool, true, false, cond, List, [], ◌∷◌, ◌++◌, length, refl, sym, ◌∙◌, ap, subst, arith}
 use Rattle.std.proofs.lemmas.Bool.Decides.{nat_tests}
 use Rattle.std.proofs.lemmas.Option.{same_Some}
 use Rattle.std.specs.Prelude.{Option, Some, None, slice_get}
@@ -144,11 +144,11 @@ same_entries answer after x count s past d (e ∷ es) (f ∷ fs) t u go too =
     let event = event_same d e f process (goes_head answer after x count s past d e es t go).1.1 (goes_head answer after x count s past d f fs u too).1.1 in
     let seq : e.seq ≡ f.seq = go.leads.0.seq ∙ ap (λ p. count_of p past) process ∙ sym too.leads.0.seq in
     let reply : e.reply ≡ f.reply =
-        sym go.leads.0.reply ∙ ap (λ p. (step s p e.event).reply) process ∙ ap (λ (v : Event). (step s f.process v).reply) event ∙ too.leads.0.reply in
+    sym go.leads.0.reply ∙ ap (λ p. (step s p e.event).reply) process ∙ ap (λ (v : Event). (step s f.process v).reply) event ∙ too.leads.0.reply in
     let same = entry_same e f process seq event reply in
     let other = subst (λ (g : Entry). Goes answer after x count s past d (g ∷ fs) u) (sym same) too in
     let rest = same_entries answer after (after x) count (step s e.process e.event).state (past ++ e ∷ []) (moved d e) es fs t u
-        (goes_tail answer after x count s past d e es t go) (goes_tail answer after x count s past d e fs u other) in
+    (goes_tail answer after x count s past d e es t go) (goes_tail answer after x count s past d e fs u other) in
     ap (λ xs. e ∷ xs) rest ∙ ap (λ g. g ∷ fs) same
 
 -- ---- whole runs of the same jobs
@@ -178,7 +178,7 @@ whole_goes answer after x made jobs m made_count count was = record {
         let one = there_is made (p - 1) (omega (arith, first, last, made_count)) in
         let index : p - 1 + 1 ≡ p = omega (arith, first) in
         let start : starts_as (slice_get made (p - 1)) (slice_get jobs (p - 1)) ≡ fresh one.0 job.0.budget =
-            ap (λ o. starts_as o (slice_get jobs (p - 1))) one.1 ∙ ap (λ o. starts_as (Some one.0) o) job.1 in
+        ap (λ o. starts_as o (slice_get jobs (p - 1))) one.1 ∙ ap (λ o. starts_as (Some one.0) o) job.1 in
         let ran = was.ran.each (p - 1) job.0 one.0 job.1 one.1 in
         let by_program : RanFrom (fresh one.0 job.0.budget) (entries_of p m.history) = subst (λ i. RanFrom (fresh one.0 job.0.budget) (entries_of i m.history)) index ran.by_program in
         let whole : ends_by_finish (entries_of p m.history) ≡ true = subst (λ i. ends_by_finish (entries_of i m.history) ≡ true) index ran.whole in

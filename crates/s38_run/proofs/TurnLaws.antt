@@ -1,9 +1,9 @@
 -- From one turn to the next.
-use Rattle.std.proofs.Common.{◌≡◌, ◌≢◌, ℕ, zero, suc, ◌+◌, ◌-◌, ◌<◌, ◌≤◌, ◌==◌, ◌⊎◌, Bool, true, false, cond, not, ◌&&◌, List, [], ◌∷◌, ◌++◌, length, get_or, inl, inr, refl, sym, ◌∙◌, ap, subst, arith, length-set, get_or-set_other, get_or-set_same}
+use Rattle.std.proofs.Common.{◌≡◌, ◌≢◌, ℕ, zero, suc, ◌+◌, ◌-◌, ◌<◌, ◌≤◌, ◌==◌, ◌⊎◌, Bool, true, false, not, ◌&&◌, List, [], ◌∷◌, ◌++◌, length, get_or, inl, inr, refl, sym, ◌∙◌, ap, subst, arith, length-set, get_or-set_other, get_or-set_same}
 use Rattle.std.proofs.lemmas.List.{length-map}
 use Rattle.std.proofs.lemmas.Bool.Decides.{nat_tests}
-use Rattle.std.proofs.lemmas.Option.{get_or_from_slice_get, same_Some, slice_get_cases, slice_get_within, slice_get-get_or}
-use Rattle.std.specs.Prelude.{MatchBool, OnOk, Option, Some, None, Result, Ok, Err, filter, slice_get, slice_set, slice_index_or}
+use Rattle.std.proofs.lemmas.Option.{get_or_from_slice_get, same_Some, slice_get_within, slice_get-get_or}
+use Rattle.std.specs.Prelude.{MatchBool, OnOk, Option, Some, Result, Ok, Err, filter, slice_get, slice_set}
 use Rattle.s38_code.specs.declared.deck.Job.{Job}
 use Rattle.s38_code.specs.declared.entry.Entry.{Entry}
 use Rattle.s38_code.specs.declared.event.Event.{Event}
@@ -13,21 +13,19 @@ use Rattle.s38_code.specs.declared.reply.Reply.{Reply}
 use Rattle.s38_code.specs.declared.reply.Reply.TheVariants.{Done, Signal, MustWait}
 use Rattle.s38_code.specs.History.{entries_of, entry_after}
 use Rattle.s38_rules.specs.declared.process.ProcessEntry.{ProcessEntry}
-use Rattle.s38_rules.specs.Legal.{IsProcess, IsSound, Run, after, no_moment}
-use Rattle.s38_rules.specs.Opening.{opened}
+use Rattle.s38_rules.specs.Legal.{IsProcess, Run, after, no_moment}
 use Rattle.s38_rules.specs.State.{State, is_early, process_entry, ready, ready_in, waits, ready_list}
-use Rattle.s38_rules.specs.Step.{Stepped, step}
+use Rattle.s38_rules.specs.Step.{step}
 use Rattle.s38_rules.proofs.Laws.{sound_after}
 use Rattle.s38_process.specs.declared.status.Status.TheVariants.{Ended}
-use Rattle.s38_process.specs.Process.{ProcessState, RanFrom, absorbed, behind, ends_by_finish, event_of, fresh, is_finish}
+use Rattle.s38_process.specs.Process.{ProcessState, absorbed, behind, ends_by_finish, event_of, fresh, is_finish}
 use Rattle.s38_run.specs.declared.job_state.JobState.{JobState}
-use Rattle.s38_run.specs.declared.job_state.JobState.TheVariants.{Unbegun, Running, Over}
 use Rattle.s38_run.specs.declared.outcome.Outcome.{Outcome}
 use Rattle.s38_run.specs.declared.outcome.Outcome.TheVariants.{Finished, Waits, Refused, Changed}
-use Rattle.s38_run.specs.Running.{EachStands, HasEnded, IsBetween, OthersStay, Stands, TookTurn, Turned, WentOn, doing, left_in_all, left_of, outcome_of, ready_behind, state_behind, turns_left}
+use Rattle.s38_run.specs.Running.{EachStands, IsBetween, OthersStay, Stands, TookTurn, WentOn, doing, left_in_all, left_of, outcome_of, ready_behind, state_behind, turns_left}
 use Rattle.s38_run.proofs.Asking.{behind_more, ends_asking, ends_more, ran_more}
 use Rattle.s38_run.proofs.ReadyLaws.{OtherReady, filter_fewer, listed_ready, none_listed, outline, ready_few, same_ended, same_list, waiting_list, waiting_ready, with_waiting}
-use Rattle.s38_run.proofs.Running.{entries_other, entries_own, fewer_events, fewer_ready, history_more, left_set, origin_after, state_after, turn_falls, turn_waits}
+use Rattle.s38_run.proofs.Running.{entries_other, entries_own, fewer_events, fewer_ready, history_more, left_set, origin_after, turn_falls, turn_waits}
 use Rattle.s38_run.proofs.Stepping.{GoesTo, MovesBy, goes}
 
 -- ---- who is ready behind a turn
@@ -174,12 +172,12 @@ stands_on one budget state was is es entry stands still asks over going = record
   by_program = ran_more (fresh one budget) es entry stands.by_program (ap event_of here ∙ asks);
   is = elim (true_or_false (is_finish entry.event)) as (λ _. MatchBool is (ends_by_finish (es ++ entry ∷ []) ≡ true)
       ((behind (fresh one budget) (es ++ entry ∷ []) ≡ doing one budget next) × ((doing one budget next).status ≢ Ended))) [
-    | inl f ↦ is_true is _ _ (over f) (ends_more es entry ∙ f)
-    | inr f ↦ is_false is _ _ (going f) (
-        behind_more (fresh one budget) es entry ∙ ap (λ x. absorbed x entry.reply) here ∙ sym (kept f),
-        λ g. no_both (sym f ∙ ends_asking (doing one budget state) entry.event entry.reply asks (sym (ap (λ (x : ProcessState). x.status) (kept f)) ∙ g)),
-      )
-  ];
+        | inl f ↦ is_true is _ _ (over f) (ends_more es entry ∙ f)
+        | inr f ↦ is_false is _ _ (going f) (
+          behind_more (fresh one budget) es entry ∙ ap (λ x. absorbed x entry.reply) here ∙ sym (kept f),
+          λ g. no_both (sym f ∙ ends_asking (doing one budget state) entry.event entry.reply asks (sym (ap (λ (x : ProcessState). x.status) (kept f)) ∙ g)),
+        )
+      ];
 }
   where
     here : behind (fresh one budget) es ≡ doing one budget state
@@ -288,8 +286,8 @@ module _ (made : List CreateResult) (jobs : List Job) (m : Run) (all : List JobS
   own_stands x x_at =
       subst (λ es. Stands one job.budget x.ended es (state_then m p job one state e)) (sym (entries_own p m.history (entry_then m p e) refl))
       (stands_on one job.budget state old.0.ended x.ended (entries_of p m.history) (entry_then m p e) own_stood opened_yet turn.asks
-        (λ f. sym (ap (λ (y : ProcessEntry). y.ended) (at_get (step m.state p e).state.processes (p - 1) x x_at)) ∙ (to.ended f).0.is x)
-        (λ f. same_ended m.state.processes (step m.state p e).state.processes (p - 1) old.0 x (to.same f) old.1 x_at ∙ opened_yet))
+      (λ f. sym (ap (λ (y : ProcessEntry). y.ended) (at_get (step m.state p e).state.processes (p - 1) x x_at)) ∙ (to.ended f).0.is x)
+      (λ f. same_ended m.state.processes (step m.state p e).state.processes (p - 1) old.0 x (to.same f) old.1 x_at ∙ opened_yet))
 
   stands_then : (k : ℕ) (x : ProcessEntry) (j : Job) (o : CreateResult) (s : JobState) → slice_get (step m.state p e).state.processes k ≡ Some x → slice_get jobs k ≡ Some j → slice_get made k ≡ Some o
       → slice_get (slice_set all (p - 1) (state_then m p job one state e)) k ≡ Some s → Stands o j.budget x.ended (entries_of (k + 1) (m.history ++ entry_then m p e ∷ [])) s
@@ -299,8 +297,8 @@ module _ (made : List CreateResult) (jobs : List Job) (m : Run) (all : List JobS
         let same_job : job ≡ j = some_same (slice_get jobs k) job j (ap (slice_get jobs) is ∙ turn.job_at) j_at in
         let same_one : one ≡ o = some_same (slice_get made k) one o (ap (slice_get made) is ∙ turn.one_at) o_at in
         let same_state : state_then m p job one state e ≡ s =
-            some_same (slice_get (slice_set all (p - 1) (state_then m p job one state e)) k) (state_then m p job one state e) s
-            (ap (slice_get (slice_set all (p - 1) (state_then m p job one state e))) is ∙ set_there all (p - 1) state (state_then m p job one state e) turn.state_at) s_at in
+        some_same (slice_get (slice_set all (p - 1) (state_then m p job one state e)) k) (state_then m p job one state e) s
+        (ap (slice_get (slice_set all (p - 1) (state_then m p job one state e))) is ∙ set_there all (p - 1) state (state_then m p job one state e) turn.state_at) s_at in
         let here = own_stands x (ap (slice_get (step m.state p e).state.processes) (sym is) ∙ x_at) in
         subst (λ i. Stands o j.budget x.ended (entries_of i (m.history ++ entry_then m p e ∷ [])) s) (sym number)
         (subst (λ (y : JobState). Stands o j.budget x.ended (entries_of p (m.history ++ entry_then m p e ∷ [])) y) same_state
@@ -309,7 +307,7 @@ module _ (made : List CreateResult) (jobs : List Job) (m : Run) (all : List JobS
     | inr ne ↦
         subst (λ es. Stands o j.budget x.ended es s) (sym (entries_other (k + 1) m.history (entry_then m p e) (λ g. ne (omega (arith, g)))))
         (turn.between.each.each k x j o s (same_place m.state.processes (step m.state p e).state.processes (p - 1) k x to.stay ne x_at) j_at o_at
-          (set_elsewhere all (p - 1) k s (state_then m p job one state e) ne s_at))
+        (set_elsewhere all (p - 1) k s (state_then m p job one state e) ne s_at))
   ]
 
   each_then : EachStands made jobs (after m no_moment p e) (slice_set all (p - 1) (state_then m p job one state e))
@@ -359,10 +357,10 @@ went_on made jobs m all was place p job one state o m' state' all' now between l
     let e = took.turned.event in
     let went = went_then made jobs m all was place p job one state e (record { between = between; listed = listed; job_at = job_at; one_at = one_at; state_at = state_at; asks = took.turned.asks }) in
     let state_is : state' ≡ state_then m p job one state e =
-        took.state ∙ ap (λ x. state_behind x took.process) took.turned.outcome ∙ ap (state_behind (outcome_of e (step m.state p e).reply)) took.turned.process in
+    took.state ∙ ap (λ x. state_behind x took.process) took.turned.outcome ∙ ap (state_behind (outcome_of e (step m.state p e).reply)) took.turned.process in
     let list_is : now ≡ ready_behind (step m.state p e).state p (anyone m.state.waiting) (outcome_of e (step m.state p e).reply) was =
-        now_is ∙ ap (λ (n : Run). ready_behind n.state p (anyone m.state.waiting) o was) took.turned.machine
-        ∙ ap (λ x. ready_behind (step m.state p e).state p (anyone m.state.waiting) x was) took.turned.outcome in
+    now_is ∙ ap (λ (n : Run). ready_behind n.state p (anyone m.state.waiting) o was) took.turned.machine
+    ∙ ap (λ x. ready_behind (step m.state p e).state p (anyone m.state.waiting) x was) took.turned.outcome in
     subst (λ (n : Run). WentOn made jobs m all was place n all' now) (sym took.turned.machine)
     (subst (λ (xs : List JobState). WentOn made jobs m all was place (after m no_moment p e) xs now) (sym (all_is ∙ ap (slice_set all (p - 1)) state_is))
     (subst (λ (qs : List ℕ). WentOn made jobs m all was place (after m no_moment p e) (slice_set all (p - 1) (state_then m p job one state e)) qs) (sym list_is) went))
@@ -400,4 +398,4 @@ pub went_listed : {T E : Type 0} (r : Result T E) (made : List CreateResult) (jo
     → TookTurn p one job.budget m state o m' state' → waited ≡ anyone m.state.waiting → OnOk r (now ≡ ready_behind m'.state p waited o was) → OnOk r (WentOn made jobs m all was place m' (slice_set all (p - 1) state') now)
 went_listed r made jobs m all was place p job one state o m' state' waited now between listed job_at one_at state_at took waits now_is =
     on_ok _ _ r (λ is. went_on made jobs m all was place p job one state o m' state' (slice_set all (p - 1) state') now between listed job_at one_at state_at took refl
-      (is ∙ ap (λ b. ready_behind m'.state p b o was) waits)) now_is
+    (is ∙ ap (λ b. ready_behind m'.state p b o was) waits)) now_is

@@ -68,7 +68,14 @@ fn go_on(
     let number = ready[place];
     let at = number as usize - 1;
     let waited = machine.somebody_waits();
-    let outcome = take_turn(alloc, machine, &mut states[at], &jobs[at], &made[at], number)?;
+    let outcome = take_turn(
+        alloc,
+        machine,
+        &mut states[at],
+        &jobs[at],
+        &made[at],
+        number,
+    )?;
     update(machine, ready, number, waited, outcome)
 }
 
@@ -97,7 +104,15 @@ pub fn serial<P: Picker>(
     machine.ready_list(&mut ready)?;
     while !ready.is_empty() {
         let place = picker.pick() as usize % ready.len();
-        match go_on(alloc, &mut machine, &mut states, &mut ready, jobs, made, place) {
+        match go_on(
+            alloc,
+            &mut machine,
+            &mut states,
+            &mut ready,
+            jobs,
+            made,
+            place,
+        ) {
             Ok(()) => {}
             Err(fault) => return Err(fault),
         }
