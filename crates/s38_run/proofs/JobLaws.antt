@@ -1,29 +1,27 @@
 -- The beginning of a run and its end.
-use Rattle.std.proofs.Common.{◌≡◌, ◌≢◌, ℕ, zero, suc, ◌+◌, ◌-◌, ◌%◌, ◌<◌, ◌==◌, ◌&&◌, ◌||◌, not, Bool, true, false, List, [], ◌∷◌, ◌++◌, length, refl, sym, ◌∙◌, ap, subst, arith}
+use Rattle.std.proofs.Common.{◌≡◌, ◌≢◌, ℕ, zero, suc, ◌+◌, ◌-◌, ◌%◌, ◌<◌, ◌==◌, ◌&&◌, not, Bool, true, false, List, [], ◌∷◌, ◌++◌, length, refl, sym, ◌∙◌, ap, subst, arith}
 use Rattle.std.proofs.lemmas.List.{length-map}
 use Rattle.std.proofs.lemmas.Bool.Decides.{nat_tests}
-use Rattle.std.proofs.lemmas.Option.{same_Some, slice_get-map, slice_get_within}
-use Rattle.std.specs.Prelude.{MatchBool, Option, Some, None, nat_lt, slice_get}
+use Rattle.std.proofs.lemmas.Option.{same_Some, slice_get_within}
+use Rattle.std.specs.Prelude.{Some, nat_lt, slice_get}
 use Rattle.std.specs.List.{list_any}
 use Rattle.s38_code.specs.declared.deck.Job.{Job}
 use Rattle.s38_code.specs.declared.entry.Entry.{Entry}
 use Rattle.s38_code.specs.declared.made.CheckedTemplate.{CheckedTemplate}
 use Rattle.s38_code.specs.declared.made.CreateResult.{CreateResult}
-use Rattle.s38_code.specs.History.{entries_of}
 use Rattle.s38_rules.specs.declared.process.ProcessEntry.{ProcessEntry}
 use Rattle.s38_rules.specs.State.{State, is_early, ready, ready_in, runs_before, process_entry, waits, ready_list}
-use Rattle.s38_rules.specs.Legal.{IsSound, Leads, Run, begun}
+use Rattle.s38_rules.specs.Legal.{Leads, Run, begun}
 use Rattle.s38_rules.specs.Opening as opening
 use Rattle.s38_rules.specs.Step.{step}
 use Rattle.s38_process.specs.declared.status.Status.TheVariants.{Fresh, Ended}
-use Rattle.s38_process.specs.Process.{RanFrom, ends_by_finish, fresh}
 use Rattle.s38_rules.proofs.Laws.{sound_begun}
 use Rattle.s38_run.specs.declared.job_state.JobState.{JobState}
 use Rattle.s38_run.specs.declared.job_state.JobState.TheVariants.{Unbegun}
 use Rattle.s38_run.specs.Picked.{Picked, chosen}
 use Rattle.s38_run.specs.Pickers.{behind_picks, picks_of}
-use Rattle.s38_run.specs.Running.{EachStands, IsBetween, Stands, WentOn, doing, unbegun}
-use Rattle.s38_run.specs.Whole.{AllRan, RanWhole}
+use Rattle.s38_run.specs.Running.{IsBetween, Stands, WentOn, unbegun}
+use Rattle.s38_run.specs.Whole.{AllRan}
 use Rattle.s38_run.proofs.ReadyLaws.{any_some, none_listed}
 use Rattle.s38_run.proofs.TurnLaws.{processes_count, there_is, when_true}
 
@@ -167,3 +165,8 @@ comes_on answer after x templates made jobs m all list y place m' all' list' com
           (subst (λ (es : List Entry). Picked (picks_of answer after (length es) x) m.origin es) (sym went.added) more);
       picker = ap after comes.picker ∙ sym (behind_one_more after x m.history went.entry) ∙ ap (λ (es : List Entry). behind_picks after (length es) x) (sym went.added);
     }
+
+-- a list is empty where its length is told to be none
+pub told_empty : (xs : List ℕ) (n : ℕ) (b : Bool) → b ≡ (n == 0) → n ≡ length xs → b ≡ true → xs ≡ []
+told_empty [] n b test count is = refl
+told_empty (x ∷ xs) n b test count is = absurd (grind (arith, nat_tests))

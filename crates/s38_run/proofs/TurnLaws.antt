@@ -1,9 +1,9 @@
 -- From one turn to the next.
-use Rattle.std.proofs.Common.{◌≡◌, ◌≢◌, ℕ, zero, suc, ◌+◌, ◌-◌, ◌<◌, ◌≤◌, ◌==◌, ◌⊎◌, Bool, true, false, cond, not, ◌&&◌, List, [], ◌∷◌, ◌++◌, length, get_or, inl, inr, refl, sym, ◌∙◌, ap, subst, arith, length-set, get_or-set_other, get_or-set_same}
+use Rattle.std.proofs.Common.{◌≡◌, ◌≢◌, ℕ, zero, suc, ◌+◌, ◌-◌, ◌<◌, ◌≤◌, ◌==◌, ◌⊎◌, Bool, true, false, not, ◌&&◌, List, [], ◌∷◌, ◌++◌, length, get_or, inl, inr, refl, sym, ◌∙◌, ap, subst, arith, length-set, get_or-set_other, get_or-set_same}
 use Rattle.std.proofs.lemmas.List.{length-map}
 use Rattle.std.proofs.lemmas.Bool.Decides.{nat_tests}
-use Rattle.std.proofs.lemmas.Option.{get_or_from_slice_get, same_Some, slice_get_cases, slice_get_within, slice_get-get_or}
-use Rattle.std.specs.Prelude.{MatchBool, OnOk, Option, Some, None, Result, Ok, Err, filter, slice_get, slice_set, slice_index_or}
+use Rattle.std.proofs.lemmas.Option.{get_or_from_slice_get, same_Some, slice_get_within, slice_get-get_or}
+use Rattle.std.specs.Prelude.{MatchBool, OnOk, Option, Some, Result, Ok, Err, filter, slice_get, slice_set}
 use Rattle.s38_code.specs.declared.deck.Job.{Job}
 use Rattle.s38_code.specs.declared.entry.Entry.{Entry}
 use Rattle.s38_code.specs.declared.event.Event.{Event}
@@ -13,21 +13,19 @@ use Rattle.s38_code.specs.declared.reply.Reply.{Reply}
 use Rattle.s38_code.specs.declared.reply.Reply.TheVariants.{Done, Signal, MustWait}
 use Rattle.s38_code.specs.History.{entries_of, entry_after}
 use Rattle.s38_rules.specs.declared.process.ProcessEntry.{ProcessEntry}
-use Rattle.s38_rules.specs.Legal.{IsProcess, IsSound, Run, after, no_moment}
-use Rattle.s38_rules.specs.Opening.{opened}
+use Rattle.s38_rules.specs.Legal.{IsProcess, Run, after, no_moment}
 use Rattle.s38_rules.specs.State.{State, is_early, process_entry, ready, ready_in, waits, ready_list}
-use Rattle.s38_rules.specs.Step.{Stepped, step}
+use Rattle.s38_rules.specs.Step.{step}
 use Rattle.s38_rules.proofs.Laws.{sound_after}
 use Rattle.s38_process.specs.declared.status.Status.TheVariants.{Ended}
-use Rattle.s38_process.specs.Process.{ProcessState, RanFrom, absorbed, behind, ends_by_finish, event_of, fresh, is_finish}
+use Rattle.s38_process.specs.Process.{ProcessState, absorbed, behind, ends_by_finish, event_of, fresh, is_finish}
 use Rattle.s38_run.specs.declared.job_state.JobState.{JobState}
-use Rattle.s38_run.specs.declared.job_state.JobState.TheVariants.{Unbegun, Running, Over}
 use Rattle.s38_run.specs.declared.outcome.Outcome.{Outcome}
 use Rattle.s38_run.specs.declared.outcome.Outcome.TheVariants.{Finished, Waits, Refused, Changed}
-use Rattle.s38_run.specs.Running.{EachStands, HasEnded, IsBetween, OthersStay, Stands, TookTurn, Turned, WentOn, doing, left_in_all, left_of, outcome_of, ready_behind, state_behind, turns_left}
+use Rattle.s38_run.specs.Running.{EachStands, IsBetween, OthersStay, Stands, TookTurn, WentOn, doing, left_in_all, left_of, outcome_of, ready_behind, state_behind, turns_left}
 use Rattle.s38_run.proofs.Asking.{behind_more, ends_asking, ends_more, ran_more}
 use Rattle.s38_run.proofs.ReadyLaws.{OtherReady, filter_fewer, listed_ready, none_listed, outline, ready_few, same_ended, same_list, waiting_list, waiting_ready, with_waiting}
-use Rattle.s38_run.proofs.Running.{entries_other, entries_own, fewer_events, fewer_ready, history_more, left_set, origin_after, state_after, turn_falls, turn_waits}
+use Rattle.s38_run.proofs.Running.{entries_other, entries_own, fewer_events, fewer_ready, history_more, left_set, origin_after, turn_falls, turn_waits}
 use Rattle.s38_run.proofs.Stepping.{GoesTo, MovesBy, goes}
 
 -- ---- who is ready behind a turn

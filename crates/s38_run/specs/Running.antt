@@ -1,5 +1,5 @@
 -- How far the jobs have come, while they are run.
-use Rattle.std.specs.Prelude.{◌≡◌, ◌≢◌, ℕ, ◌+◌, ◌-◌, ◌*◌, ◌<◌, ◌==◌, Bool, true, false, not, MatchBool, List, [], ◌∷◌, ◌++◌, filter, length, map, slice_get, slice_index_or, Option, Some, None, if◌then◌else◌}
+use Rattle.std.specs.Prelude.{◌≡◌, ◌≢◌, ℕ, ◌+◌, ◌-◌, ◌*◌, ◌<◌, ◌==◌, Bool, true, not, MatchBool, List, [], ◌∷◌, ◌++◌, filter, length, map, slice_get, slice_index_or, Some, if◌then◌else◌}
 use Rattle.s38_code.specs.declared.deck.Job.{Job}
 use Rattle.s38_code.specs.declared.entry.Entry.{Entry}
 use Rattle.s38_code.specs.declared.event.Event.{Event}
@@ -11,7 +11,7 @@ use Rattle.s38_code.specs.History.{entries_of}
 use Rattle.s38_rules.specs.declared.process.ProcessEntry.{ProcessEntry}
 use Rattle.s38_process.specs.declared.status.Status.{Status}
 use Rattle.s38_process.specs.declared.status.Status.TheVariants.{Fresh, Running, Ending, Ended}
-use Rattle.s38_rules.specs.State.{State}
+use Rattle.s38_rules.specs.State.{State, ready_list}
 use Rattle.s38_rules.specs.Step.{step}
 use Rattle.s38_rules.specs.Legal.{Run, IsSound, after, no_moment}
 use Rattle.s38_process.specs.Process.{ProcessState, RanFrom, absorbed, behind, ends_by_finish, event_of, fresh}
@@ -20,7 +20,6 @@ use Rattle.s38_run.specs.declared.job_state.JobState.{JobState}
 use Rattle.s38_run.specs.declared.job_state.JobState.TheVariants as states
 use Rattle.s38_run.specs.declared.outcome.Outcome.{Outcome}
 use Rattle.s38_run.specs.declared.outcome.Outcome.TheVariants as outcomes
-use Rattle.s38_run.specs.Picked.{ready_list}
 
 -- ---- one process
 

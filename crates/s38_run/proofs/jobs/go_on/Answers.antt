@@ -1,5 +1,4 @@
-use Rattle.std.proofs.Common.{◌≡◌, ◌-◌, ◌<◌, ℕ, length, refl, arith}
-use Rattle.std.specs.Prelude.{Some, slice_get}
+use Rattle.std.proofs.Common.{◌-◌, ℕ, length, refl, arith}
 use Rattle.std.proofs.lemmas.Option.{slice_get_read}
 use Rattle.s38_run.proofs.TurnLaws.{going, is_listed, took_count, went_listed, within_jobs}
 use Rattle.s38_run.proofs.jobs.go_on.Goals as goal
