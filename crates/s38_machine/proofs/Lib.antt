@@ -2,3 +2,4 @@ mod EventLaws
 mod LogLaws
 mod VerdictLaws
 mod OpeningLaws
+mod SentLaws

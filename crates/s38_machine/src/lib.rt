@@ -17,12 +17,15 @@ use log::Log;
 pub use machine::Machine;
 use s38_invoke::World;
 use s38_objects::Objects;
+use std::snapshot::Snapshot;
 
 /// What is sent between threads.
 fn sends<T: Send + Sync>() {}
 
-/// Each value of this crate may be sent and shared.
+/// Each value of this crate may be sent and shared, and each that a machine holds.
+#[tactic(auto, using(crate::proofs::SentLaws::snapshot_send, crate::proofs::SentLaws::snapshot_sync))]
 pub fn all_may_be_sent() {
     sends::<World<Objects>>();
     sends::<Log>();
+    sends::<Snapshot<World<Objects>>>();
 }
