@@ -24,6 +24,8 @@ mod grants;
 #[cfg(test)]
 mod invocations;
 #[cfg(test)]
+mod listed;
+#[cfg(test)]
 mod locks;
 #[cfg(test)]
 mod pages;
