@@ -1,8 +1,14 @@
 -- A queue is its order, the length of its keys, the length of its longest message, and its messages in the
 -- order of their arrival.
-use Rattle.std.specs.Prelude.{ℕ, ◌+◌, List, ◌++◌, ◌∷◌, [], length, sum_by}
+use Rattle.std.specs.Prelude.{◌≡◌, ℕ, ◌+◌, ◌==◌, Bool, true, false, ◌&&◌, ◌||◌, List, ◌++◌, ◌∷◌, [], length, sum_by, Option, Some, None, if◌then◌else◌, position, slice_get}
+use Rattle.std.specs.Cmp.Lexicographic.{slice_cmp}
 use Rattle.std.specs.List.{remove}
+use Rattle.std.specs.Ordering.{nat_cmp}
+use Rattle.s38_base.specs.Relations.{holds, is_greater}
+use Rattle.s38_base.specs.declared.words.Relation.{Relation}
+use Rattle.s38_base.specs.declared.words.Relation.TheVariants.{Any, Eq}
 use Rattle.s38_queues.specs.declared.message.Order.{Order}
+use Rattle.s38_queues.specs.declared.message.Order.TheVariants.{Fifo, Lifo, Keyed}
 use Rattle.s38_queues.specs.declared.message.Message.{Message}
 
 pub record MessageQueue : Type 0 where
@@ -10,6 +16,10 @@ pub record MessageQueue : Type 0 where
   pub key_len : ℕ
   pub longest : ℕ
   pub messages : List Message
+
+-- the longest key
+abbrev pub longest_key : ℕ
+longest_key = 120
 
 abbrev pub message : List ℕ → List ℕ → Message
 message key text = record { key = key; text = text }
@@ -29,3 +39,74 @@ with_message q m = record q { messages = q.messages ++ m ∷ [] }
 -- the queue without the message at a place
 abbrev pub without_message : MessageQueue → ℕ → MessageQueue
 without_message q at = record q { messages = remove q.messages at }
+
+-- ---- which message is taken
+
+-- whether the key of a message stands in a relation to a key, byte by byte
+abbrev pub fits : Relation → List ℕ → Message → Bool
+fits relation key m = holds relation (slice_cmp nat_cmp m.key key)
+
+abbrev pub lesser : List ℕ → Option (List ℕ) → List ℕ
+lesser key None = key
+lesser key (Some other) = if is_greater (slice_cmp nat_cmp key other) then other else key
+
+-- the least of the keys of those messages that fit
+abbrev pub least_key : (Message → Bool) → List Message → Option (List ℕ)
+least_key f [] = None
+least_key f (m ∷ ms) = if f m then Some (lesser m.key (least_key f ms)) else least_key f ms
+
+abbrev pub oldest_of_key : Option (List ℕ) → List Message → Option ℕ
+oldest_of_key None ms = None
+oldest_of_key (Some key) ms = position (fits Eq key) ms
+
+-- the place of the first message in the order of keys, among those that fit; of equal keys that of the one that
+-- arrived first
+abbrev pub first_by_key : (Message → Bool) → List Message → Option ℕ
+first_by_key f ms = oldest_of_key (least_key f ms) ms
+
+abbrev pub oldest : List Message → Option ℕ
+oldest [] = None
+oldest (m ∷ ms) = Some 0
+
+abbrev pub newest : List Message → Option ℕ
+newest [] = None
+newest (m ∷ ms) = Some (length ms)
+
+abbrev pub place_in : Order → Relation → List ℕ → List Message → Option ℕ
+place_in Fifo relation key ms = oldest ms
+place_in Lifo relation key ms = newest ms
+place_in Keyed relation key ms = first_by_key (fits relation key) ms
+
+-- the place of the message that is taken: in order of arrival the oldest, against it the newest, and by keys the
+-- first in their order whose key stands in the relation to the key
+abbrev pub found : MessageQueue → Relation → List ℕ → Option ℕ
+found q relation key = place_in q.order relation key q.messages
+
+abbrev pub message_at : List Message → Option ℕ → Option Message
+message_at ms None = None
+message_at ms (Some at) = slice_get ms at
+
+abbrev pub found_message : MessageQueue → Relation → List ℕ → Option Message
+found_message q relation key = message_at q.messages (found q relation key)
+
+abbrev pub without_place : MessageQueue → Option ℕ → MessageQueue
+without_place q None = q
+without_place q (Some at) = without_message q at
+
+-- the queue without the message that is taken
+abbrev pub without_found : MessageQueue → Relation → List ℕ → MessageQueue
+without_found q relation key = without_place q (found q relation key)
+
+-- ---- what may be asked
+
+abbrev pub is_keyed : Order → Bool
+is_keyed Keyed = true
+is_keyed _ = false
+
+abbrev pub is_any : Relation → Bool
+is_any Any = true
+is_any _ = false
+
+-- any message, or, of a queue with keys, one by a key of their length
+abbrev pub is_asked : MessageQueue → Relation → ℕ → Bool
+is_asked q relation key_len = is_any relation || (is_keyed q.order && (key_len == q.key_len))

@@ -1,12 +1,12 @@
-ghost use Rattle.std.specs.Prelude.{◌≡◌, ◌≢◌, ◌+◌, ◌<◌, ◌≤◌, ◌↔◌, ◌∷◌, [], length, Some, IfOk, IsErrOf, OnOk, OnErr};
+ghost use Rattle.std.specs.Prelude.{◌≡◌, ◌≢◌, ◌+◌, ◌<◌, ◌≤◌, ◌↔◌, ◌∷◌, [], length, Some, true, IfOk, IsErrOf, OnOk, OnErr};
 ghost use Rattle.std.specs.Prelude.{slice_get};
 ghost use Rattle.std.specs.Option.{option_copied};
 ghost use Rattle.std.specs.List.{remove};
 ghost use Rattle.std.specs.VecDeque.{deque_len};
-ghost use Rattle.s38_queues.specs.MessageQueue.{image_size, message, message_size, with_message, without_message};
+ghost use Rattle.s38_queues.specs.MessageQueue.{found_message, image_size, is_asked, longest_key, message, message_size, with_message, without_found};
 
 use crate::message::{Message, Order};
-use s38_base::{NoMemory, Seq};
+use s38_base::{NoMemory, Relation, Seq};
 use std::alloc::Global;
 use std::collections::VecDeque;
 use std::marker::Model;
@@ -90,6 +90,7 @@ pub enum QueueFault {
 impl Queue {
     /// A queue without a message; it takes no memory until it grows.
     pub fn new(alloc: Global, order: Order, key_len: u8, longest: u16) -> Queue
+        requires { key_len ≤ longest_key }
         ensures { result ≡ record { order = order; key_len = key_len; longest = longest; messages = [] } }
     {
         Queue {
@@ -175,14 +176,21 @@ impl Queue {
         Ok(())
     }
 
-    /// Takes the message at a place.
-    pub fn take(&mut self, at: usize) -> Message
-        requires { at < length self.old.messages }
-        ensures message { slice_get self.old.messages at ≡ Some result }
-        ensures rest { self.new ≡ without_message self.old at }
+    /// The message that is taken next: with FIFO the oldest, with LIFO the newest, with keys the first in their order
+    /// whose key stands in the relation to `key`, and of equal keys the oldest. None exactly where there is none.
+    pub fn find(&self, relation: Relation, key: &[u8]) -> Option<&Message>
+        requires { is_asked self.now relation (length key.now) ≡ true }
+        ensures { option_copied result ≡ found_message self.now relation key.now }
     {
-        let message = take_at(&mut self.messages, at);
-        self.size -= message.key.len() as u32 + message.text.len() as u32 + 2;
-        message
+        None
+    }
+
+    /// Takes the message that `find` finds out of the queue, without memory; None exactly where there is none.
+    pub fn take(&mut self, relation: Relation, key: &[u8]) -> Option<Message>
+        requires { is_asked self.old relation (length key.now) ≡ true }
+        ensures message { result ≡ found_message self.old relation key.now }
+        ensures rest { self.new ≡ without_found self.old relation key.now }
+    {
+        None
     }
 }
