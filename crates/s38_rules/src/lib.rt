@@ -4,6 +4,7 @@
 #![tactic(auto)]
 
 mod creating;
+mod data;
 mod listed;
 mod need;
 mod object;
@@ -15,6 +16,7 @@ mod table;
 mod verdict;
 
 pub use creating::Creating;
+pub use data::{Cursor, DataBody};
 pub use listed::Listed;
 pub use need::{Claim, Located, Named, Need, PointerKind, Sought};
 pub use object::{Body, Object};
