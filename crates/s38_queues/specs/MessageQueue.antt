@@ -1,6 +1,6 @@
 -- A queue is its order, the length of its keys, the length of its longest message, and its messages in the
 -- order of their arrival.
-use Rattle.std.specs.Prelude.{◌≡◌, ℕ, ◌+◌, ◌==◌, Bool, true, false, ◌&&◌, ◌||◌, List, ◌++◌, ◌∷◌, [], length, sum_by, Option, Some, None, if◌then◌else◌, position, slice_get}
+use Rattle.std.specs.Prelude.{ℕ, ◌+◌, ◌==◌, Bool, true, false, ◌&&◌, ◌||◌, List, ◌++◌, ◌∷◌, [], length, sum_by, Option, Some, None, if◌then◌else◌, position, slice_get}
 use Rattle.std.specs.Cmp.Lexicographic.{slice_cmp}
 use Rattle.std.specs.List.{remove}
 use Rattle.std.specs.Ordering.{nat_cmp}

@@ -3,9 +3,10 @@ ghost use Rattle.std.specs.Prelude.{slice_get};
 ghost use Rattle.std.specs.Option.{option_copied};
 ghost use Rattle.std.specs.List.{remove};
 ghost use Rattle.std.specs.VecDeque.{deque_len};
-ghost use Rattle.s38_queues.specs.MessageQueue.{found_message, image_size, is_asked, longest_key, message, message_size, with_message, without_found};
+ghost use Rattle.s38_queues.specs.MessageQueue.{found, found_message, image_size, is_asked, longest_key, message, message_size, with_message, without_found};
 
 use crate::message::{Message, Order};
+use crate::search::{first_by_key, newest, oldest};
 use s38_base::{NoMemory, Relation, Seq};
 use std::alloc::Global;
 use std::collections::VecDeque;
@@ -182,7 +183,21 @@ impl Queue {
         requires { is_asked self.now relation (length key.now) ≡ true }
         ensures { option_copied result ≡ found_message self.now relation key.now }
     {
-        None
+        match self.found(relation, key) {
+            None => None,
+            Some(at) => self.messages.get(at),
+        }
+    }
+
+    /// The place of the message that is taken next.
+    fn found(&self, relation: Relation, key: &[u8]) -> Option<usize>
+        ensures { result ≡ found self.now relation key.now }
+    {
+        match self.order {
+            Order::Fifo => oldest(&self.messages),
+            Order::Lifo => newest(&self.messages),
+            Order::Keyed => first_by_key(&self.messages, relation, key),
+        }
     }
 
     /// Takes the message that `find` finds out of the queue, without memory; None exactly where there is none.
@@ -191,6 +206,9 @@ impl Queue {
         ensures message { result ≡ found_message self.old relation key.now }
         ensures rest { self.new ≡ without_found self.old relation key.now }
     {
-        None
+        let at = self.found(relation, key)?;
+        let message = take_at(&mut self.messages, at);
+        self.size -= message.key.len() as u32 + message.text.len() as u32 + 2;
+        Some(message)
     }
 }
