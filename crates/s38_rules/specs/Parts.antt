@@ -9,8 +9,8 @@ use Rattle.s38_dataspaces.specs.Table.{DataTable}
 use Rattle.s38_indexes.specs.Entries.{EntryIndex}
 use Rattle.s38_queues.specs.MessageQueue.{MessageQueue}
 use Rattle.s38_queues.specs.declared.message.Order.TheVariants.{Fifo}
-use Rattle.s38_rules.specs.declared.data.Cursor.{Cursor}
-use Rattle.s38_rules.specs.declared.data.DataBody.{DataBody}
+use Rattle.s38_rules.specs.declared.cursor.Cursor.{Cursor}
+use Rattle.s38_rules.specs.declared.data_body.DataBody.{DataBody}
 use Rattle.s38_rules.specs.declared.object.Object.{Object}
 use Rattle.s38_rules.specs.declared.object.Body.{Body}
 use Rattle.s38_rules.specs.declared.object.Body.TheVariants as bodies
@@ -74,7 +74,7 @@ abbrev pub index_part : Part EntryIndex
 index_part = record { of = index_of; make = bodies.Index }
 
 abbrev pub data_of : Body → Option DataBody
-data_of (bodies.DataSpace data) = Some data
+data_of (bodies.DataSpace held) = Some held
 data_of _ = None
 
 abbrev pub data_part : Part DataBody

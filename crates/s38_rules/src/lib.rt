@@ -4,7 +4,8 @@
 #![tactic(auto)]
 
 mod creating;
-mod data;
+mod cursor;
+mod data_body;
 mod listed;
 mod need;
 mod object;
@@ -16,7 +17,8 @@ mod table;
 mod verdict;
 
 pub use creating::Creating;
-pub use data::{Cursor, DataBody};
+pub use cursor::Cursor;
+pub use data_body::DataBody;
 pub use listed::Listed;
 pub use need::{Claim, Located, Named, Need, PointerKind, Sought};
 pub use object::{Body, Object};

@@ -1,4 +1,5 @@
-use crate::data::{Cursor, DataBody};
+use crate::cursor::Cursor;
+use crate::data_body::DataBody;
 use crate::rows::RowList;
 use s38_base::{Id, ObjNum, Rights, Special, UserNum};
 use s38_code::Code;

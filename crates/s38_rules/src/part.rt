@@ -5,7 +5,8 @@ ghost use Rattle.std.specs.Option.{option_copied, option_copied_mut};
 ghost use Rattle.s38_rules.specs.Lending.{LendsPart};
 ghost use Rattle.s38_rules.specs.Parts.{IsPart, Part, cursor_lawful, cursor_part, data_lawful, data_part, index_lawful, index_part, queue_lawful, queue_part, space_lawful, space_part};
 
-use crate::data::{Cursor, DataBody};
+use crate::cursor::Cursor;
+use crate::data_body::DataBody;
 use crate::object::Body;
 use s38_indexes::Index;
 use s38_memory::Tagged;
@@ -94,14 +95,14 @@ impl BodyPart for DataBody {
 
     fn of(body: &Body) -> Option<&DataBody> {
         match body {
-            Body::DataSpace(data) => Some(data),
+            Body::DataSpace(held) => Some(held),
             _ => None,
         }
     }
 
     fn of_mut(body: &mut Body) -> Option<&mut DataBody> {
         match body {
-            Body::DataSpace(data) => Some(data),
+            Body::DataSpace(held) => Some(held),
             _ => None,
         }
     }
