@@ -1,6 +1,6 @@
 //! Questions about a key that an instruction reads, also where it lies in a space. No memory is taken: the bytes of a
 //! space are copied into room on the stack.
-ghost use Rattle.std.specs.Prelude.{◌≡◌, ◌≤◌, [], IsTrue, length, take, drop};
+ghost use Rattle.std.specs.Prelude.{◌≡◌, ◌≤◌, ◌<◌, ◌^◌, [], IsTrue, length, take, drop};
 ghost use Rattle.std.specs.Option.{option_copied, unwrap_or};
 ghost use Rattle.s38_memory.specs.Tagged.{bytes_in, is_within};
 ghost use Rattle.s38_rules.specs.Cells.{bytes_there};
@@ -40,7 +40,8 @@ pub fn relation_at(operands: &[Operand], k: usize) -> Relation
 
 /// Asks by the bytes of a piece, which go through the room.
 fn ask_through<Q: Question>(question: &Q, space: &Tagged, at: u64, room: &mut [u8]) -> bool
-    requires { IsTrue (is_within at (length room.old) space.now) }
+    requires within { IsTrue (is_within at (length room.old) space.now) }
+    requires near { at < 2 ^ 32 }
     ensures { result ≡ Q.answer question.now (take (length room.old) (drop at (bytes_in space.now))) }
 {
     match space.read(at as u32, room) {
@@ -51,6 +52,7 @@ fn ask_through<Q: Question>(question: &Q, space: &Tagged, at: u64, room: &mut [u
 
 fn ask_short<Q: Question>(question: &Q, space: &Tagged, at: u64, len: usize) -> bool
     requires within { IsTrue (is_within at len space.now) }
+    requires near { at < 2 ^ 32 }
     requires short { len ≤ 256 }
     ensures { result ≡ Q.answer question.now (take len (drop at (bytes_in space.now))) }
 {
@@ -60,6 +62,7 @@ fn ask_short<Q: Question>(question: &Q, space: &Tagged, at: u64, len: usize) -> 
 
 fn ask_long<Q: Question>(question: &Q, space: &Tagged, at: u64, len: usize) -> bool
     requires within { IsTrue (is_within at len space.now) }
+    requires near { at < 2 ^ 32 }
     requires short { len ≤ 65536 }
     ensures { result ≡ Q.answer question.now (take len (drop at (bytes_in space.now))) }
 {
