@@ -1,1 +1,3 @@
+pub mod KeyText
 pub mod MessageQueue
+pub mod Places

@@ -1,7 +1,9 @@
 //! Queues: messages in the order of their arrival.
 #![tactic(auto)]
 
+mod key;
 mod message;
+mod place;
 mod queue;
 mod search;
 
