@@ -3,28 +3,29 @@ use Rattle.std.proofs.Common.{◌≡◌, ℕ, zero, suc, ◌+◌, ◌-◌, ◌*�
 use Rattle.std.proofs.lemmas.Bool.Decides.{nat_tests}
 use Rattle.std.proofs.lemmas.Map.{lookup-none}
 use Rattle.std.proofs.lemmas.Map.Entries.{lookup_from_place, none_below_head}
-use Rattle.std.proofs.lemmas.Map.Keys.{IsDistinct-from_sorted, sorted_tail}
+use Rattle.std.proofs.lemmas.Map.Keys.{IsDistinct-from_sorted, le_from_not_gt, sorted_tail}
 use Rattle.std.proofs.lemmas.Map.Lookups.{exact_bytes}
 use Rattle.std.proofs.lemmas.Cmp.{nat_cmp_total}
-use Rattle.std.specs.Prelude.{Option, Some, None, position, slice_get}
-use Rattle.std.specs.BTreeMap.{BTreeMap, get, insert_entry, is_at, values}
+use Rattle.std.proofs.lemmas.Bool.{lt-ltb, ltb-false, ltb-true}
+use Rattle.std.specs.Prelude.{Option, Some, None, nat_lt, position, slice_get}
+use Rattle.std.specs.BTreeMap.{BTreeMap, IsOrdered, get, insert_entry, is_at, values}
 use Rattle.std.specs.BTreeSet.{BTreeSet}
-use Rattle.std.specs.Cmp.{eq_by_cmp_equiv}
+use Rattle.std.specs.Cmp.{eq_by_cmp_equiv, tied_itself}
 use Rattle.std.specs.Cmp.Lexicographic.{nat_list_cmp_total, slice_cmp}
 use Rattle.std.specs.List.{AllByRecursion, position_or_len, remove}
 use Rattle.std.specs.List.Sorted.{IsStrictlySortedBy}
 use Rattle.std.specs.Map.{keys_of, lookup, remove_entry, values_of}
-use Rattle.std.specs.Ordering.{is_eq, is_gt, nat_cmp, ordering_reverse, ordering_then}
+use Rattle.std.specs.Ordering.{is_eq, is_gt, match_ordering, nat_cmp, ordering_reverse, ordering_then}
 use Rattle.std.specs.declared.cmp.Ordering.{Ordering}
 use Rattle.std.specs.declared.cmp.Ordering.TheVariants.{Less, Equal, Greater}
 use Rattle.s38_base.specs.Relations.{holds, is_equal, is_greater}
 use Rattle.s38_base.specs.declared.words.Relation.{Relation}
 use Rattle.s38_base.specs.declared.words.Relation.TheVariants.{Eq}
-use Rattle.s38_queues.specs.MessageQueue.{first_by_key, fits, least_key, lesser}
+use Rattle.s38_queues.specs.MessageQueue.{first_by_key, fits, least_key, lesser, oldest_of_key}
 use Rattle.s38_queues.specs.declared.message.Message.{Message}
 use Rattle.s38_queues.specs.declared.place.Place.{Place}
-use Rattle.s38_queues.specs.Places.{ArePlaced, IsFirstOf, has, is_from, is_of_key, place_cmp, stands}
-use Rattle.s38_queues.proofs.PlaceLaws.{key_cmp, place}
+use Rattle.s38_queues.specs.Places.{ArePlaced, AreBefore, IsFirstOf, has, is_from, is_of_key, place_cmp, stands}
+use Rattle.s38_queues.proofs.PlaceLaws.{key_cmp, key_first, not_true, place}
 
 abbrev at : ℕ → ℕ → Bool
 at arrival = is_at (nat_cmp arrival)
@@ -180,5 +181,247 @@ oldest_found test arrival m (e ∷ es) sorted here on old =
       | false ↦ λ q.
           let there : lookup (at arrival) es ≡ Some m = rest_of (at arrival e.0) e.1 (Some m) (lookup (at arrival) es) q here in
           at_later test arrival m e es q (earlier_fails test arrival m e es sorted here q old.0)
-            (oldest_found test arrival m es (sorted_tail nat_cmp e.0 (keys_of es) sorted) there on old.1)
+          (oldest_found test arrival m es (sorted_tail nat_cmp e.0 (keys_of es) sorted) there on old.1)
     ] refl
+
+-- ---- the message that is first by key
+
+is_equal_at : (r : Ordering) → is_equal r ≡ true → r ≡ Equal
+is_equal_at Less h = absurd (cc)
+is_equal_at Equal h = refl
+is_equal_at Greater h = absurd (cc)
+
+-- a message is there, and has the key
+pub record Holds (key : List ℕ) (o : Option Message) : Type 0 where
+  pub message : Message
+  pub there : o ≡ Some message
+  pub key_is : message.key ≡ key
+
+holds_from : (key : List ℕ) (o : Option Message) → is_of_key key o ≡ true → Holds key o
+holds_from key None h = absurd (cc)
+holds_from key (Some m) h = record { message = m; there = refl; key_is = exact_bytes m.key key (is_equal_at (key_cmp m.key key) h) }
+
+pub holds_at : (next : ℕ) (messages : BTreeMap ℕ Message) (places : BTreeSet Place) (p : Place) → ArePlaced next messages places → has places p ≡ true →
+    Holds p.key (get nat_cmp messages p.arrival)
+holds_at next messages places p placed there = holds_from p.key (get nat_cmp messages p.arrival) (sym (placed.placed p) ∙ there)
+
+itself : (key : List ℕ) → is_equal (key_cmp key key) ≡ true
+itself key = ap is_equal (tied_itself nat_list_cmp_total key)
+
+-- each message has its place
+has_its_place : (next : ℕ) (messages : BTreeMap ℕ Message) (places : BTreeSet Place) (arrival : ℕ) (m : Message) → ArePlaced next messages places →
+    get nat_cmp messages arrival ≡ Some m → has places (place m.key arrival) ≡ true
+has_its_place next messages places arrival m placed there = placed.placed (place m.key arrival) ∙ ap (is_of_key m.key) there ∙ itself m.key
+
+gt_is_greater : (r : Ordering) → is_gt r ≡ is_greater r
+gt_is_greater Less = refl
+gt_is_greater Equal = refl
+gt_is_greater Greater = refl
+
+second_decides : (a b : Ordering) → a ≡ Equal → not (is_gt (ordering_then a b)) ≡ true → is_gt b ≡ false
+second_decides Less b e h = absurd (cc)
+second_decides Equal b e h = not_true (is_gt b) h
+second_decides Greater b e h = absurd (cc)
+
+not_greater : (a b : ℕ) → is_gt (nat_cmp a b) ≡ false → a ≤ b
+not_greater a b h = le_from_not_gt a b h
+
+-- of what the place that is first leads to
+pub record Leads (f : Message → Bool) (messages : BTreeMap ℕ Message) (p : Place) (m : Message) (n : ℕ) : Type 0 where
+  pub there : get nat_cmp messages p.arrival ≡ Some m
+  pub first : first_by_key f (values messages) ≡ Some n
+  pub message : slice_get (values messages) n ≡ Some m
+  pub rest : remove (values messages) n ≡ values_of (remove_entry (is_at (nat_cmp p.arrival)) messages.entries)
+
+within_place : (n len : ℕ) → n < len → cond (nat_lt n len) (Some n) None ≡ Some n
+within_place n len h = ap (λ b. cond b (Some n) None) (lt-ltb n len h)
+
+pub first_leads : (next : ℕ) (messages : BTreeMap ℕ Message) (places : BTreeSet Place) (relation : Relation) (key : List ℕ) (p : Place) → ArePlaced next messages places →
+    IsFirstOf (stands relation key) places (Some p) → (m : Message) × (n : ℕ) × Leads (fits relation key) messages p m n
+first_leads next messages places relation key p placed first =
+    let es = messages.entries in
+    let held = holds_at next messages places p placed first.0 in
+    let m = held.message in
+    let on : fits relation key m ≡ true = ap (λ k. holds relation (key_cmp k key)) held.key_is ∙ first.1 in
+    let low : IsLow (fits relation key) m.key es = each_entry (λ x. fits relation key x.1 ≡ true → is_greater (key_cmp m.key x.1.key) ≡ false) es placed.ordered
+    (λ a x there fitting.
+    let ahead = first.2 (place x.key a) (has_its_place next messages places a x placed there) fitting in
+    ap (λ k. is_greater (key_cmp k x.key)) held.key_is ∙ sym (gt_is_greater (key_cmp p.key x.key)) ∙ key_first p (place x.key a) ahead) in
+    let old : IsOldest (fits Eq m.key) p.arrival es = each_entry (λ x. fits Eq m.key x.1 ≡ true → p.arrival ≤ x.0) es placed.ordered
+    (λ a x there alike.
+    let same : x.key ≡ m.key = exact_bytes x.key m.key (is_equal_at (key_cmp x.key m.key) alike) in
+    let fitting : fits relation key x ≡ true = ap (λ k. holds relation (key_cmp k key)) same ∙ on in
+    let ahead = first.2 (place x.key a) (has_its_place next messages places a x placed there) fitting in
+    let tied : key_cmp p.key x.key ≡ Equal = ap (key_cmp p.key) (same ∙ held.key_is) ∙ tied_itself nat_list_cmp_total p.key in
+    not_greater p.arrival a (second_decides (key_cmp p.key x.key) (nat_cmp p.arrival a) tied ahead)) in
+    let stands_there = oldest_found (fits Eq m.key) p.arrival m es placed.ordered held.there (itself m.key) old in (
+      m,
+      position_or_len (fits Eq m.key) (values_of es),
+      record {
+        there = held.there;
+        first = ap (λ k. oldest_of_key k (values_of es)) (least_found (fits relation key) p.arrival m es held.there on low)
+            ∙ within_place (position_or_len (fits Eq m.key) (values_of es)) (length (values_of es)) stands_there.within;
+        message = stands_there.message;
+        rest = stands_there.rest;
+      },
+    )
+
+pub none_leads : (next : ℕ) (messages : BTreeMap ℕ Message) (places : BTreeSet Place) (relation : Relation) (key : List ℕ) → ArePlaced next messages places →
+    IsFirstOf (stands relation key) places None → first_by_key (fits relation key) (values messages) ≡ None
+none_leads next messages places relation key placed none =
+    let off = each_entry (λ x. fits relation key x.1 ≡ false) messages.entries placed.ordered
+    (λ a x there. none (place x.key a) (has_its_place next messages places a x placed there)) in
+    ap (λ k. oldest_of_key k (values messages)) (least_none (fits relation key) messages.entries off)
+
+-- ---- before the next arrival
+
+before_next : (arrival next : ℕ) (key : List ℕ) (o : Option Message) → (next ≤ arrival → o ≡ None) → is_of_key key o ≡ true → arrival < next
+before_next arrival next key o behind h =
+    elim (nat_lt arrival next) as (λ b. nat_lt arrival next ≡ b → arrival < next) [
+      | true ↦ λ q. ltb-true arrival next q
+      | false ↦ λ q.
+          let none : o ≡ None = behind (ltb-false arrival next q) in
+          let wrong : false ≡ true = ap (is_of_key key) (sym none) ∙ h in
+          absurd (cc)
+    ] refl
+
+pub are_before : (next : ℕ) (messages : BTreeMap ℕ Message) (places : BTreeSet Place) → ArePlaced next messages places → AreBefore next places
+are_before next messages places placed q there =
+    before_next q.arrival next q.key (get nat_cmp messages q.arrival) (placed.behind q.arrival) (sym (placed.placed q) ∙ there)
+
+-- ---- one message more
+
+entered : (k n : Ordering) (old : Bool) → (is_eq n ≡ true → old ≡ false) → cond (is_eq (ordering_then k n)) true old ≡ cond (is_eq n) (is_equal k) old
+entered Less Less old h = refl
+entered Less Equal old h = h refl
+entered Less Greater old h = refl
+entered Equal Less old h = refl
+entered Equal Equal old h = refl
+entered Equal Greater old h = refl
+entered Greater Less old h = refl
+entered Greater Equal old h = h refl
+entered Greater Greater old h = refl
+
+of_choice : (b : Bool) (key : List ℕ) (m : Option Message) (o : Option Message) → is_of_key key (cond b m o) ≡ cond b (is_of_key key m) (is_of_key key o)
+of_choice true key m o = refl
+of_choice false key m o = refl
+
+same_number : (a b : ℕ) → is_eq (nat_cmp a b) ≡ true → a ≡ b
+same_number a b h = grind (arith, nat_tests)
+
+not_yet : (next : ℕ) (messages : BTreeMap ℕ Message) (places : BTreeSet Place) (q : Place) → ArePlaced next messages places → is_eq (nat_cmp next q.arrival) ≡ true →
+    is_of_key q.key (get nat_cmp messages q.arrival) ≡ false
+not_yet next messages places q placed e =
+    let same : next ≡ q.arrival = same_number next q.arrival e in
+    let none : get nat_cmp messages q.arrival ≡ None = placed.behind q.arrival (omega arith) in
+    ap (is_of_key q.key) none
+
+other_number : (next arrival : ℕ) → next + 1 ≤ arrival → is_eq (nat_cmp next arrival) ≡ false
+other_number next arrival h = grind (arith, nat_tests)
+
+pub placed_more : (next : ℕ) (messages more : BTreeMap ℕ Message) (places wider : BTreeSet Place) (m : Message) → ArePlaced next messages places →
+    ((q : Place) → has wider q ≡ cond (is_at (place_cmp (place m.key next)) q) true (has places q)) →
+    ((a : ℕ) → get nat_cmp more a ≡ cond (is_at (nat_cmp next) a) (Some m) (get nat_cmp messages a)) →
+    IsOrdered nat_cmp more → ArePlaced (next + 1) more wider
+placed_more next messages more places wider m placed w g ordered = record {
+  placed = λ q.
+      w q
+      ∙ ap (λ b. cond (is_at (place_cmp (place m.key next)) q) true b) (placed.placed q)
+      ∙ entered (key_cmp m.key q.key) (nat_cmp next q.arrival) (is_of_key q.key (get nat_cmp messages q.arrival)) (not_yet next messages places q placed)
+      ∙ sym (ap (is_of_key q.key) (g q.arrival) ∙ of_choice (is_eq (nat_cmp next q.arrival)) q.key (Some m) (get nat_cmp messages q.arrival));
+  behind = λ a h.
+      g a
+      ∙ ap (λ b. cond b (Some m) (get nat_cmp messages a)) (other_number next a h)
+      ∙ placed.behind a (omega arith);
+  ordered = ordered;
+}
+
+key_before : (next arrival : ℕ) → arrival < next → nat_cmp next arrival ≡ Greater
+key_before next arrival h = grind (arith, nat_tests)
+
+number_itself : (a : ℕ) → is_eq (nat_cmp a a) ≡ true
+number_itself a = grind (arith, nat_tests)
+
+nothing_here : {X : Type 0} (b : Bool) (x : X) (r : Option X) → cond b (Some x) r ≡ None → b ≡ false
+nothing_here true x r h = absurd (cc)
+nothing_here false x r h = refl
+
+head_before : (next : ℕ) (e : ℕ × Message) (es : List (ℕ × Message)) → ((a : ℕ) → next ≤ a → lookup (at a) (e ∷ es) ≡ None) → e.0 < next
+head_before next e es h =
+    elim (nat_lt e.0 next) as (λ b. nat_lt e.0 next ≡ b → e.0 < next) [
+      | true ↦ λ q. ltb-true e.0 next q
+      | false ↦ λ q.
+          let off : at e.0 e.0 ≡ false = nothing_here (at e.0 e.0) e.1 (lookup (at e.0) es) (h e.0 (ltb-false e.0 next q)) in
+          let on : at e.0 e.0 ≡ true = number_itself e.0 in
+          absurd (cc)
+    ] refl
+
+-- what arrives behind all stands last
+pub entered_last : (next : ℕ) (m : Message) (es : List (ℕ × Message)) → ((a : ℕ) → next ≤ a → lookup (at a) es ≡ None) →
+    values_of (insert_entry nat_cmp es next m) ≡ values_of es ++ m ∷ []
+entered_last next m [] h = refl
+entered_last next m (e ∷ es) h =
+    let behind : nat_cmp next e.0 ≡ Greater = key_before next e.0 (head_before next e es h) in
+    let rest = entered_last next m es (λ a l. rest_of (at a e.0) e.1 None (lookup (at a) es) (nothing_here (at a e.0) e.1 (lookup (at a) es) (h a l)) (h a l)) in
+    ap (λ r. values_of (match_ordering r ((next, m) ∷ e ∷ es) ((e.0, m) ∷ es) (e ∷ insert_entry nat_cmp es next m))) behind
+    ∙ ap (λ ms. e.1 ∷ ms) rest
+
+-- ---- a place taken back
+
+restored : (k n : Ordering) (old : Bool) → (is_eq n ≡ true → old ≡ false) → cond (is_eq (ordering_then k n)) false (cond (is_eq (ordering_then k n)) true old) ≡ old
+restored Less n old h = refl
+restored Equal Less old h = refl
+restored Equal Equal old h = sym (h refl)
+restored Equal Greater old h = refl
+restored Greater n old h = refl
+
+pub placed_again : (next : ℕ) (messages same : BTreeMap ℕ Message) (places wider back : BTreeSet Place) (key : List ℕ) → ArePlaced next messages places →
+    ((q : Place) → has wider q ≡ cond (is_at (place_cmp (place key next)) q) true (has places q)) →
+    ((q : Place) → has back q ≡ cond (is_at (place_cmp (place key next)) q) false (has wider q)) →
+    same.entries ≡ messages.entries → ArePlaced next same back
+placed_again next messages same places wider back key placed w b e = record {
+  placed = λ q.
+      b q
+      ∙ ap (λ t. cond (is_at (place_cmp (place key next)) q) false t) (w q)
+      ∙ ap (λ t. cond (is_at (place_cmp (place key next)) q) false (cond (is_at (place_cmp (place key next)) q) true t)) (placed.placed q)
+      ∙ restored (key_cmp key q.key) (nat_cmp next q.arrival) (is_of_key q.key (get nat_cmp messages q.arrival)) (not_yet next messages places q placed)
+      ∙ sym (ap (λ es. is_of_key q.key (lookup (at q.arrival) es)) e);
+  behind = λ a h. ap (lookup (at a)) e ∙ placed.behind a h;
+  ordered = subst (λ (es : List (ℕ × Message)). IsStrictlySortedBy nat_cmp (keys_of es)) (sym e) placed.ordered;
+}
+
+-- ---- one message less
+
+gone : (k n : Ordering) (old : Bool) → (is_eq n ≡ true → old ≡ is_equal k) → cond (is_eq (ordering_then k n)) false old ≡ cond (is_eq n) false old
+gone Less Less old h = refl
+gone Less Equal old h = h refl
+gone Less Greater old h = refl
+gone Equal Less old h = refl
+gone Equal Equal old h = refl
+gone Equal Greater old h = refl
+gone Greater Less old h = refl
+gone Greater Equal old h = h refl
+gone Greater Greater old h = refl
+
+none_either : (b : Bool) (o : Option Message) → o ≡ None → cond b None o ≡ None
+none_either true o h = refl
+none_either false o h = h
+
+pub placed_less : (next : ℕ) (messages fewer : BTreeMap ℕ Message) (places narrower : BTreeSet Place) (p : Place) (m : Message) → ArePlaced next messages places →
+    get nat_cmp messages p.arrival ≡ Some m → m.key ≡ p.key →
+    ((q : Place) → has narrower q ≡ cond (is_at (place_cmp p) q) false (has places q)) →
+    ((a : ℕ) → get nat_cmp fewer a ≡ cond (is_at (nat_cmp p.arrival) a) None (get nat_cmp messages a)) →
+    IsOrdered nat_cmp fewer → ArePlaced next fewer narrower
+placed_less next messages fewer places narrower p m placed there key n g ordered = record {
+  placed = λ q.
+      let here = λ (e : is_eq (nat_cmp p.arrival q.arrival) ≡ true).
+      let same : p.arrival ≡ q.arrival = same_number p.arrival q.arrival e in
+      let read : get nat_cmp messages q.arrival ≡ Some m = subst (λ (a : ℕ). get nat_cmp messages a ≡ Some m) same there in
+      ap (is_of_key q.key) read ∙ ap (λ k. is_equal (key_cmp k q.key)) key in
+      n q
+      ∙ ap (λ b. cond (is_at (place_cmp p) q) false b) (placed.placed q)
+      ∙ gone (key_cmp p.key q.key) (nat_cmp p.arrival q.arrival) (is_of_key q.key (get nat_cmp messages q.arrival)) here
+      ∙ sym (ap (is_of_key q.key) (g q.arrival) ∙ of_choice (is_eq (nat_cmp p.arrival q.arrival)) q.key None (get nat_cmp messages q.arrival));
+  behind = λ a h. g a ∙ none_either (is_at (nat_cmp p.arrival) a) (get nat_cmp messages a) (placed.behind a h);
+  ordered = ordered;
+}

@@ -40,12 +40,16 @@ same_stays a b k h e l =
 
 -- ---- places
 
+pub not_true : (b : Bool) → not b ≡ true → b ≡ false
+not_true true h = absurd (cc)
+not_true false h = refl
+
 first_decides : (a b : Ordering) → not (is_gt (ordering_then a b)) ≡ true → is_gt a ≡ false
 first_decides Less b h = refl
 first_decides Equal b h = refl
 first_decides Greater b h = absurd (cc)
 
-key_first : (p q : Place) → is_from p q ≡ true → is_gt (key_cmp p.key q.key) ≡ false
+pub key_first : (p q : Place) → is_from p q ≡ true → is_gt (key_cmp p.key q.key) ≡ false
 key_first p q h = first_decides (key_cmp p.key q.key) (nat_cmp p.arrival q.arrival) h
 
 earliest : (a b : Ordering) → is_gt b ≡ false → not (is_gt (ordering_then (ordering_reverse a) b)) ≡ not (is_less a)
@@ -109,11 +113,6 @@ none_below places relation key p first off q there fits =
       | Greater ↦ λ e h. refl
     ] refl fits
 
-not_less : (r : Ordering) → not (is_less r) ≡ true → is_less r ≡ false
-not_less Less h = absurd (cc)
-not_less Equal h = refl
-not_less Greater h = refl
-
 -- where the first that does not come before the key does not fit either, no place of the key fits
 pub none_same : (places : BTreeSet Place) (relation : Relation) (key : List ℕ) (next : ℕ) (p : Place) → AreBefore next places → AllPass places relation key (is_from (place key 0)) →
     IsFirstOf (is_from (place key 0)) places (Some p) → stands relation key p ≡ false → AllPass places relation key (is_from (place key next))
@@ -126,7 +125,7 @@ none_same places relation key next p before pass first off q there fits =
           let wrong : not (is_less Less) ≡ true = ap (λ r. not (is_less r)) (sym e) ∙ high in
           absurd (cc)
       | Equal ↦ λ e h.
-          let here = not_less (key_cmp p.key key) (sym (from_same key p) ∙ first.1) in
+          let here = not_true (is_less (key_cmp p.key key)) (sym (from_same key p) ∙ first.1) in
           let same : key_cmp p.key key ≡ Equal = same_stays p.key q.key key (key_first p q (first.2 q there from)) e here in
           let on : stands relation key p ≡ true = ap (holds relation) same ∙ h in
           absurd (cc)

@@ -6,11 +6,12 @@ use Rattle.std.specs.BTreeMap.{BTreeMap}
 use Rattle.std.specs.BTreeSet as sorted
 use Rattle.std.specs.BTreeSet.{BTreeSet}
 use Rattle.std.specs.Cmp.Lexicographic.{slice_cmp}
+use Rattle.std.specs.List.{remove}
 use Rattle.std.specs.Ordering.{is_gt, nat_cmp}
 use Rattle.std.specs.declared.cmp.Ordering.{Ordering}
 use Rattle.s38_base.specs.Relations.{holds, is_equal}
 use Rattle.s38_base.specs.declared.words.Relation.{Relation}
-use Rattle.s38_queues.specs.MessageQueue.{is_any, longest_key}
+use Rattle.s38_queues.specs.MessageQueue.{first_by_key, fits, is_any, longest_key}
 use Rattle.s38_queues.specs.declared.message.Message.{Message}
 use Rattle.s38_queues.specs.declared.place.Place.{Place}
 use Rattle.s38_queues.specs.contracts.place.PlaceOrd.TheImpl as place_ord
@@ -53,3 +54,14 @@ pub record ArePlaced (next : ℕ) (messages : BTreeMap ℕ Message) (places : BT
   pub placed : (p : Place) → has places p ≡ is_of_key p.key (tree.get nat_cmp messages p.arrival)
   pub behind : (arrival : ℕ) → next ≤ arrival → tree.get nat_cmp messages arrival ≡ None
   pub ordered : tree.IsOrdered nat_cmp messages
+
+-- ---- the messages in order of arrival
+
+-- the place of the message that is first by key, among those that fit
+abbrev pub found_by_key : Relation → List ℕ → List Message → Option ℕ
+found_by_key relation key ms = first_by_key (fits relation key) ms
+
+-- the messages without the one at a place
+abbrev pub without_at : List Message → Option ℕ → List Message
+without_at ms None = ms
+without_at ms (Some at) = remove ms at

@@ -2,6 +2,7 @@
 #![tactic(auto)]
 
 mod key;
+mod keyed;
 mod message;
 mod place;
 mod queue;
