@@ -1,5 +1,5 @@
 -- The first place in the order of keys leads to the message that is first by key.
-use Rattle.std.proofs.Common.{◌≡◌, ℕ, zero, suc, ◌+◌, ◌-◌, ◌*◌, ◌<◌, ◌≤◌, Bool, true, false, cond, not, List, [], ◌∷◌, ◌++◌, length, refl, sym, ◌∙◌, ap, subst, arith}
+use Rattle.std.proofs.Common.{◌≡◌, ℕ, suc, ◌+◌, ◌<◌, ◌≤◌, Bool, true, false, cond, not, List, [], ◌∷◌, ◌++◌, length, refl, sym, ◌∙◌, ap, subst, arith}
 use Rattle.std.proofs.lemmas.Bool.Decides.{nat_tests}
 use Rattle.std.proofs.lemmas.Map.{lookup-none}
 use Rattle.std.proofs.lemmas.Map.Entries.{lookup_from_place, none_below_head}
@@ -7,11 +7,11 @@ use Rattle.std.proofs.lemmas.Map.Keys.{IsDistinct-from_sorted, le_from_not_gt, s
 use Rattle.std.proofs.lemmas.Map.Lookups.{exact_bytes}
 use Rattle.std.proofs.lemmas.Cmp.{nat_cmp_total}
 use Rattle.std.proofs.lemmas.Bool.{lt-ltb, ltb-false, ltb-true}
-use Rattle.std.specs.Prelude.{Option, Some, None, nat_lt, position, slice_get}
+use Rattle.std.specs.Prelude.{Option, Some, None, nat_lt, slice_get}
 use Rattle.std.specs.BTreeMap.{BTreeMap, IsOrdered, get, insert_entry, is_at, values}
 use Rattle.std.specs.BTreeSet.{BTreeSet}
 use Rattle.std.specs.Cmp.{eq_by_cmp_equiv, tied_itself}
-use Rattle.std.specs.Cmp.Lexicographic.{nat_list_cmp_total, slice_cmp}
+use Rattle.std.specs.Cmp.Lexicographic.{nat_list_cmp_total}
 use Rattle.std.specs.List.{AllByRecursion, position_or_len, remove}
 use Rattle.std.specs.List.Sorted.{IsStrictlySortedBy}
 use Rattle.std.specs.Map.{keys_of, lookup, remove_entry, values_of}
@@ -21,10 +21,10 @@ use Rattle.std.specs.declared.cmp.Ordering.TheVariants.{Less, Equal, Greater}
 use Rattle.s38_base.specs.Relations.{holds, is_equal, is_greater}
 use Rattle.s38_base.specs.declared.words.Relation.{Relation}
 use Rattle.s38_base.specs.declared.words.Relation.TheVariants.{Eq}
-use Rattle.s38_queues.specs.MessageQueue.{first_by_key, fits, least_key, lesser, oldest_of_key}
+use Rattle.s38_queues.specs.MessageQueue.{first_by_key, fits, least_key, lesser, message_at, oldest_of_key}
 use Rattle.s38_queues.specs.declared.message.Message.{Message}
 use Rattle.s38_queues.specs.declared.place.Place.{Place}
-use Rattle.s38_queues.specs.Places.{ArePlaced, AreBefore, IsFirstOf, has, is_from, is_of_key, place_cmp, stands}
+use Rattle.s38_queues.specs.Places.{ArePlaced, AreBefore, IsFirstOf, has, found_by_key, is_of_key, place_cmp, stands, without_at}
 use Rattle.s38_queues.proofs.PlaceLaws.{key_cmp, key_first, not_true, place}
 
 abbrev at : ℕ → ℕ → Bool
@@ -272,6 +272,29 @@ none_leads next messages places relation key placed none =
     let off = each_entry (λ x. fits relation key x.1 ≡ false) messages.entries placed.ordered
     (λ a x there. none (place x.key a) (has_its_place next messages places a x placed there)) in
     ap (λ k. oldest_of_key k (values messages)) (least_none (fits relation key) messages.entries off)
+
+-- what the first place tells of the messages in order of arrival
+pub record Found (found : Option ℕ) (ms : List Message) (messages : BTreeMap ℕ Message) (p : Place) : Type 0 where
+  pub message : message_at ms found ≡ get nat_cmp messages p.arrival
+  pub rest : without_at ms found ≡ values_of (remove_entry (is_at (nat_cmp p.arrival)) messages.entries)
+
+found_from : (f : Message → Bool) (messages : BTreeMap ℕ Message) (p : Place) (m : Message) (n : ℕ) → Leads f messages p m n →
+    Found (first_by_key f (values messages)) (values messages) messages p
+found_from f messages p m n h = record {
+    message = ap (message_at (values messages)) h.first ∙ h.message ∙ sym h.there;
+    rest = ap (without_at (values messages)) h.first ∙ h.rest;
+}
+
+pub found_first : (next : ℕ) (messages : BTreeMap ℕ Message) (places : BTreeSet Place) (relation : Relation) (key : List ℕ) (p : Place) (ms : List Message) → ArePlaced next messages places →
+    IsFirstOf (stands relation key) places (Some p) → values messages ≡ ms → Found (found_by_key relation key ms) ms messages p
+found_first next messages places relation key p ms placed first e =
+    let led = first_leads next messages places relation key p placed first in
+    subst (λ (xs : List Message). Found (found_by_key relation key xs) xs messages p) e (found_from (fits relation key) messages p led.0 led.1 led.2)
+
+pub nothing_found : (next : ℕ) (messages : BTreeMap ℕ Message) (places : BTreeSet Place) (relation : Relation) (key : List ℕ) (ms : List Message) → ArePlaced next messages places →
+    IsFirstOf (stands relation key) places None → values messages ≡ ms → found_by_key relation key ms ≡ None
+nothing_found next messages places relation key ms placed none e =
+    subst (λ (xs : List Message). found_by_key relation key xs ≡ None) e (none_leads next messages places relation key placed none)
 
 -- ---- before the next arrival
 

@@ -75,12 +75,16 @@ impl KeyedMessages {
         if self.places.insert(place).is_err() {
             return Err(NoMemory);
         }
-        if self.messages.insert(arrival, message).is_err() {
-            self.places.remove(&place);
-            return Err(NoMemory);
+        match self.messages.insert(arrival, message) {
+            Ok(_) => {
+                self.next = next;
+                Ok(())
+            }
+            Err(_) => {
+                self.places.remove(&place);
+                Err(NoMemory)
+            }
         }
-        self.next = next;
-        Ok(())
     }
 
     /// The first message in the order of keys whose key stands in a relation to a key, and of equal keys the oldest, in
