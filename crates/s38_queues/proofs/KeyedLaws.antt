@@ -281,8 +281,8 @@ pub record Found (found : Option ℕ) (ms : List Message) (messages : BTreeMap �
 found_from : (f : Message → Bool) (messages : BTreeMap ℕ Message) (p : Place) (m : Message) (n : ℕ) → Leads f messages p m n →
     Found (first_by_key f (values messages)) (values messages) messages p
 found_from f messages p m n h = record {
-    message = ap (message_at (values messages)) h.first ∙ h.message ∙ sym h.there;
-    rest = ap (without_at (values messages)) h.first ∙ h.rest;
+  message = ap (message_at (values messages)) h.first ∙ h.message ∙ sym h.there;
+  rest = ap (without_at (values messages)) h.first ∙ h.rest;
 }
 
 pub found_first : (next : ℕ) (messages : BTreeMap ℕ Message) (places : BTreeSet Place) (relation : Relation) (key : List ℕ) (p : Place) (ms : List Message) → ArePlaced next messages places →

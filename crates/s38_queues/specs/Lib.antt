@@ -1,3 +1,4 @@
+pub mod Kept
 pub mod KeyText
 pub mod MessageQueue
 pub mod Places

@@ -23,7 +23,7 @@ invariant_of-self c =
     let place = c.in_ok-place.place in
     let held = holds_at k.next k.messages k.places place c.self.invariant c.in_ok-place.ensures.0 in
     placed_less k.next k.messages c.remove-2.new.self k.places c.remove.new.self place held.message c.self.invariant held.there held.key_is
-        c.remove.ensures.updates.0 c.remove-2.ensures.updates.0 c.remove-2.ensures.ordered
+    c.remove.ensures.updates.0 c.remove-2.ensures.updates.0 c.remove-2.ensures.ordered
 
 pub returns-clause-message : goal.returns-clause-message
 returns-clause-message c =
