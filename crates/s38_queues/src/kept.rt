@@ -1,7 +1,7 @@
-ghost use Rattle.std.specs.Prelude.{◌≡◌, ◌≤◌, ◌++◌, ◌∷◌, [], length, slice_get, true, OnOk, OnErr};
+ghost use Rattle.std.specs.Prelude.{◌≡◌, ◌+◌, ◌≤◌, ◌++◌, ◌∷◌, [], length, slice_get, true, IfSome, OnOk, OnErr};
 ghost use Rattle.std.specs.Option.{option_copied};
 ghost use Rattle.s38_queues.specs.Kept.{messages_of, order_of};
-ghost use Rattle.s38_queues.specs.MessageQueue.{longest_key, message_at, newest, oldest, place_in};
+ghost use Rattle.s38_queues.specs.MessageQueue.{image_size, longest_key, message_at, message_size, newest, oldest, place_in};
 ghost use Rattle.s38_queues.specs.Places.{is_short, without_at};
 
 use crate::keyed::KeyedMessages;
@@ -128,8 +128,7 @@ impl Kept {
         }
     }
 
-    /// Takes the message that `find` finds out, without memory.
-    pub fn take(&mut self, relation: Relation, key: &[u8]) -> Option<Message>
+    fn take_out(&mut self, relation: Relation, key: &[u8]) -> Option<Message>
         requires { is_short relation key.now ≡ true }
         ensures message { result ≡ message_at (messages_of self.old) (place_in (order_of self.old) relation key.now (messages_of self.old)) }
         ensures order { order_of self.new ≡ order_of self.old }
@@ -140,5 +139,16 @@ impl Kept {
             Kept::Lifo(messages) => take_newest(messages),
             Kept::Keyed(messages) => messages.take(relation, key),
         }
+    }
+
+    /// Takes the message that `find` finds out, without memory.
+    pub fn take(&mut self, relation: Relation, key: &[u8]) -> Option<Message>
+        requires { is_short relation key.now ≡ true }
+        ensures message { result ≡ message_at (messages_of self.old) (place_in (order_of self.old) relation key.now (messages_of self.old)) }
+        ensures order { order_of self.new ≡ order_of self.old }
+        ensures rest { messages_of self.new ≡ without_at (messages_of self.old) (place_in (order_of self.old) relation key.now (messages_of self.old)) }
+        ensures size { IfSome result (λ m. image_size (messages_of self.new) + message_size m ≡ image_size (messages_of self.old)) }
+    {
+        self.take_out(relation, key)
     }
 }
