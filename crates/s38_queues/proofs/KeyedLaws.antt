@@ -24,7 +24,7 @@ use Rattle.s38_base.specs.declared.words.Relation.TheVariants.{Eq}
 use Rattle.s38_queues.specs.MessageQueue.{first_by_key, fits, least_key, lesser, message_at, oldest_of_key}
 use Rattle.s38_queues.specs.declared.message.Message.{Message}
 use Rattle.s38_queues.specs.declared.place.Place.{Place}
-use Rattle.s38_queues.specs.Places.{ArePlaced, AreBefore, IsFirstOf, has, found_by_key, is_of_key, place_cmp, stands, without_at}
+use Rattle.s38_queues.specs.Places.{ArePlaced, IsFirstOf, has, found_by_key, is_of_key, place_cmp, stands, without_at}
 use Rattle.s38_queues.proofs.PlaceLaws.{key_cmp, key_first, not_true, place}
 
 abbrev at : ℕ → ℕ → Bool
@@ -296,34 +296,7 @@ pub nothing_found : (next : ℕ) (messages : BTreeMap ℕ Message) (places : BTr
 nothing_found next messages places relation key ms placed none e =
     subst (λ (xs : List Message). found_by_key relation key xs ≡ None) e (none_leads next messages places relation key placed none)
 
--- ---- before the next arrival
-
-before_next : (arrival next : ℕ) (key : List ℕ) (o : Option Message) → (next ≤ arrival → o ≡ None) → is_of_key key o ≡ true → arrival < next
-before_next arrival next key o behind h =
-    elim (nat_lt arrival next) as (λ b. nat_lt arrival next ≡ b → arrival < next) [
-      | true ↦ λ q. ltb-true arrival next q
-      | false ↦ λ q.
-          let none : o ≡ None = behind (ltb-false arrival next q) in
-          let wrong : false ≡ true = ap (is_of_key key) (sym none) ∙ h in
-          absurd (cc)
-    ] refl
-
-pub are_before : (next : ℕ) (messages : BTreeMap ℕ Message) (places : BTreeSet Place) → ArePlaced next messages places → AreBefore next places
-are_before next messages places placed q there =
-    before_next q.arrival next q.key (get nat_cmp messages q.arrival) (placed.behind q.arrival) (sym (placed.placed q) ∙ there)
-
 -- ---- one message more
-
-entered : (k n : Ordering) (old : Bool) → (is_eq n ≡ true → old ≡ false) → cond (is_eq (ordering_then k n)) true old ≡ cond (is_eq n) (is_equal k) old
-entered Less Less old h = refl
-entered Less Equal old h = h refl
-entered Less Greater old h = refl
-entered Equal Less old h = refl
-entered Equal Equal old h = refl
-entered Equal Greater old h = refl
-entered Greater Less old h = refl
-entered Greater Equal old h = h refl
-entered Greater Greater old h = refl
 
 of_choice : (b : Bool) (key : List ℕ) (m : Option Message) (o : Option Message) → is_of_key key (cond b m o) ≡ cond b (is_of_key key m) (is_of_key key o)
 of_choice true key m o = refl
@@ -331,33 +304,6 @@ of_choice false key m o = refl
 
 same_number : (a b : ℕ) → is_eq (nat_cmp a b) ≡ true → a ≡ b
 same_number a b h = grind (arith, nat_tests)
-
-not_yet : (next : ℕ) (messages : BTreeMap ℕ Message) (places : BTreeSet Place) (q : Place) → ArePlaced next messages places → is_eq (nat_cmp next q.arrival) ≡ true →
-    is_of_key q.key (get nat_cmp messages q.arrival) ≡ false
-not_yet next messages places q placed e =
-    let same : next ≡ q.arrival = same_number next q.arrival e in
-    let none : get nat_cmp messages q.arrival ≡ None = placed.behind q.arrival (omega arith) in
-    ap (is_of_key q.key) none
-
-other_number : (next arrival : ℕ) → next + 1 ≤ arrival → is_eq (nat_cmp next arrival) ≡ false
-other_number next arrival h = grind (arith, nat_tests)
-
-pub placed_more : (next : ℕ) (messages more : BTreeMap ℕ Message) (places wider : BTreeSet Place) (m : Message) → ArePlaced next messages places →
-    ((q : Place) → has wider q ≡ cond (is_at (place_cmp (place m.key next)) q) true (has places q)) →
-    ((a : ℕ) → get nat_cmp more a ≡ cond (is_at (nat_cmp next) a) (Some m) (get nat_cmp messages a)) →
-    IsOrdered nat_cmp more → ArePlaced (next + 1) more wider
-placed_more next messages more places wider m placed w g ordered = record {
-  placed = λ q.
-      w q
-      ∙ ap (λ b. cond (is_at (place_cmp (place m.key next)) q) true b) (placed.placed q)
-      ∙ entered (key_cmp m.key q.key) (nat_cmp next q.arrival) (is_of_key q.key (get nat_cmp messages q.arrival)) (not_yet next messages places q placed)
-      ∙ sym (ap (is_of_key q.key) (g q.arrival) ∙ of_choice (is_eq (nat_cmp next q.arrival)) q.key (Some m) (get nat_cmp messages q.arrival));
-  behind = λ a h.
-      g a
-      ∙ ap (λ b. cond b (Some m) (get nat_cmp messages a)) (other_number next a h)
-      ∙ placed.behind a (omega arith);
-  ordered = ordered;
-}
 
 key_before : (next arrival : ℕ) → arrival < next → nat_cmp next arrival ≡ Greater
 key_before next arrival h = grind (arith, nat_tests)
@@ -388,30 +334,6 @@ entered_last next m (e ∷ es) h =
     let rest = entered_last next m es (λ a l. rest_of (at a e.0) e.1 None (lookup (at a) es) (nothing_here (at a e.0) e.1 (lookup (at a) es) (h a l)) (h a l)) in
     ap (λ r. values_of (match_ordering r ((next, m) ∷ e ∷ es) ((e.0, m) ∷ es) (e ∷ insert_entry nat_cmp es next m))) behind
     ∙ ap (λ ms. e.1 ∷ ms) rest
-
--- ---- a place taken back
-
-restored : (k n : Ordering) (old : Bool) → (is_eq n ≡ true → old ≡ false) → cond (is_eq (ordering_then k n)) false (cond (is_eq (ordering_then k n)) true old) ≡ old
-restored Less n old h = refl
-restored Equal Less old h = refl
-restored Equal Equal old h = sym (h refl)
-restored Equal Greater old h = refl
-restored Greater n old h = refl
-
-pub placed_again : (next : ℕ) (messages same : BTreeMap ℕ Message) (places wider back : BTreeSet Place) (key : List ℕ) → ArePlaced next messages places →
-    ((q : Place) → has wider q ≡ cond (is_at (place_cmp (place key next)) q) true (has places q)) →
-    ((q : Place) → has back q ≡ cond (is_at (place_cmp (place key next)) q) false (has wider q)) →
-    same.entries ≡ messages.entries → ArePlaced next same back
-placed_again next messages same places wider back key placed w b e = record {
-  placed = λ q.
-      b q
-      ∙ ap (λ t. cond (is_at (place_cmp (place key next)) q) false t) (w q)
-      ∙ ap (λ t. cond (is_at (place_cmp (place key next)) q) false (cond (is_at (place_cmp (place key next)) q) true t)) (placed.placed q)
-      ∙ restored (key_cmp key q.key) (nat_cmp next q.arrival) (is_of_key q.key (get nat_cmp messages q.arrival)) (not_yet next messages places q placed)
-      ∙ sym (ap (λ es. is_of_key q.key (lookup (at q.arrival) es)) e);
-  behind = λ a h. ap (lookup (at a)) e ∙ placed.behind a h;
-  ordered = subst (λ (es : List (ℕ × Message)). IsStrictlySortedBy nat_cmp (keys_of es)) (sym e) placed.ordered;
-}
 
 -- ---- one message less
 

@@ -1,6 +1,6 @@
 -- The first place whose key stands in a relation to a key is the first of all, the first that does not come before the
 -- key, or the first behind it.
-use Rattle.std.proofs.Common.{◌≡◌, ℕ, ◌<◌, Bool, true, false, not, List, refl, sym, ◌∙◌, ap, arith}
+use Rattle.std.proofs.Common.{◌≡◌, ℕ, ◌<◌, Bool, true, false, not, List, refl, sym, ◌∙◌, ap, arith, subst}
 use Rattle.std.proofs.lemmas.Bool.Decides.{nat_tests}
 use Rattle.std.proofs.lemmas.Map.Lookups.{exact_bytes}
 use Rattle.std.specs.Prelude.{Some, None}
@@ -100,7 +100,7 @@ pub this_fits : (places : BTreeSet Place) (relation : Relation) (key : List ℕ)
 this_fits places relation key test p pass first on = (first.0, on, λ q there fits. first.2 q there (pass q there fits))
 
 -- where the first of all does not fit, no key below fits
-pub none_below : (places : BTreeSet Place) (relation : Relation) (key : List ℕ) (p : Place) → IsFirstOf (λ _. true) places (Some p) → stands relation key p ≡ false →
+none_below : (places : BTreeSet Place) (relation : Relation) (key : List ℕ) (p : Place) → IsFirstOf (λ _. true) places (Some p) → stands relation key p ≡ false →
     AllPass places relation key (is_from (place key 0))
 none_below places relation key p first off q there fits =
     from_same key q ∙
@@ -114,7 +114,7 @@ none_below places relation key p first off q there fits =
     ] refl fits
 
 -- where the first that does not come before the key does not fit either, no place of the key fits
-pub none_same : (places : BTreeSet Place) (relation : Relation) (key : List ℕ) (next : ℕ) (p : Place) → AreBefore next places → AllPass places relation key (is_from (place key 0)) →
+none_same : (places : BTreeSet Place) (relation : Relation) (key : List ℕ) (next : ℕ) (p : Place) → AreBefore next places → AllPass places relation key (is_from (place key 0)) →
     IsFirstOf (is_from (place key 0)) places (Some p) → stands relation key p ≡ false → AllPass places relation key (is_from (place key next))
 none_same places relation key next p before pass first off q there fits =
     let from : is_from (place key 0) q ≡ true = pass q there fits in
@@ -138,7 +138,7 @@ greater Equal h = absurd (cc)
 greater Greater h = refl
 
 -- where the first behind the key does not fit either, none fits
-pub none_above : (places : BTreeSet Place) (relation : Relation) (key : List ℕ) (next : ℕ) (p : Place) → AreBefore next places → AllPass places relation key (is_from (place key next)) →
+none_above : (places : BTreeSet Place) (relation : Relation) (key : List ℕ) (next : ℕ) (p : Place) → AreBefore next places → AllPass places relation key (is_from (place key next)) →
     IsFirstOf (is_from (place key next)) places (Some p) → stands relation key p ≡ false → IsFirstOf (stands relation key) places None
 none_above places relation key next p before pass first off q there =
     elim (stands relation key q) as (λ b. stands relation key q ≡ b → b ≡ false) [
@@ -149,3 +149,24 @@ none_above places relation key next p before pass first off q there =
           absurd (cc)
       | false ↦ λ fits. refl
     ] refl
+
+-- ---- the same, with the key that was copied and the answers of the tests
+
+pub pass_same : (places : BTreeSet Place) (relation : Relation) (key start : List ℕ) (p : Place) (fit : Bool) → start ≡ key →
+    IsFirstOf (λ _. true) places (Some p) → fit ≡ stands relation key p → fit ≡ false → AllPass places relation key (is_from (place start 0))
+pass_same places relation key start p fit e first is off =
+    subst (λ (k : List ℕ). AllPass places relation key (is_from (place k 0))) (sym e) (none_below places relation key p first (sym is ∙ off))
+
+pub pass_above : (places : BTreeSet Place) (relation : Relation) (key start : List ℕ) (next : ℕ) (p : Place) (fit : Bool) → start ≡ key → AreBefore next places →
+    AllPass places relation key (is_from (place start 0)) → IsFirstOf (is_from (place start 0)) places (Some p) → fit ≡ stands relation key p → fit ≡ false →
+    AllPass places relation key (is_from (place start next))
+pass_above places relation key start next p fit e before =
+    subst (λ (k : List ℕ). AllPass places relation key (is_from (place k 0)) → IsFirstOf (is_from (place k 0)) places (Some p) → fit ≡ stands relation key p → fit ≡ false → AllPass places relation key (is_from (place k next)))
+    (sym e) (λ pass first is off. none_same places relation key next p before pass first (sym is ∙ off))
+
+pub pass_none : (places : BTreeSet Place) (relation : Relation) (key start : List ℕ) (next : ℕ) (p : Place) (fit : Bool) → start ≡ key → AreBefore next places →
+    AllPass places relation key (is_from (place start next)) → IsFirstOf (is_from (place start next)) places (Some p) → fit ≡ stands relation key p → fit ≡ false →
+    IsFirstOf (stands relation key) places None
+pass_none places relation key start next p fit e before =
+    subst (λ (k : List ℕ). AllPass places relation key (is_from (place k next)) → IsFirstOf (is_from (place k next)) places (Some p) → fit ≡ stands relation key p → fit ≡ false → IsFirstOf (stands relation key) places None)
+    (sym e) (λ pass first is off. none_above places relation key next p before pass first (sym is ∙ off))

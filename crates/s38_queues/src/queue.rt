@@ -1,9 +1,6 @@
-ghost use Rattle.std.specs.Prelude.{◌≡◌, ◌≢◌, ◌+◌, ◌<◌, ◌≤◌, ◌↔◌, ◌∷◌, [], length, Some, true, IfOk, IsErrOf, OnOk, OnErr};
-ghost use Rattle.std.specs.Prelude.{slice_get};
+ghost use Rattle.std.specs.Prelude.{◌≡◌, ◌≢◌, ◌+◌, ◌<◌, ◌≤◌, ◌↔◌, [], length, slice_get, true, IfOk, IsErrOf, OnOk, OnErr};
 ghost use Rattle.std.specs.Option.{option_copied};
-ghost use Rattle.std.specs.List.{remove};
-ghost use Rattle.std.specs.VecDeque.{deque_len};
-ghost use Rattle.s38_queues.specs.MessageQueue.{found, found_message, image_size, is_asked, longest_key, message, message_size, with_message, without_found};
+ghost use Rattle.s38_queues.specs.MessageQueue.{found_message, image_size, is_asked, longest_key, message, message_size, with_message, without_found};
 
 use crate::kept::Kept;
 use crate::message::{Message, Order};
