@@ -1,10 +1,9 @@
 -- Lists of which a front passes a test and no later element does: what a binary search finds in them.
-use Rattle.std.proofs.Common.{◌≡◌, ℕ, ◌+◌, ◌-◌, ◌≤◌, ◌<◌, Bool, true, false, cond, not, List, [], ◌∷◌, ◌++◌, drop, get_or, length, length-drop, zero, suc, refl, sym, ◌∙◌, ap, arith, subst}
-use Rattle.std.proofs.lemmas.List.{get_or-drop, reverse-append}
+use Rattle.std.proofs.Common.{◌≡◌, ℕ, ◌+◌, ◌-◌, ◌≤◌, ◌<◌, Bool, true, false, cond, not, List, [], ◌∷◌, ◌++◌, get_or, length, zero, suc, refl, sym, ◌∙◌, ap, arith, subst}
+use Rattle.std.proofs.lemmas.List.{reverse-append}
 use Rattle.std.proofs.lemmas.List.Folds.{find-append}
 use Rattle.std.proofs.lemmas.List.Sums.{position_or_len_is}
-use Rattle.std.proofs.lemmas.Option.{unwrap_or-slice_get}
-use Rattle.std.specs.Prelude.{Option, Some, None, find, is_some, reverse, slice_get}
+use Rattle.std.specs.Prelude.{Some, None, find, is_some, reverse, slice_get}
 use Rattle.std.specs.List.{AllByRecursion, AllWithin, position_or_len}
 use Rattle.std.specs.List.Sorted.{IsPartitionPoint, IsPartitionedBy}
 use Rattle.std.specs.Option.{option_or, unwrap_or}
@@ -18,7 +17,7 @@ unnot : (b : Bool) → not b ≡ true → b ≡ false
 unnot true e = absurd (cc)
 unnot false e = refl
 
-unnot_false : (b : Bool) → not b ≡ false → b ≡ true
+pub unnot_false : (b : Bool) → not b ≡ false → b ≡ true
 unnot_false true e = refl
 unnot_false false e = absurd (cc)
 
@@ -44,11 +43,11 @@ pub all_from_within : {X : Type 0} (P : X → Type 0) (xs : List X) → AllWithi
 all_from_within P [] h = tt
 all_from_within P (x ∷ xs) h = (h 0 x (omega arith) (omega arith), all_from_within P xs (λ k d low high. h (suc k) d (omega arith) (omega arith)))
 
-all_second : {X : Type 0} (P : X → Type 0) (xs ys : List X) → AllByRecursion P (xs ++ ys) → AllByRecursion P ys
+pub all_second : {X : Type 0} (P : X → Type 0) (xs ys : List X) → AllByRecursion P (xs ++ ys) → AllByRecursion P ys
 all_second P [] ys h = h
 all_second P (x ∷ xs) ys h = all_second P xs ys h.1
 
-all_both : {X : Type 0} (P : X → Type 0) (xs ys : List X) → AllByRecursion P xs → AllByRecursion P ys → AllByRecursion P (xs ++ ys)
+pub all_both : {X : Type 0} (P : X → Type 0) (xs ys : List X) → AllByRecursion P xs → AllByRecursion P ys → AllByRecursion P (xs ++ ys)
 all_both P [] ys h g = g
 all_both P (x ∷ xs) ys h g = (h.0, all_both P xs ys h.1 g)
 
@@ -74,6 +73,12 @@ module _ {X : Type 0} (p : X → Bool) where
       position_or_len_is (λ y. not (p y)) xs n d in_list
       (λ k low. ap not (point.0 k d (omega arith) low))
       (λ low. ap not (point.1 n d (omega arith) low))
+
+  pub point_passed : (d : X) (xs : List X) (n : ℕ) → n ≤ length xs → IsPartitionPoint (λ y. not (p y) ≡ true) (λ y. not (p y) ≡ false) xs n → position_or_len p xs ≡ n
+  point_passed d xs n in_list point =
+      position_or_len_is p xs n d in_list
+      (λ k low. unnot (p (get_or xs k d)) (point.0 k d (omega arith) low))
+      (λ low. unnot_false (p (get_or xs n d)) (point.1 n d (omega arith) low))
 
   -- the first and the last tell of all
   pub none_found : (xs : List X) → AllByRecursion (λ x. p x ≡ false) xs → find p xs ≡ None

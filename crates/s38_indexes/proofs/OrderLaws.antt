@@ -1,10 +1,9 @@
 -- What the order of the entries tells: which entries fit, and that they still rise after a change.
-use Rattle.std.proofs.Common.{◌≡◌, ℕ, ◌+◌, ◌-◌, ◌≤◌, ◌<◌, Bool, true, false, cond, not, List, [], ◌∷◌, ◌++◌, length, zero, suc, refl, sym, ◌∙◌, ap, arith, length-append, subst}
+use Rattle.std.proofs.Common.{◌≡◌, ℕ, ◌+◌, ◌≤◌, ◌<◌, Bool, true, false, cond, not, List, [], ◌∷◌, ◌++◌, length, zero, suc, refl, sym, ◌∙◌, ap, arith, length-append, subst}
 use Rattle.std.proofs.lemmas.Cmp.{nat_list_cmp_total}
 use Rattle.std.proofs.lemmas.List.Folds.{find_at}
-use Rattle.std.specs.Prelude.{Option, Some, None, IfOk, OnOk, OnErr, find, insert, is_some, nat_lt, position, remove, reverse, slice_get}
+use Rattle.std.specs.Prelude.{Option, Some, None, IfOk, OnOk, OnErr, insert, is_some, remove, slice_get}
 use Rattle.std.specs.List.{AllByRecursion, position_or_len}
-use Rattle.std.specs.Option.{unwrap_or}
 use Rattle.std.specs.Ordering.{ordering_reverse}
 use Rattle.std.specs.declared.cmp.Ordering.{Ordering}
 use Rattle.std.specs.declared.cmp.Ordering.TheVariants.{Less, Equal, Greater}
@@ -128,7 +127,7 @@ equal_inside key (x ∷ xs) (suc n) e = let rest = equal_inside key xs n e in om
 unequal : (o : Ordering) → o ≡ Greater → is_equal o ≡ true → ⊥
 unequal o is e = cc (ap is_equal is)
 
-pub removed_at : (key : Entry) (xs : List Entry) → is_equal_to key (slice_get xs (place key xs)) ≡ true → remove xs (place key xs) ≡ without_entry key xs
+removed_at : (key : Entry) (xs : List Entry) → is_equal_to key (slice_get xs (place key xs)) ≡ true → remove xs (place key xs) ≡ without_entry key xs
 removed_at key [] e = refl
 removed_at key (x ∷ xs) e =
     let rest = removed_at key xs in
@@ -184,6 +183,14 @@ held_is key xs h = ap is_some (equal_behind key xs h) ∙ is_some-equal_of key (
 pub held_at : (key : Entry) (xs : List Entry) → IsRising xs → is_held key xs ≡ is_equal_to key (slice_get xs (place key xs))
 held_at key xs h = held_is key xs h ∙ ap (is_equal_to key) (find_at (misses Lo key) xs)
 
+-- what is sought at its place
+pub held_where : (key : Entry) (xs : List Entry) (n : ℕ) (b : Bool) → IsRising xs → n ≡ place key xs → b ≡ is_equal_to key (slice_get xs n) → is_held key xs ≡ b
+held_where key xs n b h e test = held_at key xs h ∙ ap (λ k. is_equal_to key (slice_get xs k)) (sym e) ∙ sym test
+
+pub removed_where : (key : Entry) (xs : List Entry) (n : ℕ) (b : Bool) → n ≡ place key xs → b ≡ is_equal_to key (slice_get xs n) → b ≡ true → remove xs n ≡ without_entry key xs
+removed_where key xs n b e test there =
+    ap (λ k. remove xs k) e ∙ removed_at key xs (ap (λ k. is_equal_to key (slice_get xs k)) (sym e) ∙ sym test ∙ there)
+
 -- ---- entries that rise
 
 all_with : (P : Entry → Type 0) (key : Entry) (xs : List Entry) → P key → AllByRecursion P xs → AllByRecursion P (with_entry key xs)
@@ -237,7 +244,7 @@ rising_without key (x ∷ xs) h =
       | false ↦ (others, rest)
     ]
 
-all_first : {X : Type 0} (P : X → Type 0) (xs ys : List X) → AllByRecursion P (xs ++ ys) → AllByRecursion P xs
+pub all_first : {X : Type 0} (P : X → Type 0) (xs ys : List X) → AllByRecursion P (xs ++ ys) → AllByRecursion P xs
 all_first P [] ys h = tt
 all_first P (x ∷ xs) ys h = (h.0, all_first P xs ys h.1)
 
