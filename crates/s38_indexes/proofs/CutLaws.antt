@@ -28,7 +28,6 @@ one_more : (n : ℕ) → 1 + n ≡ suc n
 one_more n = omega arith
 
 module _ {X : Type 0} (p : X → Bool) where
-
   -- no element passes behind one that does not
   abbrev pub IsCut : List X → Type 0
   IsCut [] = Unit {0}
@@ -52,7 +51,6 @@ all_both P [] ys h g = g
 all_both P (x ∷ xs) ys h g = (h.0, all_both P xs ys h.1 g)
 
 module _ {X : Type 0} (p : X → Bool) where
-
   cut_partition_at : (xs : List X) (i j : ℕ) (d : X) → IsCut p xs → i ≤ j → j < length xs → p (get_or xs j d) ≡ true → p (get_or xs i d) ≡ true
   cut_partition_at [] i j d h le low e = absurd (nothing_below low)
   cut_partition_at (x ∷ xs) zero zero d h le low e = e

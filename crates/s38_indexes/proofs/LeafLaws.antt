@@ -51,12 +51,6 @@ behind p ls n i l next low is =
     ∙ ap (λ xs. find p xs) (reverse-append (joined (take i ls)) l)
     ∙ find-append p (reverse l) (reverse (joined (take i ls)))
 
-pub found_back : (p : Entry → Bool) (ls : List (List Entry)) (n i : ℕ) (l : List Entry) (e : Entry) → n ≡ i + 1 → i < length ls → l ≡ get_or ls i l → Some e ≡ find p (reverse l) → Some e ≡ find p (reverse (joined (take n ls)))
-found_back p ls n i l e next low is found = sym (behind p ls n i l next low is ∙ ap (λ o. option_or o (find p (reverse (joined (take i ls))))) (sym found))
-
-pub missed_back : (p : Entry → Bool) (ls : List (List Entry)) (n i : ℕ) (l : List Entry) → n ≡ i + 1 → i < length ls → l ≡ get_or ls i l → None ≡ find p (reverse l) → find p (reverse (joined (take n ls))) ≡ find p (reverse (joined (take i ls)))
-missed_back p ls n i l next low is missed = behind p ls n i l next low is ∙ ap (λ o. option_or o (find p (reverse (joined (take i ls))))) (sym missed)
-
 -- ---- the leaf into which an entry goes
 
 held_up : (x : Entry) (o : Option Entry) → is_some (cond true (Some x) o) ≡ false → ⊥
@@ -246,18 +240,6 @@ either_half key old new i k h s e =
       | false ↦ λ is. upper_half key old new i h s is
     ] refl)
 
-pub split_longer : (old new : List (List Entry)) (i : ℕ) → i < length old → IsSplit old new i → i + 1 < length new
-split_longer old new i low h =
-    let b = take i old in
-    let n : length b ≡ i = length-take-le i old (omega arith) in
-    let whole = ap length h.leaves in
-    let both = length-append b (h.lower ∷ h.upper ∷ drop (suc i) old) in
-    omega arith
-
--- the only leaf, which has no entry yet
-pub only_place : (key : Entry) → IsPlaceFor key ([] ∷ []) 0
-only_place key = record { inside = omega arith; joins = refl }
-
 without_past : (key : Entry) (xs ys : List Entry) → is_held key xs ≡ false → without_entry key (xs ++ ys) ≡ xs ++ without_entry key ys
 without_past key [] ys e = refl
 without_past key (x ∷ xs) ys e =
@@ -379,13 +361,13 @@ found_last p ls n i l next low is some none =
     let here : is_some (find p l) ≡ true = ap (λ m. is_some (find p m)) is ∙ some i l (omega arith) (omega arith) in
     let after = none_back p (drop n ls) (later_within (λ m. is_some (find p m) ≡ false) ls n none) in
     sym (
-      ap (λ ms. find p (reverse (joined ms))) (sym (take-append-drop n ls))
-      ∙ ap (λ xs. find p (reverse xs)) (joined-append (take n ls) (drop n ls))
-      ∙ ap (λ xs. find p xs) (reverse-append (joined (take n ls)) (joined (drop n ls)))
-      ∙ find-append p (reverse (joined (drop n ls))) (reverse (joined (take n ls)))
-      ∙ ap (λ o. option_or o (find p (reverse (joined (take n ls))))) after
-      ∙ behind p ls n i l next low is
-      ∙ some_back p l (find p (reverse (joined (take i ls)))) here
+    ap (λ ms. find p (reverse (joined ms))) (sym (take-append-drop n ls))
+    ∙ ap (λ xs. find p (reverse xs)) (joined-append (take n ls) (drop n ls))
+    ∙ ap (λ xs. find p xs) (reverse-append (joined (take n ls)) (joined (drop n ls)))
+    ∙ find-append p (reverse (joined (drop n ls))) (reverse (joined (take n ls)))
+    ∙ ap (λ o. option_or o (find p (reverse (joined (take n ls))))) after
+    ∙ behind p ls n i l next low is
+    ∙ some_back p l (find p (reverse (joined (take i ls)))) here
     )
 
 -- ---- a front of the leaves has such entries, and a front has no others

@@ -77,9 +77,6 @@ rising_cut relation key (x ∷ xs) down h = (λ e. none_behind relation key x xs
 
 -- ---- places
 
-some_is_some : {X : Type 0} (x : X) → Some x ≡ None → ⊥
-some_is_some x e = cc
-
 no_room : (n : ℕ) → suc n ≤ 0 → ⊥
 no_room n h = omega arith
 

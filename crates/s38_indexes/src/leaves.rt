@@ -136,7 +136,11 @@ fn place_for(leaves: &[Leaf], first: usize) -> usize
     requires { 0 < length leaves.now }
     ensures { (key : Entry) → first ≡ first_reaching key leaves.now → IsPlaceFor key leaves.now result }
 {
-    if first < leaves.len() { first } else { leaves.len() - 1 }
+    if first < leaves.len() {
+        first
+    } else {
+        leaves.len() - 1
+    }
 }
 
 /// Adds an entry to a leaf; an error leaves all as they were.
@@ -270,7 +274,12 @@ fn add_first(leaves: &mut Vec<Leaf>, alloc: Global, entry: Bytes) -> Result<(), 
 }
 
 /// Adds an entry in its place, given the first leaf that reaches it; an error leaves the entries as they were.
-pub fn add(leaves: &mut Vec<Leaf>, alloc: Global, first: usize, entry: Bytes) -> Result<(), NoMemory>
+pub fn add(
+    leaves: &mut Vec<Leaf>,
+    alloc: Global,
+    first: usize,
+    entry: Bytes,
+) -> Result<(), NoMemory>
     requires first { first ≡ first_reaching entry leaves.old.items }
     requires new { is_held entry (joined leaves.old.items) ≡ false }
     requires none_empty { NoneEmpty leaves.old.items }
