@@ -1,5 +1,6 @@
 -- Instructions that creation makes fit their rows.
 use Rattle.std.proofs.Common.{◌≡◌, ◌≤◌, ◌+◌, ℕ, Bool, true, false, cond, List, [], ◌∷◌, ◌++◌, map, length, length-append, Option, Some, None, Result, Ok, Err, refl, sym, ◌∙◌, ap, subst, arith, leb-true}
+use Rattle.std.specs.Prelude.{◌&&◌}
 use Rattle.std.specs.Bool.{nat_le}
 use Rattle.std.specs.List.{All, list_all}
 use Rattle.std.proofs.lemmas.List.Elements.{All-append, All-cons, All-nil, All-weaker}
@@ -17,7 +18,7 @@ use Rattle.s38_code.specs.declared.program.Row.{Row}
 use Rattle.s38_odt.proofs.LabelLemmas.{instruction_count-label, instruction_count-more}
 use Rattle.s38_create.proofs.Parts.{and-both, if-some, no-cause}
 use Rattle.s38_create.proofs.ParsedLemmas.{parsed_operand-good, parsed_from-all}
-use Rattle.s38_create.specs.Instruction.{are_words_built, by_act, by_parsed, cause_of, checked, code_from, instruction_from, instruction_of, is_taken, parsed_of, result_and_then, unless}
+use Rattle.s38_create.specs.Instruction.{by_act, by_parsed, cause_of, checked, code_from, instruction_from, instruction_of, is_taken, parsed_of, result_and_then, takes_relation, unless}
 use Rattle.s38_odt.specs.Labels.{instruction_count, is_label}
 use Rattle.s38_create.specs.Parsed.{arg_of, is_declared, is_placed, parsed_from}
 use Rattle.s38_odt.specs.Suits.{all_suit}
@@ -31,14 +32,14 @@ use Rattle.s38_create.specs.declared.parsed.ParsedOperand.{ParsedOperand}
 
 -- where no cause stands against it, the operands are the row's
 cause_of-none : (rows : List Row) (i : Instruction) (declared placed : Bool) → cause_of rows i declared placed ≡ None →
-    (are_words_built i.op i.args ≡ true) × (fits rows i.op i.args ≡ true) × (digits_needed rows i.op i.args ≤ 38)
+    (fits rows i.op i.args ≡ true) × (takes_relation i.op i.args ≡ true) × (digits_needed rows i.op i.args ≤ 38)
 unfolding cause_of
 cause_of-none rows i declared placed h =
-    let words = no-cause (are_words_built i.op i.args) exceptions.operands_invalid _ h in
-    let named = no-cause declared exceptions.name_missing _ words.1 in
-    let fitting = no-cause (fits rows i.op i.args) exceptions.attributes_invalid _ named.1 in
+    let named = no-cause declared exceptions.name_missing _ h in
+    let fitting = no-cause (fits rows i.op i.args && takes_relation i.op i.args) exceptions.attributes_invalid _ named.1 in
+    let both = and-both (fits rows i.op i.args) _ fitting.0 in
     let few = no-cause (nat_le (digits_needed rows i.op i.args) 38) exceptions.digits_exceeded _ fitting.1 in
-    (words.0, fitting.0, leb-true (digits_needed rows i.op i.args) 38 few.0)
+    (both.0, both.1, leb-true (digits_needed rows i.op i.args) 38 few.0)
 
 unless-ok : (cause : Option ℕ) (number : ℕ) (i made : Instruction) → unless cause number i ≡ Ok made → (cause ≡ None) × (i ≡ made)
 unless-ok None number i made h = (refl, cc)
@@ -59,11 +60,10 @@ checked-fits : (rows : List Row) (code : List (List ℕ)) (number : ℕ) (op : O
 checked-fits rows code number op round parsed made built rounded filled lands h =
     let fine = unless-ok (cause_of rows (instruction_from op round parsed) (list_all is_declared parsed) (list_all is_placed parsed)) number (instruction_from op round parsed) made h in
     let held = cause_of-none rows (instruction_from op round parsed) (list_all is_declared parsed) (list_all is_placed parsed) fine.0 in
-    let parts = fits-parts rows op (map arg_of parsed) held.1 in
+    let parts = fits-parts rows op (map arg_of parsed) held.0 in
     let P : Instruction → Type 0 = λ i. InstructionFits rows (instruction_count code) i in
     subst P fine.1 (record {
       built = built;
-      words = held.0;
       rounded = rounded;
       suited = record {
         classes = parts.0;
@@ -71,6 +71,7 @@ checked-fits rows code number op round parsed made built rounded filled lands h 
         filled = list_all-map is_filled arg_of parsed ∙ filled;
         jumps = list_all-map (lands_in (instruction_count code)) arg_of parsed ∙ lands;
       };
+      relation = held.1;
       kinds = parts.1;
       digits = held.2;
     })

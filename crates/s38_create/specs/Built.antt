@@ -1,14 +1,10 @@
 -- The instructions that this machine has: creation refuses the others.
 use Rattle.std.specs.Prelude.{Bool, true, false}
 use Rattle.s38_base.specs.declared.op.Op.{Op}
-use Rattle.s38_base.specs.declared.op.Op.TheVariants.{Crtinx, Insinxen, Fndinxen, Rmvinxen, Crtds, Crtcr, Setcr, Insdsen, Retdsen, Updsen, Deldsen, Crtjs, Crtjp, Jrnlobj, Retjent, Crtcb, Commit, Decommit, Ensobj, Desinx, Desds, Descr, Desjs, Desjp, Descb}
+use Rattle.s38_base.specs.declared.op.Op.TheVariants.{Crtds, Crtcr, Setcr, Insdsen, Retdsen, Updsen, Deldsen, Crtjs, Crtjp, Jrnlobj, Retjent, Crtcb, Commit, Decommit, Ensobj, Desds, Descr, Desjs, Desjp, Descb}
 
 -- these are not built yet
 unfoldable pub is_built : Op → Bool
-is_built Crtinx = false
-is_built Insinxen = false
-is_built Fndinxen = false
-is_built Rmvinxen = false
 is_built Crtds = false
 is_built Crtcr = false
 is_built Setcr = false
@@ -24,7 +20,6 @@ is_built Crtcb = false
 is_built Commit = false
 is_built Decommit = false
 is_built Ensobj = false
-is_built Desinx = false
 is_built Desds = false
 is_built Descr = false
 is_built Desjs = false

@@ -11,12 +11,11 @@ use Rattle.s38_code.specs.declared.program.Instruction.{Instruction}
 use Rattle.s38_code.specs.declared.program.Row.{Row}
 use Rattle.s38_odt.specs.Labels.{is_label}
 use Rattle.s38_create.specs.Parsed.{arg_of, is_declared, is_placed, parsed_from}
-use Rattle.s38_odt.specs.Suits.{is_natural_to}
-use Rattle.s38_odt.specs.OperandRules.{digits_needed, fits, nothing_at, whole_at, word_at}
+use Rattle.s38_odt.specs.OperandRules.{digits_needed, fits, word_at}
 use Rattle.s38_create.specs.declared.parsed.ParsedOperand.{ParsedOperand}
 use Rattle.s38_base.specs.Exceptions as exceptions
 use Rattle.s38_base.specs.Relations.{relation_word}
-use Rattle.s38_base.specs.declared.op.Op.TheVariants.{Deq, Crtq}
+use Rattle.s38_base.specs.declared.op.Op.TheVariants.{Deq}
 use Rattle.s38_base.specs.declared.words.Relation.TheVariants.{Any}
 use Rattle.s38_words.specs.ProgramLine.{ActLine, act_of, rounds_right}
 
@@ -32,32 +31,23 @@ parsed_of rows code act = if is_taken act then parsed_from rows code [] (classes
 abbrev pub instruction_from : Op → Bool → List ParsedOperand → Instruction
 instruction_from op round parsed = record { op = op; round = round; args = map arg_of parsed }
 
--- ---- words that are not built yet
+-- ---- relations
 
--- the next message, whatever its key
-abbrev pub takes_any : List Arg → Bool
-takes_any args = (word_at args 2 == relation_word Any) && nothing_at args 3
-
--- in order of arrival, without keys
-abbrev pub is_plain_queue : List Arg → Bool
-is_plain_queue args = (word_at args 4 == 0) && is_natural_to 0 (whole_at args 5)
-
-unfoldable pub are_words_built : Op → List Arg → Bool
-are_words_built Deq args = takes_any args
-are_words_built Crtq args = is_plain_queue args
-are_words_built op args = true
+-- a message is not asked for by its place in the order: DEQ has neither FIRST nor LAST
+unfoldable pub takes_relation : Op → List Arg → Bool
+takes_relation Deq args = nat_le (word_at args 2) (relation_word Any)
+takes_relation op args = true
 
 -- ---- causes
 
--- the first cause for which an instruction is bad: a word that is not built, a name that is not declared, operands
--- that are not the row's, too many digits, a missing label
+-- the first cause for which an instruction is bad: a name that is not declared, operands that are not the row's, too
+-- many digits, a missing label
 unfoldable pub cause_of : List Row → Instruction → Bool → Bool → Option ℕ
 cause_of rows i declared placed =
-    if not (are_words_built i.op i.args) then Some exceptions.operands_invalid
-    else (if not declared then Some exceptions.name_missing
-    else (if not (fits rows i.op i.args) then Some exceptions.attributes_invalid
+    if not declared then Some exceptions.name_missing
+    else (if not (fits rows i.op i.args && takes_relation i.op i.args) then Some exceptions.attributes_invalid
     else (if not (nat_le (digits_needed rows i.op i.args) 38) then Some exceptions.digits_exceeded
-    else (if not placed then Some exceptions.label_missing else None))))
+    else (if not placed then Some exceptions.label_missing else None)))
 
 abbrev pub unless : Option ℕ → ℕ → Instruction → Result Instruction CreateFault
 unless None number i = Ok i

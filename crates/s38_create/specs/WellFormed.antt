@@ -6,7 +6,7 @@ use Rattle.s38_create.specs.Built.{is_built}
 use Rattle.s38_code.specs.declared.program.Instruction.{Instruction}
 use Rattle.s38_code.specs.declared.program.Program.{Program}
 use Rattle.s38_code.specs.declared.program.Row.{Row}
-use Rattle.s38_create.specs.Instruction.{are_words_built}
+use Rattle.s38_create.specs.Instruction.{takes_relation}
 use Rattle.s38_words.specs.ProgramLine.{rounds_right}
 use Rattle.s38_odt.specs.Formed.{AreFormed}
 use Rattle.s38_odt.specs.OperandRules.{digits_needed, is_of_kind}
@@ -15,10 +15,10 @@ use Rattle.s38_odt.specs.Suited.{IsSuited}
 -- an instruction among so many, over these declarations
 pub record InstructionFits (rows : List Row) (count : ℕ) (instruction : Instruction) : Type 0 where
   pub built : IsTrue (is_built instruction.op)
-  pub words : IsTrue (are_words_built instruction.op instruction.args)
   pub rounded : IsTrue (rounds_right instruction.round instruction.op)
   -- its operands are of the classes of its row
   pub suited : IsSuited rows count instruction
+  pub relation : IsTrue (takes_relation instruction.op instruction.args)
   pub kinds : IsTrue (list_all (is_of_kind (made_kind instruction.op)) instruction.args)
   pub digits : digits_needed rows instruction.op instruction.args ≤ 38
 

@@ -11,10 +11,6 @@ pub fn is_built(op: Op) -> bool
     ensures { result ≡ is_built op }
 {
     match op {
-        Op::Crtinx => false,
-        Op::Insinxen => false,
-        Op::Fndinxen => false,
-        Op::Rmvinxen => false,
         Op::Crtds => false,
         Op::Crtcr => false,
         Op::Setcr => false,
@@ -30,7 +26,6 @@ pub fn is_built(op: Op) -> bool
         Op::Commit => false,
         Op::Decommit => false,
         Op::Ensobj => false,
-        Op::Desinx => false,
         Op::Desds => false,
         Op::Descr => false,
         Op::Desjs => false,

@@ -1,12 +1,12 @@
 ghost use Rattle.std.specs.Prelude.{◌≡◌, drop, slice_get};
 ghost use Rattle.std.specs.List.{list_all};
 ghost use Rattle.s38_odt.specs.Suits.{item_suits};
-ghost use Rattle.s38_odt.specs.OperandRules.{at_suits, attr_at, attr_length, fits, has_length, is_from_one_to, is_key_length, is_of_kind, is_short_binary, keeps_rule, is_two_local_bytes, length_at, nothing_at, whole_at, word_at};
+ghost use Rattle.s38_odt.specs.OperandRules.{at_suits, attr_at, attr_length, fits, has_length, is_from_one_to, is_key_length, is_of_kind, is_short_binary, keeps_rule, is_two_local_bytes, length_at, whole_at, word_at};
 ghost use Rattle.s38_odt.specs.Table.{is_parameter};
 
 use crate::attributes::operand_attr;
 use crate::items::{item_is_parameter, item_is_two_local_bytes};
-use crate::shapes::{is_natural_to, is_nothing};
+use crate::shapes::is_natural_to;
 use crate::suits::all_suit;
 use s38_base::{Attr, Kind, Op};
 use s38_code::{Arg, OperandRule, Row, classes, made_kind, operand_rule};
@@ -62,16 +62,6 @@ pub fn whole_at(args: &[Arg], k: usize) -> i64
     match args.get(k) {
         Some(Arg::Whole(number)) => *number,
         _ => 0,
-    }
-}
-
-/// `*NONE` stands at a place.
-pub fn nothing_at(args: &[Arg], k: usize) -> bool
-    ensures { result ≡ nothing_at args.now k }
-{
-    match args.get(k) {
-        Some(arg) => is_nothing(arg),
-        None => false,
     }
 }
 

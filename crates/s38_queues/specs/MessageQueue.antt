@@ -1,6 +1,6 @@
 -- A queue is its order, the length of its keys, the length of its longest message, and its messages in the
 -- order of their arrival.
-use Rattle.std.specs.Prelude.{◌≡◌, ℕ, ◌+◌, ◌==◌, Bool, true, false, ◌&&◌, ◌||◌, List, ◌++◌, ◌∷◌, [], length, sum_by, Option, Some, None, if◌then◌else◌, position, slice_get}
+use Rattle.std.specs.Prelude.{ℕ, ◌+◌, ◌==◌, Bool, true, false, ◌&&◌, ◌||◌, List, ◌++◌, ◌∷◌, [], length, sum_by, Option, Some, None, if◌then◌else◌, position, slice_get}
 use Rattle.std.specs.Cmp.Lexicographic.{slice_cmp}
 use Rattle.std.specs.List.{remove}
 use Rattle.std.specs.Ordering.{nat_cmp}
@@ -40,6 +40,20 @@ with_message q m = record q { messages = q.messages ++ m ∷ [] }
 abbrev pub without_message : MessageQueue → ℕ → MessageQueue
 without_message q at = record q { messages = remove q.messages at }
 
+-- ---- what may be asked
+
+abbrev pub is_keyed : Order → Bool
+is_keyed Keyed = true
+is_keyed _ = false
+
+abbrev pub is_any : Relation → Bool
+is_any Any = true
+is_any _ = false
+
+-- any message, or, of a queue with keys, one by a key of their length
+abbrev pub is_asked : MessageQueue → Relation → ℕ → Bool
+is_asked q relation key_len = is_any relation || (is_keyed q.order && (key_len == q.key_len))
+
 -- ---- which message is taken
 
 -- whether the key of a message stands in a relation to a key, byte by byte
@@ -78,9 +92,9 @@ place_in Lifo relation key ms = newest ms
 place_in Keyed relation key ms = first_by_key (fits relation key) ms
 
 -- the place of the message that is taken: in order of arrival the oldest, against it the newest, and by keys the
--- first in their order whose key stands in the relation to the key
+-- first in their order whose key stands in the relation to the key; none where the queue may not be asked so
 abbrev pub found : MessageQueue → Relation → List ℕ → Option ℕ
-found q relation key = place_in q.order relation key q.messages
+found q relation key = if is_asked q relation (length key) then place_in q.order relation key q.messages else None
 
 abbrev pub message_at : List Message → Option ℕ → Option Message
 message_at ms None = None
@@ -96,17 +110,3 @@ without_place q (Some at) = without_message q at
 -- the queue without the message that is taken
 abbrev pub without_found : MessageQueue → Relation → List ℕ → MessageQueue
 without_found q relation key = without_place q (found q relation key)
-
--- ---- what may be asked
-
-abbrev pub is_keyed : Order → Bool
-is_keyed Keyed = true
-is_keyed _ = false
-
-abbrev pub is_any : Relation → Bool
-is_any Any = true
-is_any _ = false
-
--- any message, or, of a queue with keys, one by a key of their length
-abbrev pub is_asked : MessageQueue → Relation → ℕ → Bool
-is_asked q relation key_len = is_any relation || (is_keyed q.order && (key_len == q.key_len))

@@ -3,6 +3,7 @@
 
 mod message;
 mod queue;
+mod search;
 
 pub use message::{Message, Order};
 pub use queue::{Queue, QueueFault};

@@ -3,9 +3,10 @@ ghost use Rattle.std.specs.Prelude.{slice_get};
 ghost use Rattle.std.specs.Option.{option_copied};
 ghost use Rattle.std.specs.List.{remove};
 ghost use Rattle.std.specs.VecDeque.{deque_len};
-ghost use Rattle.s38_queues.specs.MessageQueue.{found_message, image_size, is_asked, longest_key, message, message_size, with_message, without_found};
+ghost use Rattle.s38_queues.specs.MessageQueue.{found, found_message, image_size, is_asked, longest_key, message, message_size, with_message, without_found};
 
 use crate::message::{Message, Order};
+use crate::search::{first_by_key, newest, oldest};
 use s38_base::{NoMemory, Relation, Seq};
 use std::alloc::Global;
 use std::collections::VecDeque;
@@ -177,20 +178,52 @@ impl Queue {
     }
 
     /// The message that is taken next: with FIFO the oldest, with LIFO the newest, with keys the first in their order
-    /// whose key stands in the relation to `key`, and of equal keys the oldest. None exactly where there is none.
+    /// whose key stands in the relation to `key`, and of equal keys the oldest. None exactly where there is none,
+    /// and where the queue may not be asked so: by another relation than ANY it is asked with keys, for one of their length.
     pub fn find(&self, relation: Relation, key: &[u8]) -> Option<&Message>
-        requires { is_asked self.now relation (length key.now) ≡ true }
         ensures { option_copied result ≡ found_message self.now relation key.now }
     {
-        None
+        match self.found(relation, key) {
+            None => None,
+            Some(at) => self.messages.get(at),
+        }
+    }
+
+    /// Whether the queue may be asked so: for any message, or by a key of the length of its keys.
+    fn is_asked(&self, relation: Relation, key_len: usize) -> bool
+        ensures { result ≡ is_asked self.now relation key_len }
+    {
+        match relation {
+            Relation::Any => true,
+            _ => match self.order {
+                Order::Keyed => key_len == usize::from(self.key_len),
+                _ => false,
+            },
+        }
+    }
+
+    /// The place of the message that is taken next.
+    fn found(&self, relation: Relation, key: &[u8]) -> Option<usize>
+        ensures { result ≡ found self.now relation key.now }
+    {
+        if !self.is_asked(relation, key.len()) {
+            return None;
+        }
+        match self.order {
+            Order::Fifo => oldest(&self.messages),
+            Order::Lifo => newest(&self.messages),
+            Order::Keyed => first_by_key(&self.messages, relation, key),
+        }
     }
 
     /// Takes the message that `find` finds out of the queue, without memory; None exactly where there is none.
     pub fn take(&mut self, relation: Relation, key: &[u8]) -> Option<Message>
-        requires { is_asked self.old relation (length key.now) ≡ true }
         ensures message { result ≡ found_message self.old relation key.now }
         ensures rest { self.new ≡ without_found self.old relation key.now }
     {
-        None
+        let at = self.found(relation, key)?;
+        let message = take_at(&mut self.messages, at);
+        self.size -= message.key.len() as u32 + message.text.len() as u32 + 2;
+        Some(message)
     }
 }

@@ -54,10 +54,7 @@ other_pages user o h = rw h refl
 
 pub some_page : (b : Body) → 1 ≤ pages_of b
 some_page (bodies.Space cells) = omega arith
-some_page (bodies.Context) = omega arith
-some_page (bodies.Program code) = omega arith
-some_page (bodies.Profile special limit) = omega arith
-some_page (bodies.Queue q) = omega arith
+some_page _ = omega arith
 
 -- what is paid for an object that is there is paid
 pub pages_within : (n user : ℕ) (o : Object) (os : List Object) → object_in os n ≡ Some o → pages_for user o ≤ charge_in os user

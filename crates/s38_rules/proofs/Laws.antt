@@ -5,7 +5,7 @@ use Rattle.std.proofs.lemmas.List.Elements.{All-nil, All-push}
 use Rattle.std.specs.Prelude.{Option, Some, None, slice_get, slice_set}
 use Rattle.s38_base.specs.declared.id.ObjNum.{ObjNum}
 use Rattle.s38_base.specs.declared.op.Op.{Op}
-use Rattle.s38_base.specs.declared.op.Op.TheVariants.{Crtctx, Modadr, Rename, Matctx, Desctx, Crtup, Modup, Desup, Grant, Retract, Xfro, Testau, Matau, Matauobj, Rslvsp, Setsppfp, Setspfp, Setdp, Cpybwp, Crtpg, Callx, Xctl, Lock, Unlock, Xfrlock, Matobjlk, Crtq, Crts, Mods, Despg, Desq, Dess, Enq, Deq}
+use Rattle.s38_base.specs.declared.op.Op.TheVariants.{Crtctx, Modadr, Rename, Matctx, Desctx, Crtup, Modup, Desup, Grant, Retract, Xfro, Testau, Matau, Matauobj, Rslvsp, Setsppfp, Setspfp, Setdp, Cpybwp, Crtpg, Callx, Xctl, Lock, Unlock, Xfrlock, Matobjlk, Crtq, Crts, Mods, Despg, Desq, Dess, Enq, Deq, Crtinx}
 use Rattle.s38_code.specs.declared.entry.Entry.{Entry}
 use Rattle.s38_code.specs.declared.event.Event.{Event}
 use Rattle.s38_code.specs.declared.event.Event.TheVariants.{Start, Act, Finish}
@@ -34,6 +34,7 @@ use Rattle.s38_rules.specs.Invocations.{pushed, replaced, restack, restack_at, r
 use Rattle.s38_rules.specs.Legal.{IsEntry, IsProcess, IsSound, IsUnstored, Leads, Run, after, after_by, begun, history_after}
 use Rattle.s38_rules.specs.Operands.{deliver, delivered, target}
 use Rattle.s38_rules.specs.Programs.{callx_changes, created_program, crtpg_changes, program_in, programs_row, template_at, xctl_changes}
+use Rattle.s38_rules.specs.Indexes.{crtinx_changes, indexes_row}
 use Rattle.s38_rules.specs.Queues.{crtq_changes, queues_row}
 use Rattle.s38_rules.specs.Resolving.{resolving_row}
 use Rattle.s38_rules.specs.Rows.{row, row_in}
@@ -169,10 +170,12 @@ keeps_spaces _ = record { kept = λ s p d r. same_kept p s.processes }
 keeps_queues : (op : Op) → KeepsProcesses (queues_row op)
 unfolding queues_row crtq_changes
 keeps_queues Crtq = record { kept = λ s p d r. same_kept p s.processes }
-keeps_queues Desq = record { kept = λ s p d r. same_kept p s.processes }
-keeps_queues Enq = record { kept = λ s p d r. same_kept p s.processes }
-keeps_queues Deq = record { kept = λ s p d r. same_kept p s.processes }
 keeps_queues _ = record { kept = λ s p d r. same_kept p s.processes }
+
+keeps_indexes : (op : Op) → KeepsProcesses (indexes_row op)
+unfolding indexes_row crtinx_changes
+keeps_indexes Crtinx = record { kept = λ s p d r. same_kept p s.processes }
+keeps_indexes _ = record { kept = λ s p d r. same_kept p s.processes }
 
 keeps_contexts : (op : Op) → KeepsProcesses (contexts_row op)
 unfolding contexts_row crtctx_changes
@@ -222,6 +225,7 @@ keeps_row families.Programs op = keeps_programs op
 keeps_row families.Locks op = keeps_locks op
 keeps_row families.Spaces op = keeps_spaces op
 keeps_row families.Queues op = keeps_queues op
+keeps_row families.Indexes op = keeps_indexes op
 keeps_row _ op = keeps_inert
 
 -- ---- no row of these families needs a special authority
@@ -270,10 +274,12 @@ unspecial_spaces _ s p d r = refl
 pub unspecial_queues : (op : Op) (s : State) (p d : ℕ) (r : Request) → (queues_row op).special s p d r ≡ 0
 unfolding queues_row
 unspecial_queues Crtq s p d r = refl
-unspecial_queues Desq s p d r = refl
-unspecial_queues Enq s p d r = refl
-unspecial_queues Deq s p d r = refl
 unspecial_queues _ s p d r = refl
+
+pub unspecial_indexes : (op : Op) (s : State) (p d : ℕ) (r : Request) → (indexes_row op).special s p d r ≡ 0
+unfolding indexes_row
+unspecial_indexes Crtinx s p d r = refl
+unspecial_indexes _ s p d r = refl
 
 -- ---- effects
 

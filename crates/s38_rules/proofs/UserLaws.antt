@@ -45,10 +45,7 @@ left_unset users user none = unset users user None (sym none)
 
 body_paid : (b : Body) (before pages : ℕ) → paid pages (profile_by b before) ≡ profile_by b pages
 body_paid (bodies.Profile special limit) before pages = refl
-body_paid (bodies.Space cells) before pages = refl
-body_paid (bodies.Context) before pages = refl
-body_paid (bodies.Program code) before pages = refl
-body_paid (bodies.Queue q) before pages = refl
+body_paid _ before pages = refl
 
 pub kept_paid : (o : Option Object) (before pages : ℕ) → paid pages (kept_profile o before) ≡ kept_profile o pages
 kept_paid None before pages = refl
@@ -84,10 +81,7 @@ charge_kept users os charges user h there =
 
 body_most : (b : Body) (charge : ℕ) → charge_of (profile_by b charge) ≤ charge
 body_most (bodies.Profile special limit) charge = omega arith
-body_most (bodies.Space cells) charge = omega arith
-body_most (bodies.Context) charge = omega arith
-body_most (bodies.Program code) charge = omega arith
-body_most (bodies.Queue q) charge = omega arith
+body_most _ charge = omega arith
 
 -- what is kept of a user is no more than its charge
 pub charge_most : (o : Option Object) (charge : ℕ) → charge_of (kept_profile o charge) ≤ charge

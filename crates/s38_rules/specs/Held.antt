@@ -74,6 +74,9 @@ kind_of (bodies.Program code) = kinds.Program
 kind_of (bodies.Profile special limit) = kinds.Profile
 kind_of (bodies.Space cells) = kinds.Space
 kind_of (bodies.Queue q) = kinds.Queue
+kind_of (bodies.Index index) = kinds.Index
+kind_of (bodies.DataSpace held) = kinds.DataSpace
+kind_of (bodies.Cursor cursor) = kinds.Cursor
 
 abbrev pub owner_in : Option Object → ℕ
 owner_in None = 0

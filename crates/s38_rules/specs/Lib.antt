@@ -8,6 +8,7 @@ pub mod Effect
 pub mod Grants
 pub mod Headers
 pub mod Held
+pub mod Indexes
 pub mod Instruction
 pub mod Invocations
 pub mod Keeping

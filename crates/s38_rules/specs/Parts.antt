@@ -5,8 +5,12 @@ use Rattle.std.specs.Option.{unwrap_or}
 use Rattle.std.proofs.Common.{refl}
 use Rattle.s38_base.specs.declared.rights.Special.{Special}
 use Rattle.s38_memory.specs.declared.cell.Cell.{Cell}
+use Rattle.s38_dataspaces.specs.Table.{DataTable}
+use Rattle.s38_indexes.specs.Entries.{EntryIndex}
 use Rattle.s38_queues.specs.MessageQueue.{MessageQueue}
 use Rattle.s38_queues.specs.declared.message.Order.TheVariants.{Fifo}
+use Rattle.s38_rules.specs.declared.cursor.Cursor.{Cursor}
+use Rattle.s38_rules.specs.declared.data_body.DataBody.{DataBody}
 use Rattle.s38_rules.specs.declared.object.Object.{Object}
 use Rattle.s38_rules.specs.declared.object.Body.{Body}
 use Rattle.s38_rules.specs.declared.object.Body.TheVariants as bodies
@@ -62,6 +66,27 @@ space_of _ = None
 abbrev pub space_part : Part (List Cell)
 space_part = record { of = space_of; make = bodies.Space }
 
+abbrev pub index_of : Body → Option EntryIndex
+index_of (bodies.Index index) = Some index
+index_of _ = None
+
+abbrev pub index_part : Part EntryIndex
+index_part = record { of = index_of; make = bodies.Index }
+
+abbrev pub data_of : Body → Option DataBody
+data_of (bodies.DataSpace held) = Some held
+data_of _ = None
+
+abbrev pub data_part : Part DataBody
+data_part = record { of = data_of; make = bodies.DataSpace }
+
+abbrev pub cursor_of : Body → Option Cursor
+cursor_of (bodies.Cursor cursor) = Some cursor
+cursor_of _ = None
+
+abbrev pub cursor_part : Part Cursor
+cursor_part = record { of = cursor_of; make = bodies.Cursor }
+
 -- the special authorities of a user, and how many pages it may own
 abbrev pub profile_of : Body → Option (Special × ℕ)
 profile_of (bodies.Profile special limit) = Some (special, limit)
@@ -73,24 +98,39 @@ profile_part = record { of = profile_of; make = λ x. bodies.Profile x.0 x.1 }
 -- ---- they are parts
 
 queue_back : (b : Body) (x : MessageQueue) → queue_of b ≡ Some x → b ≡ bodies.Queue x
-queue_back (bodies.Queue q) x h = cc
-queue_back bodies.Context x h = cc
-queue_back (bodies.Program code) x h = cc
-queue_back (bodies.Profile special limit) x h = cc
-queue_back (bodies.Space cells) x h = cc
+queue_back (bodies.Queue held) x h = cc
+queue_back _ x h = cc
 
 pub queue_lawful : IsPart MessageQueue queue_part
 queue_lawful = record { got = λ x. refl; back = queue_back }
 
 space_back : (b : Body) (x : List Cell) → space_of b ≡ Some x → b ≡ bodies.Space x
-space_back (bodies.Space cells) x h = cc
-space_back bodies.Context x h = cc
-space_back (bodies.Program code) x h = cc
-space_back (bodies.Profile special limit) x h = cc
-space_back (bodies.Queue q) x h = cc
+space_back (bodies.Space held) x h = cc
+space_back _ x h = cc
 
 pub space_lawful : IsPart (List Cell) space_part
 space_lawful = record { got = λ x. refl; back = space_back }
+
+index_back : (b : Body) (x : EntryIndex) → index_of b ≡ Some x → b ≡ bodies.Index x
+index_back (bodies.Index held) x h = cc
+index_back _ x h = cc
+
+pub index_lawful : IsPart EntryIndex index_part
+index_lawful = record { got = λ x. refl; back = index_back }
+
+data_back : (b : Body) (x : DataBody) → data_of b ≡ Some x → b ≡ bodies.DataSpace x
+data_back (bodies.DataSpace held) x h = cc
+data_back _ x h = cc
+
+pub data_lawful : IsPart DataBody data_part
+data_lawful = record { got = λ x. refl; back = data_back }
+
+cursor_back : (b : Body) (x : Cursor) → cursor_of b ≡ Some x → b ≡ bodies.Cursor x
+cursor_back (bodies.Cursor held) x h = cc
+cursor_back _ x h = cc
+
+pub cursor_lawful : IsPart Cursor cursor_part
+cursor_lawful = record { got = λ x. refl; back = cursor_back }
 
 -- ---- read where the kind was asked before
 
@@ -101,6 +141,13 @@ no_queue = record { order = Fifo; key_len = 0; longest = 0; messages = [] }
 abbrev pub queue_at : Held → ℕ → MessageQueue
 queue_at h n = unwrap_or (part_at queue_part h n) no_queue
 
+abbrev pub no_index : EntryIndex
+no_index = record { longest = 0; entries = [] }
+
+-- the index of a number
+abbrev pub index_at : Held → ℕ → EntryIndex
+index_at h n = unwrap_or (part_at index_part h n) no_index
+
 -- the cells of the space of a number
 abbrev pub cells_at : Held → ℕ → List Cell
 cells_at h n = unwrap_or (part_at space_part h n) []
@@ -108,6 +155,10 @@ cells_at h n = unwrap_or (part_at space_part h n) []
 -- the queue of a number is another one from now on
 abbrev pub on_queue : Held → ℕ → (MessageQueue → MessageQueue) → Held
 on_queue h n f = over_part queue_part h n f
+
+-- the index of a number is another one from now on
+abbrev pub on_index : Held → ℕ → (EntryIndex → EntryIndex) → Held
+on_index h n f = over_part index_part h n f
 
 -- the cells of the space of a number are others from now on
 abbrev pub on_space : Held → ℕ → (List Cell → List Cell) → Held

@@ -1,19 +1,22 @@
 -- Queues: made and destroyed; messages put and taken.
-use Rattle.std.specs.Prelude.{ℕ, ◌+◌, ◌==◌, not, List, [], ◌∷◌, length, max, min, Option, Some, None, nat_lt}
+use Rattle.std.specs.Prelude.{ℕ, ◌+◌, ◌==◌, Bool, not, ◌||◌, List, [], length, max, min, Option, Some, None, is_some, nat_lt, if◌then◌else◌}
+use Rattle.std.specs.Option.{unwrap_or}
 use Rattle.s38_base.specs.declared.exception.Exception.{Exception}
 use Rattle.s38_base.specs.declared.id.Kind.TheVariants as kinds
 use Rattle.s38_base.specs.declared.op.Op.{Op}
 use Rattle.s38_base.specs.declared.op.Op.TheVariants.{Crtq, Desq, Enq, Deq}
 use Rattle.s38_base.specs.declared.words.Category.TheVariants.{Change}
+use Rattle.s38_base.specs.declared.words.Relation.{Relation}
 use Rattle.s38_base.specs.declared.words.Relation.TheVariants.{Any}
 use Rattle.s38_base.specs.Exceptions as exceptions
 use Rattle.s38_base.specs.Limits.{longest_message}
-use Rattle.s38_base.specs.Relations.{relation_word}
+use Rattle.s38_base.specs.Relations.{relation_of}
 use Rattle.s38_base.specs.RightNames as rights
 use Rattle.s38_base.specs.Signals.{fails, first}
-use Rattle.s38_queues.specs.MessageQueue.{MessageQueue, image_size, message, with_message, without_message}
+use Rattle.s38_queues.specs.MessageQueue.{MessageQueue, found, found_message, image_size, is_any, is_keyed, longest_key, message, with_message, without_found}
 use Rattle.s38_queues.specs.declared.message.Message.{Message}
-use Rattle.s38_queues.specs.declared.message.Order.TheVariants.{Fifo}
+use Rattle.s38_queues.specs.declared.message.Order.{Order}
+use Rattle.s38_queues.specs.declared.message.Order.TheVariants.{Fifo, Lifo, Keyed}
 use Rattle.s38_code.specs.declared.operand.Operand.{Operand}
 use Rattle.s38_code.specs.declared.reply.Val.{Val}
 use Rattle.s38_code.specs.declared.reply.Val.TheVariants as vals
@@ -38,16 +41,24 @@ created_queue h ops = in_context kinds.Queue 1 h ops
 unfoldable pub crtq_fails : State → ℕ → List Operand → Option Exception
 crtq_fails s p ops = creation_fails s.held (user_of s p) (created_queue s.held ops) None
 
--- messages of 1 to 4,096 bytes; another number, which a checked program does not have, is brought there
+-- the order that a word names
+abbrev pub order_of : ℕ → Order
+order_of word = if word == 1 then Lifo else (if word == 2 then Keyed else Fifo)
+
+-- keys of at most 120 bytes and messages of 1 to 4,096; another number, which a checked program does not have, is
+-- brought there
+abbrev pub key_len_at : List Operand → ℕ
+key_len_at ops = min longest_key (whole_at ops 6)
+
 abbrev pub longest_at : List Operand → ℕ
 longest_at ops = max 1 (min longest_message (whole_at ops 7))
 
-abbrev pub new_queue : ℕ → MessageQueue
-new_queue longest = record { order = Fifo; key_len = 0; longest = longest; messages = [] }
+abbrev pub new_queue : List Operand → MessageQueue
+new_queue ops = record { order = order_of (word_at ops 5); key_len = key_len_at ops; longest = longest_at ops; messages = [] }
 
 unfoldable pub crtq_changes : State → ℕ → List Operand → State
 crtq_changes s p ops =
-    record s { held = creation_changes s.held (user_of s p) (created_queue s.held ops) (bodies.Queue (new_queue (longest_at ops))) }
+    record s { held = creation_changes s.held (user_of s p) (created_queue s.held ops) (bodies.Queue (new_queue ops)) }
 
 abbrev pub crtq : Instruction
 crtq = record inert {
@@ -99,24 +110,43 @@ enq = record inert {
 unfoldable pub deq_needs : List Need
 deq_needs = on_object 2 (Of kinds.Queue) rights.delete (Some Change)
 
--- a queue without keys is asked for any message and without a key, and there is one
+abbrev pub relation_at : List Operand → ℕ → Relation
+relation_at ops k = unwrap_or (relation_of (word_at ops k)) Any
+
+-- a queue without keys is asked for any message
+abbrev pub suits_order : MessageQueue → Relation → Bool
+suits_order q relation = is_any relation || is_keyed q.order
+
+-- for any message no key is given, and else one of the length of the queue's keys
+abbrev pub suits_keys : MessageQueue → Relation → Bool → ℕ → Bool
+suits_keys q relation is_key len = if is_any relation then not is_key else len == q.key_len
+
+-- the relation suits the queue, and the key suits both
+abbrev pub ask_fails : MessageQueue → Relation → Bool → ℕ → Option Exception
+ask_fails q relation is_key len =
+    first (fails (not (suits_order q relation)) exceptions.length_invalid 3)
+    (fails (not (suits_keys q relation is_key len)) exceptions.length_invalid 4)
+
+-- the queue may be asked so, and there is such a message
+abbrev pub take_fails : MessageQueue → Relation → Bool → List ℕ → Option Exception
+take_fails q relation is_key key =
+    first (ask_fails q relation is_key (length key)) (fails (not (is_some (found q relation key))) exceptions.no_message 2)
+
 unfoldable pub deq_fails : Held → List Operand → Option Exception
-deq_fails h ops =
-    first (fails (not (word_at ops 3 == relation_word Any)) exceptions.length_invalid 3)
-    (first (fails (is_given ops 4) exceptions.length_invalid 4)
-    (fails (length (queue_at h (target h ops 2)).messages == 0) exceptions.no_message 2))
+deq_fails h ops = take_fails (queue_at h (target h ops 2)) (relation_at ops 3) (is_given ops 4) (bytes_at h ops 4)
 
-abbrev pub oldest : List Message → List ℕ
-oldest [] = []
-oldest (m ∷ ms) = m.text
+abbrev pub text_of : Option Message → List ℕ
+text_of None = []
+text_of (Some m) = m.text
 
--- the oldest message, cut or filled with blanks
+-- the text of the message that is taken, cut or filled with blanks
 unfoldable pub deq_gives : Held → List Operand → Val
-deq_gives h ops = vals.Bytes (fitted (room_at ops 1) blank (oldest (queue_at h (target h ops 2)).messages))
+deq_gives h ops =
+    vals.Bytes (fitted (room_at ops 1) blank (text_of (found_message (queue_at h (target h ops 2)) (relation_at ops 3) (bytes_at h ops 4))))
 
--- the oldest message leaves the queue
+-- it leaves the queue
 unfoldable pub deq_changes : Held → List Operand → Held
-deq_changes h ops = on_queue h (target h ops 2) (λ q. without_message q 0)
+deq_changes h ops = on_queue h (target h ops 2) (λ q. without_found q (relation_at ops 3) (bytes_at h ops 4))
 
 abbrev pub deq : Instruction
 deq = record inert {

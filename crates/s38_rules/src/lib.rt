@@ -4,6 +4,8 @@
 #![tactic(auto)]
 
 mod creating;
+mod cursor;
+mod data_body;
 mod listed;
 mod need;
 mod object;
@@ -15,6 +17,8 @@ mod table;
 mod verdict;
 
 pub use creating::Creating;
+pub use cursor::Cursor;
+pub use data_body::DataBody;
 pub use listed::Listed;
 pub use need::{Claim, Located, Named, Need, PointerKind, Sought};
 pub use object::{Body, Object};

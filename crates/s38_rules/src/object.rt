@@ -1,6 +1,9 @@
+use crate::cursor::Cursor;
+use crate::data_body::DataBody;
 use crate::rows::RowList;
 use s38_base::{Id, ObjNum, Rights, Special, UserNum};
 use s38_code::Code;
+use s38_indexes::Index;
 use s38_memory::Tagged;
 use s38_queues::Queue;
 
@@ -14,6 +17,9 @@ pub enum Body {
     /// Cells, each sixteen bytes or a pointer.
     Space(Tagged),
     Queue(Queue),
+    Index(Index),
+    DataSpace(DataBody),
+    Cursor(Cursor),
 }
 
 /// An encapsulated object.

@@ -3,9 +3,12 @@ ghost use Rattle.std.specs.Prelude.{◌≡◌};
 ghost use Rattle.std.specs.Borrow.{sem};
 ghost use Rattle.std.specs.Option.{option_copied, option_copied_mut};
 ghost use Rattle.s38_rules.specs.Lending.{LendsPart};
-ghost use Rattle.s38_rules.specs.Parts.{IsPart, Part, queue_lawful, queue_part, space_lawful, space_part};
+ghost use Rattle.s38_rules.specs.Parts.{IsPart, Part, cursor_lawful, cursor_part, data_lawful, data_part, index_lawful, index_part, queue_lawful, queue_part, space_lawful, space_part};
 
+use crate::cursor::Cursor;
+use crate::data_body::DataBody;
 use crate::object::Body;
+use s38_indexes::Index;
 use s38_memory::Tagged;
 use s38_queues::Queue;
 
@@ -60,6 +63,66 @@ impl BodyPart for Tagged {
     fn of_mut(body: &mut Body) -> Option<&mut Tagged> {
         match body {
             Body::Space(cells) => Some(cells),
+            _ => None,
+        }
+    }
+}
+
+impl BodyPart for Index {
+    ghost part = { index_part };
+
+    ghost lawful = { index_lawful };
+
+    fn of(body: &Body) -> Option<&Index> {
+        match body {
+            Body::Index(index) => Some(index),
+            _ => None,
+        }
+    }
+
+    fn of_mut(body: &mut Body) -> Option<&mut Index> {
+        match body {
+            Body::Index(index) => Some(index),
+            _ => None,
+        }
+    }
+}
+
+impl BodyPart for DataBody {
+    ghost part = { data_part };
+
+    ghost lawful = { data_lawful };
+
+    fn of(body: &Body) -> Option<&DataBody> {
+        match body {
+            Body::DataSpace(held) => Some(held),
+            _ => None,
+        }
+    }
+
+    fn of_mut(body: &mut Body) -> Option<&mut DataBody> {
+        match body {
+            Body::DataSpace(held) => Some(held),
+            _ => None,
+        }
+    }
+}
+
+impl BodyPart for Cursor {
+    ghost part = { cursor_part };
+
+    ghost lawful = { cursor_lawful };
+
+    fn of(body: &Body) -> Option<&Cursor> {
+        match body {
+            Body::Cursor(cursor) => Some(cursor),
+            _ => None,
+        }
+    }
+
+    fn of_mut(body: &mut Body) -> Option<&mut Cursor> {
+        match body {
+            Body::Cursor(cursor) => Some(cursor),
             _ => None,
         }
     }
