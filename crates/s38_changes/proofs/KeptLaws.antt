@@ -8,6 +8,7 @@ use Rattle.s38_base.specs.declared.id.ObjNum.{ObjNum}
 use Rattle.s38_base.specs.declared.rights.Rights.{Rights}
 use Rattle.s38_base.specs.declared.rights.Special.{Special}
 use Rattle.s38_memory.specs.declared.cell.Cell.{Cell}
+use Rattle.s38_indexes.specs.Entries.{EntryIndex}
 use Rattle.s38_queues.specs.MessageQueue.{MessageQueue}
 use Rattle.s38_profiles.specs.declared.profile.Profile.{Profile}
 use Rattle.s38_profiles.specs.ProfileMaps.{ProfileMaps}
@@ -20,7 +21,7 @@ use Rattle.s38_rules.specs.Headers.{row_in}
 use Rattle.s38_rules.specs.Held.{Held, change, change_in, charge_in, moved, object, object_in, pages_for, pages_of, renamed, space_pages, with_object, without, without_in}
 use Rattle.s38_rules.specs.Keeping.{AreKeptRows, AreUsers, IsUser, paid, paying}
 use Rattle.s38_rules.specs.Kept.{Mirrors, kept_profile, kept_row, profile_by}
-use Rattle.s38_rules.specs.Parts.{cells_at, on_queue, on_space, over_object, profile_part, queue_part, set_profile, space_part}
+use Rattle.s38_rules.specs.Parts.{IsPart, Part, cells_at, index_lawful, index_part, on_index, on_queue, on_space, over, over_object, over_part, profile_part, queue_lawful, queue_part, set_profile, space_part}
 use Rattle.s38_rules.specs.PrivateRows.{AreRows, row_for, row_of}
 use Rattle.s38_rules.specs.Standing.{granted, open_to_all, owned_by, restand, standing_of, with_standing}
 use Rattle.s38_rules.proofs.ChargeLaws.{AreRising, KeepsNumber, change_absent, charge_changed, charge_last, charge_same, charge_without, number_of, object_above, object_changed, object_last, object_without, own_pages, pages_within, some_page}
@@ -108,26 +109,53 @@ pub public_kept : (maps : ProfileMaps) (h : Held) (n : ℕ) (r : Rights) → Mir
 public_kept maps h n r m =
     left maps h n (λ o. with_standing (open_to_all r (standing_of o)) o) (λ o. refl) (λ o there. record { owner = refl; rows = refl; pages = refl; profile = λ charge. refl }) m
 
-queue_leaves : (f : MessageQueue → MessageQueue) (o : Object) (b : Body) → o.body ≡ b → Leaves (over_object queue_part f) o
-queue_leaves f o (bodies.Queue q) e = record { owner = refl; rows = refl; pages = rw e refl; profile = λ charge. rw e refl }
-queue_leaves f o (bodies.Space cells) e = record { owner = refl; rows = refl; pages = rw e refl; profile = λ charge. rw e refl }
-queue_leaves f o (bodies.Context) e = record { owner = refl; rows = refl; pages = rw e refl; profile = λ charge. rw e refl }
-queue_leaves f o (bodies.Program code) e = record { owner = refl; rows = refl; pages = rw e refl; profile = λ charge. rw e refl }
-queue_leaves f o (bodies.Profile special limit) e = record { owner = refl; rows = refl; pages = rw e refl; profile = λ charge. rw e refl }
+-- a part of which nothing is kept: its object takes one page, and is no user
+pub record IsUnkept (T : Type 0) (p : Part T) : Type 0 where
+  pub pages : (x : T) → pages_of (p.make x) ≡ 1
+  pub profile : (x : T) (charge : ℕ) → profile_by (p.make x) charge ≡ None
+
+pages_left : {T : Type 0} (p : Part T) (lawful : IsPart T p) (free : IsUnkept T p) (f : T → T) (b : Body) (r : Option T) → p.of b ≡ r → pages_of (over p f b r) ≡ pages_of b
+pages_left p lawful free f b None e = refl
+pages_left p lawful free f b (Some x) e = free.pages (f x) ∙ sym (ap pages_of (lawful.back b x e) ∙ free.pages x)
+
+profile_left : {T : Type 0} (p : Part T) (lawful : IsPart T p) (free : IsUnkept T p) (f : T → T) (b : Body) (charge : ℕ) (r : Option T) → p.of b ≡ r → profile_by (over p f b r) charge ≡ profile_by b charge
+profile_left p lawful free f b charge None e = refl
+profile_left p lawful free f b charge (Some x) e =
+    free.profile (f x) charge ∙ sym (ap (λ (c : Body). profile_by c charge) (lawful.back b x e) ∙ free.profile x charge)
+
+part_leaves : {T : Type 0} (p : Part T) (lawful : IsPart T p) (free : IsUnkept T p) (f : T → T) (o : Object) → Leaves (over_object p f) o
+part_leaves p lawful free f o =
+    record {
+      owner = refl;
+      rows = refl;
+      pages = pages_left p lawful free f o.body (p.of o.body) refl;
+      profile = λ charge. profile_left p lawful free f o.body charge (p.of o.body) refl;
+    }
+
+-- what an object of such a kind holds is something else
+pub part_unkept : {T : Type 0} (p : Part T) (lawful : IsPart T p) (free : IsUnkept T p) (maps : ProfileMaps) (h : Held) (n : ℕ) (f : T → T) → Mirrors maps h → Mirrors maps (over_part p h n f)
+part_unkept p lawful free maps h n f m = left maps h n (over_object p f) (λ o. refl) (λ o there. part_leaves p lawful free f o) m
+
+queue_free : IsUnkept MessageQueue queue_part
+queue_free = record { pages = λ x. refl; profile = λ x charge. refl }
 
 -- the messages of a queue are others
 pub queue_kept : (maps : ProfileMaps) (h : Held) (n : ℕ) (f : MessageQueue → MessageQueue) → Mirrors maps h → Mirrors maps (on_queue h n f)
-queue_kept maps h n f m = left maps h n (over_object queue_part f) (λ o. refl) (λ o there. queue_leaves f o o.body refl) m
+queue_kept maps h n f m = part_unkept queue_part queue_lawful queue_free maps h n f m
+
+index_free : IsUnkept EntryIndex index_part
+index_free = record { pages = λ x. refl; profile = λ x charge. refl }
+
+-- the entries of an index are others
+pub index_kept : (maps : ProfileMaps) (h : Held) (n : ℕ) (f : EntryIndex → EntryIndex) → Mirrors maps h → Mirrors maps (on_index h n f)
+index_kept maps h n f m = part_unkept index_part index_lawful index_free maps h n f m
 
 space_leaves : (h : Held) (n : ℕ) (f : List Cell → List Cell) (o : Object) (b : Body) → length (f (cells_at h n)) ≡ length (cells_at h n) → object h n ≡ Some o → o.body ≡ b → Leaves (over_object space_part f) o
 space_leaves h n f o (bodies.Space cells) many there e =
     let here : cells_at h n ≡ cells = rw (there, e) refl in
     let same : length (f cells) ≡ length cells = ap (λ (c : List Cell). length (f c)) (sym here) ∙ many ∙ ap (λ (c : List Cell). length c) here in
     record { owner = refl; rows = refl; pages = rw e (ap (λ (k : ℕ). 1 + space_pages k) same); profile = λ charge. rw e refl }
-space_leaves h n f o (bodies.Queue q) many there e = record { owner = refl; rows = refl; pages = rw e refl; profile = λ charge. rw e refl }
-space_leaves h n f o (bodies.Context) many there e = record { owner = refl; rows = refl; pages = rw e refl; profile = λ charge. rw e refl }
-space_leaves h n f o (bodies.Program code) many there e = record { owner = refl; rows = refl; pages = rw e refl; profile = λ charge. rw e refl }
-space_leaves h n f o (bodies.Profile special limit) many there e = record { owner = refl; rows = refl; pages = rw e refl; profile = λ charge. rw e refl }
+space_leaves h n f o _ many there e = record { owner = refl; rows = refl; pages = rw e refl; profile = λ charge. rw e refl }
 
 -- the cells of a space are others, and as many
 pub cells_kept : (maps : ProfileMaps) (h : Held) (n : ℕ) (f : List Cell → List Cell) → length (f (cells_at h n)) ≡ length (cells_at h n) → Mirrors maps h → Mirrors maps (on_space h n f)

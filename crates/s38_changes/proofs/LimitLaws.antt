@@ -20,9 +20,7 @@ both_pass a b pages h = grind (arith, nat_tests)
 by_body : (b : Body) (paid others pages : ℕ) → 1 ≤ pages → (is_profile b ≡ true → paid ≡ others) → nat_lt (limit_of b) (paid + pages) ≡ nat_lt (limit_of b) (others + pages)
 by_body (bodies.Profile special limit) paid others pages h same = ap (λ n. nat_lt limit (n + pages)) (same refl)
 by_body bodies.Context paid others pages h same = both_pass paid others pages h
-by_body (bodies.Program code) paid others pages h same = both_pass paid others pages h
-by_body (bodies.Space cells) paid others pages h same = both_pass paid others pages h
-by_body (bodies.Queue q) paid others pages h same = both_pass paid others pages h
+by_body _ paid others pages h same = both_pass paid others pages h
 
 by_object : (o : Option Object) (paid others pages : ℕ) → 1 ≤ pages → (is_profile_in o ≡ true → paid ≡ others) → nat_lt (limit_in o) (paid + pages) ≡ nat_lt (limit_in o) (others + pages)
 by_object None paid others pages h same = both_pass paid others pages h

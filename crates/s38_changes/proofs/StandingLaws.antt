@@ -67,9 +67,7 @@ row_set maps after h more n o user r (Err x) found are ok set users err same m =
 limit_body : (b : Body) → 1 ≤ limit_of b → IsSome (profile_by b 0)
 limit_body (bodies.Profile special limit) h = refl
 limit_body bodies.Context h = absurd (omega (arith, h))
-limit_body (bodies.Program code) h = absurd (omega (arith, h))
-limit_body (bodies.Space cells) h = absurd (omega (arith, h))
-limit_body (bodies.Queue q) h = absurd (omega (arith, h))
+limit_body _ h = absurd (omega (arith, h))
 
 limit_some : (o : Option Object) → 1 ≤ limit_in o → IsSome (kept_profile o 0)
 limit_some None h = absurd (omega (arith, h))
@@ -120,9 +118,7 @@ given_room maps mid h n user limit o rising found rule is small set m =
 limit_body_kept : (b : Body) (charge : ℕ) → kept_limit (profile_by b charge) ≡ limit_of b
 limit_body_kept (bodies.Profile special limit) charge = refl
 limit_body_kept bodies.Context charge = refl
-limit_body_kept (bodies.Program code) charge = refl
-limit_body_kept (bodies.Space cells) charge = refl
-limit_body_kept (bodies.Queue q) charge = refl
+limit_body_kept _ charge = refl
 
 limit_kept : (o : Option Object) (charge : ℕ) → kept_limit (kept_profile o charge) ≡ limit_in o
 limit_kept None charge = refl
@@ -176,9 +172,7 @@ entered_body : (maps after : ProfileMaps) (h : Held) (n : ℕ) (o : Object) (b :
     → SetsUser maps.users n (Some (entered special limit (user_at maps.users n))) after.users → after.rows ≡ maps.rows → Mirrors maps h → Mirrors after (set_profile h n special limit)
 entered_body maps after h n o (bodies.Profile was_special was_limit) special limit found e there set same m = profile_kept maps after h n o special was_special limit was_limit found e set same m
 entered_body maps after h n o bodies.Context special limit found e there set same m = absurd (no_user there)
-entered_body maps after h n o (bodies.Program code) special limit found e there set same m = absurd (no_user there)
-entered_body maps after h n o (bodies.Space cells) special limit found e there set same m = absurd (no_user there)
-entered_body maps after h n o (bodies.Queue q) special limit found e there set same m = absurd (no_user there)
+entered_body maps after h n o _ special limit found e there set same m = absurd (no_user there)
 
 -- a user has other specials and another limit
 profile_entered : (maps after : ProfileMaps) (h : Held) (n : ℕ) (special : Special) (limit : ℕ) → IsSome (user_at maps.users n)
@@ -198,9 +192,7 @@ profile_set maps after h n special limit users (Err x) there ok others added m =
 no_part : (b : Body) (charge : ℕ) → is_some (profile_by b charge) ≡ false → profile_part.of b ≡ None
 no_part (bodies.Profile special limit) charge h = cc
 no_part bodies.Context charge h = refl
-no_part (bodies.Program code) charge h = refl
-no_part (bodies.Space cells) charge h = refl
-no_part (bodies.Queue q) charge h = refl
+no_part _ charge h = refl
 
 no_profile : (o : Option Object) (charge : ℕ) → is_some (kept_profile o charge) ≡ false → part_in profile_part o ≡ None
 no_profile None charge h = refl
@@ -267,9 +259,8 @@ length_counted maps h n len limit o lawful found rule is small m =
 no_space : (b : Body) → ((cells : List Cell) → b ≡ bodies.Space cells → ⊥) → space_part.of b ≡ None
 no_space (bodies.Space cells) none = absurd (none cells refl)
 no_space bodies.Context none = refl
-no_space (bodies.Program code) none = refl
 no_space (bodies.Profile special limit) none = refl
-no_space (bodies.Queue q) none = refl
+no_space _ none = refl
 
 -- the object of a number is no space, and nothing is changed
 pub space_stays : (s : State) (n : ℕ) (f : List Cell → List Cell) (o : Object) → object s.held n ≡ Some o → ((cells : List Cell) → o.body ≡ bodies.Space cells → ⊥) → s ≡ record s { held = on_space s.held n f }

@@ -2,12 +2,15 @@ ghost use Rattle.std.specs.Prelude.{◌≡◌, ◌≢◌, [], ◌≤◌, ◌<◌
 ghost use Rattle.std.specs.Borrow.{sem};
 ghost use Rattle.std.specs.Option.{option_copied, option_copied_mut};
 ghost use Rattle.s38_memory.specs.contracts.tagged.Tagged.{the_row as tagged_row};
+ghost use Rattle.s38_indexes.specs.contracts.index.Index.{the_row as index_row};
 ghost use Rattle.s38_queues.specs.contracts.queue.Queue.{the_row as queue_row};
+ghost use Rattle.s38_rules.specs.contracts.cursor.Cursor.{the_row as cursor_row};
+ghost use Rattle.s38_rules.specs.contracts.data_body.DataBody.{the_row as data_row};
 ghost use Rattle.s38_rules.specs.Contexts.{entered, is_name_beside};
 ghost use Rattle.s38_rules.specs.Creation.{is_taken_beside};
 ghost use Rattle.s38_rules.specs.Headers.{row_in};
 ghost use Rattle.s38_rules.specs.Held.{change, contents, context_in, found, is_there, moved, nothing, number_found, object, renamed, with_added, without};
-ghost use Rattle.s38_rules.specs.Parts.{part_at, queue_part, set_profile, space_part};
+ghost use Rattle.s38_rules.specs.Parts.{cursor_part, data_part, index_part, part_at, queue_part, set_profile, space_part};
 ghost use Rattle.s38_rules.specs.Standing.{granted, open_to_all, owned_by, restand};
 ghost use Rattle.s38_objects.specs.Changes.{placed};
 ghost use Rattle.s38_objects.specs.Lawful.{IsLawful, is_place, is_place_of};
@@ -16,9 +19,10 @@ ghost use Rattle.s38_objects.specs.Lending.{LendsHeld};
 use crate::name_key::{NameKey, key};
 use crate::{listing, names, numbered};
 use s38_base::{Id, NoMemory, ObjNum, Rights, Special, UserNum};
+use s38_indexes::Index;
 use s38_memory::Tagged;
 use s38_queues::Queue;
-use s38_rules::{BodyPart, Listed, Object};
+use s38_rules::{BodyPart, Cursor, DataBody, Listed, Object};
 use std::alloc::{AllocFailed, Global};
 use std::collections::BTreeMap;
 use std::collections::btree_map::Values;
@@ -218,6 +222,27 @@ impl Objects {
         self.part::<Tagged>(number)
     }
 
+    /// The index of a number, in logarithmic time.
+    pub fn index(&self, number: ObjNum) -> Option<&Index>
+        ensures { option_copied result ≡ part_at index_part self.now number.0 }
+    {
+        self.part::<Index>(number)
+    }
+
+    /// The data space of a number, in logarithmic time.
+    pub fn data_space(&self, number: ObjNum) -> Option<&DataBody>
+        ensures { option_copied result ≡ part_at data_part self.now number.0 }
+    {
+        self.part::<DataBody>(number)
+    }
+
+    /// The cursor of a number, in logarithmic time.
+    pub fn cursor(&self, number: ObjNum) -> Option<&Cursor>
+        ensures { option_copied result ≡ part_at cursor_part self.now number.0 }
+    {
+        self.part::<Cursor>(number)
+    }
+
     /// What the object of a number holds, to be written. A further kind is a `BodyPart` and calls like `queue` and
     /// `queue_mut`.
     fn part_mut<P: BodyPart>(&mut self, number: ObjNum) -> Option<&mut P>
@@ -246,6 +271,33 @@ impl Objects {
         ensures value { option_copied_mut result ≡ part_at space_part self.old number.0 }
     {
         self.part_mut::<Tagged>(number)
+    }
+
+    /// The index of a number, to be written, in logarithmic time; None exactly where there is no such object or
+    /// it is no index.
+    pub fn index_mut(&mut self, number: ObjNum) -> Option<&mut Index>
+        ensures* writes_back { sem 𝓛 (LendsHeld index_row index_part self.entry number.0 result) }
+        ensures value { option_copied_mut result ≡ part_at index_part self.old number.0 }
+    {
+        self.part_mut::<Index>(number)
+    }
+
+    /// The data space of a number, to be written, in logarithmic time; None exactly where there is no such object or
+    /// it is no data space.
+    pub fn data_space_mut(&mut self, number: ObjNum) -> Option<&mut DataBody>
+        ensures* writes_back { sem 𝓛 (LendsHeld data_row data_part self.entry number.0 result) }
+        ensures value { option_copied_mut result ≡ part_at data_part self.old number.0 }
+    {
+        self.part_mut::<DataBody>(number)
+    }
+
+    /// The cursor of a number, to be written, in logarithmic time; None exactly where there is no such object or
+    /// it is no cursor.
+    pub fn cursor_mut(&mut self, number: ObjNum) -> Option<&mut Cursor>
+        ensures* writes_back { sem 𝓛 (LendsHeld cursor_row cursor_part self.entry number.0 result) }
+        ensures value { option_copied_mut result ≡ part_at cursor_part self.old number.0 }
+    {
+        self.part_mut::<Cursor>(number)
     }
 
     /// The object of a number is in this context from now on, or in none, and has this identification. `NoMemory` where

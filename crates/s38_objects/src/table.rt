@@ -17,6 +17,9 @@ pub fn kind_of(body: &Body) -> Kind
         Body::Profile { .. } => Kind::Profile,
         Body::Space(_) => Kind::Space,
         Body::Queue(_) => Kind::Queue,
+        Body::Index(_) => Kind::Index,
+        Body::DataSpace(_) => Kind::DataSpace,
+        Body::Cursor(_) => Kind::Cursor,
     }
 }
 

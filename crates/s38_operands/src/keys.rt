@@ -1,6 +1,6 @@
 //! The keys by which messages and entries are found. No memory is taken: what lies in a space is copied into room that
 //! is handed in.
-ghost use Rattle.std.specs.Prelude.{◌≡◌, take};
+ghost use Rattle.std.specs.Prelude.{◌≡◌, length, take};
 ghost use Rattle.std.specs.Option.{option_copied, unwrap_or};
 ghost use Rattle.s38_rules.specs.Cells.{bytes_there};
 ghost use Rattle.s38_rules.specs.Operands.{bytes_at, bytes_of};

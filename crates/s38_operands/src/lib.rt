@@ -6,6 +6,7 @@ mod cells;
 mod computing;
 mod failures;
 mod hex;
+mod keys;
 mod needs;
 mod numbers;
 mod operands;
@@ -19,13 +20,14 @@ pub use computing::{
     AtOperands, computing_fails, computing_gives, computing_needs, receiver_at, shift_at,
 };
 pub use failures::fails;
+pub use keys::{KEY_ROOM, key_at, relation_at};
 pub use needs::{Needs, claimed, governed, need, on_implied, on_object};
 pub use numbers::{count_at, number_at};
 pub use operands::{
     attr_at, id_at, is_given, is_in_space, is_list, is_machine, place, rights_at, room_at,
     scalar_attr, whole_at, word_at,
 };
-pub use queues::{QueueFacts, oldest, queue_facts};
+pub use queues::{QueueFacts, queue_facts};
 pub use reads::{bytes_at, piece_at, pointer_at, size_at, source_cells, target};
 pub use storage::{first_pointer, is_aligned, is_within};
 pub use values::{count_image, fitted};

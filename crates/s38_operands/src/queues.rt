@@ -1,8 +1,7 @@
-ghost use Rattle.std.specs.Prelude.{◌≡◌, ◌≤◌, length};
+ghost use Rattle.std.specs.Prelude.{◌≡◌, ◌≤◌};
 ghost use Rattle.std.specs.Option.{option_copied, unwrap_or};
 ghost use Rattle.s38_queues.specs.MessageQueue.{image_size};
 ghost use Rattle.s38_rules.specs.Parts.{no_queue, queue_at};
-ghost use Rattle.s38_rules.specs.Queues.{oldest};
 
 use s38_base::ObjNum;
 use s38_objects::Objects;
@@ -15,8 +14,6 @@ pub struct QueueFacts {
     pub longest: u16,
     /// The bytes of its image.
     pub size: u32,
-    /// How many messages there are.
-    pub count: usize,
 }
 
 fn facts_in(queue: Option<&Queue>) -> QueueFacts
@@ -24,20 +21,17 @@ fn facts_in(queue: Option<&Queue>) -> QueueFacts
     ensures longest { result.longest ≡ (unwrap_or (option_copied queue.entry) no_queue).longest }
     ensures size { result.size ≡ image_size (unwrap_or (option_copied queue.entry) no_queue).messages }
     ensures bound { result.size ≤ 16777216 }
-    ensures count { result.count ≡ length (unwrap_or (option_copied queue.entry) no_queue).messages }
 {
     match queue {
         None => QueueFacts {
             key_len: 0,
             longest: 0,
             size: 8,
-            count: 0,
         },
         Some(queue) => QueueFacts {
             key_len: queue.key_len(),
             longest: queue.longest(),
             size: queue.image_len(),
-            count: queue.len(),
         },
     }
 }
@@ -48,32 +42,6 @@ pub fn queue_facts(objects: &Objects, number: ObjNum) -> QueueFacts
     ensures longest { result.longest ≡ (queue_at objects.now number.0).longest }
     ensures size { result.size ≡ image_size (queue_at objects.now number.0).messages }
     ensures bound { result.size ≤ 16777216 }
-    ensures count { result.count ≡ length (queue_at objects.now number.0).messages }
 {
     facts_in(objects.queue(number))
-}
-
-fn oldest_of(queue: &Queue) -> &[u8]
-    ensures { result.now ≡ oldest queue.now.messages }
-{
-    match queue.message(0) {
-        None => &[],
-        Some(message) => message.text.as_slice(),
-    }
-}
-
-fn oldest_in(queue: Option<&Queue>) -> &[u8]
-    ensures { result.now ≡ oldest (unwrap_or (option_copied queue.entry) no_queue).messages }
-{
-    match queue {
-        None => &[],
-        Some(queue) => oldest_of(queue),
-    }
-}
-
-/// The text of the oldest message of the queue of a number.
-pub fn oldest(objects: &Objects, number: ObjNum) -> &[u8]
-    ensures { result.now ≡ oldest (queue_at objects.now number.0).messages }
-{
-    oldest_in(objects.queue(number))
 }
