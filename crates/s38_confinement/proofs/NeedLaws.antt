@@ -6,7 +6,7 @@ use Rattle.std.proofs.lemmas.List.Elements.{All-cons, All-nil}
 use Rattle.std.specs.List.{list_all}
 use Rattle.std.specs.Prelude.{◌||◌, All, None, Option, Some}
 use Rattle.s38_base.specs.RightNames as rights
-use Rattle.s38_base.specs.declared.op.Op.TheVariants.{Crtpg, Crtq, Crts, Grant, Lock, Matau, Matctx, Modadr, Modup, Rename, Retract, Rslvsp}
+use Rattle.s38_base.specs.declared.op.Op.TheVariants.{Crtinx, Crtpg, Crtq, Crts, Grant, Lock, Matau, Matctx, Modadr, Modup, Rename, Retract, Rslvsp}
 use Rattle.s38_base.specs.declared.op.Op.{Op}
 use Rattle.s38_code.specs.declared.event.Request.{Request}
 use Rattle.s38_code.specs.declared.family.Family.TheVariants as families
@@ -24,6 +24,7 @@ use Rattle.s38_rules.specs.Operands.{is_given, is_list, is_machine, place, targe
 use Rattle.s38_rules.specs.Profiles.{modup_needs, profiles_row}
 use Rattle.s38_rules.specs.Programs.{call_needs, programs_row}
 use Rattle.s38_rules.specs.Locking.{lock_needs, locks_row, matobjlk_needs, unlock_needs}
+use Rattle.s38_rules.specs.Indexes.{fndinxen_needs, indexes_row, insinxen_needs, rmvinxen_needs}
 use Rattle.s38_rules.specs.Queues.{deq_needs, enq_needs, queues_row}
 use Rattle.s38_rules.specs.Resolving.{listed_need, resolved, resolving_row, rslvsp_needs, setspfp_needs}
 use Rattle.s38_rules.specs.Rows.{row_in}
@@ -158,6 +159,11 @@ unfolding queues_row enq_needs deq_needs destruction_needs
 queues_so Crtq s p d t = creation_so t.operands
 queues_so _ s p d t = refl
 
+indexes_so : (op : Op) → RowSpeaks (indexes_row op)
+unfolding indexes_row insinxen_needs fndinxen_needs rmvinxen_needs destruction_needs
+indexes_so Crtinx s p d t = creation_so t.operands
+indexes_so _ s p d t = refl
+
 row_so : (f : Family) (op : Op) → RowSpeaks (row_in f op)
 unfolding row_in computing_needs
 row_so families.Computing op = λ s p d t. either (moves_pointer t.op) _ _ refl refl
@@ -169,6 +175,7 @@ row_so families.Programs op = programs_so op
 row_so families.Locks op = locks_so op
 row_so families.Spaces op = spaces_so op
 row_so families.Queues op = queues_so op
+row_so families.Indexes op = indexes_so op
 row_so _ op = λ s p d t. refl
 
 -- each need of an instruction

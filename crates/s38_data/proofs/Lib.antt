@@ -1,1 +1,2 @@
 mod QueueLaws
+mod IndexLaws

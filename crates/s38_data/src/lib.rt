@@ -2,4 +2,5 @@
 //! changes, by family.
 #![tactic(auto)]
 
+pub mod indexes;
 pub mod queues;

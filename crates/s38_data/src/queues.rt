@@ -1,8 +1,10 @@
 //! Queues: made and destroyed; messages put and taken.
-ghost use Rattle.std.specs.Prelude.{◌≡◌, ◌<◌, ◌≤◌, ℕ, [], Some, None, IfOk, OnOk, OnErr, length};
-ghost use Rattle.s38_queues.specs.MessageQueue.{MessageQueue, image_size, message, with_message, without_message};
-ghost use Rattle.s38_rules.specs.Parts.{on_queue, queue_at};
-ghost use Rattle.s38_rules.specs.Queues.{created_queue, crtq_changes, crtq_fails, deq_changes, deq_fails, deq_gives, deq_needs, enq_changes, enq_fails, enq_needs, longest_at, put_fails, queues_row};
+ghost use Rattle.std.specs.Prelude.{◌≡◌, ◌≤◌, ℕ, [], Some, None, IfOk, OnOk, OnErr, is_some, length};
+ghost use Rattle.std.specs.Option.{option_copied, unwrap_or};
+ghost use Rattle.s38_queues.specs.MessageQueue.{MessageQueue, found, found_message, image_size, is_any, longest_key, message, with_message, without_found};
+ghost use Rattle.s38_rules.specs.Operands.{bytes_at};
+ghost use Rattle.s38_rules.specs.Parts.{no_queue, on_queue, queue_at};
+ghost use Rattle.s38_rules.specs.Queues.{ask_fails, created_queue, crtq_changes, crtq_fails, deq_changes, deq_fails, deq_gives, deq_needs, enq_changes, enq_fails, enq_needs, key_len_at, longest_at, new_queue, order_of, put_fails, queues_row, suits_keys, suits_order, text_of};
 
 use s38_base::exceptions::{LENGTH_INVALID, LIMIT_EXCEEDED, NO_MESSAGE};
 use s38_base::{Category, Exception, Kind, NoMemory, ObjNum, Op, Relation, Rights};
@@ -14,15 +16,19 @@ use s38_code::{Operand, Request, Val};
 use s38_invoke::World;
 use s38_objects::Objects;
 use s38_operands::{
-    Needs, QueueFacts, bytes_at, fails, fitted, is_given, oldest, on_object, queue_facts, room_at,
-    size_at, target, whole_at, word_at,
+    Needs, Question, QueueFacts, ask_at, bytes_at, fails, fitted, is_given, on_object, piece_at,
+    queue_facts, relation_at, room_at, size_at, target, whole_at, word_at,
 };
-use s38_queues::{Order, Queue};
+use s38_queues::{Message, Order, Queue};
 use s38_rules::{Body, Creating, Sought};
 use std::alloc::Global;
 
 /// The byte that fills a text.
 const BLANK: u8 = 0x40;
+/// The longest key of a queue, in bytes.
+const LONGEST_KEY: u64 = 120;
+/// The longest message of a queue, in bytes.
+const LONGEST_MESSAGE: u64 = 4096;
 
 // ---- CRTQ
 
@@ -40,11 +46,41 @@ fn crtq_fails(world: &World<Objects>, process: u32, operands: &[Operand]) -> Opt
     creation_fails(world, world.user_of(process), &created, None)
 }
 
+/// The order that a word names.
+fn order_of(word: u32) -> Order
+    ensures { result ≡ order_of word }
+{
+    match word {
+        1 => Order::Lifo,
+        2 => Order::Keyed,
+        _ => Order::Fifo,
+    }
+}
+
+/// How long the keys of a new queue are.
+fn key_len_at(operands: &[Operand]) -> u8
+    ensures value { result ≡ key_len_at operands.now }
+    ensures bound { result ≤ longest_key }
+{
+    whole_at(operands, 6).min(LONGEST_KEY) as u8
+}
+
 /// How long the messages of a new queue may be.
 fn longest_at(operands: &[Operand]) -> u16
     ensures { result ≡ longest_at operands.now }
 {
-    whole_at(operands, 7).min(4096).max(1) as u16
+    whole_at(operands, 7).min(LONGEST_MESSAGE).max(1) as u16
+}
+
+fn new_queue(alloc: Global, operands: &[Operand]) -> Queue
+    ensures { result ≡ new_queue operands.now }
+{
+    Queue::new(
+        alloc,
+        order_of(word_at(operands, 5)),
+        key_len_at(operands),
+        longest_at(operands),
+    )
 }
 
 #[tactic(auto, using(crate::proofs::QueueLaws::crtq_created, s38_changes::proofs::CreationLaws::home_placed), unfolding(s38_rules::specs::Queues::crtq_changes))]
@@ -60,7 +96,7 @@ fn crtq(
 {
     let owner = world.user_of(process);
     let created = created_queue(&world.objects, operands);
-    let queue = Queue::new(alloc, Order::Fifo, 0, longest_at(operands));
+    let queue = new_queue(alloc, operands);
     creation_changes(alloc, world, owner, &created, Body::Queue(queue))
 }
 
@@ -148,56 +184,156 @@ fn enq(alloc: Global, world: &mut World<Objects>, operands: &[Operand]) -> Resul
 
 // ---- DEQ
 
-/// The queue is asked for any message and without a key, and there is one.
+/// Whether the queue has a message that may be taken by a key.
+#[derive(Clone, Copy)]
+struct HasMessage<'a> {
+    queue: Option<&'a Queue>,
+    relation: Relation,
+}
+
+impl Question for HasMessage<'_> {
+    ghost use Rattle.std.specs.Prelude.{is_some};
+    ghost use Rattle.std.specs.Option.{option_copied, unwrap_or};
+    ghost use Rattle.s38_queues.specs.MessageQueue.{found};
+    ghost use Rattle.s38_rules.specs.Parts.{no_queue};
+
+    ghost answer = { λ q key. is_some (found (unwrap_or (option_copied q.queue) no_queue) q.relation key) };
+
+    fn ask(&self, key: &[u8]) -> bool {
+        match self.queue {
+            None => false,
+            Some(queue) => queue.find(self.relation, key).is_some(),
+        }
+    }
+}
+
+/// Whether the queue of a number has a message that may be taken by the key at operand 4.
+fn has_message(objects: &Objects, number: ObjNum, relation: Relation, operands: &[Operand]) -> bool
+    ensures { result ≡ is_some (found (queue_at objects.now number.0) relation (bytes_at objects.now operands.now 4)) }
+{
+    let queue = objects.queue(number);
+    ask_at(&HasMessage { queue, relation }, objects, operands, 4)
+}
+
+fn is_any(relation: Relation) -> bool
+    ensures { result ≡ is_any relation }
+{
+    matches!(relation, Relation::Any)
+}
+
+/// A queue without keys is asked for any message.
+fn suits_order(facts: &QueueFacts, relation: Relation) -> bool
+    ensures { (q : MessageQueue) → facts.now.order ≡ q.order → result ≡ suits_order q relation }
+{
+    is_any(relation) || facts.order == Order::Keyed
+}
+
+/// For any message no key is given, and else one of the length of the queue's keys.
+fn suits_keys(facts: &QueueFacts, relation: Relation, is_key: bool, len: usize) -> bool
+    ensures { (q : MessageQueue) → facts.now.key_len ≡ q.key_len → result ≡ suits_keys q relation is_key len }
+{
+    if is_any(relation) {
+        !is_key
+    } else {
+        len == facts.key_len as usize
+    }
+}
+
+/// The relation suits the queue, and the key suits both.
+fn ask_fails(facts: &QueueFacts, relation: Relation, is_key: bool, len: usize) -> Option<Exception>
+    ensures { (q : MessageQueue) → facts.now.order ≡ q.order → facts.now.key_len ≡ q.key_len → result ≡ ask_fails q relation is_key len }
+{
+    if !suits_order(facts, relation) {
+        return Some(Exception::plain(LENGTH_INVALID, 3));
+    }
+    fails(!suits_keys(facts, relation, is_key, len), LENGTH_INVALID, 4)
+}
+
+/// The queue may be asked so, and there is such a message.
 #[tactic(auto, unfolding(s38_rules::specs::Queues::deq_fails))]
 fn deq_fails(objects: &Objects, operands: &[Operand]) -> Option<Exception>
     ensures { result ≡ deq_fails objects.now operands.now }
 {
-    if word_at(operands, 3) != Relation::Any.word() {
-        return Some(Exception::plain(LENGTH_INVALID, 3));
+    let number = target(objects, operands, 2);
+    let relation = relation_at(operands, 3);
+    let facts = queue_facts(objects, number);
+    let len = size_at(objects, operands, 4);
+    if let Some(failure) = ask_fails(&facts, relation, is_given(operands, 4), len) {
+        return Some(failure);
     }
-    if is_given(operands, 4) {
-        return Some(Exception::plain(LENGTH_INVALID, 4));
-    }
-    let facts = queue_facts(objects, target(objects, operands, 2));
-    fails(facts.count == 0, NO_MESSAGE, 2)
+    fails(
+        !has_message(objects, number, relation, operands),
+        NO_MESSAGE,
+        2,
+    )
 }
 
-/// The oldest message, cut or filled with blanks.
+fn text_of(message: Option<&Message>) -> &[u8]
+    ensures { result.now ≡ text_of (option_copied message.entry) }
+{
+    match message {
+        None => &[],
+        Some(message) => message.text.as_slice(),
+    }
+}
+
+/// The text of the message that the queue of a number gives.
+fn found_text<'a>(objects: &'a Objects, number: ObjNum, relation: Relation, key: &[u8]) -> &'a [u8]
+    ensures { result.now ≡ text_of (found_message (queue_at objects.now number.0) relation key.now) }
+{
+    match objects.queue(number) {
+        None => &[],
+        Some(queue) => text_of(queue.find(relation, key)),
+    }
+}
+
+/// The text of the message that is taken, cut or filled with blanks.
 #[tactic(auto, unfolding(s38_rules::specs::Queues::deq_gives))]
 fn deq_gives(alloc: Global, objects: &Objects, operands: &[Operand]) -> Result<Val, NoMemory>
     ensures { IfOk result (λ value. value ≡ deq_gives objects.now operands.now) }
 {
-    let text = oldest(objects, target(objects, operands, 2));
+    let key = piece_at(alloc, objects, operands, 4)?;
+    let number = target(objects, operands, 2);
+    let text = found_text(objects, number, relation_at(operands, 3), key.as_slice());
     let bytes = fitted(alloc, room_at(operands, 1), BLANK, text)?;
     Ok(Val::Bytes(bytes))
 }
 
-fn take_queue(queue: &mut Queue)
-    requires { 0 < length queue.old.messages }
-    ensures { queue.new ≡ without_message queue.old 0 }
+fn take_queue(queue: &mut Queue, relation: Relation, key: &[u8])
+    ensures { queue.new ≡ without_found queue.old relation key.now }
 {
-    let _message = queue.take(0);
+    let _message = queue.take(relation, key);
 }
 
-/// Takes the oldest message out of the queue of a number.
-fn take_in(objects: &mut Objects, number: ObjNum)
-    requires { 0 < length (queue_at objects.old number.0).messages }
-    ensures { objects.new ≡ on_queue objects.old number.0 (λ q. without_message q 0) }
+/// Takes a message out of the queue of a number.
+fn take_in(objects: &mut Objects, number: ObjNum, relation: Relation, key: &[u8])
+    ensures { objects.new ≡ on_queue objects.old number.0 (λ q. without_found q relation key.now) }
 {
     if let Some(queue) = objects.queue_mut(number) {
-        take_queue(queue);
+        take_queue(queue, relation, key);
     }
 }
 
-/// The oldest message leaves the queue.
-#[tactic(auto, using(crate::proofs::QueueLaws::deq_full), unfolding(s38_rules::specs::Queues::deq_changes))]
-fn deq(world: &mut World<Objects>, operands: &[Operand])
-    requires { deq_fails world.old.held operands.now ≡ None }
-    ensures { world.new ≡ record world.old { held = deq_changes world.old.held operands.now } }
+/// A message leaves the queue of a number.
+fn take(world: &mut World<Objects>, number: ObjNum, relation: Relation, key: &[u8])
+    ensures { world.new ≡ record world.old { held = on_queue world.old.held number.0 (λ q. without_found q relation key.now) } }
+{
+    take_in(&mut world.objects, number, relation, key);
+}
+
+/// The message leaves the queue; where memory is refused nothing changes.
+#[tactic(auto, unfolding(s38_rules::specs::Queues::deq_changes))]
+fn deq(alloc: Global, world: &mut World<Objects>, operands: &[Operand]) -> Result<(), NoMemory>
+    ensures ok { OnOk result (world.new ≡ record world.old { held = deq_changes world.old.held operands.now }) }
+    ensures err { OnErr result (world.new ≡ world.old) }
 {
     let number = target(&world.objects, operands, 2);
-    take_in(&mut world.objects, number);
+    let key = match piece_at(alloc, &world.objects, operands, 4) {
+        Ok(key) => key,
+        Err(fault) => return Err(fault),
+    };
+    take(world, number, relation_at(operands, 3), key.as_slice());
+    Ok(())
 }
 
 // ---- the family
@@ -283,10 +419,7 @@ pub fn apply(
             Ok(())
         }
         Op::Enq => enq(alloc, world, operands),
-        Op::Deq => {
-            deq(world, operands);
-            Ok(())
-        }
+        Op::Deq => deq(alloc, world, operands),
         _ => Ok(()),
     }
 }

@@ -5,7 +5,7 @@ ghost use Rattle.s38_rules.specs.Rows.{row};
 use s38_admin::{contexts, grants, profiles, resolving, spaces};
 use s38_base::{Exception, NoMemory, Special};
 use s38_code::{Family, Request, Val, family_of};
-use s38_data::queues;
+use s38_data::{indexes, queues};
 use s38_invoke::World;
 use s38_locking::locking;
 use s38_objects::Objects;
@@ -28,12 +28,13 @@ pub fn needs(world: &World<Objects>, process: u32, depth: u16, request: &Request
         Family::Locks => locking::needs(world, process, depth, request),
         Family::Spaces => spaces::needs(world, process, depth, request),
         Family::Queues => queues::needs(world, process, depth, request),
+        Family::Indexes => indexes::needs(world, process, depth, request),
         _ => Needs::none(),
     }
 }
 
 /// The special authority that an acting user must have.
-#[tactic(auto, using(s38_rules::proofs::Laws::unspecial_contexts, s38_rules::proofs::Laws::unspecial_locks, s38_rules::proofs::Laws::unspecial_programs, s38_rules::proofs::Laws::unspecial_queues, s38_rules::proofs::Laws::unspecial_resolving, s38_rules::proofs::Laws::unspecial_spaces), unfolding(s38_rules::specs::Rows::row_in))]
+#[tactic(auto, using(s38_rules::proofs::Laws::unspecial_contexts, s38_rules::proofs::Laws::unspecial_indexes, s38_rules::proofs::Laws::unspecial_locks, s38_rules::proofs::Laws::unspecial_programs, s38_rules::proofs::Laws::unspecial_queues, s38_rules::proofs::Laws::unspecial_resolving, s38_rules::proofs::Laws::unspecial_spaces), unfolding(s38_rules::specs::Rows::row_in))]
 pub fn special(world: &World<Objects>, process: u32, depth: u16, request: &Request) -> Special
     ensures { result.0 ≡ (row request.now.op).special world.now process depth request.now }
 {
@@ -64,6 +65,7 @@ pub fn conditions(
         Family::Locks => locking::conditions(world, process, depth, request),
         Family::Spaces => spaces::conditions(world, process, depth, request),
         Family::Queues => queues::conditions(world, process, depth, request),
+        Family::Indexes => indexes::conditions(world, process, depth, request),
         _ => None,
     }
 }
@@ -89,6 +91,7 @@ pub fn value(
         Family::Locks => locking::value(alloc, world, process, depth, request),
         Family::Spaces => spaces::value(alloc, world, process, depth, request),
         Family::Queues => queues::value(alloc, world, process, depth, request),
+        Family::Indexes => indexes::value(alloc, world, process, depth, request),
         _ => Ok(None),
     }
 }
@@ -114,6 +117,7 @@ pub fn apply(
         Family::Locks => locking::apply(world, process, depth, request),
         Family::Spaces => spaces::apply(alloc, world, process, depth, request),
         Family::Queues => queues::apply(alloc, world, process, depth, request),
+        Family::Indexes => indexes::apply(alloc, world, process, depth, request),
         _ => Ok(()),
     }
 }

@@ -22,7 +22,7 @@ pub use computing::{
 };
 pub use entries::have_values_at;
 pub use failures::fails;
-pub use keys::{KEY_ROOM, key_at, relation_at};
+pub use keys::{Question, ask_at, relation_at};
 pub use needs::{Needs, claimed, governed, need, on_implied, on_object};
 pub use numbers::{count_at, number_at, ordinal_at};
 pub use operands::{

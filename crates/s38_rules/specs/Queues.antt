@@ -121,12 +121,16 @@ suits_order q relation = is_any relation || is_keyed q.order
 abbrev pub suits_keys : MessageQueue → Relation → Bool → ℕ → Bool
 suits_keys q relation is_key len = if is_any relation then not is_key else len == q.key_len
 
--- the relation suits the queue, the key suits both, and there is such a message
+-- the relation suits the queue, and the key suits both
+abbrev pub ask_fails : MessageQueue → Relation → Bool → ℕ → Option Exception
+ask_fails q relation is_key len =
+    first (fails (not (suits_order q relation)) exceptions.length_invalid 3)
+    (fails (not (suits_keys q relation is_key len)) exceptions.length_invalid 4)
+
+-- the queue may be asked so, and there is such a message
 abbrev pub take_fails : MessageQueue → Relation → Bool → List ℕ → Option Exception
 take_fails q relation is_key key =
-    first (fails (not (suits_order q relation)) exceptions.length_invalid 3)
-    (first (fails (not (suits_keys q relation is_key (length key))) exceptions.length_invalid 4)
-    (fails (not (is_some (found q relation key))) exceptions.no_message 2))
+    first (ask_fails q relation is_key (length key)) (fails (not (is_some (found q relation key))) exceptions.no_message 2)
 
 unfoldable pub deq_fails : Held → List Operand → Option Exception
 deq_fails h ops = take_fails (queue_at h (target h ops 2)) (relation_at ops 3) (is_given ops 4) (bytes_at h ops 4)
