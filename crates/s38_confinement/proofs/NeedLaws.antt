@@ -20,7 +20,7 @@ use Rattle.s38_rules.specs.Creation.{creation_needs, destruction_needs, machine_
 use Rattle.s38_rules.specs.Grants.{grant_needs, grants_row, matau_needs, matauobj_needs, testau_needs, user_needs, xfro_needs}
 use Rattle.s38_rules.specs.Held.{Held, context_in, is_there, object}
 use Rattle.s38_rules.specs.Instruction.{Instruction}
-use Rattle.s38_rules.specs.Needs.{need}
+use Rattle.s38_rules.specs.Needs.{need, on_object}
 use Rattle.s38_rules.specs.Operands.{is_given, is_list, is_machine, place, target}
 use Rattle.s38_rules.specs.Profiles.{modup_needs, profiles_row}
 use Rattle.s38_rules.specs.Programs.{call_needs, programs_row}
