@@ -95,6 +95,14 @@ impl DataSpace {
         self.records.reserve()
     }
 
+    /// How many bytes an entry has.
+    pub fn entry_len(&self) -> usize
+        ensures len { result ≡ entry_len self.now.fields }
+        ensures bound { result ≤ 4096 }
+    {
+        self.records.width()
+    }
+
     /// Whether an entry has the length of the fields.
     fn has_length(&self, entry: &[u8]) -> bool
         ensures { result ≡ (length entry.now == entry_len self.now.fields) }

@@ -4,6 +4,7 @@
 
 mod cells;
 mod computing;
+mod entries;
 mod failures;
 mod hex;
 mod keys;
@@ -19,10 +20,11 @@ pub use cells::{copy_cells, resize_cells, set_cells, write_cells};
 pub use computing::{
     AtOperands, computing_fails, computing_gives, computing_needs, receiver_at, shift_at,
 };
+pub use entries::have_values_at;
 pub use failures::fails;
 pub use keys::{Question, ask_at, relation_at};
 pub use needs::{Needs, claimed, governed, need, on_implied, on_object};
-pub use numbers::{count_at, number_at};
+pub use numbers::{count_at, number_at, ordinal_at};
 pub use operands::{
     attr_at, id_at, is_given, is_in_space, is_list, is_machine, place, rights_at, room_at,
     scalar_attr, whole_at, word_at,

@@ -2,6 +2,7 @@
 ghost use Rattle.std.specs.Prelude.{◌≡◌, [], IfSome, IsTrue, Some};
 ghost use Rattle.std.specs.Option.{option_copied, option_map, unwrap_or};
 ghost use Rattle.s38_base.specs.Scalar.{fraction_of, is_numeric, length_of, value_of};
+ghost use Rattle.s38_rules.specs.DataSpaces.{ordinal_at, ordinal_of};
 ghost use Rattle.s38_rules.specs.Operands.{bytes_of, count_at, count_of, number_at, place as operand, scalar_attr};
 ghost use Rattle.s38_rules.specs.Cells.{bytes_there};
 
@@ -15,8 +16,9 @@ use s38_objects::Objects;
 /// The most bytes that a number has.
 const LONGEST: usize = 31;
 
+/// The number in a space, of a numeric attribute.
 #[tactic(auto, using(crate::proofs::NumberLaws::numeric_length, crate::proofs::NumberLaws::no_value))]
-fn read_in(space: &Tagged, at: u64, attr: Attr) -> Option<Dec>
+pub fn read_in(space: &Tagged, at: u64, attr: Attr) -> Option<Dec>
     requires { IsTrue (is_numeric attr) }
     ensures units { option_map (λ d. d.units) result ≡ value_of attr (bytes_there space.now at (length_of attr)) }
     ensures attr { IfSome result (λ d. d.attr ≡ attr) }
@@ -33,7 +35,7 @@ fn read_in(space: &Tagged, at: u64, attr: Attr) -> Option<Dec>
     }
 }
 
-/// The number in a space.
+/// The number in a space; None for an attribute that is not numeric.
 #[tactic(auto, using(crate::proofs::NumberLaws::no_value, crate::proofs::NumberLaws::no_number))]
 fn number_in(space: Option<&Tagged>, at: u64, attr: Attr) -> Option<Dec>
     ensures units { option_map (λ d. d.units) result ≡ value_of attr (bytes_there (unwrap_or (option_copied space.entry) []) at (length_of attr)) }
@@ -92,5 +94,26 @@ pub fn count_at(objects: &Objects, operands: &[Operand], k: usize) -> u128
     match number_at(objects, operands, k) {
         None => 0,
         Some(number) => count_of(number),
+    }
+}
+
+/// The ordinal that so many units are: a fraction is dropped, and a number below 1 is 0.
+#[tactic(auto, using(crate::proofs::NumberLaws::fraction_small, crate::proofs::NumberLaws::power_some))]
+fn ordinal_of(number: Dec) -> u128
+    ensures { result ≡ ordinal_of (fraction_of number.attr) (Some number.units) }
+{
+    if number.units < 0 {
+        return 0;
+    }
+    number.units.unsigned_abs() / ten(number.attr.fraction())
+}
+
+/// The ordinal that a number is; 0 where it is none.
+pub fn ordinal_at(objects: &Objects, operands: &[Operand], k: usize) -> u128
+    ensures { result ≡ ordinal_at objects.now operands.now k }
+{
+    match number_at(objects, operands, k) {
+        None => 0,
+        Some(number) => ordinal_of(number),
     }
 }

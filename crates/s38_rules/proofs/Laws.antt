@@ -5,7 +5,7 @@ use Rattle.std.proofs.lemmas.List.Elements.{All-nil, All-push}
 use Rattle.std.specs.Prelude.{Option, Some, None, slice_get, slice_set}
 use Rattle.s38_base.specs.declared.id.ObjNum.{ObjNum}
 use Rattle.s38_base.specs.declared.op.Op.{Op}
-use Rattle.s38_base.specs.declared.op.Op.TheVariants.{Crtctx, Modadr, Rename, Matctx, Desctx, Crtup, Modup, Desup, Grant, Retract, Xfro, Testau, Matau, Matauobj, Rslvsp, Setsppfp, Setspfp, Setdp, Cpybwp, Crtpg, Callx, Xctl, Lock, Unlock, Xfrlock, Matobjlk, Crtq, Crts, Mods, Despg, Desq, Dess, Enq, Deq, Crtinx}
+use Rattle.s38_base.specs.declared.op.Op.TheVariants.{Crtctx, Modadr, Rename, Matctx, Desctx, Crtup, Modup, Desup, Grant, Retract, Xfro, Testau, Matau, Matauobj, Rslvsp, Setsppfp, Setspfp, Setdp, Cpybwp, Crtpg, Callx, Xctl, Lock, Unlock, Xfrlock, Matobjlk, Crtq, Crts, Mods, Despg, Dess, Crtinx, Crtds, Crtcr}
 use Rattle.s38_code.specs.declared.entry.Entry.{Entry}
 use Rattle.s38_code.specs.declared.event.Event.{Event}
 use Rattle.s38_code.specs.declared.event.Event.TheVariants.{Start, Act, Finish}
@@ -25,6 +25,7 @@ use Rattle.s38_rules.specs.declared.verdict.Verdict.{Verdict}
 use Rattle.s38_rules.specs.declared.verdict.Verdict.TheVariants.{Permit, Wait, Refuse}
 use Rattle.s38_rules.specs.Computing.{receiver_at, shift_at}
 use Rattle.s38_rules.specs.Contexts.{contexts_row, crtctx_changes}
+use Rattle.s38_rules.specs.DataSpaces.{crtcr_changes, crtds_changes, data_spaces_row}
 use Rattle.s38_rules.specs.Grants.{grants_row}
 use Rattle.s38_rules.specs.Locking.{lock_changes, locks_row, unlock_changes, xfrlock_changes}
 use Rattle.s38_rules.specs.Profiles.{crtup_changes, profiles_row}
@@ -177,6 +178,12 @@ unfolding indexes_row crtinx_changes
 keeps_indexes Crtinx = record { kept = λ s p d r. same_kept p s.processes }
 keeps_indexes _ = record { kept = λ s p d r. same_kept p s.processes }
 
+keeps_data_spaces : (op : Op) → KeepsProcesses (data_spaces_row op)
+unfolding data_spaces_row crtds_changes crtcr_changes
+keeps_data_spaces Crtds = record { kept = λ s p d r. same_kept p s.processes }
+keeps_data_spaces Crtcr = record { kept = λ s p d r. same_kept p s.processes }
+keeps_data_spaces _ = record { kept = λ s p d r. same_kept p s.processes }
+
 keeps_contexts : (op : Op) → KeepsProcesses (contexts_row op)
 unfolding contexts_row crtctx_changes
 keeps_contexts Crtctx = record { kept = λ s p d r. same_kept p s.processes }
@@ -226,6 +233,7 @@ keeps_row families.Locks op = keeps_locks op
 keeps_row families.Spaces op = keeps_spaces op
 keeps_row families.Queues op = keeps_queues op
 keeps_row families.Indexes op = keeps_indexes op
+keeps_row families.DataSpaces op = keeps_data_spaces op
 keeps_row _ op = keeps_inert
 
 -- ---- no row of these families needs a special authority
@@ -280,6 +288,12 @@ pub unspecial_indexes : (op : Op) (s : State) (p d : ℕ) (r : Request) → (ind
 unfolding indexes_row
 unspecial_indexes Crtinx s p d r = refl
 unspecial_indexes _ s p d r = refl
+
+pub unspecial_data_spaces : (op : Op) (s : State) (p d : ℕ) (r : Request) → (data_spaces_row op).special s p d r ≡ 0
+unfolding data_spaces_row
+unspecial_data_spaces Crtds s p d r = refl
+unspecial_data_spaces Crtcr s p d r = refl
+unspecial_data_spaces _ s p d r = refl
 
 -- ---- effects
 

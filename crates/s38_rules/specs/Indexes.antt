@@ -1,11 +1,10 @@
 -- Independent indexes: made and destroyed; entries put in, found and taken out.
-use Rattle.std.specs.Prelude.{ℕ, ◌+◌, Bool, not, List, [], length, max, min, Option, Some, None, is_some, nat_lt}
+use Rattle.std.specs.Prelude.{ℕ, ◌+◌, not, List, [], length, max, min, Option, Some, None, is_some, nat_lt}
 use Rattle.s38_base.specs.declared.exception.Exception.{Exception}
 use Rattle.s38_base.specs.declared.id.Kind.TheVariants as kinds
 use Rattle.s38_base.specs.declared.op.Op.{Op}
 use Rattle.s38_base.specs.declared.op.Op.TheVariants.{Crtinx, Desinx, Fndinxen, Insinxen, Rmvinxen}
 use Rattle.s38_base.specs.declared.words.Category.TheVariants.{Change, Read}
-use Rattle.s38_base.specs.declared.words.Relation.{Relation}
 use Rattle.s38_base.specs.Exceptions as exceptions
 use Rattle.s38_base.specs.RightNames as rights
 use Rattle.s38_base.specs.Signals.{fails, first}

@@ -4,6 +4,7 @@ pub mod Cells
 pub mod Computing
 pub mod Contexts
 pub mod Creation
+pub mod DataSpaces
 pub mod Effect
 pub mod Grants
 pub mod Headers

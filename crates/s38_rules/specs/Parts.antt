@@ -148,6 +148,24 @@ no_index = record { longest = 0; entries = [] }
 abbrev pub index_at : Held → ℕ → EntryIndex
 index_at h n = unwrap_or (part_at index_part h n) no_index
 
+abbrev pub no_table : DataTable
+no_table = record { fields = []; spare = 0; entries = [] }
+
+abbrev pub table_in : Option DataBody → DataTable
+table_in None = no_table
+table_in (Some d) = d.space
+
+-- the fields and entries of the data space of a number
+abbrev pub table_at : Held → ℕ → DataTable
+table_at h n = table_in (part_at data_part h n)
+
+abbrev pub no_cursor : Cursor
+no_cursor = record { space = record { 0 = 0 }; block = record { 0 = 0 }; position = 0 }
+
+-- the cursor of a number
+abbrev pub cursor_at : Held → ℕ → Cursor
+cursor_at h n = unwrap_or (part_at cursor_part h n) no_cursor
+
 -- the cells of the space of a number
 abbrev pub cells_at : Held → ℕ → List Cell
 cells_at h n = unwrap_or (part_at space_part h n) []
@@ -159,6 +177,17 @@ on_queue h n f = over_part queue_part h n f
 -- the index of a number is another one from now on
 abbrev pub on_index : Held → ℕ → (EntryIndex → EntryIndex) → Held
 on_index h n f = over_part index_part h n f
+
+abbrev pub over_table : (DataTable → DataTable) → DataBody → DataBody
+over_table f d = record d { space = f d.space }
+
+-- the entries of the data space of a number are others from now on
+abbrev pub on_table : Held → ℕ → (DataTable → DataTable) → Held
+on_table h n f = over_part data_part h n (over_table f)
+
+-- the cursor of a number is another one from now on
+abbrev pub on_cursor : Held → ℕ → (Cursor → Cursor) → Held
+on_cursor h n f = over_part cursor_part h n f
 
 -- the cells of the space of a number are others from now on
 abbrev pub on_space : Held → ℕ → (List Cell → List Cell) → Held

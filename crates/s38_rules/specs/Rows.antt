@@ -6,6 +6,7 @@ use Rattle.s38_code.specs.declared.family.Family.TheVariants as families
 use Rattle.s38_code.specs.Operations.{family_of}
 use Rattle.s38_rules.specs.Computing.{computing}
 use Rattle.s38_rules.specs.Contexts.{contexts_row}
+use Rattle.s38_rules.specs.DataSpaces.{data_spaces_row}
 use Rattle.s38_rules.specs.Grants.{grants_row}
 use Rattle.s38_rules.specs.Indexes.{indexes_row}
 use Rattle.s38_rules.specs.Instruction.{Instruction, inert}
@@ -27,6 +28,7 @@ row_in families.Locks op = locks_row op
 row_in families.Spaces op = spaces_row op
 row_in families.Queues op = queues_row op
 row_in families.Indexes op = indexes_row op
+row_in families.DataSpaces op = data_spaces_row op
 row_in _ op = inert
 
 abbrev pub row : Op → Instruction
