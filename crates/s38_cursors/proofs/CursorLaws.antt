@@ -1,7 +1,7 @@
 -- Seeks that find nothing, what a change of entries has met, and what it leaves of what is kept of users.
-use Rattle.std.proofs.Common.{◌≡◌, ℕ, zero, suc, ◌+◌, ◌*◌, ◌<◌, ◌==◌, Bool, true, false, not, List, [], ◌∷◌, arith, length, map, refl, sym, ◌∙◌, ap, subst, IsTrue}
+use Rattle.std.proofs.Common.{◌≡◌, ℕ, zero, suc, ◌+◌, ◌-◌, ◌<◌, ◌==◌, Bool, true, false, not, List, [], ◌∷◌, arith, length, map, refl, sym, ◌∙◌, ap, subst, IsTrue}
 use Rattle.std.proofs.lemmas.Bool.Decides.{nat_tests}
-use Rattle.std.specs.Prelude.{Option, Some, None, Result, Ok, Err, OnOk, OnErr, is_none, is_some, if◌then◌else◌, slice_get}
+use Rattle.std.specs.Prelude.{min, Option, Some, None, Result, Ok, Err, OnOk, OnErr, is_none, is_some, if◌then◌else◌, slice_get}
 use Rattle.std.specs.Option.{unwrap_or}
 use Rattle.s38_base.specs.declared.attr.Attr.{Attr}
 use Rattle.s38_base.specs.declared.exception.Exception.{Exception}
@@ -63,7 +63,7 @@ pub nowhere : (how : Seek) (from : ℕ) → sought (standing []) how from ≡ No
 nowhere First from = none_above 0
 nowhere Last from = refl
 nowhere Next from = none_above from
-nowhere Prev from = none_below _
+nowhere Prev from = none_below (min (from - 1) 0)
 nowhere At from = rw (none_at from) refl
 
 none_behind : (entries : List Entry) (k : ℕ) → length entries < k → stands_at (standing entries) k ≡ false
