@@ -9,12 +9,13 @@ use Rattle.s38_code.specs.declared.event.Event.{Event}
 use Rattle.s38_code.specs.declared.event.Request.{Request}
 use Rattle.s38_rules.specs.Effect.{effect_of, end_at, start_at}
 use Rattle.s38_rules.specs.Rows.{row}
-use Rattle.s38_rules.specs.State.{State, is_last_ready, process_entry, waits}
+use Rattle.s38_rules.specs.State.{State, process_entry, waits}
 use Rattle.s38_rules.specs.Step.{Stepped, by_verdict, by_waiting, step}
 use Rattle.s38_rules.specs.Users.{acting}
-use Rattle.s38_rules.specs.Verdict.{awake_verdict, may_wait, of_request, refused_by, unless_last}
-use Rattle.s38_rules.specs.declared.verdict.Verdict.TheVariants.{Permit, Refuse}
+use Rattle.s38_rules.specs.Verdict.{awake_verdict, refused_by}
+use Rattle.s38_rules.specs.declared.verdict.Verdict.TheVariants.{Permit}
 use Rattle.s38_rules.specs.declared.verdict.Verdict.{Verdict}
+use Rattle.s38_rules.proofs.VerdictLaws.{permitted_none}
 use Rattle.s38_confinement.proofs.EffectLaws.{effect_lessens}
 use Rattle.s38_confinement.proofs.RightLaws.{among, unused}
 use Rattle.s38_confinement.proofs.StandingLaws.{IsShut, Lessens, lessens_same, stays_shut}
@@ -27,16 +28,6 @@ pub record KeepsOut (users : List ℕ) (o r : ℕ) (s : State) (e : Entry) (t : 
   pub shut : IsShut t.state.held users o r
   pub reply : OfReply (IsHarmless o r) t.reply
   pub unused : Exercises s e t.reply o r → ⊥
-
-no_permit : (waits last : Bool) (x : Exception) → cond waits (unless_last last) (Refuse x) ≡ Permit → ⊥
-no_permit true true x h = cc
-no_permit true false x h = cc
-no_permit false last x h = cc
-
-permitted_none : (s : State) (p : ℕ) (t : Request) (x : Option Exception) → of_request s p t x ≡ Permit → x ≡ None
-unfolding of_request
-permitted_none s p t None h = refl
-permitted_none s p t (Some x) h = absurd (no_permit (may_wait t.op t.operands x.id) (is_last_ready s p) x h)
 
 event_lessens : (s : State) (p : ℕ) (e : Event) (users : List ℕ) (o r : ℕ) → o ≢ 0 → NoWay s.held users o r → OfEvent (IsHarmless o r) e → ActsWithin users s p e → awake_verdict s p e ≡ Permit
     → Lessens s.held (effect_of s p e).state.held o r × OfVals (IsHarmless o r) (effect_of s p e).values × (UsesBy s p e o r → ⊥)

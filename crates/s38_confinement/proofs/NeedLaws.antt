@@ -5,8 +5,9 @@ use Rattle.std.proofs.lemmas.Bool.{and_parts, cond_both}
 use Rattle.std.proofs.lemmas.List.Elements.{All-cons, All-nil}
 use Rattle.std.specs.List.{list_all}
 use Rattle.std.specs.Prelude.{◌||◌, All, None, Option, Some}
+use Rattle.s38_base.specs.declared.id.Kind.TheVariants as kinds
 use Rattle.s38_base.specs.RightNames as rights
-use Rattle.s38_base.specs.declared.op.Op.TheVariants.{Crtinx, Crtpg, Crtq, Crts, Grant, Lock, Matau, Matctx, Modadr, Modup, Rename, Retract, Rslvsp}
+use Rattle.s38_base.specs.declared.op.Op.TheVariants.{Crtcr, Crtds, Crtinx, Crtpg, Crtq, Crts, Grant, Lock, Matau, Matctx, Modadr, Modup, Rename, Retract, Rslvsp}
 use Rattle.s38_base.specs.declared.op.Op.{Op}
 use Rattle.s38_code.specs.declared.event.Request.{Request}
 use Rattle.s38_code.specs.declared.family.Family.TheVariants as families
@@ -19,11 +20,12 @@ use Rattle.s38_rules.specs.Creation.{creation_needs, destruction_needs, machine_
 use Rattle.s38_rules.specs.Grants.{grant_needs, grants_row, matau_needs, matauobj_needs, testau_needs, user_needs, xfro_needs}
 use Rattle.s38_rules.specs.Held.{Held, context_in, is_there, object}
 use Rattle.s38_rules.specs.Instruction.{Instruction}
-use Rattle.s38_rules.specs.Needs.{need}
+use Rattle.s38_rules.specs.Needs.{need, on_object}
 use Rattle.s38_rules.specs.Operands.{is_given, is_list, is_machine, place, target}
 use Rattle.s38_rules.specs.Profiles.{modup_needs, profiles_row}
 use Rattle.s38_rules.specs.Programs.{call_needs, programs_row}
 use Rattle.s38_rules.specs.Locking.{lock_needs, locks_row, matobjlk_needs, unlock_needs}
+use Rattle.s38_rules.specs.DataSpaces.{block_needs, crtcr_needs, data_spaces_row, through_cursor}
 use Rattle.s38_rules.specs.Indexes.{fndinxen_needs, indexes_row, insinxen_needs, rmvinxen_needs}
 use Rattle.s38_rules.specs.Queues.{deq_needs, enq_needs, queues_row}
 use Rattle.s38_rules.specs.Resolving.{listed_need, resolved, resolving_row, rslvsp_needs, setspfp_needs}
@@ -36,7 +38,7 @@ use Rattle.s38_rules.specs.declared.need.Located.{Located}
 use Rattle.s38_rules.specs.declared.need.Named.TheVariants.{Written}
 use Rattle.s38_rules.specs.declared.need.Named.{Named}
 use Rattle.s38_rules.specs.declared.need.Need.{Need}
-use Rattle.s38_rules.specs.declared.need.Sought.TheVariants.{Any}
+use Rattle.s38_rules.specs.declared.need.Sought.TheVariants.{Any, Of}
 use Rattle.s38_rules.specs.declared.need.Sought.{Sought}
 use Rattle.s38_confinement.proofs.StandingLaws.{nat_same}
 
@@ -164,6 +166,15 @@ unfolding indexes_row insinxen_needs fndinxen_needs rmvinxen_needs destruction_n
 indexes_so Crtinx s p d t = creation_so t.operands
 indexes_so _ s p d t = refl
 
+data_spaces_so : (op : Op) → RowSpeaks (data_spaces_row op)
+unfolding data_spaces_row creation_needs crtcr_needs block_needs through_cursor destruction_needs
+data_spaces_so Crtds s p d t = creation_so t.operands
+data_spaces_so Crtcr s p d t =
+    let own = on_object 5 (Of kinds.DataSpace) rights.retrieve None ++ block_needs t.operands in
+    let so : AreSo own = either (is_given t.operands 6) _ _ refl refl in
+    cond_both (is_given t.operands 2) _ [] (λ w. AreSo (w ++ own)) (λ yes. so) (λ no. so)
+data_spaces_so _ s p d t = refl
+
 row_so : (f : Family) (op : Op) → RowSpeaks (row_in f op)
 unfolding row_in computing_needs
 row_so families.Computing op = λ s p d t. either (moves_pointer t.op) _ _ refl refl
@@ -176,6 +187,7 @@ row_so families.Locks op = locks_so op
 row_so families.Spaces op = spaces_so op
 row_so families.Queues op = queues_so op
 row_so families.Indexes op = indexes_so op
+row_so families.DataSpaces op = data_spaces_so op
 row_so _ op = λ s p d t. refl
 
 -- each need of an instruction

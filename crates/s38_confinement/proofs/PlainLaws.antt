@@ -8,7 +8,7 @@ use Rattle.s38_base.specs.Pointers.{start_of, target_of}
 use Rattle.s38_base.specs.Signals.{plain}
 use Rattle.s38_base.specs.declared.id.Id.{Id}
 use Rattle.s38_base.specs.declared.id.ObjNum.{ObjNum}
-use Rattle.s38_base.specs.declared.op.Op.TheVariants.{Callx, Cpybwp, Crtctx, Crtinx, Crtpg, Crtq, Crts, Crtup, Deq, Desctx, Desinx, Despg, Desq, Dess, Desup, Enq, Grant, Insinxen, Lock, Modadr, Mods, Modup, Rename, Retract, Rmvinxen, Rslvsp, Setdp, Setspfp, Setsppfp, Xctl, Xfro}
+use Rattle.s38_base.specs.declared.op.Op.TheVariants.{Callx, Cpybwp, Crtcr, Crtctx, Crtds, Crtinx, Crtpg, Crtq, Crts, Crtup, Deldsen, Deq, Descr, Desctx, Desds, Desinx, Despg, Desq, Dess, Desup, Enq, Grant, Insdsen, Insinxen, Lock, Modadr, Mods, Modup, Rename, Retract, Rmvinxen, Rslvsp, Setcr, Setdp, Setspfp, Setsppfp, Updsen, Xctl, Xfro}
 use Rattle.s38_base.specs.declared.op.Op.{Op}
 use Rattle.s38_base.specs.declared.pointer.Pointer.{Pointer}
 use Rattle.s38_code.specs.Operations.{family_of}
@@ -33,10 +33,11 @@ use Rattle.s38_rules.specs.Held.{Held, change, has_number, moved, object}
 use Rattle.s38_rules.specs.Instruction.{Instruction}
 use Rattle.s38_rules.specs.Invocations.{restack_at}
 use Rattle.s38_rules.specs.Operands.{Done, deliver, delivered, id_at, is_in_space, place, put_value, source_cells, target}
-use Rattle.s38_rules.specs.Parts.{IsPart, Part, index_lawful, index_part, on_space, over, over_object, over_part, queue_lawful, queue_part, space_lawful, space_part}
+use Rattle.s38_rules.specs.Parts.{IsPart, Part, cursor_lawful, cursor_part, data_lawful, data_part, index_lawful, index_part, on_space, over, over_object, over_part, queue_lawful, queue_part, space_lawful, space_part}
 use Rattle.s38_rules.specs.Profiles.{profiles_row}
 use Rattle.s38_rules.specs.Programs.{call_gives, callx_changes, program_at, programs_row, xctl_changes}
 use Rattle.s38_rules.specs.Locking.{lock_changes, locks_row, matobjlk_gives, unlock_changes, xfrlock_changes}
+use Rattle.s38_rules.specs.DataSpaces.{data_spaces_row, deldsen_changes, insdsen_changes, retdsen_gives, setcr_changes, updsen_changes}
 use Rattle.s38_rules.specs.Indexes.{fndinxen_gives, indexes_row, insinxen_changes, rmvinxen_changes}
 use Rattle.s38_rules.specs.Queues.{deq_changes, deq_gives, enq_changes, queues_row}
 use Rattle.s38_rules.specs.Resolving.{resolving_row}
@@ -245,6 +246,19 @@ indexes_plain q Insinxen other = λ s p d t of asked. (part_keeps q index_part i
 indexes_plain q Rmvinxen other = λ s p d t of asked. (part_keeps q index_part index_lawful (λ x. refl) s.held (target s.held t.operands 1) _ (λ b x e here. tt), tt)
 indexes_plain q _ other = λ s p d t of asked. (keeps_same q s.held, tt)
 
+data_spaces_plain : (q : Pointer → Type 0) (op : Op) → makes_or_gives op ≡ false → PlainRow q (data_spaces_row op)
+unfolding data_spaces_row setcr_changes insdsen_changes updsen_changes deldsen_changes retdsen_gives
+data_spaces_plain q Crtds other = cc
+data_spaces_plain q Crtcr other = cc
+data_spaces_plain q Desds other = λ s p d t of asked. (destruction_keeps q s.held t.operands, tt)
+data_spaces_plain q Descr other = λ s p d t of asked. (destruction_keeps q s.held t.operands, tt)
+data_spaces_plain q Setcr other = λ s p d t of asked. (part_keeps q cursor_part cursor_lawful (λ x. refl) s.held (target s.held t.operands 1) _ (λ b x e here. tt), tt)
+data_spaces_plain q Insdsen other = λ s p d t of asked.
+    (keeps_then q s.held _ _ (part_keeps q data_part data_lawful (λ x. refl) s.held _ _ (λ b x e here. tt)) (part_keeps q cursor_part cursor_lawful (λ x. refl) _ (target s.held t.operands 1) _ (λ b x e here. tt)), tt)
+data_spaces_plain q Updsen other = λ s p d t of asked. (part_keeps q data_part data_lawful (λ x. refl) s.held _ _ (λ b x e here. tt), tt)
+data_spaces_plain q Deldsen other = λ s p d t of asked. (part_keeps q data_part data_lawful (λ x. refl) s.held _ _ (λ b x e here. tt), tt)
+data_spaces_plain q _ other = λ s p d t of asked. (keeps_same q s.held, tt)
+
 pub row_plain : (q : Pointer → Type 0) → IsClosed q → (f : Family) (op : Op) → makes_or_gives op ≡ false → PlainRow q (row_in f op)
 unfolding row_in
 row_plain q closed families.Computing op other = computing_plain q closed
@@ -257,6 +271,7 @@ row_plain q closed families.Locks op other = locks_plain q op
 row_plain q closed families.Spaces op other = spaces_plain q op other
 row_plain q closed families.Queues op other = queues_plain q op other
 row_plain q closed families.Indexes op other = indexes_plain q op other
+row_plain q closed families.DataSpaces op other = data_spaces_plain q op other
 row_plain q closed _ op other = λ s p d t of asked. (keeps_same q s.held, tt)
 
 effect_keeps : (q : Pointer → Type 0) → IsClosed q → (s : State) (p d : ℕ) (t : Request) → makes_or_gives t.op ≡ false → OfObjects q s.held.objects → All (OfOperand q) t.operands

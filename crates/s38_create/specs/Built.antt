@@ -1,17 +1,10 @@
 -- The instructions that this machine has: creation refuses the others.
 use Rattle.std.specs.Prelude.{Bool, true, false}
 use Rattle.s38_base.specs.declared.op.Op.{Op}
-use Rattle.s38_base.specs.declared.op.Op.TheVariants.{Crtds, Crtcr, Setcr, Insdsen, Retdsen, Updsen, Deldsen, Crtjs, Crtjp, Jrnlobj, Retjent, Crtcb, Commit, Decommit, Ensobj, Desds, Descr, Desjs, Desjp, Descb}
+use Rattle.s38_base.specs.declared.op.Op.TheVariants.{Crtjs, Crtjp, Jrnlobj, Retjent, Crtcb, Commit, Decommit, Ensobj, Desjs, Desjp, Descb}
 
 -- these are not built yet
 unfoldable pub is_built : Op → Bool
-is_built Crtds = false
-is_built Crtcr = false
-is_built Setcr = false
-is_built Insdsen = false
-is_built Retdsen = false
-is_built Updsen = false
-is_built Deldsen = false
 is_built Crtjs = false
 is_built Crtjp = false
 is_built Jrnlobj = false
@@ -20,8 +13,6 @@ is_built Crtcb = false
 is_built Commit = false
 is_built Decommit = false
 is_built Ensobj = false
-is_built Desds = false
-is_built Descr = false
 is_built Desjs = false
 is_built Desjp = false
 is_built Descb = false

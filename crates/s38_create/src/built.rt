@@ -11,13 +11,6 @@ pub fn is_built(op: Op) -> bool
     ensures { result ≡ is_built op }
 {
     match op {
-        Op::Crtds => false,
-        Op::Crtcr => false,
-        Op::Setcr => false,
-        Op::Insdsen => false,
-        Op::Retdsen => false,
-        Op::Updsen => false,
-        Op::Deldsen => false,
         Op::Crtjs => false,
         Op::Crtjp => false,
         Op::Jrnlobj => false,
@@ -26,8 +19,6 @@ pub fn is_built(op: Op) -> bool
         Op::Commit => false,
         Op::Decommit => false,
         Op::Ensobj => false,
-        Op::Desds => false,
-        Op::Descr => false,
         Op::Desjs => false,
         Op::Desjp => false,
         Op::Descb => false,

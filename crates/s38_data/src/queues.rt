@@ -1,10 +1,10 @@
 //! Queues: made and destroyed; messages put and taken.
 ghost use Rattle.std.specs.Prelude.{◌≡◌, ◌≤◌, ℕ, [], Some, None, IfOk, OnOk, OnErr, is_some, length};
 ghost use Rattle.std.specs.Option.{option_copied, unwrap_or};
-ghost use Rattle.s38_queues.specs.MessageQueue.{MessageQueue, found, found_message, image_size, is_any, longest_key, message, with_message, without_found};
+ghost use Rattle.s38_queues.specs.MessageQueue.{MessageQueue, found, found_message, image_size, is_any, longest_key, message, with_message};
 ghost use Rattle.s38_rules.specs.Operands.{bytes_at};
 ghost use Rattle.s38_rules.specs.Parts.{no_queue, on_queue, queue_at};
-ghost use Rattle.s38_rules.specs.Queues.{ask_fails, created_queue, crtq_changes, crtq_fails, deq_changes, deq_fails, deq_gives, deq_needs, enq_changes, enq_fails, enq_needs, key_len_at, longest_at, new_queue, order_of, put_fails, queues_row, suits_keys, suits_order, text_of};
+ghost use Rattle.s38_rules.specs.Queues.{ask_fails, created_queue, crtq_changes, crtq_fails, deq_changes, deq_fails, deq_gives, deq_needs, enq_changes, enq_fails, enq_needs, key_len_at, left_by, longest_at, new_queue, order_of, put_fails, queues_row, suits_keys, suits_order, text_of};
 
 use s38_base::exceptions::{LENGTH_INVALID, LIMIT_EXCEEDED, NO_MESSAGE};
 use s38_base::{Category, Exception, Kind, NoMemory, ObjNum, Op, Relation, Rights};
@@ -300,14 +300,14 @@ fn deq_gives(alloc: Global, objects: &Objects, operands: &[Operand]) -> Result<V
 }
 
 fn take_queue(queue: &mut Queue, relation: Relation, key: &[u8])
-    ensures { queue.new ≡ without_found queue.old relation key.now }
+    ensures { queue.new ≡ left_by relation key.now queue.old }
 {
     let _message = queue.take(relation, key);
 }
 
 /// Takes a message out of the queue of a number.
 fn take_in(objects: &mut Objects, number: ObjNum, relation: Relation, key: &[u8])
-    ensures { objects.new ≡ on_queue objects.old number.0 (λ q. without_found q relation key.now) }
+    ensures { objects.new ≡ on_queue objects.old number.0 (left_by relation key.now) }
 {
     if let Some(queue) = objects.queue_mut(number) {
         take_queue(queue, relation, key);
@@ -316,7 +316,7 @@ fn take_in(objects: &mut Objects, number: ObjNum, relation: Relation, key: &[u8]
 
 /// A message leaves the queue of a number.
 fn take(world: &mut World<Objects>, number: ObjNum, relation: Relation, key: &[u8])
-    ensures { world.new ≡ record world.old { held = on_queue world.old.held number.0 (λ q. without_found q relation key.now) } }
+    ensures { world.new ≡ record world.old { held = on_queue world.old.held number.0 (left_by relation key.now) } }
 {
     take_in(&mut world.objects, number, relation, key);
 }

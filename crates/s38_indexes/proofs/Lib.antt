@@ -1,3 +1,4 @@
+pub mod CutLaws
 pub mod OrderLaws
 pub mod LeafLaws
 pub mod IndexLaws

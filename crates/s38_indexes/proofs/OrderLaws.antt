@@ -1,14 +1,9 @@
 -- What the order of the entries tells: which entries fit, and that they still rise after a change.
-use Rattle.std.proofs.Common.{◌≡◌, ℕ, ◌+◌, ◌-◌, ◌≤◌, ◌<◌, Bool, true, false, cond, not, List, [], ◌∷◌, ◌++◌, length, suc, refl, sym, ◌∙◌, ap, arith, length-append, subst}
-use Rattle.std.proofs.lemmas.Bool.Decides.{nat_tests}
+use Rattle.std.proofs.Common.{◌≡◌, ℕ, ◌+◌, ◌≤◌, ◌<◌, Bool, true, false, cond, not, List, [], ◌∷◌, ◌++◌, length, zero, suc, refl, sym, ◌∙◌, ap, arith, length-append, subst}
 use Rattle.std.proofs.lemmas.Cmp.{nat_list_cmp_total}
-use Rattle.std.proofs.lemmas.List.{reverse-append}
-use Rattle.std.proofs.lemmas.List.Folds.{find-append}
-use Rattle.std.proofs.lemmas.List.Sums.{prefix_len-le-length}
-use Rattle.std.proofs.lemmas.Option.{cond_some}
-use Rattle.std.specs.Prelude.{Some, None, IfOk, OnOk, OnErr, find, insert, is_some, nat_lt, position, remove, reverse, slice_get}
+use Rattle.std.proofs.lemmas.List.Folds.{find_at}
+use Rattle.std.specs.Prelude.{Option, Some, None, IfOk, OnOk, OnErr, insert, is_some, remove, slice_get}
 use Rattle.std.specs.List.{AllByRecursion, position_or_len}
-use Rattle.std.specs.Option.{unwrap_or}
 use Rattle.std.specs.Ordering.{ordering_reverse}
 use Rattle.std.specs.declared.cmp.Ordering.{Ordering}
 use Rattle.std.specs.declared.cmp.Ordering.TheVariants.{Less, Equal, Greater}
@@ -16,9 +11,10 @@ use Rattle.std.specs.declared.result.Result.{Result}
 use Rattle.std.specs.declared.result.Result.TheVariants.{Ok, Err}
 use Rattle.s38_base.specs.Relations.{holds, is_equal, is_less, is_greater}
 use Rattle.s38_base.specs.declared.words.Relation.{Relation}
-use Rattle.s38_base.specs.declared.words.Relation.TheVariants.{Eq, Lo, Hi}
-use Rattle.s38_indexes.specs.Leaves.{IsLeaf, most}
-use Rattle.s38_indexes.specs.Entries.{Entry, IsBelow, IsRising, fits, is_held, least, order, place, with_entry, without_entry}
+use Rattle.s38_base.specs.declared.words.Relation.TheVariants.{Eq, Ne, Lo, Hi, Nl, Nh, Any, First, Last}
+use Rattle.s38_indexes.specs.Leaves.{IsLeaf, is_equal_to, least_behind, misses, most}
+use Rattle.s38_indexes.proofs.CutLaws.{IsCut, none_found, none_passes}
+use Rattle.s38_indexes.specs.Entries.{Entry, IsBelow, IsRising, asks_for_greatest, fits, is_held, least, order, place, with_entry, without_entry}
 
 -- ---- which way two entries stand
 
@@ -32,83 +28,60 @@ is_greater-Greater Less e = absurd (cc)
 is_greater-Greater Equal e = absurd (cc)
 is_greater-Greater Greater e = refl
 
+true_false : {b : Bool} → b ≡ true → b ≡ false → ⊥
+true_false t f = cc
+
 turned : (a b : Entry) (o : Ordering) → order a b ≡ o → order b a ≡ ordering_reverse o
 turned a b o e = nat_list_cmp_total.antisymm b a ∙ ap ordering_reverse e
 
 pub chained : (a b c : Entry) → order a b ≡ Less → order b c ≡ Less → order a c ≡ Less
 chained a b c e f = nat_list_cmp_total.trans a b c e f
 
--- ---- all entries on one side of a key
+-- ---- of rising entries a front stands in LO, NH or LAST to a key
 
-before_from : (key last x : Entry) (xs : List Entry) → IsRising (x ∷ xs) → slice_get (x ∷ xs) (length xs) ≡ Some last → order last key ≡ Less → AllByRecursion (λ e. order e key ≡ Less) (x ∷ xs)
-before_from key last x [] h at less =
-    let same : x ≡ last = ap (λ o. unwrap_or o x) at in
-    (ap (λ e. order e key) same ∙ less, tt)
-before_from key last x (y ∷ ys) h at less =
-    let rest = before_from key last y ys h.1 at less in
-    (chained x y key h.0.0 rest.0, rest)
+relation_down : (relation : Relation) → asks_for_greatest relation ≡ true → (o p : Ordering) → (p ≡ Less → o ≡ Less) → (p ≡ Equal → o ≡ Less) → holds relation p ≡ true → holds relation o ≡ true
+relation_down Eq e o p less equal h = absurd (cc)
+relation_down Ne e o p less equal h = absurd (cc)
+relation_down Lo e o Less less equal h = ap is_less (less refl)
+relation_down Lo e o Equal less equal h = absurd (cc)
+relation_down Lo e o Greater less equal h = absurd (cc)
+relation_down Hi e o p less equal h = absurd (cc)
+relation_down Nl e o p less equal h = absurd (cc)
+relation_down Nh e o Less less equal h = ap (λ q. not (is_greater q)) (less refl)
+relation_down Nh e o Equal less equal h = ap (λ q. not (is_greater q)) (equal refl)
+relation_down Nh e o Greater less equal h = absurd (cc)
+relation_down Any e o p less equal h = absurd (cc)
+relation_down First e o p less equal h = absurd (cc)
+relation_down Last e o p less equal h = refl
 
-last_place : (x : Entry) (xs : List Entry) → slice_get (x ∷ xs) (length (x ∷ xs) - 1) ≡ slice_get (x ∷ xs) (length xs)
-last_place x xs = let same : length (x ∷ xs) - 1 ≡ length xs = omega arith in ap (λ n. slice_get (x ∷ xs) n) same
+before_equal : (x y key : Entry) → order x y ≡ Less → order y key ≡ Equal → order x key ≡ Less
+before_equal x y key less equal = turned key x Greater (sym (nat_list_cmp_total.congr y key x equal) ∙ turned x y Less less)
 
-pub all_before : (key last : Entry) (xs : List Entry) → IsRising xs → slice_get xs (length xs - 1) ≡ Some last → order last key ≡ Less → AllByRecursion (λ e. order e key ≡ Less) xs
-all_before key last [] h at less = tt
-all_before key last (x ∷ xs) h at less = before_from key last x xs h (sym (last_place x xs) ∙ at) less
+fits_down : (relation : Relation) (key x y : Entry) → asks_for_greatest relation ≡ true → order x y ≡ Less → fits relation key y ≡ true → fits relation key x ≡ true
+fits_down relation key x y down less h =
+    relation_down relation down (order x key) (order y key) (λ e. chained x y key less e) (λ e. before_equal x y key less e) h
 
-behind_each : (key first : Entry) (xs : List Entry) → IsBelow first xs → order key first ≡ Less → AllByRecursion (λ e. order e key ≡ Greater) xs
-behind_each key first [] h less = tt
-behind_each key first (x ∷ xs) h less = (turned key x Less (chained key first x less h.0), behind_each key first xs h.1 less)
+none_behind : (relation : Relation) (key x : Entry) (ys : List Entry) → asks_for_greatest relation ≡ true → IsBelow x ys → fits relation key x ≡ false → AllByRecursion (λ y. fits relation key y ≡ false) ys
+none_behind relation key x [] down h e = tt
+none_behind relation key x (y ∷ ys) down h e =
+    let rest = none_behind relation key x ys down h.1 e in
+    let lower = fits_down relation key x y down h.0 in
+    elim (fits relation key y) as (λ b. fits relation key y ≡ b → AllByRecursion (λ z. fits relation key z ≡ false) (y ∷ ys)) [
+      | true ↦ λ is. absurd (true_false (lower is) e)
+      | false ↦ λ is. (is, rest)
+    ] refl
 
-pub all_behind : (key first : Entry) (xs : List Entry) → IsRising xs → slice_get xs 0 ≡ Some first → order first key ≡ Greater → AllByRecursion (λ e. order e key ≡ Greater) xs
-all_behind key first [] h at greater = tt
-all_behind key first (x ∷ xs) h at greater =
-    let same : x ≡ first = ap (λ o. unwrap_or o x) at in
-    let here : order x key ≡ Greater = ap (λ e. order e key) same ∙ greater in
-    (here, behind_each key x xs h.0 (turned x key Greater here))
-
--- ---- none fits
-
-all_alike : (relation : Relation) (key : Entry) (o : Ordering) (xs : List Entry) → holds relation o ≡ false → AllByRecursion (λ e. order e key ≡ o) xs → AllByRecursion (λ e. fits relation key e ≡ false) xs
-all_alike relation key o [] none h = tt
-all_alike relation key o (x ∷ xs) none h = (ap (λ p. holds relation p) h.0 ∙ none, all_alike relation key o xs none h.1)
-
-pub none_before : (relation : Relation) (key last : Entry) (xs : List Entry) → IsRising xs → Some last ≡ slice_get xs (length xs - 1) → fits Lo key last ≡ true → holds relation Less ≡ false → AllByRecursion (λ e. fits relation key e ≡ false) xs
-none_before relation key last xs h at lo none =
-    all_alike relation key Less xs none (all_before key last xs h (sym at) (is_less-Less (order last key) lo))
-
-pub none_behind : (relation : Relation) (key first : Entry) (xs : List Entry) → IsRising xs → Some first ≡ slice_get xs 0 → fits Hi key first ≡ true → holds relation Greater ≡ false → AllByRecursion (λ e. fits relation key e ≡ false) xs
-none_behind relation key first xs h at hi none =
-    all_alike relation key Greater xs none (all_behind key first xs h (sym at) (is_greater-Greater (order first key) hi))
-
-pub none_found : {X : Type 0} (p : X → Bool) (xs : List X) → AllByRecursion (λ x. p x ≡ false) xs → find p xs ≡ None
-none_found p [] h = refl
-none_found p (x ∷ xs) h = rw h.0 (none_found p xs h.1)
-
-pub none_found_back : {X : Type 0} (p : X → Bool) (xs : List X) → AllByRecursion (λ x. p x ≡ false) xs → find p (reverse xs) ≡ None
-none_found_back p [] h = refl
-none_found_back p (x ∷ xs) h =
-    let rest = none_found_back p xs h.1 in
-    rw (reverse-append (x ∷ []) xs, find-append p (reverse xs) (x ∷ []), rest, h.0) refl
+pub rising_cut : (relation : Relation) (key : Entry) (xs : List Entry) → asks_for_greatest relation ≡ true → IsRising xs → IsCut (fits relation key) xs
+rising_cut relation key [] down h = tt
+rising_cut relation key (x ∷ xs) down h = (λ e. none_behind relation key x xs down h.0 e, rising_cut relation key xs down h.1)
 
 -- ---- places
-
-some_is_some : {X : Type 0} (x : X) → Some x ≡ None → ⊥
-some_is_some x e = cc
 
 no_room : (n : ℕ) → suc n ≤ 0 → ⊥
 no_room n h = omega arith
 
 one_more : (n : ℕ) → 1 + n ≡ suc n
 one_more n = omega arith
-
-pub place_or_length : {X : Type 0} (p : X → Bool) (xs : List X) → unwrap_or (position p xs) (length xs) ≡ position_or_len p xs
-place_or_length p xs =
-    let n = position_or_len p xs in
-    let low : n ≤ length xs = prefix_len-le-length (λ x. not (p x)) xs in
-    elim (nat_lt n (length xs)) as (λ b. nat_lt n (length xs) ≡ b → unwrap_or (cond b (Some n) None) (length xs) ≡ n) [
-      | true ↦ λ e. refl
-      | false ↦ λ e. grind (arith, nat_tests)
-    ] refl
 
 pub inserted : (key : Entry) (xs : List Entry) → insert xs (place key xs) key ≡ with_entry key xs
 inserted key [] = refl
@@ -120,32 +93,8 @@ inserted key (x ∷ xs) =
       | false ↦ refl
     ]
 
-removed : (key : Entry) (xs : List Entry) → remove xs (position_or_len (fits Eq key) xs) ≡ without_entry key xs
-removed key [] = refl
-removed key (x ∷ xs) =
-    let rest = removed key xs in
-    let n = position_or_len (fits Eq key) xs in
-    elim (fits Eq key x) as (λ b. remove (x ∷ xs) (cond (not b) (1 + n) 0) ≡ cond b xs (x ∷ without_entry key xs)) [
-      | true ↦ refl
-      | false ↦ rw (one_more n) (ap (λ (ys : List Entry). x ∷ ys) rest)
-    ]
-
-pub place-bound : (key : Entry) (xs : List Entry) → place key xs ≤ length xs
-place-bound key xs = prefix_len-le-length (λ x. not (not (fits Lo key x))) xs
-
-pub placed : (key : Entry) (xs : List Entry) (i : ℕ) → i ≡ unwrap_or (position (λ x. not (fits Lo key x)) xs) (length xs) → i ≡ place key xs
-placed key xs i e = e ∙ place_or_length (λ x. not (fits Lo key x)) xs
-
 pub inserted_at : (key : Entry) (xs ys : List Entry) (i : ℕ) → i ≡ place key ys → ys ≡ xs → insert xs i key ≡ with_entry key xs
 inserted_at key xs ys i e same = ap (λ (n : ℕ). insert xs n key) (e ∙ ap (λ zs. place key zs) same) ∙ inserted key xs
-
-position-none : {X : Type 0} (p : X → Bool) (xs : List X) → position p xs ≡ None → length xs ≤ position_or_len p xs
-position-none p xs e =
-    let n = position_or_len p xs in
-    elim (nat_lt n (length xs)) as (λ b. nat_lt n (length xs) ≡ b → cond b (Some n) None ≡ None → length xs ≤ n) [
-      | true ↦ λ is q. absurd (some_is_some n q)
-      | false ↦ λ is q. grind (arith, nat_tests)
-    ] refl e
 
 pub none_before_len : {X : Type 0} (p : X → Bool) (xs : List X) → length xs ≤ position_or_len p xs → AllByRecursion (λ x. p x ≡ false) xs
 none_before_len p [] h = tt
@@ -161,15 +110,83 @@ untouched : (key : Entry) (xs : List Entry) → AllByRecursion (λ x. fits Eq ke
 untouched key [] h = refl
 untouched key (x ∷ xs) h = rw h.0 (ap (λ (ys : List Entry). x ∷ ys) (untouched key xs h.1))
 
-pub position_held : {X : Type 0} (p : X → Bool) (xs : List X) → position p xs ≡ None → AllByRecursion (λ x. p x ≡ false) xs
-position_held p xs e = none_before_len p xs (position-none p xs e)
+not_held : (key : Entry) (xs : List Entry) → is_held key xs ≡ false → AllByRecursion (λ x. fits Eq key x ≡ false) xs
+not_held key xs e = none_passes (fits Eq key) xs e
 
-pub not_removed : (key : Entry) (xs : List Entry) → None ≡ position (fits Eq key) xs → xs ≡ without_entry key xs
-not_removed key xs e = untouched key xs (position_held (fits Eq key) xs (sym e))
+pub without_none : (key : Entry) (xs : List Entry) → is_held key xs ≡ false → xs ≡ without_entry key xs
+without_none key xs e = untouched key xs (not_held key xs e)
 
-pub removed_at : (key : Entry) (xs : List Entry) (i : ℕ) → Some i ≡ position (fits Eq key) xs → remove xs i ≡ without_entry key xs
-removed_at key xs i e =
-    ap (λ (n : ℕ). remove xs n) (sym (cond_some (nat_lt (position_or_len (fits Eq key) xs) (length xs)) _ _ (sym e)).1) ∙ removed key xs
+pub equal_inside : (key : Entry) (xs : List Entry) (n : ℕ) → is_equal_to key (slice_get xs n) ≡ true → n < length xs
+equal_inside key [] n e = absurd (cc)
+equal_inside key (x ∷ xs) zero e = omega arith
+equal_inside key (x ∷ xs) (suc n) e = let rest = equal_inside key xs n e in omega arith
+
+unequal : (o : Ordering) → o ≡ Greater → is_equal o ≡ true → ⊥
+unequal o is e = cc (ap is_equal is)
+
+removed_at : (key : Entry) (xs : List Entry) → is_equal_to key (slice_get xs (place key xs)) ≡ true → remove xs (place key xs) ≡ without_entry key xs
+removed_at key [] e = refl
+removed_at key (x ∷ xs) e =
+    let rest = removed_at key xs in
+    let n = place key xs in
+    elim (order x key) as (λ o. order x key ≡ o → is_equal_to key (slice_get (x ∷ xs) (cond (not (not (is_less o))) (1 + n) 0)) ≡ true → remove (x ∷ xs) (cond (not (not (is_less o))) (1 + n) 0) ≡ cond (is_equal o) xs (x ∷ without_entry key xs)) [
+      | Less ↦ λ is q. rw (one_more n) (ap (λ (ys : List Entry). x ∷ ys) (rest (rw (one_more n) at q)))
+      | Equal ↦ λ is q. refl
+      | Greater ↦ λ is q. absurd (unequal (order x key) is q)
+    ] refl e
+
+-- ---- what equals a key is the first entry that does not come before it
+
+abbrev equal_of : Entry → Option Entry → Option Entry
+equal_of key None = None
+equal_of key (Some entry) = cond (fits Eq key entry) (Some entry) None
+
+none_equal : (key x : Entry) (ys : List Entry) → order x key ≡ Greater → IsBelow x ys → AllByRecursion (λ y. fits Eq key y ≡ false) ys
+none_equal key x [] greater h = tt
+none_equal key x (y ∷ ys) greater h =
+    let behind = turned key y Less (chained key x y (turned x key Greater greater) h.0) in
+    (ap is_equal behind, none_equal key x ys greater h.1)
+
+equal_behind : (key : Entry) (xs : List Entry) → IsRising xs → least Eq key xs ≡ equal_of key (least_behind Lo key xs)
+equal_behind key [] h = refl
+equal_behind key (x ∷ xs) h =
+    let rest = equal_behind key xs h.1 in
+    elim (order x key) as (λ o. order x key ≡ o → cond (is_equal o) (Some x) (least Eq key xs) ≡ equal_of key (cond (not (is_less o)) (Some x) (least_behind Lo key xs))) [
+      | Less ↦ λ is. rest
+      | Equal ↦ λ is. sym (ap (λ o. cond (is_equal o) (Some x) None) is)
+      | Greater ↦ λ is. none_found (fits Eq key) xs (none_equal key x xs is h.0) ∙ sym (ap (λ o. cond (is_equal o) (Some x) None) is)
+    ] refl
+
+pub equal_some : (key e : Entry) (xs : List Entry) → IsRising xs → Some e ≡ least_behind Lo key xs → fits Eq key e ≡ true → Some e ≡ least Eq key xs
+equal_some key e xs h is same = sym (equal_behind key xs h ∙ ap (equal_of key) (sym is) ∙ ap (λ b. cond b (Some e) None) same)
+
+pub equal_other : (key e : Entry) (xs : List Entry) → IsRising xs → Some e ≡ least_behind Lo key xs → fits Eq key e ≡ false → None ≡ least Eq key xs
+equal_other key e xs h is other = sym (equal_behind key xs h ∙ ap (equal_of key) (sym is) ∙ ap (λ b. cond b (Some e) None) other)
+
+pub equal_none : (key : Entry) (xs : List Entry) → IsRising xs → None ≡ least_behind Lo key xs → None ≡ least Eq key xs
+equal_none key xs h is = sym (equal_behind key xs h ∙ ap (equal_of key) (sym is))
+
+either : (b : Bool) (e : Entry) → is_some (cond b (Some e) None) ≡ b
+either true e = refl
+either false e = refl
+
+is_some-equal_of : (key : Entry) (o : Option Entry) → is_some (equal_of key o) ≡ is_equal_to key o
+is_some-equal_of key None = refl
+is_some-equal_of key (Some e) = either (fits Eq key e) e
+
+pub held_is : (key : Entry) (xs : List Entry) → IsRising xs → is_held key xs ≡ is_equal_to key (least_behind Lo key xs)
+held_is key xs h = ap is_some (equal_behind key xs h) ∙ is_some-equal_of key (least_behind Lo key xs)
+
+pub held_at : (key : Entry) (xs : List Entry) → IsRising xs → is_held key xs ≡ is_equal_to key (slice_get xs (place key xs))
+held_at key xs h = held_is key xs h ∙ ap (is_equal_to key) (find_at (misses Lo key) xs)
+
+-- what is sought at its place
+pub held_where : (key : Entry) (xs : List Entry) (n : ℕ) (b : Bool) → IsRising xs → n ≡ place key xs → b ≡ is_equal_to key (slice_get xs n) → is_held key xs ≡ b
+held_where key xs n b h e test = held_at key xs h ∙ ap (λ k. is_equal_to key (slice_get xs k)) (sym e) ∙ sym test
+
+pub removed_where : (key : Entry) (xs : List Entry) (n : ℕ) (b : Bool) → n ≡ place key xs → b ≡ is_equal_to key (slice_get xs n) → b ≡ true → remove xs n ≡ without_entry key xs
+removed_where key xs n b e test there =
+    ap (λ k. remove xs k) e ∙ removed_at key xs (ap (λ k. is_equal_to key (slice_get xs k)) (sym e) ∙ sym test ∙ there)
 
 -- ---- entries that rise
 
@@ -200,15 +217,6 @@ below_more : (key x : Entry) (xs : List Entry) → order key x ≡ Less → IsBe
 below_more key x [] less h = tt
 below_more key x (y ∷ ys) less h = (chained key x y less h.0, below_more key x ys less h.1)
 
-not_held : (key : Entry) (xs : List Entry) → is_held key xs ≡ false → AllByRecursion (λ x. fits Eq key x ≡ false) xs
-not_held key [] e = tt
-not_held key (x ∷ xs) e =
-    let rest = not_held key xs in
-    elim (fits Eq key x) as (λ b. fits Eq key x ≡ b → is_some (cond b (Some x) (least Eq key xs)) ≡ false → AllByRecursion (λ y. fits Eq key y ≡ false) (x ∷ xs)) [
-      | true ↦ λ is q. absurd (cc)
-      | false ↦ λ is q. (is, rest q)
-    ] refl e
-
 rising_among : (key : Entry) (xs : List Entry) → AllByRecursion (λ x. fits Eq key x ≡ false) xs → IsRising xs → IsRising (with_entry key xs)
 rising_among key [] new h = (tt, tt)
 rising_among key (x ∷ xs) new h =
@@ -233,7 +241,7 @@ rising_without key (x ∷ xs) h =
       | false ↦ (others, rest)
     ]
 
-all_first : {X : Type 0} (P : X → Type 0) (xs ys : List X) → AllByRecursion P (xs ++ ys) → AllByRecursion P xs
+pub all_first : {X : Type 0} (P : X → Type 0) (xs ys : List X) → AllByRecursion P (xs ++ ys) → AllByRecursion P xs
 all_first P [] ys h = tt
 all_first P (x ∷ xs) ys h = (h.0, all_first P xs ys h.1)
 

@@ -1,7 +1,9 @@
 -- How the entries are kept: in leaves, one after another.
-use Rattle.std.specs.Prelude.{◌≡◌, ℕ, ◌<◌, ◌≤◌, Bool, List, [], ◌∷◌, ◌++◌, drop, is_some, length, slice_index_or, suc, take}
-use Rattle.s38_base.specs.declared.words.Relation.TheVariants.{Nl}
-use Rattle.s38_indexes.specs.Entries.{Entry, IsRising, least, with_entry}
+use Rattle.std.specs.Prelude.{◌≡◌, ℕ, ◌<◌, ◌≤◌, Bool, false, Option, None, Some, List, [], ◌∷◌, ◌++◌, drop, find, is_some, length, not, slice_index_or, suc, take}
+use Rattle.std.specs.List.{AllByRecursion, position_or_len}
+use Rattle.s38_base.specs.declared.words.Relation.{Relation}
+use Rattle.s38_base.specs.declared.words.Relation.TheVariants.{Eq, Lo}
+use Rattle.s38_indexes.specs.Entries.{Entry, IsCounted, IsRising, fits, least, with_entry}
 
 -- how many entries a leaf has at most
 abbrev pub most : ℕ
@@ -17,9 +19,47 @@ abbrev pub joined : List (List Entry) → List Entry
 joined [] = []
 joined (leaf ∷ leaves) = leaf ++ joined leaves
 
+-- no leaf is without an entry
+abbrev pub NoneEmpty : List (List Entry) → Type 0
+NoneEmpty leaves = AllByRecursion (λ leaf. 1 ≤ length leaf) leaves
+
+-- what an index keeps of its leaves
+pub record IsKept (count size : ℕ) (leaves : List (List Entry)) : Type 0 where
+  pub counted : IsCounted count size (joined leaves)
+  pub none_empty : NoneEmpty leaves
+
+-- whether an entry does not stand in a relation to a key
+abbrev pub misses : Relation → Entry → Entry → Bool
+misses relation key entry = not (fits relation key entry)
+
+-- how many entries stand in a relation to a key, up to the first that does not
+abbrev pub front : Relation → Entry → List Entry → ℕ
+front relation key entries = position_or_len (misses relation key) entries
+
+-- the least entry that does not stand in a relation to a key
+abbrev pub least_behind : Relation → Entry → List Entry → Option Entry
+least_behind relation key entries = find (misses relation key) entries
+
+-- whether the entry, if there is one, equals a key
+abbrev pub is_equal_to : Entry → Option Entry → Bool
+is_equal_to key None = false
+is_equal_to key (Some entry) = fits Eq key entry
+
+-- whether a leaf has an entry that stands in a relation to a key
+abbrev pub has : Relation → Entry → List Entry → Bool
+has relation key leaf = is_some (least relation key leaf)
+
+-- whether a leaf has an entry that does not stand in a relation to a key
+abbrev pub passes : Relation → Entry → List Entry → Bool
+passes relation key leaf = is_some (least_behind relation key leaf)
+
 -- whether a leaf has an entry that does not come before a key
 abbrev pub reaches : Entry → List Entry → Bool
-reaches key leaf = is_some (least Nl key leaf)
+reaches key leaf = passes Lo key leaf
+
+-- the first leaf that has an entry that does not come before a key, or how many leaves there are
+abbrev pub first_reaching : Entry → List (List Entry) → ℕ
+first_reaching key leaves = position_or_len (reaches key) leaves
 
 -- the leaves with another one in the place of one
 abbrev pub with_leaf : List (List Entry) → ℕ → List Entry → List (List Entry)

@@ -1,11 +1,10 @@
-ghost use Rattle.std.specs.Prelude.{◌≡◌, ◌+◌, ◌≤◌, ◌++◌, false, insert, length, not, position, IfOk, OnOk, OnErr, IsTrue};
-ghost use Rattle.std.specs.List.{AllByRecursion};
+ghost use Rattle.std.specs.Prelude.{◌≡◌, ◌+◌, ◌≤◌, ◌++◌, false, insert, length, not, slice_get, true, IfOk, OnOk, OnErr};
 ghost use Rattle.std.specs.Option.{option_copied};
-ghost use Rattle.s38_base.specs.declared.words.Relation.TheVariants.{Eq, Lo};
-ghost use Rattle.s38_indexes.specs.Entries.{IsRising, fits, greatest, least, place, with_entry, without_entry};
+ghost use Rattle.s38_base.specs.declared.words.Relation.TheVariants.{Eq};
+ghost use Rattle.s38_indexes.specs.Entries.{IsRising, asks_for_greatest, fits, greatest, is_held, least, place, with_entry, without_entry};
+ghost use Rattle.s38_indexes.specs.Leaves.{front, has, is_equal_to, least_behind, passes};
 
 use s38_base::{Bytes, NoMemory, Relation};
-use std::cmp::Ordering;
 
 fn fits(entry: &Bytes, relation: Relation, key: &[u8]) -> bool
     ensures { result ≡ fits relation key.now entry.now }
@@ -13,69 +12,90 @@ fn fits(entry: &Bytes, relation: Relation, key: &[u8]) -> bool
     relation.holds(entry.as_slice().cmp(key))
 }
 
-/// Whether all entries lie on a side of the key on which none fits, as the first or the last of them tells.
-fn is_apart(entries: &[Bytes], relation: Relation, key: &[u8]) -> bool
-    requires { IsRising entries.now }
-    ensures { IsTrue result → AllByRecursion (λ entry. fits relation key.now entry ≡ false) entries.now }
+/// Whether an entry equals a key.
+pub fn equals(entry: &Bytes, key: &[u8]) -> bool
+    ensures { result ≡ fits Eq key.now entry.now }
 {
-    let (Some(first), Some(last)) = (entries.first(), entries.last()) else {
-        return true;
-    };
-    if !relation.holds(Ordering::Less) && fits(last, Relation::Lo, key) {
-        return true;
-    }
-    !relation.holds(Ordering::Greater) && fits(first, Relation::Hi, key)
+    fits(entry, Relation::Eq, key)
 }
 
-/// The least entry that stands in a relation to a key.
-pub fn least<'a>(entries: &'a [Bytes], relation: Relation, key: &[u8]) -> Option<&'a Bytes>
-    requires { IsRising entries.now }
-    ensures { option_copied result ≡ least relation key.now entries.now }
+/// The entry at a place.
+fn entry_at(entries: &[Bytes], at: usize) -> Option<&Bytes>
+    ensures { option_copied result ≡ slice_get entries.now at }
 {
-    if is_apart(entries, relation, key) {
-        return None;
-    }
-    entries.iter().find(|entry| fits(entry, relation, key))
+    entries.get(at)
 }
 
-/// The greatest entry that stands in a relation to a key.
+/// How many entries stand in LO, NH or LAST to a key. All of these stand at the front.
+fn front(entries: &[Bytes], relation: Relation, key: &[u8]) -> usize
+    requires rising { IsRising entries.now }
+    requires downward { asks_for_greatest relation ≡ true }
+    ensures value { result ≡ front relation key.now entries.now }
+    ensures bound { result ≤ length entries.now }
+{
+    entries.partition_point(|entry| fits(entry, relation, key))
+}
+
+/// Whether an entry stands in LO, NH or LAST to a key, as the first of them tells.
+pub fn has(entries: &[Bytes], relation: Relation, key: &[u8]) -> bool
+    requires rising { IsRising entries.now }
+    requires downward { asks_for_greatest relation ≡ true }
+    ensures { result ≡ has relation key.now entries.now }
+{
+    match entries.first() {
+        Some(first) => fits(first, relation, key),
+        None => false,
+    }
+}
+
+/// Whether an entry does not stand in LO, NH or LAST to a key, as the last of them tells.
+pub fn passes(entries: &[Bytes], relation: Relation, key: &[u8]) -> bool
+    requires rising { IsRising entries.now }
+    requires downward { asks_for_greatest relation ≡ true }
+    ensures { result ≡ passes relation key.now entries.now }
+{
+    match entries.last() {
+        Some(last) => !fits(last, relation, key),
+        None => false,
+    }
+}
+
+/// The least entry that does not stand in LO, NH or LAST to a key.
+pub fn least_behind<'a>(entries: &'a [Bytes], relation: Relation, key: &[u8]) -> Option<&'a Bytes>
+    requires rising { IsRising entries.now }
+    requires downward { asks_for_greatest relation ≡ true }
+    ensures { option_copied result ≡ least_behind relation key.now entries.now }
+{
+    entry_at(entries, front(entries, relation, key))
+}
+
+/// The greatest entry that stands in LO, NH or LAST to a key.
 pub fn greatest<'a>(entries: &'a [Bytes], relation: Relation, key: &[u8]) -> Option<&'a Bytes>
-    requires { IsRising entries.now }
+    requires rising { IsRising entries.now }
+    requires downward { asks_for_greatest relation ≡ true }
     ensures { option_copied result ≡ greatest relation key.now entries.now }
 {
-    if is_apart(entries, relation, key) {
+    let front = front(entries, relation, key);
+    if front == 0 {
         return None;
     }
-    entries
-        .iter()
-        .rev()
-        .find(|entry| fits(entry, relation, key))
+    entry_at(entries, front - 1)
 }
 
-/// Where the first entry stands that does not come before a key.
-fn first_from(entries: &[Bytes], key: &[u8]) -> Option<usize>
-    ensures { result ≡ position (λ entry. not (fits Lo key.now entry)) entries.now }
+/// The least entry that stands in a relation to a key, sought from the first on.
+pub fn least<'a>(entries: &'a [Bytes], relation: Relation, key: &[u8]) -> Option<&'a Bytes>
+    ensures { option_copied result ≡ least relation key.now entries.now }
 {
-    entries
-        .iter()
-        .position(|entry| !fits(entry, Relation::Lo, key))
-}
-
-/// Where an entry stands.
-fn place_of(entries: &[Bytes], key: &[u8]) -> Option<usize>
-    ensures { result ≡ position (fits Eq key.now) entries.now }
-{
-    entries
-        .iter()
-        .position(|entry| fits(entry, Relation::Eq, key))
+    entries.iter().find(|entry| fits(entry, relation, key))
 }
 
 /// Where the first entry stands that does not come before a key, or where an entry behind all would.
 fn place(entries: &[Bytes], key: &[u8]) -> usize
+    requires { IsRising entries.now }
     ensures value { result ≡ place key.now entries.now }
     ensures bound { result ≤ length entries.now }
 {
-    first_from(entries, key).unwrap_or(entries.len())
+    front(entries, Relation::Lo, key)
 }
 
 /// Adds an entry at a place; an error leaves the entries as they were.
@@ -92,6 +112,7 @@ fn insert_at(entries: &mut Vec<Bytes>, at: usize, entry: Bytes) -> Result<(), No
 
 /// Adds an entry in its place; an error leaves the entries as they were.
 pub fn add(entries: &mut Vec<Bytes>, entry: Bytes) -> Result<(), NoMemory>
+    requires { IsRising entries.old.items }
     ensures ok { OnOk result (entries.new.items ≡ with_entry entry entries.old.items) }
     ensures err { OnErr result (entries.new.items ≡ entries.old.items) }
 {
@@ -99,13 +120,36 @@ pub fn add(entries: &mut Vec<Bytes>, entry: Bytes) -> Result<(), NoMemory>
     insert_at(entries, at, entry)
 }
 
-/// Takes an entry out.
-pub fn remove(entries: &mut Vec<Bytes>, key: &[u8])
-    ensures { entries.new.items ≡ without_entry key.now entries.old.items }
+/// Whether the entry at a place is there, and equals a key.
+fn equals_at(entries: &[Bytes], at: usize, key: &[u8]) -> bool
+    ensures { result ≡ is_equal_to key.now (slice_get entries.now at) }
 {
-    if let Some(at) = place_of(entries, key) {
-        entries.remove(at);
+    match entry_at(entries, at) {
+        Some(entry) => equals(entry, key),
+        None => false,
     }
+}
+
+/// Whether there is an entry.
+pub fn holds(entries: &[Bytes], key: &[u8]) -> bool
+    requires { IsRising entries.now }
+    ensures { result ≡ is_held key.now entries.now }
+{
+    equals_at(entries, place(entries, key), key)
+}
+
+/// Takes an entry out, and tells whether it was there.
+pub fn remove(entries: &mut Vec<Bytes>, key: &[u8]) -> bool
+    requires { IsRising entries.old.items }
+    ensures held { result ≡ is_held key.now entries.old.items }
+    ensures rest { entries.new.items ≡ without_entry key.now entries.old.items }
+{
+    let at = place(entries, key);
+    if !equals_at(entries, at, key) {
+        return false;
+    }
+    entries.remove(at);
+    true
 }
 
 /// Gives the entries from a place on away; an error leaves them as they were.

@@ -1,6 +1,7 @@
-ghost use Rattle.std.specs.Prelude.{◌≡◌, ◌≤◌, [], None, Some, length, IfErr, OnOk, OnErr};
+ghost use Rattle.std.specs.Prelude.{◌≡◌, ◌≤◌, [], None, Some, length, IfErr, IfOk, OnOk, OnErr};
 ghost use Rattle.std.specs.Option.{option_copied, unwrap_or};
 ghost use Rattle.s38_indexes.specs.Entries.{IsRising, found, image_size, largest, with_entry, without_entry};
+ghost use Rattle.s38_indexes.specs.Leaves.{NoneEmpty, first_reaching, joined};
 ghost use Rattle.s38_indexes.specs.Refusals.{insert_refusal, remove_refusal};
 
 use crate::fault::IndexFault;
@@ -25,14 +26,38 @@ pub struct Index {
 }
 
 impl Model for Index {
-    ghost use Rattle.s38_indexes.specs.Entries.{EntryIndex, IsCounted};
-    ghost use Rattle.s38_indexes.specs.Leaves.{joined};
+    ghost use Rattle.s38_indexes.specs.Entries.{EntryIndex};
+    ghost use Rattle.s38_indexes.specs.Leaves.{IsKept, joined};
 
     ghost Value = { EntryIndex };
 
     ghost view = { λ i. record { longest = i.longest; entries = joined i.leaves.items } };
 
-    ghost invariant = { λ i. IsCounted i.count i.size (joined i.leaves.items) };
+    ghost invariant = { λ i. IsKept i.count i.size i.leaves.items };
+}
+
+/// The first leaf that has an entry that does not come before a new one, or why that one would not be taken.
+fn leaf_for(leaves: &[Leaf], longest: u8, size: u32, entry: &[u8]) -> Result<usize, IndexFault>
+    requires rising { IsRising (joined leaves.now) }
+    requires none_empty { NoneEmpty leaves.now }
+    requires sized { size ≡ image_size (joined leaves.now) }
+    requires within { size ≤ largest }
+    ensures leaf { IfOk result (λ first. first ≡ first_reaching entry.now leaves.now) }
+    ensures ok { OnOk result (insert_refusal entry.now (record { longest = longest; entries = joined leaves.now }) ≡ None) }
+    ensures fault { IfErr result (λ fault.
+        insert_refusal entry.now (record { longest = longest; entries = joined leaves.now }) ≡ Some fault) }
+{
+    if entry.len() > longest as usize {
+        return Err(IndexFault::BadLength);
+    }
+    let first = leaves::first_reaching(leaves, entry);
+    if leaves::holds_at(leaves, first, entry) {
+        return Err(IndexFault::Present);
+    }
+    if size + 1 + entry.len() as u32 > LARGEST {
+        return Err(IndexFault::Full);
+    }
+    Ok(first)
 }
 
 impl Index {
@@ -89,16 +114,10 @@ impl Index {
         ensures ok { OnOk result (insert_refusal entry.now self.now ≡ None) }
         ensures fault { IfErr result (λ fault. insert_refusal entry.now self.now ≡ Some fault) }
     {
-        if entry.len() > self.longest as usize {
-            return Err(IndexFault::BadLength);
+        match leaf_for(self.leaves.as_slice(), self.longest, self.size, entry) {
+            Ok(_) => Ok(()),
+            Err(fault) => Err(fault),
         }
-        if leaves::holds(self.leaves.as_slice(), entry) {
-            return Err(IndexFault::Present);
-        }
-        if self.size + 1 + entry.len() as u32 > LARGEST {
-            return Err(IndexFault::Full);
-        }
-        Ok(())
     }
 
     /// Whether an entry is there to be removed: what `remove` answers.
@@ -112,6 +131,7 @@ impl Index {
             Err(IndexFault::Absent)
         }
     }
+
     /// Adds an entry in its place. It is refused where it has more bytes than an entry may have, then where it
     /// is there, then where the image would exceed 16,777,216 bytes; an error leaves the index as it was.
     pub fn insert(&mut self, entry: &[u8]) -> Result<(), IndexFault>
@@ -122,11 +142,11 @@ impl Index {
             ≡ unwrap_or (insert_refusal entry.now self.old) IndexFault.NoMemory) }
         ensures err { OnErr result (self.new ≡ self.old) }
     {
-        self.can_insert(entry)?;
+        let first = leaf_for(self.leaves.as_slice(), self.longest, self.size, entry)?;
         let Ok(copy) = Seq::from_slice(self.alloc, entry) else {
             return Err(IndexFault::NoMemory);
         };
-        match leaves::add(&mut self.leaves, self.alloc, copy) {
+        match leaves::add(&mut self.leaves, self.alloc, first, copy) {
             Ok(()) => {}
             Err(_) => return Err(IndexFault::NoMemory),
         }
@@ -144,8 +164,9 @@ impl Index {
         ensures fault { IfErr result (λ fault. remove_refusal entry.now self.old ≡ Some fault) }
         ensures err { OnErr result (self.new ≡ self.old) }
     {
-        self.can_remove(entry)?;
-        leaves::remove(&mut self.leaves, entry);
+        if !leaves::remove(&mut self.leaves, entry) {
+            return Err(IndexFault::Absent);
+        }
         self.count -= 1;
         self.size -= 1 + entry.len() as u32;
         Ok(())

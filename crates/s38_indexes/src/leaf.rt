@@ -1,7 +1,7 @@
-ghost use Rattle.std.specs.Prelude.{◌≡◌, ◌<◌, ◌≤◌, ◌↔◌, ◌++◌, [], false, is_some, length, nat_le, IfOk, IsTrue, OnOk, OnErr};
+ghost use Rattle.std.specs.Prelude.{◌≡◌, ◌<◌, ◌≤◌, ◌↔◌, ◌++◌, [], ◌∷◌, false, length, nat_le, true, IfOk, IsTrue, OnOk, OnErr};
 ghost use Rattle.std.specs.Option.{option_copied};
-ghost use Rattle.s38_indexes.specs.Entries.{greatest, is_held, least, with_entry, without_entry};
-ghost use Rattle.s38_indexes.specs.Leaves.{most, reaches};
+ghost use Rattle.s38_indexes.specs.Entries.{asks_for_greatest, greatest, is_held, least, with_entry, without_entry};
+ghost use Rattle.s38_indexes.specs.Leaves.{has, least_behind, most, passes, reaches};
 
 use crate::entries;
 use s38_base::{Bytes, NoMemory, Relation};
@@ -30,12 +30,13 @@ impl Model for Leaf {
 }
 
 impl Leaf {
-    /// A leaf without an entry; it takes no memory until it grows.
-    pub fn new(alloc: Global) -> Leaf
-        ensures { result ≡ [] }
+    /// A leaf of one entry.
+    pub fn of(alloc: Global, entry: Bytes) -> Result<Leaf, NoMemory>
+        ensures { IfOk result (λ leaf. leaf ≡ entry ∷ []) }
     {
-        Leaf {
-            entries: Vec::new(alloc),
+        match vec![in alloc; entry] {
+            Ok(entries) => Ok(Leaf { entries }),
+            Err(_) => Err(NoMemory),
         }
     }
 
@@ -53,32 +54,64 @@ impl Leaf {
         self.entries.is_empty()
     }
 
-    /// The least entry that stands in a relation to a key.
+    /// How many entries it has.
+    pub fn len(&self) -> usize
+        ensures { result ≡ length self.now }
+    {
+        self.entries.len()
+    }
+
+    /// Whether it has an entry that stands in LO, NH or LAST to a key.
+    pub fn has(&self, relation: Relation, key: &[u8]) -> bool
+        requires { asks_for_greatest relation ≡ true }
+        ensures { result ≡ has relation key.now self.now }
+    {
+        entries::has(self.entries.as_slice(), relation, key)
+    }
+
+    /// Whether it has an entry that does not stand in LO, NH or LAST to a key.
+    pub fn passes(&self, relation: Relation, key: &[u8]) -> bool
+        requires { asks_for_greatest relation ≡ true }
+        ensures { result ≡ passes relation key.now self.now }
+    {
+        entries::passes(self.entries.as_slice(), relation, key)
+    }
+
+    /// The least entry that does not stand in LO, NH or LAST to a key.
+    pub fn least_behind(&self, relation: Relation, key: &[u8]) -> Option<&Bytes>
+        requires { asks_for_greatest relation ≡ true }
+        ensures { option_copied result ≡ least_behind relation key.now self.now }
+    {
+        entries::least_behind(self.entries.as_slice(), relation, key)
+    }
+
+    /// The greatest entry that stands in LO, NH or LAST to a key.
+    pub fn greatest(&self, relation: Relation, key: &[u8]) -> Option<&Bytes>
+        requires { asks_for_greatest relation ≡ true }
+        ensures { option_copied result ≡ greatest relation key.now self.now }
+    {
+        entries::greatest(self.entries.as_slice(), relation, key)
+    }
+
+    /// The least entry that stands in a relation to a key, sought from the first on.
     pub fn least(&self, relation: Relation, key: &[u8]) -> Option<&Bytes>
         ensures { option_copied result ≡ least relation key.now self.now }
     {
         entries::least(self.entries.as_slice(), relation, key)
     }
 
-    /// The greatest entry that stands in a relation to a key.
-    pub fn greatest(&self, relation: Relation, key: &[u8]) -> Option<&Bytes>
-        ensures { option_copied result ≡ greatest relation key.now self.now }
-    {
-        entries::greatest(self.entries.as_slice(), relation, key)
-    }
-
     /// Whether it has an entry that does not come before a key.
     pub fn reaches(&self, key: &[u8]) -> bool
         ensures { result ≡ reaches key.now self.now }
     {
-        self.least(Relation::Nl, key).is_some()
+        self.passes(Relation::Lo, key)
     }
 
     /// Whether it has an entry.
     pub fn holds(&self, key: &[u8]) -> bool
         ensures { result ≡ is_held key.now self.now }
     {
-        self.least(Relation::Eq, key).is_some()
+        entries::holds(self.entries.as_slice(), key)
     }
 
     /// Adds an entry in its place; an error leaves the leaf as it was.
@@ -91,11 +124,12 @@ impl Leaf {
         entries::add(&mut self.entries, entry)
     }
 
-    /// Takes an entry out.
-    pub fn remove(&mut self, key: &[u8])
-        ensures { self.new ≡ without_entry key.now self.old }
+    /// Takes an entry out, and tells whether it was there.
+    pub fn remove(&mut self, key: &[u8]) -> bool
+        ensures held { result ≡ is_held key.now self.old }
+        ensures rest { self.new ≡ without_entry key.now self.old }
     {
-        entries::remove(&mut self.entries, key);
+        entries::remove(&mut self.entries, key)
     }
 
     /// Gives the upper half away; an error leaves the leaf as it was.

@@ -1,14 +1,68 @@
-ghost use Rattle.std.specs.Prelude.{◌≡◌, ◌+◌, ◌<◌, ◌≤◌, ◌↔◌, ◌++◌, [], ◌∷◌, false, insert, length, nat_le, if◌then◌else◌, position, slice_index_or, slice_set, IfOk, IsTrue, OnOk, OnErr};
+ghost use Rattle.std.specs.Prelude.{◌≡◌, ◌+◌, ◌<◌, ◌≤◌, ◌↔◌, ◌++◌, [], ◌∷◌, false, insert, length, nat_le, if◌then◌else◌, remove, slice_index_or, slice_set, true, IfOk, IsTrue, OnOk, OnErr};
 ghost use Rattle.std.specs.Option.{option_copied};
 ghost use Rattle.std.specs.Vec.{vec_capacity, vec_len};
-ghost use Rattle.s38_indexes.specs.Entries.{found, greatest, is_held, least, with_entry, without_entry};
-ghost use Rattle.s38_indexes.specs.Leaves.{IsPlaceFor, IsSplit, joined, most, reaches};
+ghost use Rattle.std.specs.List.{AllWithin, position_or_len};
+ghost use Rattle.s38_base.specs.declared.words.Relation.TheVariants.{Eq};
+ghost use Rattle.s38_indexes.specs.Entries.{Entry, IsRising, asks_for_greatest, found, greatest, is_held, least, with_entry, without_entry};
+ghost use Rattle.s38_indexes.specs.Leaves.{IsPlaceFor, IsSplit, NoneEmpty, first_reaching, has, joined, least_behind, most, passes, reaches};
 
+use crate::entries;
 use crate::leaf::Leaf;
 use s38_base::{Bytes, NoMemory, Relation};
 use std::alloc::Global;
 
-/// The least entry that stands in a relation to a key.
+/// The first leaf that has an entry that does not stand in LO, NH or LAST to a key, or how many leaves there are.
+fn first_passing(leaves: &[Leaf], relation: Relation, key: &[u8]) -> usize
+    requires rising { IsRising (joined leaves.now) }
+    requires none_empty { NoneEmpty leaves.now }
+    requires downward { asks_for_greatest relation ≡ true }
+    ensures value { result ≡ position_or_len (passes relation key.now) leaves.now }
+    ensures bound { result ≤ length leaves.now }
+{
+    leaves.partition_point(|leaf| !leaf.passes(relation, key))
+}
+
+/// How many leaves have an entry that stands in LO, NH or LAST to a key. All of these stand at the front.
+fn count_having(leaves: &[Leaf], relation: Relation, key: &[u8]) -> usize
+    requires rising { IsRising (joined leaves.now) }
+    requires none_empty { NoneEmpty leaves.now }
+    requires downward { asks_for_greatest relation ≡ true }
+    ensures first { AllWithin (λ leaf. has relation key.now leaf ≡ true) leaves.now 0 result }
+    ensures rest { AllWithin (λ leaf. has relation key.now leaf ≡ false) leaves.now result (length leaves.now) }
+    ensures bound { result ≤ length leaves.now }
+{
+    leaves.partition_point(|leaf| leaf.has(relation, key))
+}
+
+/// The least entry that does not stand in LO, NH or LAST to a key.
+fn least_behind<'a>(leaves: &'a [Leaf], relation: Relation, key: &[u8]) -> Option<&'a Bytes>
+    requires rising { IsRising (joined leaves.now) }
+    requires none_empty { NoneEmpty leaves.now }
+    requires downward { asks_for_greatest relation ≡ true }
+    ensures { option_copied result ≡ least_behind relation key.now (joined leaves.now) }
+{
+    let at = first_passing(leaves, relation, key);
+    if at == leaves.len() {
+        return None;
+    }
+    leaves[at].least_behind(relation, key)
+}
+
+/// The greatest entry that stands in LO, NH or LAST to a key.
+fn greatest<'a>(leaves: &'a [Leaf], relation: Relation, key: &[u8]) -> Option<&'a Bytes>
+    requires rising { IsRising (joined leaves.now) }
+    requires none_empty { NoneEmpty leaves.now }
+    requires downward { asks_for_greatest relation ≡ true }
+    ensures { option_copied result ≡ greatest relation key.now (joined leaves.now) }
+{
+    let count = count_having(leaves, relation, key);
+    if count == 0 {
+        return None;
+    }
+    leaves[count - 1].greatest(relation, key)
+}
+
+/// The least entry that stands in a relation to a key, sought from the first on.
 fn least<'a>(leaves: &'a [Leaf], relation: Relation, key: &[u8]) -> Option<&'a Bytes>
     ensures { option_copied result ≡ least relation key.now (joined leaves.now) }
 {
@@ -20,59 +74,72 @@ fn least<'a>(leaves: &'a [Leaf], relation: Relation, key: &[u8]) -> Option<&'a B
     None
 }
 
-/// The greatest entry that stands in a relation to a key.
-fn greatest<'a>(leaves: &'a [Leaf], relation: Relation, key: &[u8]) -> Option<&'a Bytes>
-    ensures { option_copied result ≡ greatest relation key.now (joined leaves.now) }
+/// The entry that equals a key.
+fn equal<'a>(leaves: &'a [Leaf], key: &[u8]) -> Option<&'a Bytes>
+    requires rising { IsRising (joined leaves.now) }
+    requires none_empty { NoneEmpty leaves.now }
+    ensures { option_copied result ≡ least Eq key.now (joined leaves.now) }
 {
-    let mut left = leaves.len();
-    while left > 0 {
-        left -= 1;
-        if let Some(entry) = leaves[left].greatest(relation, key) {
-            return Some(entry);
-        }
+    let entry = least_behind(leaves, Relation::Lo, key)?;
+    if entries::equals(entry, key) {
+        Some(entry)
+    } else {
+        None
     }
-    None
 }
 
 /// The entry that a search finds.
 pub fn found<'a>(leaves: &'a [Leaf], relation: Relation, key: &[u8]) -> Option<&'a Bytes>
+    requires rising { IsRising (joined leaves.now) }
+    requires none_empty { NoneEmpty leaves.now }
     ensures { option_copied result ≡ found relation key.now (joined leaves.now) }
 {
     match relation {
+        Relation::Eq => equal(leaves, key),
+        Relation::Nl => least_behind(leaves, Relation::Lo, key),
+        Relation::Hi => least_behind(leaves, Relation::Nh, key),
         Relation::Lo | Relation::Nh | Relation::Last => greatest(leaves, relation, key),
-        _ => least(leaves, relation, key),
+        Relation::Ne | Relation::Any | Relation::First => least(leaves, relation, key),
     }
-}
-
-/// In which leaf an entry is.
-fn place_of(leaves: &[Leaf], key: &[u8]) -> Option<usize>
-    ensures { result ≡ position (is_held key.now) leaves.now }
-{
-    leaves.iter().position(|leaf| leaf.holds(key))
 }
 
 /// Whether an entry is in a leaf.
 pub fn holds(leaves: &[Leaf], key: &[u8]) -> bool
+    requires rising { IsRising (joined leaves.now) }
+    requires none_empty { NoneEmpty leaves.now }
     ensures { result ≡ is_held key.now (joined leaves.now) }
 {
-    least(leaves, Relation::Eq, key).is_some()
+    equal(leaves, key).is_some()
 }
 
-/// The first leaf that has an entry that does not come before a key.
-fn first_reaching(leaves: &[Leaf], key: &[u8]) -> Option<usize>
-    ensures { result ≡ position (reaches key.now) leaves.now }
+/// The first leaf that has an entry that does not come before a key, or how many leaves there are.
+pub fn first_reaching(leaves: &[Leaf], key: &[u8]) -> usize
+    requires rising { IsRising (joined leaves.now) }
+    requires none_empty { NoneEmpty leaves.now }
+    ensures value { result ≡ first_reaching key.now leaves.now }
+    ensures bound { result ≤ length leaves.now }
 {
-    leaves.iter().position(|leaf| leaf.reaches(key))
+    first_passing(leaves, Relation::Lo, key)
+}
+
+/// Whether an entry is there: the first leaf that has an entry that does not come before it would have it.
+pub fn holds_at(leaves: &[Leaf], at: usize, key: &[u8]) -> bool
+    requires rising { IsRising (joined leaves.now) }
+    requires first { at ≡ first_reaching key.now leaves.now }
+    ensures { result ≡ is_held key.now (joined leaves.now) }
+{
+    at < leaves.len() && leaves[at].holds(key)
 }
 
 /// The leaf into which an entry goes: the first that has an entry behind it, else the last.
-fn place_for(leaves: &[Leaf], key: &[u8]) -> usize
+fn place_for(leaves: &[Leaf], first: usize) -> usize
     requires { 0 < length leaves.now }
-    ensures { IsPlaceFor key.now leaves.now result }
+    ensures { (key : Entry) → first ≡ first_reaching key leaves.now → IsPlaceFor key leaves.now result }
 {
-    match first_reaching(leaves, key) {
-        Some(at) => at,
-        None => leaves.len() - 1,
+    if first < leaves.len() {
+        first
+    } else {
+        leaves.len() - 1
     }
 }
 
@@ -89,14 +156,15 @@ fn add_at(leaves: &mut Vec<Leaf>, at: usize, entry: Bytes) -> Result<(), NoMemor
     leaf.add(entry)
 }
 
-/// Takes an entry out of a leaf.
-fn remove_at(leaves: &mut Vec<Leaf>, at: usize, key: &[u8])
+/// Takes an entry out of a leaf, and tells whether it was there.
+fn remove_at(leaves: &mut Vec<Leaf>, at: usize, key: &[u8]) -> bool
     requires { at < length leaves.old.items }
-    ensures { leaves.new.items
+    ensures held { result ≡ is_held key.now (slice_index_or leaves.old.items at []) }
+    ensures rest { leaves.new.items
         ≡ slice_set leaves.old.items at (without_entry key.now (slice_index_or leaves.old.items at [])) }
 {
     let leaf = &mut leaves[at];
-    leaf.remove(key);
+    leaf.remove(key)
 }
 
 /// Gives the upper half of a full leaf away; an error leaves all as they were.
@@ -161,23 +229,27 @@ fn is_full_at(leaves: &[Leaf], at: usize) -> bool
     leaves[at].is_full()
 }
 
-/// Adds an entry; an error leaves the entries as they were.
+/// Adds an entry to a leaf that has room; an error leaves the entries as they were.
 fn add_with_room(leaves: &mut Vec<Leaf>, at: usize, entry: Bytes) -> Result<(), NoMemory>
     requires place { IsPlaceFor entry leaves.old.items at }
     requires new { is_held entry (joined leaves.old.items) ≡ false }
     requires room { length (slice_index_or leaves.old.items at []) < most }
+    requires none_empty { NoneEmpty leaves.old.items }
     ensures ok { OnOk result (joined leaves.new.items ≡ with_entry entry (joined leaves.old.items)) }
     ensures err { OnErr result (joined leaves.new.items ≡ joined leaves.old.items) }
+    ensures none_empty { NoneEmpty leaves.new.items }
 {
     add_at(leaves, at, entry)
 }
 
 /// A place for an entry in this leaf, or in one of its halves; an error leaves the entries as they were.
 fn room_in(leaves: &mut Vec<Leaf>, at: usize, key: &[u8]) -> Result<usize, NoMemory>
-    requires { IsPlaceFor key.now leaves.old.items at }
+    requires place { IsPlaceFor key.now leaves.old.items at }
+    requires none_empty { NoneEmpty leaves.old.items }
     ensures place { IfOk result (λ at. IsPlaceFor key.now leaves.new.items at) }
     ensures room { IfOk result (λ at. length (slice_index_or leaves.new.items at []) < most) }
     ensures same { joined leaves.new.items ≡ joined leaves.old.items }
+    ensures none_empty { NoneEmpty leaves.new.items }
 {
     if !is_full_at(leaves, at) {
         return Ok(at);
@@ -188,42 +260,39 @@ fn room_in(leaves: &mut Vec<Leaf>, at: usize, key: &[u8]) -> Result<usize, NoMem
     }
 }
 
-/// Makes the first leaf, in which any entry has its place.
-fn first_leaf(leaves: &mut Vec<Leaf>, alloc: Global) -> Result<usize, NoMemory>
+/// Makes the first leaf, of one entry; an error changes nothing.
+fn add_first(leaves: &mut Vec<Leaf>, alloc: Global, entry: Bytes) -> Result<(), NoMemory>
     requires { leaves.old.items ≡ [] }
-    ensures leaf { OnOk result (leaves.new.items ≡ [] ∷ []) }
-    ensures first { IfOk result (λ at. at ≡ 0) }
+    ensures ok { OnOk result (leaves.new.items ≡ (entry ∷ []) ∷ []) }
     ensures err { OnErr result (leaves.new.items ≡ []) }
 {
-    match leaves.push(Leaf::new(alloc)) {
-        Ok(()) => Ok(0),
+    let leaf = Leaf::of(alloc, entry)?;
+    match leaves.push(leaf) {
+        Ok(()) => Ok(()),
         Err(_) => Err(NoMemory),
     }
 }
 
-/// A place for an entry; an error leaves the entries as they were.
-fn room_for(leaves: &mut Vec<Leaf>, alloc: Global, key: &[u8]) -> Result<usize, NoMemory>
-    ensures place { IfOk result (λ at. IsPlaceFor key.now leaves.new.items at) }
-    ensures room { IfOk result (λ at. length (slice_index_or leaves.new.items at []) < most) }
-    ensures same { joined leaves.new.items ≡ joined leaves.old.items }
-{
-    if leaves.is_empty() {
-        return first_leaf(leaves, alloc);
-    }
-    let at = place_for(leaves, key);
-    room_in(leaves, at, key)
-}
-
-/// Adds an entry in its place; an error leaves the entries as they were.
-pub fn add(leaves: &mut Vec<Leaf>, alloc: Global, entry: Bytes) -> Result<(), NoMemory>
-    requires { is_held entry (joined leaves.old.items) ≡ false }
+/// Adds an entry in its place, given the first leaf that reaches it; an error leaves the entries as they were.
+pub fn add(
+    leaves: &mut Vec<Leaf>,
+    alloc: Global,
+    first: usize,
+    entry: Bytes,
+) -> Result<(), NoMemory>
+    requires first { first ≡ first_reaching entry leaves.old.items }
+    requires new { is_held entry (joined leaves.old.items) ≡ false }
+    requires none_empty { NoneEmpty leaves.old.items }
     ensures ok { OnOk result (joined leaves.new.items ≡ with_entry entry (joined leaves.old.items)) }
     ensures err { OnErr result (joined leaves.new.items ≡ joined leaves.old.items) }
+    ensures none_empty { NoneEmpty leaves.new.items }
 {
-    match room_for(leaves, alloc, entry.as_slice()) {
-        Ok(at) => add_with_room(leaves, at, entry),
-        Err(e) => Err(e),
+    if leaves.is_empty() {
+        return add_first(leaves, alloc, entry);
     }
+    let at = place_for(leaves, first);
+    let at = room_in(leaves, at, entry.as_slice())?;
+    add_with_room(leaves, at, entry)
 }
 
 /// Whether a leaf has no entry.
@@ -236,20 +305,31 @@ fn is_empty_at(leaves: &[Leaf], at: usize) -> bool
 
 /// Lets a leaf go where it has no entry.
 fn drop_empty(leaves: &mut Vec<Leaf>, at: usize)
-    requires { at < length leaves.old.items }
-    ensures { joined leaves.new.items ≡ joined leaves.old.items }
+    requires inside { at < length leaves.old.items }
+    requires others { NoneEmpty (remove leaves.old.items at) }
+    ensures same { joined leaves.new.items ≡ joined leaves.old.items }
+    ensures none_empty { NoneEmpty leaves.new.items }
 {
     if is_empty_at(leaves, at) {
         leaves.remove(at);
     }
 }
 
-/// Takes an entry out.
-pub fn remove(leaves: &mut Vec<Leaf>, key: &[u8])
-    ensures { joined leaves.new.items ≡ without_entry key.now (joined leaves.old.items) }
+/// Takes an entry out, and tells whether it was there.
+pub fn remove(leaves: &mut Vec<Leaf>, key: &[u8]) -> bool
+    requires rising { IsRising (joined leaves.old.items) }
+    requires none_empty { NoneEmpty leaves.old.items }
+    ensures held { result ≡ is_held key.now (joined leaves.old.items) }
+    ensures rest { joined leaves.new.items ≡ without_entry key.now (joined leaves.old.items) }
+    ensures none_empty { NoneEmpty leaves.new.items }
 {
-    if let Some(at) = place_of(leaves, key) {
-        remove_at(leaves, at, key);
-        drop_empty(leaves, at);
+    let at = first_reaching(leaves, key);
+    if at == leaves.len() {
+        return false;
     }
+    if !remove_at(leaves, at, key) {
+        return false;
+    }
+    drop_empty(leaves, at);
+    true
 }

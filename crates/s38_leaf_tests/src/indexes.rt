@@ -84,22 +84,52 @@ fn each_relation_finds_its_entry(rt: HostRuntime) -> Result<(), Fail> {
     Ok(())
 }
 
-/// 29 has no divisor in common with 65, so each of the 65 bytes comes once.
-#[test]
-fn entries_of_a_mixed_order_are_sorted(rt: HostRuntime) -> Result<(), Fail> {
-    let mut index = Index::new(rt.alloc(), 1);
+/// An index of the 65 entries of one byte below 65. 29 has no divisor in common with 65, so each comes once.
+fn mixed(alloc: Global) -> Result<Index, IndexFault> {
+    let mut index = Index::new(alloc, 1);
     for i in 0..65u32 {
         index.insert(&[(i * 29 % 65) as u8])?;
     }
+    Ok(index)
+}
+
+#[test]
+fn entries_of_a_mixed_order_are_sorted(rt: HostRuntime) -> Result<(), Fail> {
+    let index = mixed(rt.alloc())?;
     assert!(rt; index.len() == 65 && index.image_len() == 135);
     assert!(rt; index.find(First, &[]) == Some([0].as_slice()));
+    assert!(rt; index.find(Last, &[]) == Some([64].as_slice()));
     for byte in 0..64u8 {
         assert!(rt;
             index.find(Hi, &[byte]) == Some([byte + 1].as_slice()),
             "behind {byte}"
         );
+        assert!(rt;
+            index.find(Lo, &[byte + 1]) == Some([byte].as_slice()),
+            "before {byte}"
+        );
     }
-    assert!(rt; index.find(Hi, &[64]).is_none());
+    assert!(rt; index.find(Hi, &[64]).is_none() && index.find(Lo, &[0]).is_none());
+    Ok(())
+}
+
+/// The entries below 40 are more than a half of a leaf.
+#[test]
+fn what_is_left_of_many_entries_is_found(rt: HostRuntime) -> Result<(), Fail> {
+    let mut index = mixed(rt.alloc())?;
+    for byte in 0..40u8 {
+        index.remove(&[byte])?;
+    }
+    assert!(rt; index.len() == 25 && index.can_remove(&[39]) == Err(IndexFault::Absent));
+    assert!(rt; index.find(First, &[]) == Some([40].as_slice()));
+    for byte in 40..65u8 {
+        assert!(rt;
+            index.find(Eq, &[byte]) == Some([byte].as_slice()),
+            "at {byte}"
+        );
+        index.remove(&[byte])?;
+    }
+    assert!(rt; index.len() == 0 && index.find(Any, &[]).is_none());
     Ok(())
 }
 

@@ -1,30 +1,17 @@
 -- What a permitted instruction has met.
-use Rattle.std.proofs.Common.{◌≡◌, ℕ, Bool, true, false, None, Some, Option, refl, cond}
-use Rattle.s38_base.specs.declared.exception.Exception.{Exception}
+use Rattle.std.proofs.Common.{◌≡◌, ℕ, None}
 use Rattle.s38_base.specs.Signals.{first}
 use Rattle.s38_code.specs.declared.event.Event.{Event}
 use Rattle.s38_code.specs.declared.event.Event.TheVariants.{Act}
 use Rattle.s38_code.specs.declared.event.Request.{Request}
-use Rattle.s38_rules.specs.declared.verdict.Verdict.TheVariants.{Permit, Refuse}
+use Rattle.s38_rules.specs.declared.verdict.Verdict.TheVariants.{Permit}
 use Rattle.s38_rules.specs.Authority.{lacks_special}
 use Rattle.s38_rules.specs.Rows.{row}
-use Rattle.s38_rules.specs.State.{State, is_last_ready}
+use Rattle.s38_rules.specs.State.{State}
 use Rattle.s38_rules.specs.Users.{acting}
-use Rattle.s38_rules.specs.Verdict.{address_rules, awake_verdict, lock_rules, may_wait, of_request, refused_by, rights_rules, unless_last}
+use Rattle.s38_rules.specs.Verdict.{address_rules, awake_verdict, lock_rules, refused_by, rights_rules}
 use Rattle.s38_rules.proofs.RuleLaws.{first_none}
-
-last_permit : (b : Bool) → unless_last b ≡ Permit → ⊥
-last_permit true h = cc
-last_permit false h = cc
-
-exception_permit : (b last : Bool) (x : Exception) → cond b (unless_last last) (Refuse x) ≡ Permit → ⊥
-exception_permit true last x h = last_permit last h
-exception_permit false last x h = cc
-
-of_request_permit : (s : State) (p : ℕ) (r : Request) (x : Option Exception) → of_request s p r x ≡ Permit → x ≡ None
-unfolding of_request
-of_request_permit s p r None h = refl
-of_request_permit s p r (Some x) h = absurd (exception_permit (may_wait r.op r.operands x.id) (is_last_ready s p) x h)
+use Rattle.s38_rules.proofs.VerdictLaws.{permitted_none}
 
 -- it meets its conditions
 pub permitted_conditions : (s : State) (p depth : ℕ) (request : Request) → awake_verdict s p (Act depth request) ≡ Permit → (row request.op).fails s p depth request ≡ None
@@ -35,7 +22,7 @@ permitted_conditions s p depth request h =
     let locks = lock_rules s p request wanted in
     let special = lacks_special s.held (acting s p depth) (i.special s p depth request) in
     let granted = rights_rules s p depth request.operands wanted in
-    let none = of_request_permit s p request (refused_by i s p depth request) h in
+    let none = permitted_none s p request (refused_by i s p depth request) h in
     let behind_address = (first_none (address_rules s.held request.operands wanted) (first special (first granted (first locks (i.fails s p depth request)))) none).1 in
     let behind_special = (first_none special (first granted (first locks (i.fails s p depth request))) behind_address).1 in
     let behind_rights = (first_none granted (first locks (i.fails s p depth request)) behind_special).1 in

@@ -1,1 +1,4 @@
+pub mod Kept
+pub mod KeyText
 pub mod MessageQueue
+pub mod Places

@@ -1,9 +1,12 @@
 //! Queues: messages in the order of their arrival.
 #![tactic(auto)]
 
+mod kept;
+mod key;
+mod keyed;
 mod message;
+mod place;
 mod queue;
-mod search;
 
 pub use message::{Message, Order};
 pub use queue::{Queue, QueueFault};

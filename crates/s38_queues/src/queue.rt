@@ -1,15 +1,11 @@
-ghost use Rattle.std.specs.Prelude.{◌≡◌, ◌≢◌, ◌+◌, ◌<◌, ◌≤◌, ◌↔◌, ◌∷◌, [], length, Some, true, IfOk, IsErrOf, OnOk, OnErr};
-ghost use Rattle.std.specs.Prelude.{slice_get};
+ghost use Rattle.std.specs.Prelude.{◌≡◌, ◌≢◌, ◌+◌, ◌<◌, ◌≤◌, ◌↔◌, [], length, slice_get, true, IfOk, IsErrOf, OnOk, OnErr};
 ghost use Rattle.std.specs.Option.{option_copied};
-ghost use Rattle.std.specs.List.{remove};
-ghost use Rattle.std.specs.VecDeque.{deque_len};
-ghost use Rattle.s38_queues.specs.MessageQueue.{found, found_message, image_size, is_asked, longest_key, message, message_size, with_message, without_found};
+ghost use Rattle.s38_queues.specs.MessageQueue.{found_message, image_size, is_asked, longest_key, message, message_size, with_message, without_found};
 
+use crate::kept::Kept;
 use crate::message::{Message, Order};
-use crate::search::{first_by_key, newest, oldest};
 use s38_base::{NoMemory, Relation, Seq};
 use std::alloc::Global;
-use std::collections::VecDeque;
 use std::marker::Model;
 use thiserror::Error;
 
@@ -20,22 +16,22 @@ const LARGEST: u32 = 16_777_216;
 #[derive(Drop)]
 pub struct Queue {
     alloc: Global,
-    order: Order,
     key_len: u8,
     longest: u16,
     size: u32,
-    messages: VecDeque<Message>,
+    kept: Kept,
 }
 
 impl Model for Queue {
     ghost use Rattle.std.specs.Prelude.{◌≡◌, ◌≤◌};
-    ghost use Rattle.s38_queues.specs.MessageQueue.{MessageQueue, image_size};
+    ghost use Rattle.s38_queues.specs.Kept.{messages_of, order_of};
+    ghost use Rattle.s38_queues.specs.MessageQueue.{MessageQueue, image_size, longest_key};
 
     ghost Value = { MessageQueue };
 
-    ghost view = { λ q. record { order = q.order; key_len = q.key_len; longest = q.longest; messages = q.messages.items } };
+    ghost view = { λ q. record { order = order_of q.kept; key_len = q.key_len; longest = q.longest; messages = messages_of q.kept } };
 
-    ghost invariant = { λ q. (q.size ≡ image_size q.messages.items) × (q.size ≤ 16777216) };
+    ghost invariant = { λ q. (q.key_len ≤ longest_key) × (q.size ≡ image_size (messages_of q.kept)) × (q.size ≤ 16777216) };
 }
 
 /// A message of its own memory.
@@ -45,34 +41,6 @@ fn message_of(alloc: Global, key: &[u8], text: &[u8]) -> Result<Message, NoMemor
     let key = Seq::from_slice(alloc, key)?;
     let text = Seq::from_slice(alloc, text)?;
     Ok(Message { key, text })
-}
-
-fn take_first(messages: &mut VecDeque<Message>) -> Message
-    requires { 0 < deque_len messages.old }
-    ensures { messages.old.items ≡ result ∷ messages.new.items }
-{
-    messages.pop_front().unwrap()
-}
-
-fn take_any(messages: &mut VecDeque<Message>, at: usize) -> Message
-    requires { at < deque_len messages.old }
-    ensures message { slice_get messages.old.items at ≡ Some result }
-    ensures rest { messages.new.items ≡ remove messages.old.items at }
-{
-    if at == 0 {
-        take_first(messages)
-    } else {
-        messages.remove(at).unwrap()
-    }
-}
-
-fn take_at(messages: &mut VecDeque<Message>, at: usize) -> Message
-    requires { at < deque_len messages.old }
-    ensures message { slice_get messages.old.items at ≡ Some result }
-    ensures rest { messages.new.items ≡ remove messages.old.items at }
-    ensures size { image_size messages.new.items + message_size result ≡ image_size messages.old.items }
-{
-    take_any(messages, at)
 }
 
 /// Why a message was not put.
@@ -96,11 +64,10 @@ impl Queue {
     {
         Queue {
             alloc,
-            order,
             key_len,
             longest,
             size: 8,
-            messages: VecDeque::new(alloc),
+            kept: Kept::new(alloc, order),
         }
     }
 
@@ -108,7 +75,7 @@ impl Queue {
     pub fn order(&self) -> Order
         ensures { result ≡ self.now.order }
     {
-        self.order
+        self.kept.order()
     }
 
     /// How many bytes a key has, 0 without keys.
@@ -129,7 +96,7 @@ impl Queue {
     pub fn len(&self) -> usize
         ensures { result ≡ length self.now.messages }
     {
-        self.messages.len()
+        self.kept.len()
     }
 
     /// How many bytes the image of the queue has.
@@ -140,11 +107,12 @@ impl Queue {
         self.size
     }
 
-    /// The message at a place in the order of arrival, from 0 on; None exactly past the last.
+    /// The message at a place in the order of arrival, from 0 on; None exactly past the last. With keys it takes time
+    /// linear in the place.
     pub fn message(&self, at: usize) -> Option<&Message>
         ensures { option_copied result ≡ slice_get self.now.messages at }
     {
-        self.messages.get(at)
+        self.kept.get(at)
     }
 
     /// Puts a message behind the others. It is refused for its key, then for its length, then where the image
@@ -170,7 +138,7 @@ impl Queue {
         let Ok(message) = message_of(self.alloc, key, text) else {
             return Err(QueueFault::NoMemory);
         };
-        if self.messages.push_back(message).is_err() {
+        if self.kept.push(message).is_err() {
             return Err(QueueFault::NoMemory);
         }
         self.size = size;
@@ -183,10 +151,10 @@ impl Queue {
     pub fn find(&self, relation: Relation, key: &[u8]) -> Option<&Message>
         ensures { option_copied result ≡ found_message self.now relation key.now }
     {
-        match self.found(relation, key) {
-            None => None,
-            Some(at) => self.messages.get(at),
+        if !self.is_asked(relation, key.len()) {
+            return None;
         }
+        self.kept.find(relation, key)
     }
 
     /// Whether the queue may be asked so: for any message, or by a key of the length of its keys.
@@ -195,24 +163,10 @@ impl Queue {
     {
         match relation {
             Relation::Any => true,
-            _ => match self.order {
+            _ => match self.order() {
                 Order::Keyed => key_len == usize::from(self.key_len),
                 _ => false,
             },
-        }
-    }
-
-    /// The place of the message that is taken next.
-    fn found(&self, relation: Relation, key: &[u8]) -> Option<usize>
-        ensures { result ≡ found self.now relation key.now }
-    {
-        if !self.is_asked(relation, key.len()) {
-            return None;
-        }
-        match self.order {
-            Order::Fifo => oldest(&self.messages),
-            Order::Lifo => newest(&self.messages),
-            Order::Keyed => first_by_key(&self.messages, relation, key),
         }
     }
 
@@ -221,8 +175,10 @@ impl Queue {
         ensures message { result ≡ found_message self.old relation key.now }
         ensures rest { self.new ≡ without_found self.old relation key.now }
     {
-        let at = self.found(relation, key)?;
-        let message = take_at(&mut self.messages, at);
+        if !self.is_asked(relation, key.len()) {
+            return None;
+        }
+        let message = self.kept.take(relation, key)?;
         self.size -= message.key.len() as u32 + message.text.len() as u32 + 2;
         Some(message)
     }

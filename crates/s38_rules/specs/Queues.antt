@@ -144,9 +144,12 @@ unfoldable pub deq_gives : Held → List Operand → Val
 deq_gives h ops =
     vals.Bytes (fitted (room_at ops 1) blank (text_of (found_message (queue_at h (target h ops 2)) (relation_at ops 3) (bytes_at h ops 4))))
 
+abbrev pub left_by : Relation → List ℕ → MessageQueue → MessageQueue
+left_by relation key q = without_found q relation key
+
 -- it leaves the queue
 unfoldable pub deq_changes : Held → List Operand → Held
-deq_changes h ops = on_queue h (target h ops 2) (λ q. without_found q (relation_at ops 3) (bytes_at h ops 4))
+deq_changes h ops = on_queue h (target h ops 2) (left_by (relation_at ops 3) (bytes_at h ops 4))
 
 abbrev pub deq : Instruction
 deq = record inert {

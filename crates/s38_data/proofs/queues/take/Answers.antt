@@ -1,6 +1,5 @@
-use Rattle.std.specs.Prelude.{ℕ}
 use Rattle.std.proofs.Common.{subst, sym}
-use Rattle.s38_queues.specs.MessageQueue.{without_found}
+use Rattle.s38_rules.specs.Queues.{left_by}
 use Rattle.s38_rules.specs.Held.{Held}
 use Rattle.s38_rules.specs.Kept.{Mirrors}
 use Rattle.s38_changes.proofs.KeptLaws.{queue_kept}
@@ -10,5 +9,5 @@ pub invariant_of-world : goal.invariant_of-world
 invariant_of-world c = (
   c.world.invariant.0,
   subst (λ (h : Held). Mirrors c.world.inside.profiles h) (sym c.take_in.ensures)
-      (queue_kept c.world.inside.profiles c.world.inside.objects c.args.number.0 (λ q. without_found q c.args.relation c.args.key.now) c.world.invariant.1),
+      (queue_kept c.world.inside.profiles c.world.inside.objects c.args.number.0 (left_by c.args.relation c.args.key.now) c.world.invariant.1),
 )

@@ -1,23 +1,23 @@
-use Rattle.std.proofs.Common.{◌≡◌, ◌+◌, ◌-◌, ◌<◌, ◌∙◌, ap, arith, length, sym}
-use Rattle.std.specs.Option.{option_copied}
+use Rattle.std.proofs.Common.{◌≡◌, ◌+◌, ◌-◌, ◌<◌, ◌∙◌, arith, length, sym, false, subst}
+use Rattle.std.specs.List.{AllWithin}
 use Rattle.s38_indexes.specs.Entries.{fits}
-use Rattle.s38_indexes.proofs.LeafLaws.{found_back, missed_back}
+use Rattle.s38_indexes.specs.Leaves.{has}
+use Rattle.s38_indexes.proofs.LeafLaws.{found_last, none_back}
 use Rattle.s38_indexes.proofs.leaves.greatest.Goals as goal
 
-pub returns-in-Some : goal.returns-in-Some
-returns-in-Some c =
-    let n = c.loop-left.left in
-    let some = c.loop-left-test.true in
-    let inside = c.loop-left.invariant.0 in
-    let next : n ≡ (n - 1) + 1 = omega arith in
-    let low : n - 1 < length c.args.leaves.now = omega arith in
-    found_back (fits c.args.relation c.args.key.now) c.args.leaves.now n (n - 1) c.index-leaves-left.result c.in-Some.entry.now next low c.index-leaves-left.is (ap option_copied (sym c.in-Some.is) ∙ c.greatest.ensures) ∙ sym c.loop-left.invariant.1
+pub returns-then-count-eq0 : goal.returns-then-count-eq0
+returns-then-count-eq0 c =
+    let relation = c.args.relation in
+    let key = c.args.key.now in
+    let leaves = c.args.leaves.now in
+    sym (none_back (fits relation key) leaves (subst (λ n. AllWithin (λ leaf. has relation key leaf ≡ false) leaves n (length leaves)) c.if-count-eq0.true c.count_having-count.ensures.rest))
 
-pub loop-left-preserved : goal.loop-left-preserved
-loop-left-preserved c =
-    let n = c.loop-left.left in
-    let some = c.loop-left-test.true in
-    let inside = c.loop-left.invariant.0 in
+pub returns : goal.returns
+returns c =
+    let leaves = c.args.leaves.now in
+    let n = c.count_having-count.result in
+    let some = c.if-count-eq0.false in
+    let bound = c.count_having-count.ensures.bound in
     let next : n ≡ (n - 1) + 1 = omega arith in
-    let low : n - 1 < length c.args.leaves.now = omega arith in
-    (omega arith, c.loop-left.invariant.1 ∙ missed_back (fits c.args.relation c.args.key.now) c.args.leaves.now n (n - 1) c.index-leaves-left.result next low c.index-leaves-left.is (ap option_copied (sym c.in_default.is) ∙ c.greatest.ensures))
+    let low : n - 1 < length leaves = omega arith in
+    c.greatest.ensures ∙ found_last (fits c.args.relation c.args.key.now) leaves n (n - 1) c.index-leaves-count.result next low c.index-leaves-count.is c.count_having-count.ensures.first c.count_having-count.ensures.rest
