@@ -1,8 +1,6 @@
 -- Seeks that find nothing, what a change of entries has met, and what it leaves of what is kept of users.
-use Rattle.std.proofs.Common.{◌≡◌, ℕ, zero, suc, ◌+◌, ◌-◌, ◌<◌, ◌==◌, Bool, true, false, not, List, [], ◌∷◌, arith, length, map, refl, sym, ◌∙◌, ap, subst, IsTrue}
-use Rattle.std.proofs.lemmas.Bool.Decides.{nat_tests}
-use Rattle.std.specs.Prelude.{min, Option, Some, None, Result, Ok, Err, OnOk, OnErr, is_none, is_some, if◌then◌else◌, slice_get}
-use Rattle.std.specs.Option.{unwrap_or}
+use Rattle.std.proofs.Common.{◌≡◌, ℕ, zero, suc, ◌+◌, ◌-◌, ◌<◌, ◌==◌, true, false, List, [], ◌∷◌, arith, length, refl, sym, subst}
+use Rattle.std.specs.Prelude.{min, Option, Some, None, Result, Ok, Err, OnOk, OnErr, is_none, is_some}
 use Rattle.s38_base.specs.declared.attr.Attr.{Attr}
 use Rattle.s38_base.specs.declared.exception.Exception.{Exception}
 use Rattle.s38_base.specs.declared.fault.NoMemory.{NoMemory}
@@ -19,7 +17,7 @@ use Rattle.s38_changes.proofs.KeptLaws.{IsUnkept, part_unkept}
 use Rattle.s38_rules.specs.declared.cursor.Cursor.{Cursor}
 use Rattle.s38_rules.specs.declared.data_body.DataBody.{DataBody}
 use Rattle.s38_rules.specs.Creation.{creation_fails}
-use Rattle.s38_rules.specs.DataSpaces.{created_cursor, created_data_space, crtcr_fails, crtds_fails, current, cursor_of, deldsen_fails, insdsen_fails, standing, table_of, updsen_fails}
+use Rattle.s38_rules.specs.DataSpaces.{created_cursor, created_data_space, crtcr_fails, crtds_fails, cursor_of, deldsen_fails, insdsen_fails, standing, table_of, updsen_fails}
 use Rattle.s38_rules.specs.Held.{Held}
 use Rattle.s38_rules.specs.Kept.{Mirrors}
 use Rattle.s38_rules.specs.Operands.{bytes_at}
