@@ -1,0 +1,133 @@
+//! What is read of cursors and of data spaces. What is no cursor reads as one of no data space, and what is no data
+//! space as one without fields and entries.
+ghost use Rattle.std.specs.Prelude.{◌≡◌, ◌+◌, ◌≤◌, length};
+ghost use Rattle.std.specs.Option.{option_copied, unwrap_or};
+ghost use Rattle.s38_dataspaces.specs.Entries.{entry_at};
+ghost use Rattle.s38_dataspaces.specs.Seeks.{sought};
+ghost use Rattle.s38_dataspaces.specs.Table.{entry_len, image_size};
+ghost use Rattle.s38_rules.specs.DataSpaces.{cursor_of, standing, table_of};
+ghost use Rattle.s38_rules.specs.Parts.{cursor_at, no_table, table_at};
+
+use s38_base::{Attr, ObjNum, Seek};
+use s38_code::Operand;
+use s38_dataspaces::DataSpace;
+use s38_objects::Objects;
+use s38_operands::target;
+use s38_rules::Cursor;
+
+/// The image of a data space without fields, in bytes.
+const SMALLEST_IMAGE: u32 = 22;
+
+fn cursor_at(objects: &Objects, number: ObjNum) -> Cursor
+    ensures { result ≡ cursor_at objects.now number.0 }
+{
+    match objects.cursor(number) {
+        Some(cursor) => *cursor,
+        None => Cursor {
+            space: ObjNum(0),
+            block: ObjNum(0),
+            position: 0,
+        },
+    }
+}
+
+/// The cursor that an operand names.
+pub fn cursor_of(objects: &Objects, operands: &[Operand], k: usize) -> Cursor
+    ensures { result ≡ cursor_of objects.now operands.now k }
+{
+    cursor_at(objects, target(objects, operands, k))
+}
+
+/// The data space of a number.
+fn table_at(objects: &Objects, number: ObjNum) -> Option<&DataSpace>
+    ensures { unwrap_or (option_copied result) no_table ≡ table_at objects.now number.0 }
+{
+    match objects.data_space(number) {
+        Some(held) => Some(&held.space),
+        None => None,
+    }
+}
+
+/// The data space that the cursor of an operand goes through.
+pub fn table_of<'a>(objects: &'a Objects, operands: &[Operand], k: usize) -> Option<&'a DataSpace>
+    ensures { unwrap_or (option_copied result) no_table ≡ table_of objects.now operands.now k }
+{
+    table_at(objects, cursor_of(objects, operands, k).space)
+}
+
+/// The attributes of the fields.
+pub fn fields_in(table: Option<&DataSpace>) -> &[Attr]
+    ensures { result.now ≡ (unwrap_or (option_copied table.entry) no_table).fields }
+{
+    match table {
+        Some(table) => table.fields().as_slice(),
+        None => &[],
+    }
+}
+
+/// How many bytes an entry has.
+pub fn entry_len_in(table: Option<&DataSpace>) -> usize
+    ensures len { result ≡ entry_len (unwrap_or (option_copied table.entry) no_table).fields }
+    ensures bound { result ≤ 4096 }
+{
+    match table {
+        Some(table) => table.entry_len(),
+        None => 0,
+    }
+}
+
+/// How many bytes the image has.
+fn image_len_in(table: Option<&DataSpace>) -> u32
+    ensures size { result ≡ image_size (unwrap_or (option_copied table.entry) no_table).fields (length (unwrap_or (option_copied table.entry) no_table).entries) }
+    ensures bound { result ≤ 16777216 }
+{
+    match table {
+        Some(table) => table.image_len(),
+        None => SMALLEST_IMAGE,
+    }
+}
+
+/// How many bytes the image has with one entry more.
+#[tactic(auto, using(crate::proofs::CursorLaws::image_grown))]
+pub fn grown_image_in(table: Option<&DataSpace>) -> u32
+    ensures { result ≡ image_size (unwrap_or (option_copied table.entry) no_table).fields (length (unwrap_or (option_copied table.entry) no_table).entries + 1) }
+{
+    image_len_in(table) + (1 + entry_len_in(table) as u32)
+}
+
+/// The entry of an ordinal; None where it is deleted, and where there is no such ordinal.
+pub fn entry_in(table: Option<&DataSpace>, at: u32) -> Option<&[u8]>
+    ensures { option_copied result ≡ entry_at (unwrap_or (option_copied table.entry) no_table).entries at }
+{
+    match table {
+        Some(table) => table.get(at),
+        None => None,
+    }
+}
+
+/// The ordinal of the entry that is sought.
+#[tactic(auto, using(crate::proofs::CursorLaws::nowhere))]
+pub fn sought_in(table: Option<&DataSpace>, how: Seek, from: u32) -> Option<u32>
+    ensures { result ≡ sought (standing (unwrap_or (option_copied table.entry) no_table).entries) how from }
+{
+    match table {
+        Some(table) => table.seek(how, from),
+        None => None,
+    }
+}
+
+/// An ordinal, where its entry stands; a number that no ordinal reaches is none.
+#[tactic(auto, using(crate::proofs::CursorLaws::nowhere, crate::proofs::CursorLaws::too_far))]
+pub fn ordinal_in(table: Option<&DataSpace>, ordinal: u128) -> Option<u32>
+    ensures { result ≡ sought (standing (unwrap_or (option_copied table.entry) no_table).entries) Seek.At ordinal }
+{
+    match table {
+        Some(table) => {
+            if ordinal > u128::from(table.ordinals()) {
+                return None;
+            }
+            table.seek(Seek::At, ordinal as u32)
+        }
+        None => None,
+    }
+}
