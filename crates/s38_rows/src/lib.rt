@@ -22,7 +22,11 @@ mod faults;
 #[cfg(test)]
 mod grants;
 #[cfg(test)]
+mod indexes;
+#[cfg(test)]
 mod invocations;
+#[cfg(test)]
+mod keyed;
 #[cfg(test)]
 mod listed;
 #[cfg(test)]

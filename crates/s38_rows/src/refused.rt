@@ -38,7 +38,8 @@ const REFUSED: &[(&str, &str)] = &[
         "2A08 3",
     ),
     ("DCL P PTR;CRTQ P,*NONE,SPACE/00/Q,NONE,FIFO,0,8;", "2A05 1"),
-    ("DCL P PTR;CRTQ P,*NONE,QUEUE/00/Q,NONE,LIFO,0,8;", "2A04 1"),
+    ("DCL P PTR;CRTQ P,*NONE,QUEUE/00/Q,NONE,LIFO,1,8;", "2A05 1"),
+    ("DCL P PTR;CRTJS P,*NONE,JSPACE/00/J,NONE;", "2A04 1"),
     ("DCL P PTR;COMMIT P;", "2A04 1"),
     ("RTX;ENQ Q,*NONE,'A';", "2A07 2"),
 ];

@@ -9,7 +9,9 @@ use crate::created::CREATED;
 use crate::decks::DECKS;
 use crate::exceptions::EXCEPTIONS;
 use crate::grants::{CARRIED, GRANTED, LENT, OWNED, SEEN};
+use crate::indexes::{ENTERED, FOUND, HELD, INDEXES, RIGHTS};
 use crate::invocations::{ADOPTED, CALLED, MISMATCHED, OFFERED, PASSED};
+use crate::keyed::{ASKED, ORDERED, TAKEN};
 use crate::locks::{BLOCKED, LOCKING, PAIRS};
 use crate::profiles::{PAID, PROFILES, USERS};
 use crate::programs::PROGRAMS;
@@ -49,6 +51,21 @@ pub struct Between {
     pub text: (&'static str, &'static str),
     /// What each row has: the lock, what is asked, and what is answered.
     pub rows: &'static [(&'static str, &'static str, &'static str)],
+}
+
+/// The relations to a key, in the order in which rows have what each finds.
+const RELATIONS: &[&str] = &["EQ", "NE", "LO", "HI", "NL", "NH", "ANY", "FIRST", "LAST"];
+
+/// Rows of a queue or an index, of a key, and of what each relation to the key finds there.
+pub struct Keys {
+    /// The deck up to the instruction, the instruction up to its second operand, and the deck behind the key.
+    pub deck: (&'static str, &'static str, &'static str),
+    /// The text up to the entry, the entry up to what it says, and the rest.
+    pub text: (&'static str, &'static str, &'static str),
+    /// What the entry says where nothing is found.
+    pub none: &'static str,
+    /// What each row has: the queue or index, the key, and the bytes that are found, none where there are none.
+    pub rows: &'static [(&'static str, &'static str, &'static [&'static str])],
 }
 
 /// The word that runs a deck.
@@ -110,6 +127,42 @@ fn wrong_pair(
     Ok(None)
 }
 
+/// Whether a relation to a key finds what it should.
+fn finds(
+    alloc: Global,
+    keys: &Keys,
+    at: &'static str,
+    relation: &'static str,
+    key: &'static str,
+    found: &'static str,
+) -> Result<bool, NoMemory> {
+    let deck = [
+        keys.deck.0,
+        keys.deck.1,
+        at,
+        ",",
+        relation,
+        ",",
+        key,
+        keys.deck.2,
+    ];
+    let said = if found.is_empty() { keys.none } else { "OK " };
+    let text = [keys.text.0, keys.text.1, said, found, keys.text.2];
+    answers(alloc, &["serial"], &deck, &text, 0)
+}
+
+/// The queue or index and the key of the first row in which a relation finds something else, if there is one.
+fn wrong_key(alloc: Global, keys: &Keys) -> Result<Option<(&'static str, &'static str)>, NoMemory> {
+    for (at, key, row) in keys.rows {
+        for (relation, found) in RELATIONS.iter().zip(row.iter()) {
+            if !finds(alloc, keys, *at, *relation, *key, *found)? {
+                return Ok(Some((*at, *key)));
+            }
+        }
+    }
+    Ok(None)
+}
+
 #[test]
 fn every_row_is_answered(rt: HostRuntime) -> Result<(), Fail> {
     let tables = [
@@ -143,6 +196,10 @@ fn every_row_is_answered(rt: HostRuntime) -> Result<(), Fail> {
         &OWNED,
         &WAYS,
         &WAITS,
+        &ASKED,
+        &ORDERED,
+        &INDEXES,
+        &ENTERED,
     ];
     for table in tables {
         assert_eq!(rt; wrong_call(rt.alloc(), table)?, None);
@@ -152,7 +209,7 @@ fn every_row_is_answered(rt: HostRuntime) -> Result<(), Fail> {
 
 #[test]
 fn every_act_is_answered(rt: HostRuntime) -> Result<(), Fail> {
-    for acts in [&CONTEXTS, &PROFILES, &LOCKING] {
+    for acts in [&CONTEXTS, &PROFILES, &LOCKING, &RIGHTS] {
         assert_eq!(rt; wrong_act(rt.alloc(), acts)?, None);
     }
     Ok(())
@@ -160,8 +217,16 @@ fn every_act_is_answered(rt: HostRuntime) -> Result<(), Fail> {
 
 #[test]
 fn every_pair_is_answered(rt: HostRuntime) -> Result<(), Fail> {
-    for between in [&PAIRS, &BLOCKED] {
+    for between in [&PAIRS, &BLOCKED, &HELD] {
         assert_eq!(rt; wrong_pair(rt.alloc(), between)?, None);
+    }
+    Ok(())
+}
+
+#[test]
+fn every_relation_finds_what_it_should(rt: HostRuntime) -> Result<(), Fail> {
+    for keys in [&TAKEN, &FOUND] {
+        assert_eq!(rt; wrong_key(rt.alloc(), keys)?, None);
     }
     Ok(())
 }
