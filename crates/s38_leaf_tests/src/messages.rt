@@ -32,7 +32,7 @@ fn messages_are_put_and_taken(rt: HostRuntime) {
         assert!(rt; queue.put(key, text) == *want);
     }
     assert!(rt; queue.len() == 2);
-    assert!(rt; queue.len() == 2);
+    assert!(rt; queue.take(0).text.as_slice() == b"abcd".as_slice());
 }
 
 #[test]
