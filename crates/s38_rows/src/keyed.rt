@@ -77,7 +77,7 @@ pub static ASKED: Table = Table {
         ("DEQ M,G,HI,'AB',WAIT", "DEQ 2405 3"),
         ("DEQ M,F,ANY,'A',NOWAIT", "DEQ 2405 4"),
         ("DEQ M,L,ANY,'A',NOWAIT", "DEQ 2405 4"),
-        ("DEQ M,E,ANY,'A',NOWAIT", "DEQ 2405 4"),
+        ("DEQ M,E,ANY,'',NOWAIT", "DEQ 2405 4"),
         ("DEQ M,G,ANY,'A',NOWAIT", "DEQ 2405 4"),
         // A key has the length of the queue's keys, and is not given for any message; that is asked before a message
         // is sought.

@@ -133,10 +133,10 @@ fn wrong_pair(
 fn finds(
     alloc: Global,
     keys: &Keys,
-    at: &str,
-    relation: &str,
-    key: &str,
-    found: &str,
+    at: &'static str,
+    relation: &'static str,
+    key: &'static str,
+    found: &'static str,
 ) -> Result<bool, NoMemory> {
     let deck = [
         keys.deck.0,
@@ -157,7 +157,7 @@ fn finds(
 fn wrong_key(alloc: Global, keys: &Keys) -> Result<Option<(&'static str, &'static str)>, NoMemory> {
     for (at, key, row) in keys.rows {
         for (relation, found) in RELATIONS.iter().zip(row.iter()) {
-            if !finds(alloc, keys, at, relation, key, found)? {
+            if !finds(alloc, keys, *at, *relation, *key, *found)? {
                 return Ok(Some((*at, *key)));
             }
         }
