@@ -158,7 +158,12 @@ fn every_word_finds_its_entry(rt: HostRuntime) -> Result<(), Fail> {
 #[test]
 fn every_ordinal_finds_its_entry(rt: HostRuntime) -> Result<(), Fail> {
     for (cursor, stands, how, found) in ORDINALS {
-        assert!(rt; finds(rt.alloc(), cursor, stands, how, found)?, "{} {}", cursor, how);
+        assert!(rt;
+            finds(rt.alloc(), cursor, stands, how, found)?,
+            "{} {}",
+            cursor,
+            how
+        );
     }
     Ok(())
 }

@@ -119,10 +119,7 @@ pub static ENTRIES: Table = Table {
         ("DESDS K", "DESDS 2403 1"),
         ("DESDS D", "DESDS OK"),
         // A cursor is one of a data space, and without a commit block; there is none yet.
-        (
-            "CRTCR W,C,CURSOR/00/M,NONE,D,*NONE",
-            "CRTCR OK S17/00",
-        ),
+        ("CRTCR W,C,CURSOR/00/M,NONE,D,*NONE", "CRTCR OK S17/00"),
         ("CRTCR W,*NONE,CURSOR/00/W,NONE,N,*NONE", "CRTCR 2401 5"),
         ("CRTCR W,*NONE,CURSOR/00/W,NONE,S,*NONE", "CRTCR 2402 5"),
         ("CRTCR W,*NONE,CURSOR/00/W,NONE,H,*NONE", "CRTCR 2202 5"),
@@ -137,10 +134,7 @@ pub static ENTRIES: Table = Table {
         ("CRTCR W,Q,CURSOR/00/W,NONE,N,N", "CRTCR 2403 2"),
         // Identifications are new in their context.
         ("CRTDS W,C,DATASPACE/00/M,NONE,CHAR:1", "CRTDS 0E01 3"),
-        (
-            "CRTDS W,C,DATASPACE/01/M,NONE,CHAR:1",
-            "CRTDS OK S17/00",
-        ),
+        ("CRTDS W,C,DATASPACE/01/M,NONE,CHAR:1", "CRTDS OK S17/00"),
         (
             "CRTDS W,*NONE,DATASPACE/00/D,NONE,PKD:31:0+ZND:5:2+BIN:2+BIN:4+CHAR:1",
             "CRTDS OK S17/00",
@@ -163,25 +157,76 @@ pub static FIELDS: Table = Table {
     status: 0,
     rows: &[
         // Packed: digits, then a sign; of an even number of digits the first half byte is 0.
-        ("PKD:1:0;CRTCR K,*NONE,CURSOR/00/K,NONE,D,*NONE;INSDSEN K,X'5F'", "OK"),
-        ("PKD:1:1;CRTCR K,*NONE,CURSOR/00/K,NONE,D,*NONE;INSDSEN K,X'5C'", "OK"),
-        ("PKD:1:0;CRTCR K,*NONE,CURSOR/00/K,NONE,D,*NONE;INSDSEN K,X'59'", "0C02 2"),
-        ("PKD:1:0;CRTCR K,*NONE,CURSOR/00/K,NONE,D,*NONE;INSDSEN K,X'AF'", "0C02 2"),
-        ("PKD:4:2;CRTCR K,*NONE,CURSOR/00/K,NONE,D,*NONE;INSDSEN K,X'01234F'", "OK"),
-        ("PKD:4:2;CRTCR K,*NONE,CURSOR/00/K,NONE,D,*NONE;INSDSEN K,X'11234F'", "0C02 2"),
-        ("PKD:4:2;CRTCR K,*NONE,CURSOR/00/K,NONE,D,*NONE;INSDSEN K,X'1234'", "2405 2"),
-        ("PKD:4:2;CRTCR K,*NONE,CURSOR/00/K,NONE,D,*NONE;INSDSEN K,X'01234F40'", "2405 2"),
+        (
+            "PKD:1:0;CRTCR K,*NONE,CURSOR/00/K,NONE,D,*NONE;INSDSEN K,X'5F'",
+            "OK",
+        ),
+        (
+            "PKD:1:1;CRTCR K,*NONE,CURSOR/00/K,NONE,D,*NONE;INSDSEN K,X'5C'",
+            "OK",
+        ),
+        (
+            "PKD:1:0;CRTCR K,*NONE,CURSOR/00/K,NONE,D,*NONE;INSDSEN K,X'59'",
+            "0C02 2",
+        ),
+        (
+            "PKD:1:0;CRTCR K,*NONE,CURSOR/00/K,NONE,D,*NONE;INSDSEN K,X'AF'",
+            "0C02 2",
+        ),
+        (
+            "PKD:4:2;CRTCR K,*NONE,CURSOR/00/K,NONE,D,*NONE;INSDSEN K,X'01234F'",
+            "OK",
+        ),
+        (
+            "PKD:4:2;CRTCR K,*NONE,CURSOR/00/K,NONE,D,*NONE;INSDSEN K,X'11234F'",
+            "0C02 2",
+        ),
+        (
+            "PKD:4:2;CRTCR K,*NONE,CURSOR/00/K,NONE,D,*NONE;INSDSEN K,X'1234'",
+            "2405 2",
+        ),
+        (
+            "PKD:4:2;CRTCR K,*NONE,CURSOR/00/K,NONE,D,*NONE;INSDSEN K,X'01234F40'",
+            "2405 2",
+        ),
         // Zoned: the zone of the last byte is the sign, and the other zones are not looked at.
-        ("ZND:3:0;CRTCR K,*NONE,CURSOR/00/K,NONE,D,*NONE;INSDSEN K,'123'", "OK"),
-        ("ZND:3:0;CRTCR K,*NONE,CURSOR/00/K,NONE,D,*NONE;INSDSEN K,X'0102D3'", "OK"),
-        ("ZND:3:0;CRTCR K,*NONE,CURSOR/00/K,NONE,D,*NONE;INSDSEN K,X'F1F203'", "0C02 2"),
-        ("ZND:3:0;CRTCR K,*NONE,CURSOR/00/K,NONE,D,*NONE;INSDSEN K,X'F1FAF3'", "0C02 2"),
-        ("ZND:3:0;CRTCR K,*NONE,CURSOR/00/K,NONE,D,*NONE;INSDSEN K,'12 '", "0C02 2"),
+        (
+            "ZND:3:0;CRTCR K,*NONE,CURSOR/00/K,NONE,D,*NONE;INSDSEN K,'123'",
+            "OK",
+        ),
+        (
+            "ZND:3:0;CRTCR K,*NONE,CURSOR/00/K,NONE,D,*NONE;INSDSEN K,X'0102D3'",
+            "OK",
+        ),
+        (
+            "ZND:3:0;CRTCR K,*NONE,CURSOR/00/K,NONE,D,*NONE;INSDSEN K,X'F1F203'",
+            "0C02 2",
+        ),
+        (
+            "ZND:3:0;CRTCR K,*NONE,CURSOR/00/K,NONE,D,*NONE;INSDSEN K,X'F1FAF3'",
+            "0C02 2",
+        ),
+        (
+            "ZND:3:0;CRTCR K,*NONE,CURSOR/00/K,NONE,D,*NONE;INSDSEN K,'12 '",
+            "0C02 2",
+        ),
         // Binary numbers and texts have any bytes.
-        ("BIN:2;CRTCR K,*NONE,CURSOR/00/K,NONE,D,*NONE;INSDSEN K,X'FFFF'", "OK"),
-        ("BIN:4;CRTCR K,*NONE,CURSOR/00/K,NONE,D,*NONE;INSDSEN K,'ABCD'", "OK"),
-        ("BIN:4;CRTCR K,*NONE,CURSOR/00/K,NONE,D,*NONE;INSDSEN K,'AB'", "2405 2"),
-        ("CHAR:2;CRTCR K,*NONE,CURSOR/00/K,NONE,D,*NONE;INSDSEN K,X'0040'", "OK"),
+        (
+            "BIN:2;CRTCR K,*NONE,CURSOR/00/K,NONE,D,*NONE;INSDSEN K,X'FFFF'",
+            "OK",
+        ),
+        (
+            "BIN:4;CRTCR K,*NONE,CURSOR/00/K,NONE,D,*NONE;INSDSEN K,'ABCD'",
+            "OK",
+        ),
+        (
+            "BIN:4;CRTCR K,*NONE,CURSOR/00/K,NONE,D,*NONE;INSDSEN K,'AB'",
+            "2405 2",
+        ),
+        (
+            "CHAR:2;CRTCR K,*NONE,CURSOR/00/K,NONE,D,*NONE;INSDSEN K,X'0040'",
+            "OK",
+        ),
         // Several fields stand one behind the other, in their order.
         (
             "CHAR:1+ZND:2:0+PKD:1:0+BIN:2;CRTCR K,*NONE,CURSOR/00/K,NONE,D,*NONE;INSDSEN K,X'00F1F27FFFFF'",
