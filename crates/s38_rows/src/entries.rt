@@ -452,10 +452,10 @@ INSDSEN K,'A';LABEL LESS;UPDSEN K,V;DELDSEN K;INSDSEN K,V;END;STAGE;JOB A USER Q
     ];
     let mut entries = String::new(alloc);
     for k in 0..most {
-        let entry = format!(in alloc; "{} INSDSEN OK;", k + 4)?;
+        let entry = format!(in alloc; "{} INSDSEN OK;", u64::from(k) + 4)?;
         entries.push_str(entry.as_str())?;
     }
-    let at = most + 4;
+    let at = u64::from(most) + 4;
     let rest = format!(in alloc;
         "{} INSDSEN 1C03 0;{} INSDSEN 2405 2;{} UPDSEN OK;{} DELDSEN OK;{} INSDSEN 1C03 0;",
         at,
