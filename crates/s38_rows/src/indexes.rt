@@ -334,3 +334,28 @@ FNDINXEN M,I,LAST,M;RMVINXEN I,M;B LESS;LABEL LAST;END;STAGE;JOB A USER QSECOFR 
     assert!(rt; answers(alloc, &["serial"], &deck, &text, 0)?);
     Ok(())
 }
+
+/// An entry of 120 bytes takes 121 of the 1,048,576 that an index's image may have, and the index itself 5; behind
+/// 8,665 such entries there is room for one of 105 bytes.
+const FILLED: &str =
+    "PROGRAM P;DCL I PTR;DCL N ZND:4:0;DCL L CHAR:120;DCL S CHAR:106;DCL T CHAR:105;DCL E EXCM 1C03 FULL
+DCL F EXCM 1C03 LESS;DCL G EXCM 1C03 DOWN;CRTINX I,*NONE,INDEX/00/I,NONE,120;LABEL MORE;ADDN N,N,1
+CAT L,N,'A';INSINXEN I,L;B MORE;LABEL FULL;MODEXCPD E,OFF;INSINXEN I,S;LABEL LESS;MODEXCPD F,OFF
+INSINXEN I,T;INSINXEN I,'';LABEL DOWN;INSINXEN I,T;END;STAGE;JOB A USER QSECOFR RUN P;";
+
+#[test]
+fn an_index_has_no_more_bytes_than_it_may(rt: HostRuntime) -> Result<(), Fail> {
+    let alloc = rt.alloc();
+    let mut entries = String::new(alloc);
+    for k in 0..8665u32 {
+        entries.push_str(format!(in alloc; "{} INSINXEN OK;", k + 3)?.as_str())?;
+    }
+    let text = [
+        "JOB 1 A USER QSECOFR;1 START OK;2 CRTINX OK S6/00;",
+        entries.as_str(),
+        "8668 INSINXEN 1C03 1;8669 INSINXEN 1C03 1;8670 INSINXEN OK;8671 INSINXEN 1C03 1;8672 INSINXEN 0E02 2
+8673 FINISH UNHANDLED 0E02;DONE 8673;",
+    ];
+    assert!(rt; answers(alloc, &["serial"], &[FILLED], &text, 0)?);
+    Ok(())
+}
