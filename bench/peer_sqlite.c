@@ -1,6 +1,11 @@
-/* The peer of queue traffic: puts and takes on an in-memory table of SQLite, by prepared statements on one
-   connection, in one transaction. A put inserts a message; a take selects the oldest message and deletes it.
-   peer_sqlite PAIRS does so many puts, each followed by a take, and prints seconds and the library's version. */
+/* The peer of queues and indexes: an in-memory database of SQLite, by prepared statements on one connection, in one
+   transaction. It prints seconds and the library's version.
+   peer_sqlite traffic PAIRS        so many puts, each followed by a take. A put inserts a message; a take selects the
+                                    oldest message and deletes it.
+   peer_sqlite keyed COUNT PAIRS    the same by keys, where COUNT messages stay in the queue: a put inserts a message
+                                    with a key; a take selects the oldest message of the least key that is not below it.
+   peer_sqlite pairs COUNT PAIRS    inserts a new entry into a table of COUNT entries, and deletes it again, so often.
+   peer_sqlite find COUNT FINDS     selects an entry of a table of COUNT entries, so often. */
 #include <sqlite3.h>
 #include <stdio.h>
 #include <stdlib.h>
@@ -36,40 +41,138 @@ static double now(void)
     return (double)at.tv_sec + (double)at.tv_nsec / 1e9;
 }
 
-int main(int argc, char **argv)
+static void done(sqlite3_stmt *statement)
 {
-    static const char message[3] = {'\xC1', '\xC2', '\xC3'};
-    long pairs = argc == 2 ? atol(argv[1]) : 0;
-    need(pairs > 0, "the number of pairs is wanted");
-    need(sqlite3_open(":memory:", &db) == SQLITE_OK, "open");
+    need(sqlite3_step(statement) == SQLITE_DONE, "step");
+    sqlite3_reset(statement);
+}
+
+static const char message[3] = {'\xC1', '\xC2', '\xC3'};
+
+/* Takes the message that a statement selects: its number, and its bytes. */
+static void take(sqlite3_stmt *chosen, sqlite3_stmt *removal)
+{
+    char taken[sizeof message];
+    need(sqlite3_step(chosen) == SQLITE_ROW, "a message");
+    sqlite3_int64 id = sqlite3_column_int64(chosen, 0);
+    const void *bytes = sqlite3_column_blob(chosen, 1);
+    need(bytes != NULL && sqlite3_column_bytes(chosen, 1) == (int)sizeof taken, "message");
+    memcpy(taken, bytes, sizeof taken);
+    need(memcmp(taken, message, sizeof message) == 0, "message");
+    sqlite3_reset(chosen);
+    need(sqlite3_bind_int64(removal, 1, id) == SQLITE_OK, "bind");
+    done(removal);
+}
+
+/* The key of a message, or an entry: five digits. With `behind` it has a letter more, so it stands behind the other. */
+static void bind_key(sqlite3_stmt *statement, long number, int behind)
+{
+    char key[7];
+    snprintf(key, sizeof key, "%05dA", (int)(number % 100000));
+    need(sqlite3_bind_blob(statement, 1, key, 5 + behind, SQLITE_TRANSIENT) == SQLITE_OK, "bind");
+}
+
+static double traffic(long pairs)
+{
     once("create table queue (id integer primary key, message blob)");
     sqlite3_stmt *put = prepared("insert into queue (message) values (?)");
     sqlite3_stmt *oldest = prepared("select id, message from queue order by id limit 1");
-    sqlite3_stmt *take = prepared("delete from queue where id = ?");
-    double begun = now();
+    sqlite3_stmt *removal = prepared("delete from queue where id = ?");
     once("begin");
+    double begun = now();
     for (long k = 0; k < pairs; k++) {
-        char taken[3];
         need(sqlite3_bind_blob(put, 1, message, sizeof message, SQLITE_STATIC) == SQLITE_OK, "bind");
-        need(sqlite3_step(put) == SQLITE_DONE, "put");
-        sqlite3_reset(put);
-
-        need(sqlite3_step(oldest) == SQLITE_ROW, "oldest");
-        sqlite3_int64 id = sqlite3_column_int64(oldest, 0);
-        const void *bytes = sqlite3_column_blob(oldest, 1);
-        need(bytes != NULL && sqlite3_column_bytes(oldest, 1) == (int)sizeof taken, "message");
-        memcpy(taken, bytes, sizeof taken);
-        need(memcmp(taken, message, sizeof message) == 0, "message");
-        sqlite3_reset(oldest);
-        need(sqlite3_bind_int64(take, 1, id) == SQLITE_OK, "bind");
-        need(sqlite3_step(take) == SQLITE_DONE, "take");
-        sqlite3_reset(take);
+        done(put);
+        take(oldest, removal);
     }
     once("commit");
-    printf("%.6f %s\n", now() - begun, sqlite3_libversion());
-    sqlite3_finalize(put);
-    sqlite3_finalize(oldest);
-    sqlite3_finalize(take);
-    sqlite3_close(db);
+    return now() - begun;
+}
+
+static double keyed(long count, long pairs)
+{
+    once("create table queue (id integer primary key, key blob, message blob)");
+    once("create index by_key on queue (key, id)");
+    sqlite3_stmt *put = prepared("insert into queue (key, message) values (?, ?)");
+    sqlite3_stmt *least = prepared("select id, message from queue where key >= ? order by key, id limit 1");
+    sqlite3_stmt *removal = prepared("delete from queue where id = ?");
+    need(sqlite3_bind_blob(put, 2, message, sizeof message, SQLITE_STATIC) == SQLITE_OK, "bind");
+    once("begin");
+    for (long k = 0; k < count; k++) {
+        bind_key(put, k, 0);
+        done(put);
+    }
+    double begun = now();
+    for (long k = 0; k < pairs; k++) {
+        bind_key(put, k * 7919 % count, 0);
+        done(put);
+        bind_key(least, k * 7919 % count, 0);
+        take(least, removal);
+    }
+    once("commit");
+    return now() - begun;
+}
+
+/* A table of the entries 0, 1 and so on. */
+static void entries(long count)
+{
+    once("create table entries (entry blob primary key) without rowid");
+    sqlite3_stmt *insertion = prepared("insert into entries values (?)");
+    once("begin");
+    for (long k = 0; k < count; k++) {
+        bind_key(insertion, k, 0);
+        done(insertion);
+    }
+    sqlite3_finalize(insertion);
+}
+
+static double insertions(long count, long pairs)
+{
+    entries(count);
+    sqlite3_stmt *insertion = prepared("insert into entries values (?)");
+    sqlite3_stmt *removal = prepared("delete from entries where entry = ?");
+    double begun = now();
+    for (long k = 0; k < pairs; k++) {
+        bind_key(insertion, k * 7919 % count, 1);
+        done(insertion);
+        bind_key(removal, k * 7919 % count, 1);
+        done(removal);
+    }
+    once("commit");
+    return now() - begun;
+}
+
+static double finds(long count, long number)
+{
+    entries(count);
+    sqlite3_stmt *search = prepared("select entry from entries where entry = ?");
+    double begun = now();
+    for (long k = 0; k < number; k++) {
+        bind_key(search, k * 7919 % count, 0);
+        need(sqlite3_step(search) == SQLITE_ROW && sqlite3_column_bytes(search, 0) == 5, "an entry");
+        sqlite3_reset(search);
+    }
+    once("commit");
+    return now() - begun;
+}
+
+int main(int argc, char **argv)
+{
+    const char *what = argc > 2 ? argv[1] : "";
+    long first = argc > 2 ? atol(argv[2]) : 0, second = argc > 3 ? atol(argv[3]) : 0;
+    double taken = 0;
+    need(first > 0 && first <= 100000000 && (second > 0 || argc == 3), "a part and its numbers are wanted");
+    need(sqlite3_open(":memory:", &db) == SQLITE_OK, "open");
+    if (strcmp(what, "traffic") == 0)
+        taken = traffic(first);
+    else if (strcmp(what, "keyed") == 0)
+        taken = keyed(first, second);
+    else if (strcmp(what, "pairs") == 0)
+        taken = insertions(first, second);
+    else if (strcmp(what, "find") == 0)
+        taken = finds(first, second);
+    else
+        need(0, "no such part");
+    printf("%.6f %s\n", taken, sqlite3_libversion());
     return 0;
 }

@@ -1,8 +1,6 @@
 -- Seeks that find nothing, what a change of entries has met, and what it leaves of what is kept of users.
-use Rattle.std.proofs.Common.{◌≡◌, ℕ, zero, suc, ◌+◌, ◌*◌, ◌<◌, ◌==◌, Bool, true, false, not, List, [], ◌∷◌, arith, length, map, refl, sym, ◌∙◌, ap, subst, IsTrue}
-use Rattle.std.proofs.lemmas.Bool.Decides.{nat_tests}
-use Rattle.std.specs.Prelude.{Option, Some, None, Result, Ok, Err, OnOk, OnErr, is_none, is_some, if◌then◌else◌, slice_get}
-use Rattle.std.specs.Option.{unwrap_or}
+use Rattle.std.proofs.Common.{◌≡◌, ℕ, zero, suc, ◌+◌, ◌-◌, ◌<◌, ◌==◌, true, false, List, [], ◌∷◌, arith, length, refl, sym, subst}
+use Rattle.std.specs.Prelude.{min, Option, Some, None, Result, Ok, Err, OnOk, OnErr, is_none, is_some}
 use Rattle.s38_base.specs.declared.attr.Attr.{Attr}
 use Rattle.s38_base.specs.declared.exception.Exception.{Exception}
 use Rattle.s38_base.specs.declared.fault.NoMemory.{NoMemory}
@@ -19,7 +17,7 @@ use Rattle.s38_changes.proofs.KeptLaws.{IsUnkept, part_unkept}
 use Rattle.s38_rules.specs.declared.cursor.Cursor.{Cursor}
 use Rattle.s38_rules.specs.declared.data_body.DataBody.{DataBody}
 use Rattle.s38_rules.specs.Creation.{creation_fails}
-use Rattle.s38_rules.specs.DataSpaces.{created_cursor, created_data_space, crtcr_fails, crtds_fails, current, cursor_of, deldsen_fails, insdsen_fails, standing, table_of, updsen_fails}
+use Rattle.s38_rules.specs.DataSpaces.{created_cursor, created_data_space, crtcr_fails, crtds_fails, cursor_of, deldsen_fails, insdsen_fails, standing, table_of, updsen_fails}
 use Rattle.s38_rules.specs.Held.{Held}
 use Rattle.s38_rules.specs.Kept.{Mirrors}
 use Rattle.s38_rules.specs.Operands.{bytes_at}
@@ -63,7 +61,7 @@ pub nowhere : (how : Seek) (from : ℕ) → sought (standing []) how from ≡ No
 nowhere First from = none_above 0
 nowhere Last from = refl
 nowhere Next from = none_above from
-nowhere Prev from = none_below _
+nowhere Prev from = none_below (min (from - 1) 0)
 nowhere At from = rw (none_at from) refl
 
 none_behind : (entries : List Entry) (k : ℕ) → length entries < k → stands_at (standing entries) k ≡ false

@@ -135,14 +135,8 @@ pub fn value(
     let objects = &world.objects;
     let operands = request.operands.as_slice();
     match request.op {
-        Op::Crtds => Ok(Some(creation_gives(
-            objects,
-            &created_data_space(objects, operands),
-        ))),
-        Op::Crtcr => Ok(Some(creation_gives(
-            objects,
-            &created_cursor(objects, operands),
-        ))),
+        Op::Crtds => Ok(Some(creation_gives(objects, &created_data_space(objects, operands)))),
+        Op::Crtcr => Ok(Some(creation_gives(objects, &created_cursor(objects, operands)))),
         Op::Retdsen => Ok(Some(retdsen_gives(alloc, objects, operands)?)),
         _ => Ok(None),
     }
