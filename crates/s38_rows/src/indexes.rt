@@ -28,88 +28,20 @@ pub static FOUND: Keys = Keys {
     text: (LOG, "FNDINXEN ", ";16 FINISH RETURN;DONE 16;"),
     none: "2602 2",
     rows: &[
-        (
-            "L",
-            "'A'",
-            &[
-                "C100", "C1C2", "", "C1C2", "C100", "C100", "C100", "C100", "C400",
-            ],
-        ),
-        (
-            "L",
-            "'AB'",
-            &[
-                "C1C2", "C100", "C100", "C200", "C1C2", "C1C2", "C100", "C100", "C400",
-            ],
-        ),
-        (
-            "L",
-            "'B'",
-            &[
-                "C200", "C100", "C1C2", "C400", "C200", "C200", "C100", "C100", "C400",
-            ],
-        ),
-        (
-            "L",
-            "'D'",
-            &[
-                "C400", "C100", "C200", "", "C400", "C400", "C100", "C100", "C400",
-            ],
-        ),
-        (
-            "L",
-            "'AA'",
-            &[
-                "", "C100", "C100", "C1C2", "C1C2", "C100", "C100", "C100", "C400",
-            ],
-        ),
-        (
-            "L",
-            "'C'",
-            &[
-                "", "C100", "C200", "C400", "C400", "C200", "C100", "C100", "C400",
-            ],
-        ),
-        (
-            "L",
-            "''",
-            &["", "C100", "", "C100", "C100", "", "C100", "C100", "C400"],
-        ),
-        (
-            "L",
-            "X'FF'",
-            &["", "C100", "C400", "", "", "C400", "C100", "C100", "C400"],
-        ),
-        (
-            "L",
-            "'ABCDEF'",
-            &[
-                "", "C100", "C1C2", "C200", "C200", "C1C2", "C100", "C100", "C400",
-            ],
-        ),
-        (
-            "L",
-            "X'C100'",
-            &[
-                "", "C100", "C100", "C1C2", "C1C2", "C100", "C100", "C100", "C400",
-            ],
-        ),
-        (
-            "O",
-            "'M'",
-            &["D400", "", "", "", "D400", "D400", "D400", "D400", "D400"],
-        ),
-        (
-            "O",
-            "'L'",
-            &["", "D400", "", "D400", "D400", "", "D400", "D400", "D400"],
-        ),
-        (
-            "O",
-            "'N'",
-            &["", "D400", "D400", "", "", "D400", "D400", "D400", "D400"],
-        ),
-        ("Z", "'A'", &["", "", "", "", "", "", "", "", ""]),
+        ("L", "'A'", "C100 C1C2 - C1C2 C100 C100"),
+        ("L", "'AB'", "C1C2 C100 C100 C200 C1C2 C1C2"),
+        ("L", "'B'", "C200 C100 C1C2 C400 C200 C200"),
+        ("L", "'D'", "C400 C100 C200 - C400 C400"),
+        ("L", "'AA'", "- C100 C100 C1C2 C1C2 C100"),
+        ("L", "'C'", "- C100 C200 C400 C400 C200"),
+        ("L", "''", "- C100 - C100 C100 -"),
+        ("L", "X'FF'", "- C100 C400 - - C400"),
+        ("L", "'ABCDEF'", "- C100 C1C2 C200 C200 C1C2"),
+        ("L", "X'C100'", "- C100 C100 C1C2 C1C2 C100"),
+        ("O", "'M'", "D400 - - - D400 D400"),
+        ("O", "'L'", "- D400 - D400 D400 -"),
+        ("O", "'N'", "- D400 D400 - - D400"),
+        ("Z", "'A'", "- - - - - -"),
     ],
 };
 
@@ -120,6 +52,17 @@ pub static INDEXES: Table = Table {
     text: (LOG, ";16 FINISH RETURN;DONE 16;"),
     status: 0,
     rows: &[
+        // The least and the greatest entry, whatever the key.
+        ("FNDINXEN M,L,ANY,'B'", "FNDINXEN OK C100"),
+        ("FNDINXEN M,L,FIRST,'B'", "FNDINXEN OK C100"),
+        ("FNDINXEN M,L,LAST,'B'", "FNDINXEN OK C400"),
+        ("FNDINXEN M,L,LAST,'ABCDEF'", "FNDINXEN OK C400"),
+        ("FNDINXEN M,O,ANY,''", "FNDINXEN OK D400"),
+        ("FNDINXEN M,O,FIRST,'Z'", "FNDINXEN OK D400"),
+        ("FNDINXEN M,O,LAST,'A'", "FNDINXEN OK D400"),
+        ("FNDINXEN M,Z,ANY,'A'", "FNDINXEN 2602 2"),
+        ("FNDINXEN M,Z,FIRST,'A'", "FNDINXEN 2602 2"),
+        ("FNDINXEN M,Z,LAST,'A'", "FNDINXEN 2602 2"),
         // An entry is cut, or filled with zeros.
         ("FNDINXEN V,L,HI,'A'", "FNDINXEN OK C1"),
         ("FNDINXEN W,L,LAST,''", "FNDINXEN OK C400000000"),
