@@ -17,6 +17,19 @@ pub static CREATED: Table = Table {
     text: ("P ", ";DONE 1;"),
     status: 0,
     rows: &[
+        // Journals and commitment are not built.
+        ("CRTJS P,*NONE,JSPACE/00/J,NONE", "2A04 1"),
+        ("CRTJP P,*NONE,JPORT/00/J,NONE,Q", "2A04 1"),
+        ("JRNLOBJ P,Q", "2A04 1"),
+        ("RETJENT C,P,N", "2A04 1"),
+        ("CRTCB P,*NONE,CBLOCK/00/B,NONE,Q", "2A04 1"),
+        ("COMMIT P", "2A04 1"),
+        ("DECOMMIT P", "2A04 1"),
+        ("ENSOBJ P", "2A04 1"),
+        ("DESJS P", "2A04 1"),
+        ("DESJP P", "2A04 1"),
+        ("DESCB P", "2A04 1"),
+        // The number or the form of the operands.
         ("ADDN", "2A04 1"),
         ("ADDN N,N", "2A04 1"),
         ("ADDN N,N,N,N", "2A04 1"),
@@ -59,7 +72,6 @@ pub static CREATED: Table = Table {
         ("CALLX P,*NONE", "2A04 1"),
         ("CALLX P,N,N,N,N,N,N,N,N,N,N,N,N,N,N,N,N,N", "2A04 1"),
         ("CALLX X,'A'", "2A04 1"),
-        ("COMMIT P", "2A04 1"),
         ("LOCK P,LENR", "2A04 1"),
         ("LOCK P,ALL,WAIT", "2A04 1"),
         ("LOCK P,LENR,ALWAYS", "2A04 1"),
