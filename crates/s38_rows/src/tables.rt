@@ -8,7 +8,7 @@ use crate::contexts::{CONTEXTS, SHOPS};
 use crate::created::CREATED;
 use crate::cursors::CURSORS;
 use crate::decks::DECKS;
-use crate::entries::{ALLOWED, BESIDE, ENTRIES, FIELDS, PAYING};
+use crate::entries::{ALLOWED, BESIDE, ENTRIES, FIELDS, PAYING, SHARED};
 use crate::exceptions::EXCEPTIONS;
 use crate::grants::{CARRIED, GRANTED, LENT, OWNED, SEEN};
 use crate::indexes::{ENTERED, FOUND, HELD, INDEXES, RIGHTS};
@@ -211,6 +211,7 @@ fn every_row_is_answered(rt: HostRuntime) -> Result<(), Fail> {
         &ENTRIES,
         &FIELDS,
         &PAYING,
+        &SHARED,
     ];
     for table in tables {
         assert_eq!(rt; wrong_call(rt.alloc(), table)?, None);
