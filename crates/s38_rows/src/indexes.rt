@@ -28,88 +28,20 @@ pub static FOUND: Keys = Keys {
     text: (LOG, "FNDINXEN ", ";16 FINISH RETURN;DONE 16;"),
     none: "2602 2",
     rows: &[
-        (
-            "L",
-            "'A'",
-            &[
-                "C100", "C1C2", "", "C1C2", "C100", "C100", "C100", "C100", "C400",
-            ],
-        ),
-        (
-            "L",
-            "'AB'",
-            &[
-                "C1C2", "C100", "C100", "C200", "C1C2", "C1C2", "C100", "C100", "C400",
-            ],
-        ),
-        (
-            "L",
-            "'B'",
-            &[
-                "C200", "C100", "C1C2", "C400", "C200", "C200", "C100", "C100", "C400",
-            ],
-        ),
-        (
-            "L",
-            "'D'",
-            &[
-                "C400", "C100", "C200", "", "C400", "C400", "C100", "C100", "C400",
-            ],
-        ),
-        (
-            "L",
-            "'AA'",
-            &[
-                "", "C100", "C100", "C1C2", "C1C2", "C100", "C100", "C100", "C400",
-            ],
-        ),
-        (
-            "L",
-            "'C'",
-            &[
-                "", "C100", "C200", "C400", "C400", "C200", "C100", "C100", "C400",
-            ],
-        ),
-        (
-            "L",
-            "''",
-            &["", "C100", "", "C100", "C100", "", "C100", "C100", "C400"],
-        ),
-        (
-            "L",
-            "X'FF'",
-            &["", "C100", "C400", "", "", "C400", "C100", "C100", "C400"],
-        ),
-        (
-            "L",
-            "'ABCDEF'",
-            &[
-                "", "C100", "C1C2", "C200", "C200", "C1C2", "C100", "C100", "C400",
-            ],
-        ),
-        (
-            "L",
-            "X'C100'",
-            &[
-                "", "C100", "C100", "C1C2", "C1C2", "C100", "C100", "C100", "C400",
-            ],
-        ),
-        (
-            "O",
-            "'M'",
-            &["D400", "", "", "", "D400", "D400", "D400", "D400", "D400"],
-        ),
-        (
-            "O",
-            "'L'",
-            &["", "D400", "", "D400", "D400", "", "D400", "D400", "D400"],
-        ),
-        (
-            "O",
-            "'N'",
-            &["", "D400", "D400", "", "", "D400", "D400", "D400", "D400"],
-        ),
-        ("Z", "'A'", &["", "", "", "", "", "", "", "", ""]),
+        ("L", "'A'", "C100 C1C2 - C1C2 C100 C100"),
+        ("L", "'AB'", "C1C2 C100 C100 C200 C1C2 C1C2"),
+        ("L", "'B'", "C200 C100 C1C2 C400 C200 C200"),
+        ("L", "'D'", "C400 C100 C200 - C400 C400"),
+        ("L", "'AA'", "- C100 C100 C1C2 C1C2 C100"),
+        ("L", "'C'", "- C100 C200 C400 C400 C200"),
+        ("L", "''", "- C100 - C100 C100 -"),
+        ("L", "X'FF'", "- C100 C400 - - C400"),
+        ("L", "'ABCDEF'", "- C100 C1C2 C200 C200 C1C2"),
+        ("L", "X'C100'", "- C100 C100 C1C2 C1C2 C100"),
+        ("O", "'M'", "D400 - - - D400 D400"),
+        ("O", "'L'", "- D400 - D400 D400 -"),
+        ("O", "'N'", "- D400 D400 - - D400"),
+        ("Z", "'A'", "- - - - - -"),
     ],
 };
 
@@ -120,6 +52,17 @@ pub static INDEXES: Table = Table {
     text: (LOG, ";16 FINISH RETURN;DONE 16;"),
     status: 0,
     rows: &[
+        // The least and the greatest entry, whatever the key.
+        ("FNDINXEN M,L,ANY,'B'", "FNDINXEN OK C100"),
+        ("FNDINXEN M,L,FIRST,'B'", "FNDINXEN OK C100"),
+        ("FNDINXEN M,L,LAST,'B'", "FNDINXEN OK C400"),
+        ("FNDINXEN M,L,LAST,'ABCDEF'", "FNDINXEN OK C400"),
+        ("FNDINXEN M,O,ANY,''", "FNDINXEN OK D400"),
+        ("FNDINXEN M,O,FIRST,'Z'", "FNDINXEN OK D400"),
+        ("FNDINXEN M,O,LAST,'A'", "FNDINXEN OK D400"),
+        ("FNDINXEN M,Z,ANY,'A'", "FNDINXEN 2602 2"),
+        ("FNDINXEN M,Z,FIRST,'A'", "FNDINXEN 2602 2"),
+        ("FNDINXEN M,Z,LAST,'A'", "FNDINXEN 2602 2"),
         // An entry is cut, or filled with zeros.
         ("FNDINXEN V,L,HI,'A'", "FNDINXEN OK C1"),
         ("FNDINXEN W,L,LAST,''", "FNDINXEN OK C400000000"),
@@ -332,5 +275,30 @@ FNDINXEN M,I,LAST,M;RMVINXEN I,M;B LESS;LABEL LAST;END;STAGE;JOB A USER QSECOFR 
         "264 FNDINXEN 2602 2;265 FINISH RETURN;DONE 265;",
     ];
     assert!(rt; answers(alloc, &["serial"], &deck, &text, 0)?);
+    Ok(())
+}
+
+/// An entry of 120 bytes takes 121 of the 1,048,576 that an index's image may have, and the index itself 5; behind
+/// 8,665 such entries there is room for one of 105 bytes.
+const FILLED: &str =
+    "PROGRAM P;DCL I PTR;DCL N ZND:4:0;DCL L CHAR:120;DCL S CHAR:106;DCL T CHAR:105;DCL E EXCM 1C03 FULL
+DCL F EXCM 1C03 LESS;DCL G EXCM 1C03 DOWN;CRTINX I,*NONE,INDEX/00/I,NONE,120;LABEL MORE;ADDN N,N,1
+CAT L,N,'A';INSINXEN I,L;B MORE;LABEL FULL;MODEXCPD E,OFF;INSINXEN I,S;LABEL LESS;MODEXCPD F,OFF
+INSINXEN I,T;INSINXEN I,'';LABEL DOWN;INSINXEN I,T;END;STAGE;JOB A USER QSECOFR RUN P;";
+
+#[test]
+fn an_index_has_no_more_bytes_than_it_may(rt: HostRuntime) -> Result<(), Fail> {
+    let alloc = rt.alloc();
+    let mut entries = String::new(alloc);
+    for k in 0..8665u32 {
+        entries.push_str(format!(in alloc; "{} INSINXEN OK;", k + 3)?.as_str())?;
+    }
+    let text = [
+        "JOB 1 A USER QSECOFR;1 START OK;2 CRTINX OK S6/00;",
+        entries.as_str(),
+        "8668 INSINXEN 1C03 1;8669 INSINXEN 1C03 1;8670 INSINXEN OK;8671 INSINXEN 1C03 1;8672 INSINXEN 0E02 2
+8673 FINISH UNHANDLED 0E02;DONE 8673;",
+    ];
+    assert!(rt; answers(alloc, &["serial"], &[FILLED], &text, 0)?);
     Ok(())
 }

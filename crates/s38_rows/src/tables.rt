@@ -54,7 +54,7 @@ pub struct Between {
 }
 
 /// The relations to a key, in the order in which rows have what each finds.
-const RELATIONS: &[&str] = &["EQ", "NE", "LO", "HI", "NL", "NH", "ANY", "FIRST", "LAST"];
+const RELATIONS: &[&str] = &["EQ", "NE", "LO", "HI", "NL", "NH"];
 
 /// Rows of a queue or an index, of a key, and of what each relation to the key finds there.
 pub struct Keys {
@@ -64,8 +64,9 @@ pub struct Keys {
     pub text: (&'static str, &'static str, &'static str),
     /// What the entry says where nothing is found.
     pub none: &'static str,
-    /// What each row has: the queue or index, the key, and the bytes that are found, none where there are none.
-    pub rows: &'static [(&'static str, &'static str, &'static [&'static str])],
+    /// What each row has: the queue or index, the key, and the bytes that each relation finds, `-` where it finds
+    /// nothing.
+    pub rows: &'static [(&'static str, &'static str, &'static str)],
 }
 
 /// The word that runs a deck.
@@ -146,16 +147,20 @@ fn finds(
         key,
         keys.deck.2,
     ];
-    let said = if found.is_empty() { keys.none } else { "OK " };
-    let text = [keys.text.0, keys.text.1, said, found, keys.text.2];
+    let (said, bytes) = if found == "-" {
+        (keys.none, "")
+    } else {
+        ("OK ", found)
+    };
+    let text = [keys.text.0, keys.text.1, said, bytes, keys.text.2];
     answers(alloc, &["serial"], &deck, &text, 0)
 }
 
 /// The queue or index and the key of the first row in which a relation finds something else, if there is one.
 fn wrong_key(alloc: Global, keys: &Keys) -> Result<Option<(&'static str, &'static str)>, NoMemory> {
     for (at, key, row) in keys.rows {
-        for (relation, found) in RELATIONS.iter().zip(row.iter()) {
-            if !finds(alloc, keys, *at, *relation, *key, *found)? {
+        for (relation, found) in RELATIONS.iter().zip(row.split(' ')) {
+            if !finds(alloc, keys, *at, *relation, *key, found)? {
                 return Ok(Some((*at, *key)));
             }
         }
