@@ -14,7 +14,11 @@ mod contexts;
 #[cfg(test)]
 mod created;
 #[cfg(test)]
+mod cursors;
+#[cfg(test)]
 mod decks;
+#[cfg(test)]
+mod entries;
 #[cfg(test)]
 mod exceptions;
 #[cfg(test)]

@@ -6,7 +6,9 @@ use crate::computed::COMPUTED;
 use crate::confinement::WAYS;
 use crate::contexts::{CONTEXTS, SHOPS};
 use crate::created::CREATED;
+use crate::cursors::CURSORS;
 use crate::decks::DECKS;
+use crate::entries::{ALLOWED, BESIDE, ENTRIES, FIELDS, PAYING};
 use crate::exceptions::EXCEPTIONS;
 use crate::grants::{CARRIED, GRANTED, LENT, OWNED, SEEN};
 use crate::indexes::{ENTERED, FOUND, HELD, INDEXES, RIGHTS};
@@ -205,6 +207,10 @@ fn every_row_is_answered(rt: HostRuntime) -> Result<(), Fail> {
         &ORDERED,
         &INDEXES,
         &ENTERED,
+        &CURSORS,
+        &ENTRIES,
+        &FIELDS,
+        &PAYING,
     ];
     for table in tables {
         assert_eq!(rt; wrong_call(rt.alloc(), table)?, None);
@@ -214,7 +220,7 @@ fn every_row_is_answered(rt: HostRuntime) -> Result<(), Fail> {
 
 #[test]
 fn every_act_is_answered(rt: HostRuntime) -> Result<(), Fail> {
-    for acts in [&CONTEXTS, &PROFILES, &LOCKING, &RIGHTS] {
+    for acts in [&CONTEXTS, &PROFILES, &LOCKING, &RIGHTS, &ALLOWED] {
         assert_eq!(rt; wrong_act(rt.alloc(), acts)?, None);
     }
     Ok(())
@@ -222,7 +228,7 @@ fn every_act_is_answered(rt: HostRuntime) -> Result<(), Fail> {
 
 #[test]
 fn every_pair_is_answered(rt: HostRuntime) -> Result<(), Fail> {
-    for between in [&PAIRS, &BLOCKED, &HELD] {
+    for between in [&PAIRS, &BLOCKED, &HELD, &BESIDE] {
         assert_eq!(rt; wrong_pair(rt.alloc(), between)?, None);
     }
     Ok(())
