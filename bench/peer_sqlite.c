@@ -1,11 +1,13 @@
-/* The peer of queues and indexes: an in-memory database of SQLite, by prepared statements on one connection, in one
+/* The peer of queues, indexes and data spaces: an in-memory database of SQLite, by prepared statements on one connection, in one
    transaction. It prints seconds and the library's version.
    peer_sqlite traffic PAIRS        so many puts, each followed by a take. A put inserts a message; a take selects the
                                     oldest message and deletes it.
    peer_sqlite keyed COUNT PAIRS    the same by keys, where COUNT messages stay in the queue: a put inserts a message
                                     with a key; a take selects the oldest message of the least key that is not below it.
    peer_sqlite pairs COUNT PAIRS    inserts a new entry into a table of COUNT entries, and deletes it again, so often.
-   peer_sqlite find COUNT FINDS     selects an entry of a table of COUNT entries, so often. */
+   peer_sqlite find COUNT FINDS     selects an entry of a table of COUNT entries, so often.
+   peer_sqlite insert COUNT         inserts so many rows of 32 bytes into a table by row number; `update` and `read` update
+                                    each of them by its number, or select all in their order. */
 #include <sqlite3.h>
 #include <stdio.h>
 #include <stdlib.h>
@@ -156,6 +158,52 @@ static double finds(long count, long number)
     return now() - begun;
 }
 
+static const char record[32] = "01234567890123456789012345678901";
+
+/* A table of so many rows, and how long they took. */
+static double inserted_rows(long count)
+{
+    once("create table records (id integer primary key, entry blob)");
+    sqlite3_stmt *insertion = prepared("insert into records (entry) values (?)");
+    once("begin");
+    double begun = now();
+    for (long k = 0; k < count; k++) {
+        need(sqlite3_bind_blob(insertion, 1, record, sizeof record, SQLITE_STATIC) == SQLITE_OK, "bind");
+        done(insertion);
+    }
+    return now() - begun;
+}
+
+static double updated_rows(long count)
+{
+    inserted_rows(count);
+    sqlite3_stmt *update = prepared("update records set entry = ? where id = ?");
+    double begun = now();
+    for (long k = 1; k <= count; k++) {
+        need(sqlite3_bind_blob(update, 1, record, sizeof record, SQLITE_STATIC) == SQLITE_OK, "bind");
+        need(sqlite3_bind_int64(update, 2, k) == SQLITE_OK, "bind");
+        done(update);
+    }
+    once("commit");
+    return now() - begun;
+}
+
+static double read_rows(long count)
+{
+    inserted_rows(count);
+    sqlite3_stmt *all = prepared("select entry from records order by id");
+    char entry[sizeof record];
+    double begun = now();
+    for (long k = 0; k < count; k++) {
+        need(sqlite3_step(all) == SQLITE_ROW && sqlite3_column_bytes(all, 0) == (int)sizeof entry, "a row");
+        memcpy(entry, sqlite3_column_blob(all, 0), sizeof entry);
+        need(memcmp(entry, record, sizeof record) == 0, "a row");
+    }
+    sqlite3_reset(all);
+    once("commit");
+    return now() - begun;
+}
+
 int main(int argc, char **argv)
 {
     const char *what = argc > 2 ? argv[1] : "";
@@ -171,6 +219,12 @@ int main(int argc, char **argv)
         taken = insertions(first, second);
     else if (strcmp(what, "find") == 0)
         taken = finds(first, second);
+    else if (strcmp(what, "insert") == 0)
+        taken = inserted_rows(first);
+    else if (strcmp(what, "update") == 0)
+        taken = updated_rows(first);
+    else if (strcmp(what, "read") == 0)
+        taken = read_rows(first);
     else
         need(0, "no such part");
     printf("%.6f %s\n", taken, sqlite3_libversion());
