@@ -10,8 +10,8 @@ DCL E BASED P 0 PTR;DCL F BASED P 8 CHAR:20;DCL G BASED P 0 CHAR:16;DCL W BASED 
 DCL T CHAR:2;DCL A BASED P 0 CHAR:2;DCL H EXCM 0C0A L;DCL O PARM 1 CHAR:2;DCL I PARM 2 PTR
 DCL Y BASED I 0 CHAR:2;LABEL L;";
 
-/// An instruction behind the declarations and a label L, and its first cause.
-pub static CREATED: Table = Table {
+/// Instructions behind the declarations and a label L that have no words of their row.
+pub static FORMS: Table = Table {
     calls: CHECK,
     deck: (BEFORE, ";END;"),
     text: ("P ", ";DONE 1;"),
@@ -77,6 +77,16 @@ pub static CREATED: Table = Table {
         ("LOCK P,LENR,ALWAYS", "2A04 1"),
         ("LOCK *NONE,LENR,WAIT", "2A04 1"),
         ("XFRLOCK P,LENR,5", "2A04 1"),
+    ],
+};
+
+/// Those whose operands are not their row's.
+pub static UNSUITED: Table = Table {
+    calls: CHECK,
+    deck: (BEFORE, ";END;"),
+    text: ("P ", ";DONE 1;"),
+    status: 0,
+    rows: &[
         ("ADDN C,N,N", "2A05 1"),
         ("CPYBLA P,C", "2A05 1"),
         ("CMPNVB N,N,FIRST,L", "2A05 1"),
@@ -150,6 +160,16 @@ pub static CREATED: Table = Table {
         ("CPYBLA C,H", "2A05 1"),
         ("CPYBWP H,P", "2A05 1"),
         ("SETSPPFP P,H", "2A05 1"),
+    ],
+};
+
+/// Those with another cause, with more than one, of which the first is answered, or with none.
+pub static CREATED: Table = Table {
+    calls: CHECK,
+    deck: (BEFORE, ";END;"),
+    text: ("P ", ";DONE 1;"),
+    status: 0,
+    rows: &[
         ("ADDN X,N,N", "2A07 1"),
         ("MODEXCPD L,ON", "2A07 1"),
         ("CALLX P,B,X", "2A07 1"),

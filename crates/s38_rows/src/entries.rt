@@ -73,6 +73,16 @@ pub static ENTRIES: Table = Table {
         ("SETCR K,PREV,B", "SETCR 5001 1"),
         ("SETCR Z,NEXT,B", "SETCR OK"),
         ("SETCR Y,FIRST,B", "SETCR 5001 1"),
+    ],
+};
+
+/// The same of addresses, of cursors and of names that are made.
+pub static ADDRESSES: Table = Table {
+    calls: SERIAL,
+    deck: (BEFORE, ";LABEL LAST;END;STAGE;JOB A USER QSECOFR RUN P;"),
+    text: (LOG, ";20 FINISH RETURN;DONE 20;"),
+    status: 0,
+    rows: &[
         // The addresses come before all that: those of the operands, then that of the cursor's data space.
         ("SETCR N,AT,B", "SETCR 2401 1"),
         ("SETCR S,AT,B", "SETCR 2402 1"),

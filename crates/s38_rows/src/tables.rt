@@ -5,10 +5,10 @@ use crate::commands::{BAD_DECKS, BAD_LINES, BAD_WORDS, CHECKED, RUN};
 use crate::computed::COMPUTED;
 use crate::confinement::WAYS;
 use crate::contexts::{CONTEXTS, SHOPS};
-use crate::created::CREATED;
+use crate::created::{CREATED, FORMS, UNSUITED};
 use crate::cursors::CURSORS;
 use crate::decks::DECKS;
-use crate::entries::{ALLOWED, BESIDE, ENTRIES, FIELDS, PAYING, SHARED};
+use crate::entries::{ADDRESSES, ALLOWED, BESIDE, ENTRIES, FIELDS, PAYING, SHARED};
 use crate::exceptions::EXCEPTIONS;
 use crate::grants::{CARRIED, GRANTED, LENT, OWNED, SEEN};
 use crate::indexes::{ENTERED, FOUND, HELD, INDEXES, RIGHTS};
@@ -171,57 +171,83 @@ fn wrong_key(alloc: Global, keys: &Keys) -> Result<Option<(&'static str, &'stati
 }
 
 #[test]
-fn every_row_is_answered(rt: HostRuntime) -> Result<(), Fail> {
-    let tables = [
-        &RUN,
-        &CHECKED,
-        &BAD_WORDS,
-        &BAD_DECKS,
-        &DECKS,
-        &SPACES,
-        &LIMITS,
-        &COMPUTED,
-        &PROGRAMS,
-        &JOBS,
-        &CHECKS,
-        &RULES,
-        &EXCEPTIONS,
-        &PASSED,
-        &MISMATCHED,
-        &OFFERED,
-        &ADOPTED,
-        &CALLED,
-        &CREATED,
-        &BAD_LINES,
-        &SHOPS,
-        &PAID,
-        &USERS,
-        &GRANTED,
-        &SEEN,
-        &CARRIED,
-        &LENT,
-        &OWNED,
-        &WAYS,
-        &WAITS,
-        &ASKED,
-        &ORDERED,
-        &INDEXES,
-        &ENTERED,
-        &CURSORS,
-        &ENTRIES,
-        &FIELDS,
-        &PAYING,
-        &SHARED,
-    ];
-    for table in tables {
+fn words_and_decks_are_answered(rt: HostRuntime) -> Result<(), Fail> {
+    for table in [
+        &RUN, &CHECKED, &BAD_WORDS, &BAD_DECKS, &BAD_LINES, &DECKS, &JOBS, &CHECKS,
+    ] {
         assert_eq!(rt; wrong_call(rt.alloc(), table)?, None);
     }
     Ok(())
 }
 
 #[test]
-fn every_act_is_answered(rt: HostRuntime) -> Result<(), Fail> {
-    for acts in [&CONTEXTS, &PROFILES, &LOCKING, &RIGHTS, &ALLOWED] {
+fn creation_is_answered(rt: HostRuntime) -> Result<(), Fail> {
+    for table in [&FORMS, &UNSUITED, &CREATED] {
+        assert_eq!(rt; wrong_call(rt.alloc(), table)?, None);
+    }
+    Ok(())
+}
+
+#[test]
+fn spaces_and_computations_are_answered(rt: HostRuntime) -> Result<(), Fail> {
+    for table in [&SPACES, &LIMITS, &COMPUTED, &PROGRAMS, &RULES] {
+        assert_eq!(rt; wrong_call(rt.alloc(), table)?, None);
+    }
+    Ok(())
+}
+
+#[test]
+fn calls_and_exceptions_are_answered(rt: HostRuntime) -> Result<(), Fail> {
+    for table in [
+        &EXCEPTIONS,
+        &PASSED,
+        &MISMATCHED,
+        &OFFERED,
+        &ADOPTED,
+        &CALLED,
+    ] {
+        assert_eq!(rt; wrong_call(rt.alloc(), table)?, None);
+    }
+    Ok(())
+}
+
+#[test]
+fn users_and_rights_are_answered(rt: HostRuntime) -> Result<(), Fail> {
+    for table in [
+        &SHOPS, &PAID, &USERS, &GRANTED, &SEEN, &CARRIED, &LENT, &OWNED, &WAYS,
+    ] {
+        assert_eq!(rt; wrong_call(rt.alloc(), table)?, None);
+    }
+    Ok(())
+}
+
+#[test]
+fn queues_and_indexes_are_answered(rt: HostRuntime) -> Result<(), Fail> {
+    for table in [&WAITS, &ASKED, &ORDERED, &INDEXES, &ENTERED] {
+        assert_eq!(rt; wrong_call(rt.alloc(), table)?, None);
+    }
+    Ok(())
+}
+
+#[test]
+fn data_spaces_are_answered(rt: HostRuntime) -> Result<(), Fail> {
+    for table in [&CURSORS, &ENTRIES, &ADDRESSES, &FIELDS, &PAYING, &SHARED] {
+        assert_eq!(rt; wrong_call(rt.alloc(), table)?, None);
+    }
+    Ok(())
+}
+
+#[test]
+fn acts_of_users_are_answered(rt: HostRuntime) -> Result<(), Fail> {
+    for acts in [&CONTEXTS, &PROFILES, &LOCKING] {
+        assert_eq!(rt; wrong_act(rt.alloc(), acts)?, None);
+    }
+    Ok(())
+}
+
+#[test]
+fn acts_on_data_are_answered(rt: HostRuntime) -> Result<(), Fail> {
+    for acts in [&RIGHTS, &ALLOWED] {
         assert_eq!(rt; wrong_act(rt.alloc(), acts)?, None);
     }
     Ok(())
