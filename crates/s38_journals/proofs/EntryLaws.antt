@@ -4,19 +4,10 @@ use Rattle.std.proofs.Math.Seq.{take-append_seam, drop-append_seam}
 use Rattle.byteorder.specs.Endian.{big_bytes, big_number}
 use Rattle.byteorder.specs.Numbers.{big_number-reads_back}
 use Rattle.s38_base.specs.declared.id.ObjNum.{ObjNum}
-use Rattle.s38_journals.specs.Entries.{Entry, entry_image, entry_len, head, kind_code}
+use Rattle.s38_journals.specs.Entries.{Entry, Fits, entry_image, entry_len, head, kind_code}
 use Rattle.s38_journals.specs.Stored.{entry_of, kind_of}
 use Rattle.s38_journals.specs.declared.entry.EntryKind.{EntryKind}
 use Rattle.s38_journals.specs.declared.entry.EntryKind.TheVariants.{Insert, Update, Delete, Commit, Decommit}
-
--- the numbers of an entry fit their places
-pub record Fits (e : Entry) : Type 0 where
-  pub unit : e.unit < 2 ^ 64
-  pub process : e.process < 2 ^ 32
-  pub object : e.object.0 < 2 ^ 64
-  pub ordinal : e.ordinal < 2 ^ 32
-  pub before : length e.before ≤ 65535
-  pub after : length e.after ≤ 65535
 
 kind_back : (kind : EntryKind) → kind_of (kind_code kind) ≡ kind
 kind_back Insert = refl
@@ -29,8 +20,8 @@ pub length-head : (n : ℕ) (e : Entry) → length (head n e) ≡ 41
 unfolding head
 length-head n e = refl
 
-pub length-image : (n : ℕ) (e : Entry) → length (entry_image n e) ≡ entry_len e
-length-image n e = omega (arith, length-append (head n e) (e.before ++ e.after), length-append e.before e.after, length-head n e)
+pub image_length : (n : ℕ) (e : Entry) → length (entry_image n e) ≡ entry_len e
+image_length n e = omega (arith, length-append (head n e) (e.before ++ e.after), length-append e.before e.after, length-head n e)
 
 long_back : (x : ℕ) (rest : List ℕ) → x < 2 ^ 64 → big_number 8 (big_bytes 8 x ++ rest) ≡ x
 long_back x rest h = big_number-reads_back 8 x rest h
@@ -42,7 +33,15 @@ half_back : (x : ℕ) (rest : List ℕ) → x < 65536 → big_number 2 (big_byte
 half_back x rest h = big_number-reads_back 2 x rest h
 
 same_entry : (a b : Entry) → a.unit ≡ b.unit → a.process ≡ b.process → a.kind ≡ b.kind → a.object.0 ≡ b.object.0 → a.ordinal ≡ b.ordinal → a.before ≡ b.before → a.after ≡ b.after → a ≡ b
-same_entry a b unit process kind object ordinal before after = cc
+same_entry a b unit process kind object ordinal before after = λ i. record {
+  unit = unit i;
+  process = process i;
+  kind = kind i;
+  object = record { 0 = object i };
+  ordinal = ordinal i;
+  before = before i;
+  after = after i;
+}
 
 unit_back : (n : ℕ) (e : Entry) → Fits e → (entry_of (entry_image n e)).unit ≡ e.unit
 unfolding head entry_of
@@ -64,18 +63,18 @@ ordinal_back : (n : ℕ) (e : Entry) → Fits e → (entry_of (entry_image n e))
 unfolding head entry_of
 ordinal_back n e fits = word_back e.ordinal [] fits.ordinal
 
-before_back : (n : ℕ) (e : Entry) → Fits e → (entry_of (entry_image n e)).before ≡ e.before
+before_back : (n : ℕ) (e : Entry) → Fits e → length e.before ≤ 65535 → (entry_of (entry_image n e)).before ≡ e.before
 unfolding head entry_of
-before_back n e fits =
-    ap (λ (k : ℕ). take k (e.before ++ e.after)) (half_back (length e.before) [] (let h = fits.before in omega arith))
+before_back n e fits before =
+    ap (λ (k : ℕ). take k (e.before ++ e.after)) (half_back (length e.before) [] (omega arith))
     ∙ take-append_seam e.before e.after
 
-after_back : (n : ℕ) (e : Entry) → Fits e → (entry_of (entry_image n e)).after ≡ e.after
+after_back : (n : ℕ) (e : Entry) → Fits e → length e.before ≤ 65535 → (entry_of (entry_image n e)).after ≡ e.after
 unfolding head entry_of
-after_back n e fits =
-    ap (λ (k : ℕ). drop k (e.before ++ e.after)) (half_back (length e.before) [] (let h = fits.before in omega arith))
+after_back n e fits before =
+    ap (λ (k : ℕ). drop k (e.before ++ e.after)) (half_back (length e.before) [] (omega arith))
     ∙ drop-append_seam e.before e.after
 
-pub entry_back : (n : ℕ) (e : Entry) → Fits e → entry_of (entry_image n e) ≡ e
-entry_back n e fits =
-    same_entry (entry_of (entry_image n e)) e (unit_back n e fits) (process_back n e fits) (kind_is n e) (object_back n e fits) (ordinal_back n e fits) (before_back n e fits) (after_back n e fits)
+pub entry_back : (n : ℕ) (e : Entry) → Fits e → length e.before ≤ 65535 → entry_of (entry_image n e) ≡ e
+entry_back n e fits before =
+    same_entry (entry_of (entry_image n e)) e (unit_back n e fits) (process_back n e fits) (kind_is n e) (object_back n e fits) (ordinal_back n e fits) (before_back n e fits before) (after_back n e fits before)

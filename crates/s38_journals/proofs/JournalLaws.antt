@@ -1,13 +1,13 @@
 -- The images of entries: one more, the one of a sequence, and how long all are.
-use Rattle.std.proofs.Common.{◌≡◌, ℕ, zero, suc, ◌+◌, ◌<◌, ◌≤◌, ◌^◌, Bool, true, false, ◌&&◌, List, [], ◌∷◌, ◌++◌, length, map, refl, sym, ◌∙◌, ap, subst, arith, length-append}
+use Rattle.std.proofs.Common.{◌≡◌, ℕ, zero, suc, ◌+◌, ◌-◌, ◌<◌, ◌≤◌, ◌^◌, Bool, true, false, ◌&&◌, List, [], ◌∷◌, ◌++◌, length, map, refl, sym, ◌∙◌, ap, subst, arith, length-append}
 use Rattle.std.proofs.lemmas.Bool.Decides.{nat_tests}
 use Rattle.std.proofs.lemmas.List.{map-append, length-map}
 use Rattle.std.proofs.lemmas.List.Sums.{sum_by-append, sum_by-cons}
-use Rattle.std.specs.Prelude.{◌==◌, nat_le, nat_lt, IsTrue, Option, Some, None, option_map, slice_get, sum_by}
-use Rattle.s38_journals.specs.Entries.{Entry, entry_image, entry_len, head, is_end}
-use Rattle.s38_journals.specs.Journals.{IsJournal, bytes_at, entries_len, images, may_all_stand, may_stand}
-use Rattle.s38_journals.specs.Stored.{entry_of}
-use Rattle.s38_journals.proofs.EntryLaws.{Fits, entry_back, length-image}
+use Rattle.std.specs.Prelude.{◌==◌, nat_le, nat_lt, not, ◌||◌, IsTrue, Option, Some, None, option_map, slice_get, sum_by}
+use Rattle.s38_journals.specs.Entries.{Entry, Fits, entry_image, entry_len, head, is_end}
+use Rattle.s38_journals.specs.Journals.{IsJournal, bytes_at, entries_len, images, journal_image, may_all_stand, may_stand}
+use Rattle.s38_journals.specs.Stored.{entry_of, joined}
+use Rattle.s38_journals.proofs.EntryLaws.{entry_back, image_length}
 
 and_true : (b : Bool) → (b && true) ≡ b
 and_true true = refl
@@ -52,7 +52,69 @@ pub sum_by-images : (start : ℕ) (entries : List Entry) → sum_by length (imag
 sum_by-images start [] = refl
 sum_by-images start (first ∷ entries) =
     let rest = sum_by-images (suc start) entries in
-    let one = length-image start first in
+    let one = image_length start first in
     let left = sum_by-cons {X = List ℕ} length (entry_image start first) (images (suc start) entries) in
     let right = sum_by-cons {X = Entry} entry_len first entries in
     omega arith
+
+-- what is kept of a journal
+pub kept_len : (pieces : List (List ℕ)) → pieces ≡ images 1 (map entry_of pieces) → entries_len (map entry_of pieces) ≡ sum_by length pieces
+kept_len pieces e = sym (ap (λ (ps : List (List ℕ)). sum_by length ps) e ∙ sum_by-images 1 (map entry_of pieces))
+
+pub found_bytes : (pieces : List (List ℕ)) (seq : ℕ) → pieces ≡ images 1 (map entry_of pieces) → 0 < seq → bytes_at (map entry_of pieces) seq ≡ slice_get pieces (seq - 1)
+found_bytes pieces zero e some = absurd (omega arith)
+found_bytes pieces (suc k) e some =
+    let same : suc k - 1 ≡ k = omega arith in
+    let next : 1 + k ≡ suc k = omega arith in
+    rw same (sym (ap (λ (ps : List (List ℕ)). slice_get ps k) e ∙ slice_get-images 1 (map entry_of pieces) k ∙ ap (λ (n : ℕ). option_map (entry_image n) (slice_get (map entry_of pieces) k)) next))
+
+pub entries_pushed : (pieces : List (List ℕ)) (n : ℕ) (e : Entry) → Fits e → length e.before ≤ 65535 → map entry_of (pieces ++ entry_image n e ∷ []) ≡ map entry_of pieces ++ e ∷ []
+entries_pushed pieces n e fits before =
+    map-append entry_of pieces (entry_image n e ∷ []) ∙ ap (λ (last : Entry). map entry_of pieces ++ last ∷ []) (entry_back n e fits before)
+
+le_holds : (a b : ℕ) → a ≤ b → nat_le a b ≡ true
+le_holds a b e = grind (arith, nat_tests)
+
+lt_holds : (a b : ℕ) → a < b → nat_lt a b ≡ true
+lt_holds a b e = grind (arith, nat_tests)
+
+eq_holds : (a b : ℕ) → a ≡ b → (a == b) ≡ true
+eq_holds a b e = grind (arith, nat_tests)
+
+names_none : (ends is_none : Bool) → (ends ≡ true → is_none ≡ true) → (not ends || is_none) ≡ true
+names_none true is_none none = none refl
+names_none false is_none none = refl
+
+-- an entry that may stand at a sequence
+stands_at : (n : ℕ) (e : Entry) → Fits e → length e.before ≤ 65535 → length e.after ≤ 65535 → e.unit ≤ n → (is_end e.kind ≡ true → (e.object.0 ≡ 0) × (e.ordinal ≡ 0)) → may_stand n e ≡ true
+stands_at n e fits before after unit none =
+    both _ _ (both _ _ (le_holds e.unit n unit) (names_none (is_end e.kind) _ (λ end. both _ _ (eq_holds e.object.0 0 (none end).0) (eq_holds e.ordinal 0 (none end).1))))
+    (both _ _ (both _ _ (lt_holds e.process (2 ^ 32) fits.process) (both _ _ (lt_holds e.object.0 (2 ^ 64) fits.object) (lt_holds e.ordinal (2 ^ 32) fits.ordinal)))
+    (both _ _ (le_holds (length e.before) 65535 before) (le_holds (length e.after) 65535 after)))
+
+-- one more entry
+pub journal_pushed : (unforced : ℕ) (pieces : List (List ℕ)) (n : ℕ) (e : Entry) → Fits e → length e.before ≤ 65535 → length e.after ≤ 65535 → n ≡ length (map entry_of pieces) + 1 → e.unit ≤ n → (is_end e.kind ≡ true → (e.object.0 ≡ 0) × (e.ordinal ≡ 0)) → IsJournal unforced pieces → IsJournal (unforced + entry_len e) (pieces ++ entry_image n e ∷ [])
+journal_pushed unforced pieces n e fits before after at unit none held =
+    let entries = map entry_of pieces in
+    let more : map entry_of (pieces ++ entry_image n e ∷ []) ≡ entries ++ e ∷ [] = entries_pushed pieces n e fits before in
+    let place : 1 + length entries ≡ n = omega arith in
+    let here : may_stand (1 + length entries) e ≡ true = rw place (stands_at n e fits before after unit none) in
+    record {
+      images = rw more (ap (λ (ps : List (List ℕ)). ps ++ entry_image n e ∷ []) held.images
+      ∙ ap (λ (k : ℕ). images 1 entries ++ entry_image k e ∷ []) (sym place)
+      ∙ sym (images-append 1 entries e));
+      stand = rw more (stand-append 1 entries e held.stand here);
+      within =
+          let old = held.within in
+          let all = sum_by-append {X = List ℕ} length pieces (entry_image n e ∷ []) in
+          let one = sum_by-cons {X = List ℕ} length (entry_image n e) [] in
+          let len = image_length n e in
+          omega arith;
+    }
+
+pub images_joined : (start : ℕ) (entries : List Entry) → joined (images start entries) ≡ journal_image start entries
+images_joined start [] = refl
+images_joined start (e ∷ entries) = ap (λ (bs : List ℕ). entry_image start e ++ bs) (images_joined (suc start) entries)
+
+pub kept_image : (pieces : List (List ℕ)) → pieces ≡ images 1 (map entry_of pieces) → journal_image 1 (map entry_of pieces) ≡ joined pieces
+kept_image pieces e = sym (ap (λ (ps : List (List ℕ)). joined ps) e ∙ images_joined 1 (map entry_of pieces))

@@ -1,5 +1,5 @@
 -- What an entry of a journal says, and the bytes that say it.
-use Rattle.std.specs.Prelude.{ℕ, ◌+◌, ◌==◌, ◌^◌, ◌&&◌, ◌||◌, Bool, true, false, not, nat_lt, nat_le, List, ◌∷◌, ◌++◌, length}
+use Rattle.std.specs.Prelude.{ℕ, ◌+◌, ◌^◌, ◌<◌, Bool, true, false, List, ◌∷◌, ◌++◌, length}
 use Rattle.byteorder.specs.Endian.{big_bytes}
 use Rattle.s38_base.specs.declared.id.ObjNum.{ObjNum}
 use Rattle.s38_journals.specs.declared.entry.EntryKind.{EntryKind}
@@ -51,3 +51,10 @@ head sequence e =
 -- the bytes of the entry of a sequence
 abbrev pub entry_image : ℕ → Entry → List ℕ
 entry_image sequence e = head sequence e ++ (e.before ++ e.after)
+
+-- the numbers of an entry fit their places
+pub record Fits (e : Entry) : Type 0 where
+  pub unit : e.unit < 2 ^ 64
+  pub process : e.process < 2 ^ 32
+  pub object : e.object.0 < 2 ^ 64
+  pub ordinal : e.ordinal < 2 ^ 32

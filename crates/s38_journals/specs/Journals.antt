@@ -20,6 +20,11 @@ abbrev pub bytes_at : List Entry → ℕ → Option (List ℕ)
 bytes_at entries zero = None
 bytes_at entries (suc k) = option_map (entry_image (suc k)) (slice_get entries k)
 
+-- the bytes of all entries, one after another, each with its sequence, counted from a first on
+abbrev pub journal_image : ℕ → List Entry → List ℕ
+journal_image sequence [] = []
+journal_image sequence (e ∷ entries) = entry_image sequence e ++ journal_image (suc sequence) entries
+
 -- what a change takes: its own bytes, and of each open unit the entry that will end it, which is a head alone
 abbrev pub wanted : ℕ → ℕ → ℕ
 wanted bytes units = bytes + 41 * units

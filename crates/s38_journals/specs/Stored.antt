@@ -15,12 +15,17 @@ abbrev pub cut : ℕ → List ℕ → List ℕ → List (List ℕ)
 cut start [] bytes = []
 cut start (end ∷ ends) bytes = take (end - start) (drop start bytes) ∷ cut end ends bytes
 
--- from a start each ends where it starts or behind, and the last at the end of the bytes
+-- the bytes of all pieces, one after another
+abbrev pub joined : List (List ℕ) → List ℕ
+joined [] = []
+joined (piece ∷ pieces) = piece ++ joined pieces
+
+-- from a start each has at least 41 bytes, and the last ends where the bytes do
 abbrev pub are_ends : ℕ → List ℕ → ℕ → Bool
 are_ends start [] len = start == len
-are_ends start (end ∷ ends) len = nat_le start end && are_ends end ends len
+are_ends start (end ∷ ends) len = nat_le (start + 41) end && are_ends end ends len
 
--- the bytes and their ends have room for the spare bytes, in pieces of at least 41 bytes
+-- the bytes and their ends have room for the spare bytes, in pieces of at least 41
 pub record IsKept (spare : ℕ) (ends : List ℕ) (places count len byte_room : ℕ) : Type 0 where
   pub whole : IsTrue (are_ends 0 ends len)
   pub small : len + spare ≤ 16777216

@@ -1,7 +1,8 @@
-ghost use Rattle.std.specs.Prelude.{◌≡◌, ◌+◌, ◌≤◌, ◌<◌, [], IfErr, IsErrOf, IsTrue, None, OnOk, OnErr, length};
+ghost use Rattle.std.specs.Prelude.{◌≡◌, ◌+◌, ◌*◌, ◌≤◌, ◌<◌, [], IfErr, IfNone, IsErrOf, IsTrue, None, OnOk, OnErr, length, sum_by};
 ghost use Rattle.std.specs.Option.{option_copied, unwrap_or};
-ghost use Rattle.s38_journals.specs.Entries.{entered, entry_len, is_end};
-ghost use Rattle.s38_journals.specs.Journals.{appended, bytes_at, entries_len, forced, may_all_stand, room_refusal, wanted, with_room};
+ghost use Rattle.s38_journals.specs.Entries.{Fits, entered, entry_image, entry_len, is_end};
+ghost use Rattle.s38_journals.specs.Stored.{with_piece};
+ghost use Rattle.s38_journals.specs.Journals.{appended, bytes_at, entries_len, forced, journal_image, may_all_stand, room_refusal, wanted, with_room};
 
 use crate::entry::{entry_len, JournalEntry, HEAD};
 use crate::fault::JournalFault;
@@ -33,6 +34,28 @@ impl Model for Journal {
     ghost invariant = { λ j. IsJournal j.unforced j.pieces.pieces };
 }
 
+/// How many bytes a change takes, and of each open unit the entry that will end it.
+fn wanted(bytes: u32, units: u32) -> u64
+    ensures { result ≡ wanted bytes units }
+{
+    u64::from(bytes) + HEAD as u64 * u64::from(units)
+}
+
+/// Adds the bytes of an entry, without memory, and answers how many they are.
+#[tactic(auto, using(crate::proofs::EntryLaws::image_length))]
+fn push_entry(pieces: &mut Pieces, sequence: u64, entry: &JournalEntry) -> u32
+    requires before { length entry.now.before.now ≤ 65535 }
+    requires after { length entry.now.after.now ≤ 65535 }
+    requires room { entry_len (entered entry.now) ≤ pieces.old.spare }
+    ensures pushed { pieces.new ≡ with_piece pieces.old (entry_image sequence (entered entry.now)) }
+    ensures len { result ≡ entry_len (entered entry.now) }
+    ensures fits { Fits (entered entry.now) }
+    ensures small { sum_by length pieces.new.pieces ≤ 16777216 }
+{
+    pieces.push(&head_of(sequence, entry), entry.before, entry.after);
+    entry_len(entry) as u32
+}
+
 impl Journal {
     /// A journal without an entry; it takes no memory until it grows.
     pub fn new(alloc: Global) -> Journal
@@ -44,15 +67,17 @@ impl Journal {
         }
     }
 
-    /// The last sequence; 0 where there is no entry.
+    /// The last sequence; 0 where there is no entry. Each entry keeps to the format.
     pub fn last(&self) -> u64
         ensures last { result ≡ length self.now.entries }
         ensures stand { IsTrue (may_all_stand 1 self.now.entries) }
+        ensures bound { 41 * result ≤ 16777216 }
     {
         self.pieces.count() as u64
     }
 
     /// How many bytes all entries have together.
+    #[tactic(auto, using(crate::proofs::JournalLaws::kept_len))]
     pub fn len(&self) -> u32
         ensures len { result ≡ entries_len self.now.entries }
         ensures room { result + self.now.spare ≤ 16777216 }
@@ -61,6 +86,7 @@ impl Journal {
     }
 
     /// The bytes of the entry of a sequence; None where there is none.
+    #[tactic(auto, using(crate::proofs::JournalLaws::found_bytes))]
     pub fn entry(&self, seq: u64) -> Option<&[u8]>
         ensures { option_copied result ≡ bytes_at self.now.entries seq }
     {
@@ -70,7 +96,16 @@ impl Journal {
         self.pieces.get((seq - 1) as usize)
     }
 
+    /// The bytes of all entries, one after another.
+    #[tactic(auto, using(crate::proofs::JournalLaws::kept_image))]
+    pub fn image(&self) -> &[u8]
+        ensures { result.now ≡ journal_image 1 self.now.entries }
+    {
+        self.pieces.bytes()
+    }
+
     /// How many bytes, of the last entries, were not forced to the disk.
+    #[tactic(auto, using(crate::proofs::JournalLaws::kept_len))]
     pub fn unforced(&self) -> u32
         ensures unforced { result ≡ self.now.unforced }
         ensures within { result ≤ entries_len self.now.entries }
@@ -85,10 +120,24 @@ impl Journal {
         self.unforced = 0;
     }
 
+    /// Why there is no room for a change and the ends of the open units: the entries would have more than 16,777,216
+    /// bytes.
+    #[tactic(auto, using(crate::proofs::JournalLaws::kept_len))]
+    fn room_refusal(&self, bytes: u32, units: u32) -> Option<JournalFault>
+        ensures refusal { result ≡ room_refusal self.now bytes units }
+        ensures fits { IfNone result (entries_len self.now.entries + wanted bytes units ≤ 16777216) }
+    {
+        if u64::from(self.pieces.len()) + wanted(bytes, units) > LARGEST {
+            return Some(JournalFault::Full);
+        }
+        None
+    }
+
     /// Takes the memory of the entries of a change, in bytes, and of the ends of all open units, the one of the change
     /// included, so that later entries take none while the spare number reaches. It is refused where the entries would
     /// have more than 16,777,216 bytes; `NoMemory` where memory was refused, which is not so where the spare number
     /// reaches already. Where it is refused, nothing changes.
+    #[tactic(auto, using(crate::proofs::JournalLaws::kept_len))]
     pub fn reserve(&mut self, bytes: u32, units: u32) -> Result<(), JournalFault>
         ensures accepted { OnOk result (room_refusal self.old bytes units ≡ None) }
         ensures ok { OnOk result (self.new ≡ with_room self.old bytes units) }
@@ -96,14 +145,13 @@ impl Journal {
         ensures err { OnErr result (self.new ≡ self.old) }
         ensures room { IsErrOf result JournalFault.NoMemory → self.old.spare < wanted bytes units }
     {
-        let wanted = u64::from(bytes) + HEAD as u64 * u64::from(units);
-        if u64::from(self.pieces.len()) + wanted > LARGEST {
-            return Err(JournalFault::Full);
+        if let Some(fault) = self.room_refusal(bytes, units) {
+            return Err(fault);
         }
-        match self.pieces.reserve(wanted as u32) {
-            Ok(()) => Ok(()),
-            Err(_) => Err(JournalFault::NoMemory),
+        if self.pieces.reserve(wanted(bytes, units) as u32).is_err() {
+            return Err(JournalFault::NoMemory);
         }
+        Ok(())
     }
 
     /// Adds an entry, without memory, and answers its sequence. The spare number falls by the entry's length.
@@ -117,8 +165,7 @@ impl Journal {
         ensures appended { self.new ≡ appended self.old (entered entry.now) }
     {
         let sequence = self.last() + 1;
-        self.pieces.push(&head_of(sequence, entry), entry.before, entry.after);
-        self.unforced += entry_len(entry) as u32;
+        self.unforced += push_entry(&mut self.pieces, sequence, entry);
         sequence
     }
 }

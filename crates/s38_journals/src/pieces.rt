@@ -1,6 +1,6 @@
 ghost use Rattle.std.specs.Prelude.{◌≡◌, ◌+◌, ◌-◌, ◌*◌, ◌≤◌, ◌<◌, ◌∷◌, ◌++◌, [], IsTrue, IsOk, OnOk, OnErr, length, max, sum_by, take, drop, vec_capacity, vec_len, slice_get, slice_index};
 ghost use Rattle.std.specs.Option.{option_copied};
-ghost use Rattle.s38_journals.specs.Stored.{are_ends, cut, with_piece};
+ghost use Rattle.s38_journals.specs.Stored.{are_ends, cut, joined, with_piece};
 
 use s38_base::NoMemory;
 use std::alloc::Global;
@@ -81,7 +81,7 @@ fn push_parts(bytes: &mut Vec<u8>, head: &[u8], before: &[u8], after: &[u8]) -> 
 fn push_end(ends: &mut Vec<u32>, bytes: &[u8], from: usize)
     requires room { vec_len ends.old < vec_capacity ends.old }
     requires small { length bytes.now ≤ 16777216 }
-    requires within { from ≤ length bytes.now }
+    requires within { from + 41 ≤ length bytes.now }
     requires whole { IsTrue (are_ends 0 ends.old.items from) }
     ensures pieces { cut 0 ends.new.items bytes.now ≡ cut 0 ends.old.items (take from bytes.now) ++ drop from bytes.now ∷ [] }
     ensures whole { IsTrue (are_ends 0 ends.new.items (length bytes.now)) }
@@ -119,9 +119,10 @@ impl Pieces {
     }
 
     /// How many pieces there are.
-    #[tactic(auto, using(crate::proofs::CutLaws::cut_count))]
+    #[tactic(auto, using(crate::proofs::CutLaws::cut_count, crate::proofs::CutLaws::kept_count))]
     pub fn count(&self) -> usize
-        ensures { result ≡ length self.now.pieces }
+        ensures count { result ≡ length self.now.pieces }
+        ensures bound { 41 * result ≤ 16777216 }
     {
         self.ends.len()
     }
@@ -133,6 +134,14 @@ impl Pieces {
         ensures small { result + self.now.spare ≤ 16777216 }
     {
         self.bytes.len() as u32
+    }
+
+    /// The bytes of all pieces, one after another.
+    #[tactic(auto, using(crate::proofs::CutLaws::kept_joined))]
+    pub fn bytes(&self) -> &[u8]
+        ensures { result.now ≡ joined self.now.pieces }
+    {
+        self.bytes.as_slice()
     }
 
     /// A piece, counted from 0 on; None past the last.
@@ -159,11 +168,12 @@ impl Pieces {
     }
 
     /// Adds a piece of a head and two further parts, without memory.
-    #[tactic(auto, using(crate::proofs::CutLaws::front_of, crate::proofs::CutLaws::back_of))]
+    #[tactic(auto, using(crate::proofs::CutLaws::front_of, crate::proofs::CutLaws::back_of, crate::proofs::CutLaws::kept_sum))]
     pub fn push(&mut self, head: &[u8], before: &[u8], after: &[u8])
         requires head { 41 ≤ length head.now }
         requires room { length (head.now ++ (before.now ++ after.now)) ≤ self.old.spare }
-        ensures { self.new ≡ with_piece self.old (head.now ++ (before.now ++ after.now)) }
+        ensures pushed { self.new ≡ with_piece self.old (head.now ++ (before.now ++ after.now)) }
+        ensures small { sum_by length self.new.pieces ≤ 16777216 }
     {
         let from = self.bytes.len();
         let more = push_parts(&mut self.bytes, head, before, after);
