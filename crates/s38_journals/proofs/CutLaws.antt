@@ -1,10 +1,10 @@
 -- Pieces that are cut from bytes: which one stands at a place, how many there are, and one more.
-use Rattle.std.proofs.Common.{◌≡◌, ℕ, zero, suc, ◌+◌, ◌-◌, ◌*◌, ◌<◌, ◌≤◌, Bool, true, false, ◌&&◌, List, [], ◌∷◌, ◌++◌, append_assoc, length, get_or, take, drop, refl, sym, ◌∙◌, ap, arith, length-drop}
+use Rattle.std.proofs.Common.{◌≡◌, ℕ, zero, suc, ◌+◌, ◌-◌, ◌*◌, ◌<◌, ◌≤◌, Bool, true, false, ◌&&◌, List, [], ◌∷◌, ◌++◌, append_assoc, length, take, drop, refl, sym, ◌∙◌, ap, arith, length-drop}
 use Rattle.std.proofs.Math.Seq.{take-length, take-append_seam, drop-append_seam}
 use Rattle.std.proofs.lemmas.Bool.Decides.{nat_tests}
 use Rattle.std.proofs.lemmas.List.Sums.{sum_by-cons}
-use Rattle.std.proofs.lemmas.List.{drop-drop, take-append-le, take-append-drop, drop-append-le, length-take}
-use Rattle.std.specs.Prelude.{◌==◌, nat_le, Some, None, Option, IsTrue, slice_get, slice_index, sum_by}
+use Rattle.std.proofs.lemmas.List.{drop_all, drop-drop, take-append-le, take-append-drop, drop-append-le, length-take}
+use Rattle.std.specs.Prelude.{◌==◌, nat_le, Some, None, IsTrue, slice_get, slice_index, sum_by}
 use Rattle.s38_journals.specs.Stored.{are_ends, cut, joined}
 
 first_of : (a b : Bool) → (a && b) ≡ true → a ≡ true
@@ -101,7 +101,7 @@ kept_sum ends bytes e = let all = cut_sum ends bytes 0 e in omega arith
 
 -- the pieces are all bytes
 cut_joined : (ends bytes : List ℕ) (start : ℕ) → are_ends start ends (length bytes) ≡ true → joined (cut start ends bytes) ≡ drop start bytes
-cut_joined [] bytes start e = sym (drop-length-le start bytes (let same = eq_tells start (length bytes) e in omega arith))
+cut_joined [] bytes start e = sym (drop_all start bytes (let same = eq_tells start (length bytes) e in omega arith))
 cut_joined (end ∷ ends) bytes start e =
     let first = le_tells (start + 41) end (first_of (nat_le (start + 41) end) _ e) in
     let more : are_ends end ends (length bytes) ≡ true = second_of (nat_le (start + 41) end) _ e in

@@ -1,9 +1,8 @@
 -- What the bytes of an entry say is the entry.
-use Rattle.std.proofs.Common.{◌≡◌, ℕ, ◌+◌, ◌<◌, ◌≤◌, ◌^◌, List, [], ◌∷◌, ◌++◌, append_assoc, length, take, drop, refl, sym, ◌∙◌, ap, arith, length-append}
+use Rattle.std.proofs.Common.{◌≡◌, ℕ, ◌<◌, ◌≤◌, ◌^◌, List, [], ◌++◌, length, take, drop, refl, ◌∙◌, ap, arith, length-append}
 use Rattle.std.proofs.Math.Seq.{take-append_seam, drop-append_seam}
 use Rattle.byteorder.specs.Endian.{big_bytes, big_number}
 use Rattle.byteorder.specs.Numbers.{big_number-reads_back}
-use Rattle.s38_base.specs.declared.id.ObjNum.{ObjNum}
 use Rattle.s38_journals.specs.Entries.{Entry, Fits, entry_image, entry_len, head, kind_code}
 use Rattle.s38_journals.specs.Stored.{entry_of, kind_of}
 use Rattle.s38_journals.specs.declared.entry.EntryKind.{EntryKind}

@@ -1,10 +1,10 @@
 -- The images of entries: one more, the one of a sequence, and how long all are.
-use Rattle.std.proofs.Common.{◌≡◌, ℕ, zero, suc, ◌+◌, ◌-◌, ◌<◌, ◌≤◌, ◌^◌, Bool, true, false, ◌&&◌, List, [], ◌∷◌, ◌++◌, length, map, refl, sym, ◌∙◌, ap, subst, arith, length-append}
+use Rattle.std.proofs.Common.{◌≡◌, ℕ, zero, suc, ◌+◌, ◌-◌, ◌<◌, ◌≤◌, ◌^◌, Bool, true, false, ◌&&◌, List, [], ◌∷◌, ◌++◌, length, map, refl, sym, ◌∙◌, ap, arith}
 use Rattle.std.proofs.lemmas.Bool.Decides.{nat_tests}
-use Rattle.std.proofs.lemmas.List.{map-append, length-map}
+use Rattle.std.proofs.lemmas.List.{map-append}
 use Rattle.std.proofs.lemmas.List.Sums.{sum_by-append, sum_by-cons}
-use Rattle.std.specs.Prelude.{◌==◌, nat_le, nat_lt, not, ◌||◌, IsTrue, Option, Some, None, option_map, slice_get, sum_by}
-use Rattle.s38_journals.specs.Entries.{Entry, Fits, entry_image, entry_len, head, is_end}
+use Rattle.std.specs.Prelude.{◌==◌, nat_le, nat_lt, not, ◌||◌, Some, option_map, slice_get, sum_by}
+use Rattle.s38_journals.specs.Entries.{Entry, Fits, entry_image, entry_len, is_end}
 use Rattle.s38_journals.specs.Journals.{IsJournal, bytes_at, entries_len, images, journal_image, may_all_stand, may_stand}
 use Rattle.s38_journals.specs.Stored.{entry_of, joined}
 use Rattle.s38_journals.proofs.EntryLaws.{entry_back, image_length}
@@ -101,8 +101,8 @@ journal_pushed unforced pieces n e fits before after at unit none held =
     let here : may_stand (1 + length entries) e ≡ true = rw place (stands_at n e fits before after unit none) in
     record {
       images = rw more (ap (λ (ps : List (List ℕ)). ps ++ entry_image n e ∷ []) held.images
-      ∙ ap (λ (k : ℕ). images 1 entries ++ entry_image k e ∷ []) (sym place)
-      ∙ sym (images-append 1 entries e));
+          ∙ ap (λ (k : ℕ). images 1 entries ++ entry_image k e ∷ []) (sym place)
+          ∙ sym (images-append 1 entries e));
       stand = rw more (stand-append 1 entries e held.stand here);
       within =
           let old = held.within in

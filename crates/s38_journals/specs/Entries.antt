@@ -20,7 +20,13 @@ pub record Entry : Type 0 where
 -- the entry that is handed over
 abbrev pub entered : JournalEntry → Entry
 entered e = record {
-  unit = e.unit; process = e.process; kind = e.kind; object = e.object; ordinal = e.ordinal; before = e.before.now; after = e.after.now
+  unit = e.unit;
+  process = e.process;
+  kind = e.kind;
+  object = e.object;
+  ordinal = e.ordinal;
+  before = e.before.now;
+  after = e.after.now;
 }
 
 -- the number of a kind

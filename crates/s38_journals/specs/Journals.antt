@@ -43,7 +43,7 @@ abbrev pub appended : JournalList → Entry → JournalList
 appended journal entry = record {
   spare = journal.spare - entry_len entry;
   unforced = journal.unforced + entry_len entry;
-  entries = journal.entries ++ entry ∷ []
+  entries = journal.entries ++ entry ∷ [];
 }
 
 -- all entries are forced

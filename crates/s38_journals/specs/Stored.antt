@@ -1,5 +1,5 @@
 -- How entries are kept: one after another, and of each where it ends.
-use Rattle.std.specs.Prelude.{◌≡◌, ℕ, ◌+◌, ◌-◌, ◌*◌, ◌≤◌, ◌==◌, ◌&&◌, Bool, IsTrue, nat_le, Option, List, [], ◌∷◌, ◌++◌, length, take, drop, if◌then◌else◌, slice_index}
+use Rattle.std.specs.Prelude.{ℕ, ◌+◌, ◌-◌, ◌*◌, ◌≤◌, ◌==◌, ◌&&◌, Bool, IsTrue, nat_le, List, [], ◌∷◌, ◌++◌, length, take, drop, if◌then◌else◌, slice_index}
 use Rattle.byteorder.specs.Endian.{big_number}
 use Rattle.s38_journals.specs.Entries.{Entry}
 use Rattle.s38_journals.specs.declared.entry.EntryKind.{EntryKind}
@@ -54,5 +54,5 @@ entry_of bytes = record {
   object = record { 0 = big_number 8 (drop 25 bytes) };
   ordinal = big_number 4 (drop 33 bytes);
   before = take (big_number 2 (drop 37 bytes)) (drop 41 bytes);
-  after = drop (big_number 2 (drop 37 bytes)) (drop 41 bytes)
+  after = drop (big_number 2 (drop 37 bytes)) (drop 41 bytes);
 }

@@ -1,7 +1,7 @@
 ghost use Rattle.std.specs.Prelude.{◌≡◌, ◌≤◌, length};
 ghost use Rattle.s38_journals.specs.Entries.{Fits, entered, head};
 
-use crate::entry::{entry_len, JournalEntry, HEAD};
+use crate::entry::{HEAD, JournalEntry, entry_len};
 use byteorder::{BigEndian, ByteOrder};
 
 /// The bytes of an entry before those of the data: the length of the whole, the sequence, the unit, the process, the

@@ -4,7 +4,7 @@ ghost use Rattle.s38_journals.specs.Entries.{Fits, entered, entry_image, entry_l
 ghost use Rattle.s38_journals.specs.Stored.{with_piece};
 ghost use Rattle.s38_journals.specs.Journals.{appended, bytes_at, entries_len, forced, journal_image, may_all_stand, room_refusal, wanted, with_room};
 
-use crate::entry::{entry_len, JournalEntry, HEAD};
+use crate::entry::{HEAD, JournalEntry, entry_len};
 use crate::fault::JournalFault;
 use crate::head::head_of;
 use crate::pieces::Pieces;

@@ -1,5 +1,4 @@
-use Rattle.std.proofs.Common.{◌≡◌, ◌∙◌, ℕ, ◌-◌, ap, sym, arith, length, take, drop}
-use Rattle.std.specs.Prelude.{Some, slice_index}
+use Rattle.std.proofs.Common.{sym, arith, length}
 use Rattle.s38_journals.proofs.CutLaws.{cut_at, cut_past, place_within}
 use Rattle.s38_journals.proofs.pieces.piece_in.Goals as goal
 

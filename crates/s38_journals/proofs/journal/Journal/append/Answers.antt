@@ -1,4 +1,4 @@
-use Rattle.std.proofs.Common.{◌≡◌, ◌∙◌, ℕ, ◌+◌, ◌≤◌, List, [], ◌∷◌, ◌++◌, ap, arith, length, map, refl, sym}
+use Rattle.std.proofs.Common.{◌≡◌, ◌∙◌, ℕ, ◌+◌, ◌≤◌, [], ◌∷◌, ◌++◌, ap, arith, length, map, refl, sym}
 use Rattle.std.specs.Prelude.{sum_by}
 use Rattle.s38_journals.specs.Entries.{entered, entry_image}
 use Rattle.s38_journals.specs.Journals.{JournalList}
