@@ -1,36 +1,11 @@
 -- Pieces that are cut from bytes: which one stands at a place, how many there are, and one more.
-use Rattle.std.proofs.Common.{◌≡◌, ℕ, zero, suc, ◌+◌, ◌-◌, ◌*◌, ◌<◌, ◌≤◌, Bool, true, false, ◌&&◌, List, [], ◌∷◌, ◌++◌, append_assoc, length, take, drop, refl, sym, ◌∙◌, ap, arith, length-drop}
+use Rattle.std.proofs.Common.{◌≡◌, ℕ, zero, suc, ◌+◌, ◌-◌, ◌*◌, ◌<◌, ◌≤◌, true, List, [], ◌∷◌, ◌++◌, append_assoc, length, take, drop, refl, sym, ◌∙◌, ap, arith, length-drop}
 use Rattle.std.proofs.Math.Seq.{take-length, take-append_seam, drop-append_seam}
-use Rattle.std.proofs.lemmas.Bool.Decides.{nat_tests}
 use Rattle.std.proofs.lemmas.List.Sums.{sum_by-cons}
 use Rattle.std.proofs.lemmas.List.{drop_all, drop-drop, take-append-le, take-append-drop, drop-append-le, length-take}
-use Rattle.std.specs.Prelude.{◌==◌, nat_le, Some, None, IsTrue, slice_get, slice_index, sum_by}
+use Rattle.std.specs.Prelude.{nat_le, Some, None, IsTrue, slice_get, slice_index, sum_by}
+use Rattle.s38_journals.proofs.Tests.{both, first_of, second_of, le_tells, eq_tells, le_holds, eq_holds}
 use Rattle.s38_journals.specs.Stored.{are_ends, cut, joined}
-
-first_of : (a b : Bool) → (a && b) ≡ true → a ≡ true
-first_of true b p = refl
-first_of false b p = p
-
-second_of : (a b : Bool) → (a && b) ≡ true → b ≡ true
-second_of true b p = p
-second_of false b p = absurd (cc)
-
-le_tells : (a b : ℕ) → nat_le a b ≡ true → a ≤ b
-le_tells a b e = grind (arith, nat_tests)
-
-eq_tells : (a b : ℕ) → (a == b) ≡ true → a ≡ b
-eq_tells a b e = grind (arith, nat_tests)
-
-le_holds : (a b : ℕ) → a ≤ b → nat_le a b ≡ true
-le_holds a b e = grind (arith, nat_tests)
-
-eq_holds : (a : ℕ) → (a == a) ≡ true
-eq_holds a = grind (arith, nat_tests)
-
-both : (a b : Bool) → a ≡ true → b ≡ true → (a && b) ≡ true
-both true true p q = refl
-both true false p q = q
-both false b p q = p
 
 -- a start is within the bytes
 starts_within : (ends : List ℕ) (start len : ℕ) → are_ends start ends len ≡ true → start ≤ len
@@ -116,7 +91,7 @@ kept_joined ends bytes e = cut_joined ends bytes 0 e
 pub ends_pushed : (ends : List ℕ) (start len more : ℕ) → 41 ≤ more → are_ends start ends len ≡ true → are_ends start (ends ++ (len + more) ∷ []) (len + more) ≡ true
 ends_pushed [] start len more some e =
     let same = eq_tells start len e in
-    both (nat_le (start + 41) (len + more)) _ (le_holds (start + 41) (len + more) (omega arith)) (eq_holds (len + more))
+    both (nat_le (start + 41) (len + more)) _ (le_holds (start + 41) (len + more) (omega arith)) (eq_holds (len + more) (len + more) refl)
 ends_pushed (end ∷ ends) start len more some e =
     both (nat_le (start + 41) end) _ (first_of (nat_le (start + 41) end) _ e) (ends_pushed ends end len more some (second_of (nat_le (start + 41) end) _ e))
 

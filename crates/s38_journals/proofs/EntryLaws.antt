@@ -1,12 +1,32 @@
 -- What the bytes of an entry say is the entry.
-use Rattle.std.proofs.Common.{◌≡◌, ℕ, ◌<◌, ◌≤◌, ◌^◌, List, [], ◌++◌, length, take, drop, refl, ◌∙◌, ap, arith, length-append}
+use Rattle.std.proofs.Common.{◌≡◌, ◌&&◌, true, ◌<◌, ◌^◌, ℕ, ◌<◌, ◌≤◌, ◌^◌, List, [], ◌++◌, length, take, drop, refl, ◌∙◌, ap, arith, length-append}
 use Rattle.std.proofs.Math.Seq.{take-append_seam, drop-append_seam}
+use Rattle.std.specs.Prelude.{nat_lt}
+use Rattle.s38_journals.proofs.Tests.{first_of, second_of, lt_tells}
 use Rattle.byteorder.specs.Endian.{big_bytes, big_number}
 use Rattle.byteorder.specs.Numbers.{big_number-reads_back}
-use Rattle.s38_journals.specs.Entries.{Entry, Fits, entry_image, entry_len, head, kind_code}
+use Rattle.s38_journals.specs.Entries.{Entry, fits, entry_image, entry_len, head, kind_code}
 use Rattle.s38_journals.specs.Stored.{entry_of, kind_of}
 use Rattle.s38_journals.specs.declared.entry.EntryKind.{EntryKind}
 use Rattle.s38_journals.specs.declared.entry.EntryKind.TheVariants.{Insert, Update, Delete, Commit, Decommit}
+
+-- the numbers of an entry fit their places
+record Fits (e : Entry) : Type 0 where
+  unit : e.unit < 2 ^ 64
+  process : e.process < 2 ^ 32
+  object : e.object.0 < 2 ^ 64
+  ordinal : e.ordinal < 2 ^ 32
+
+fit_numbers : (e : Entry) → fits e ≡ true → Fits e
+fit_numbers e fit =
+    let front = first_of (nat_lt e.unit (2 ^ 64) && nat_lt e.process (2 ^ 32)) _ fit in
+    let back = second_of (nat_lt e.unit (2 ^ 64) && nat_lt e.process (2 ^ 32)) _ fit in
+    record {
+      unit = lt_tells e.unit (2 ^ 64) (first_of (nat_lt e.unit (2 ^ 64)) _ front);
+      process = lt_tells e.process (2 ^ 32) (second_of (nat_lt e.unit (2 ^ 64)) _ front);
+      object = lt_tells e.object.0 (2 ^ 64) (first_of (nat_lt e.object.0 (2 ^ 64)) _ back);
+      ordinal = lt_tells e.ordinal (2 ^ 32) (second_of (nat_lt e.object.0 (2 ^ 64)) _ back);
+    }
 
 kind_back : (kind : EntryKind) → kind_of (kind_code kind) ≡ kind
 kind_back Insert = refl
@@ -42,38 +62,38 @@ same_entry a b unit process kind object ordinal before after = λ i. record {
   after = after i;
 }
 
-unit_back : (n : ℕ) (e : Entry) → Fits e → (entry_of (entry_image n e)).unit ≡ e.unit
+unit_back : (n : ℕ) (e : Entry) → fits e ≡ true → (entry_of (entry_image n e)).unit ≡ e.unit
 unfolding head entry_of
-unit_back n e fits = long_back e.unit [] fits.unit
+unit_back n e fit = long_back e.unit [] (fit_numbers e fit).unit
 
-process_back : (n : ℕ) (e : Entry) → Fits e → (entry_of (entry_image n e)).process ≡ e.process
+process_back : (n : ℕ) (e : Entry) → fits e ≡ true → (entry_of (entry_image n e)).process ≡ e.process
 unfolding head entry_of
-process_back n e fits = word_back e.process [] fits.process
+process_back n e fit = word_back e.process [] (fit_numbers e fit).process
 
 kind_is : (n : ℕ) (e : Entry) → (entry_of (entry_image n e)).kind ≡ e.kind
 unfolding head entry_of
 kind_is n e = kind_back e.kind
 
-object_back : (n : ℕ) (e : Entry) → Fits e → (entry_of (entry_image n e)).object.0 ≡ e.object.0
+object_back : (n : ℕ) (e : Entry) → fits e ≡ true → (entry_of (entry_image n e)).object.0 ≡ e.object.0
 unfolding head entry_of
-object_back n e fits = long_back e.object.0 [] fits.object
+object_back n e fit = long_back e.object.0 [] (fit_numbers e fit).object
 
-ordinal_back : (n : ℕ) (e : Entry) → Fits e → (entry_of (entry_image n e)).ordinal ≡ e.ordinal
+ordinal_back : (n : ℕ) (e : Entry) → fits e ≡ true → (entry_of (entry_image n e)).ordinal ≡ e.ordinal
 unfolding head entry_of
-ordinal_back n e fits = word_back e.ordinal [] fits.ordinal
+ordinal_back n e fit = word_back e.ordinal [] (fit_numbers e fit).ordinal
 
-before_back : (n : ℕ) (e : Entry) → Fits e → length e.before ≤ 65535 → (entry_of (entry_image n e)).before ≡ e.before
+before_back : (n : ℕ) (e : Entry) → fits e ≡ true → length e.before ≤ 65535 → (entry_of (entry_image n e)).before ≡ e.before
 unfolding head entry_of
-before_back n e fits before =
+before_back n e fit before =
     ap (λ (k : ℕ). take k (e.before ++ e.after)) (half_back (length e.before) [] (omega arith))
     ∙ take-append_seam e.before e.after
 
-after_back : (n : ℕ) (e : Entry) → Fits e → length e.before ≤ 65535 → (entry_of (entry_image n e)).after ≡ e.after
+after_back : (n : ℕ) (e : Entry) → fits e ≡ true → length e.before ≤ 65535 → (entry_of (entry_image n e)).after ≡ e.after
 unfolding head entry_of
-after_back n e fits before =
+after_back n e fit before =
     ap (λ (k : ℕ). drop k (e.before ++ e.after)) (half_back (length e.before) [] (omega arith))
     ∙ drop-append_seam e.before e.after
 
-pub entry_back : (n : ℕ) (e : Entry) → Fits e → length e.before ≤ 65535 → entry_of (entry_image n e) ≡ e
-entry_back n e fits before =
-    same_entry (entry_of (entry_image n e)) e (unit_back n e fits) (process_back n e fits) (kind_is n e) (object_back n e fits) (ordinal_back n e fits) (before_back n e fits before) (after_back n e fits before)
+pub entry_back : (n : ℕ) (e : Entry) → fits e ≡ true → length e.before ≤ 65535 → entry_of (entry_image n e) ≡ e
+entry_back n e fit before =
+    same_entry (entry_of (entry_image n e)) e (unit_back n e fit) (process_back n e fit) (kind_is n e) (object_back n e fit) (ordinal_back n e fit) (before_back n e fit before) (after_back n e fit before)

@@ -1,30 +1,13 @@
 -- The images of entries: one more, the one of a sequence, and how long all are.
-use Rattle.std.proofs.Common.{◌≡◌, ℕ, zero, suc, ◌+◌, ◌-◌, ◌<◌, ◌≤◌, ◌^◌, Bool, true, false, ◌&&◌, List, [], ◌∷◌, ◌++◌, length, map, refl, sym, ◌∙◌, ap, arith}
-use Rattle.std.proofs.lemmas.Bool.Decides.{nat_tests}
+use Rattle.std.proofs.Common.{◌≡◌, ℕ, zero, suc, ◌+◌, ◌-◌, ◌<◌, ◌≤◌, Bool, true, false, ◌&&◌, List, [], ◌∷◌, ◌++◌, length, map, refl, sym, ◌∙◌, ap, arith}
 use Rattle.std.proofs.lemmas.List.{map-append}
 use Rattle.std.proofs.lemmas.List.Sums.{sum_by-append, sum_by-cons}
-use Rattle.std.specs.Prelude.{◌==◌, nat_le, nat_lt, not, ◌||◌, Some, option_map, slice_get, sum_by}
-use Rattle.s38_journals.specs.Entries.{Entry, Fits, entry_image, entry_len, is_end}
-use Rattle.s38_journals.specs.Journals.{IsJournal, bytes_at, entries_len, images, journal_image, may_all_stand, may_stand}
+use Rattle.std.specs.Prelude.{not, ◌||◌, Some, option_map, slice_get, sum_by}
+use Rattle.s38_journals.proofs.Tests.{both, first_of, second_of, le_holds, eq_holds}
+use Rattle.s38_journals.specs.Entries.{Entry, fits, entry_image, entry_len, is_end, may_stand}
+use Rattle.s38_journals.specs.Journals.{IsJournal, bytes_at, entries_len, images, journal_image, may_all_stand}
 use Rattle.s38_journals.specs.Stored.{entry_of, joined}
 use Rattle.s38_journals.proofs.EntryLaws.{entry_back, image_length}
-
-and_true : (b : Bool) → (b && true) ≡ b
-and_true true = refl
-and_true false = refl
-
-both : (a b : Bool) → a ≡ true → b ≡ true → (a && b) ≡ true
-both true true p q = refl
-both true false p q = q
-both false b p q = p
-
-first_of : (a b : Bool) → (a && b) ≡ true → a ≡ true
-first_of true b p = refl
-first_of false b p = p
-
-second_of : (a b : Bool) → (a && b) ≡ true → b ≡ true
-second_of true b p = p
-second_of false b p = absurd (cc)
 
 pub images-append : (start : ℕ) (entries : List Entry) (e : Entry) → images start (entries ++ e ∷ []) ≡ images start entries ++ entry_image (start + length entries) e ∷ []
 images-append start [] e = ap (λ (n : ℕ). entry_image n e ∷ []) (omega arith)
@@ -32,14 +15,14 @@ images-append start (first ∷ entries) e =
     let at : suc start + length entries ≡ start + suc (length entries) = omega arith in
     rw (images-append (suc start) entries e, at) refl
 
-pub stand-append : (start : ℕ) (entries : List Entry) (e : Entry) → may_all_stand start entries ≡ true → may_stand (start + length entries) e ≡ true → may_all_stand start (entries ++ e ∷ []) ≡ true
+pub stand-append : (start : ℕ) (entries : List Entry) (e : Entry) → may_all_stand start entries ≡ true → (may_stand (start + length entries) e && fits e) ≡ true → may_all_stand start (entries ++ e ∷ []) ≡ true
 stand-append start [] e all one =
     let at : start + 0 ≡ start = omega arith in
-    both (may_stand start e) true (rw at at one) refl
+    both (may_stand start e && fits e) true (rw at at one) refl
 stand-append start (first ∷ entries) e all one =
     let at : start + suc (length entries) ≡ suc start + length entries = omega arith in
-    both (may_stand start first) _ (first_of (may_stand start first) _ all)
-    (stand-append (suc start) entries e (second_of (may_stand start first) _ all) (rw at at one))
+    both (may_stand start first && fits first) _ (first_of (may_stand start first && fits first) _ all)
+    (stand-append (suc start) entries e (second_of (may_stand start first && fits first) _ all) (rw at at one))
 
 pub slice_get-images : (start : ℕ) (entries : List Entry) (k : ℕ) → slice_get (images start entries) k ≡ option_map (entry_image (start + k)) (slice_get entries k)
 slice_get-images start [] k = refl
@@ -68,37 +51,27 @@ found_bytes pieces (suc k) e some =
     let next : 1 + k ≡ suc k = omega arith in
     rw same (sym (ap (λ (ps : List (List ℕ)). slice_get ps k) e ∙ slice_get-images 1 (map entry_of pieces) k ∙ ap (λ (n : ℕ). option_map (entry_image n) (slice_get (map entry_of pieces) k)) next))
 
-pub entries_pushed : (pieces : List (List ℕ)) (n : ℕ) (e : Entry) → Fits e → length e.before ≤ 65535 → map entry_of (pieces ++ entry_image n e ∷ []) ≡ map entry_of pieces ++ e ∷ []
-entries_pushed pieces n e fits before =
-    map-append entry_of pieces (entry_image n e ∷ []) ∙ ap (λ (last : Entry). map entry_of pieces ++ last ∷ []) (entry_back n e fits before)
-
-le_holds : (a b : ℕ) → a ≤ b → nat_le a b ≡ true
-le_holds a b e = grind (arith, nat_tests)
-
-lt_holds : (a b : ℕ) → a < b → nat_lt a b ≡ true
-lt_holds a b e = grind (arith, nat_tests)
-
-eq_holds : (a b : ℕ) → a ≡ b → (a == b) ≡ true
-eq_holds a b e = grind (arith, nat_tests)
+pub entries_pushed : (pieces : List (List ℕ)) (n : ℕ) (e : Entry) → fits e ≡ true → length e.before ≤ 65535 → map entry_of (pieces ++ entry_image n e ∷ []) ≡ map entry_of pieces ++ e ∷ []
+entries_pushed pieces n e fit before =
+    map-append entry_of pieces (entry_image n e ∷ []) ∙ ap (λ (last : Entry). map entry_of pieces ++ last ∷ []) (entry_back n e fit before)
 
 names_none : (ends is_none : Bool) → (ends ≡ true → is_none ≡ true) → (not ends || is_none) ≡ true
 names_none true is_none none = none refl
 names_none false is_none none = refl
 
 -- an entry that may stand at a sequence
-stands_at : (n : ℕ) (e : Entry) → Fits e → length e.before ≤ 65535 → length e.after ≤ 65535 → e.unit ≤ n → (is_end e.kind ≡ true → (e.object.0 ≡ 0) × (e.ordinal ≡ 0)) → may_stand n e ≡ true
-stands_at n e fits before after unit none =
+stands_at : (n : ℕ) (e : Entry) → length e.before ≤ 65535 → length e.after ≤ 65535 → e.unit ≤ n → (is_end e.kind ≡ true → (e.object.0 ≡ 0) × (e.ordinal ≡ 0)) → may_stand n e ≡ true
+stands_at n e before after unit none =
     both _ _ (both _ _ (le_holds e.unit n unit) (names_none (is_end e.kind) _ (λ end. both _ _ (eq_holds e.object.0 0 (none end).0) (eq_holds e.ordinal 0 (none end).1))))
-    (both _ _ (both _ _ (lt_holds e.process (2 ^ 32) fits.process) (both _ _ (lt_holds e.object.0 (2 ^ 64) fits.object) (lt_holds e.ordinal (2 ^ 32) fits.ordinal)))
-    (both _ _ (le_holds (length e.before) 65535 before) (le_holds (length e.after) 65535 after)))
+    (both _ _ (le_holds (length e.before) 65535 before) (le_holds (length e.after) 65535 after))
 
 -- one more entry
-pub journal_pushed : (unforced : ℕ) (pieces : List (List ℕ)) (n : ℕ) (e : Entry) → Fits e → length e.before ≤ 65535 → length e.after ≤ 65535 → n ≡ length (map entry_of pieces) + 1 → e.unit ≤ n → (is_end e.kind ≡ true → (e.object.0 ≡ 0) × (e.ordinal ≡ 0)) → IsJournal unforced pieces → IsJournal (unforced + entry_len e) (pieces ++ entry_image n e ∷ [])
-journal_pushed unforced pieces n e fits before after at unit none held =
+pub journal_pushed : (unforced : ℕ) (pieces : List (List ℕ)) (n : ℕ) (e : Entry) → fits e ≡ true → length e.before ≤ 65535 → length e.after ≤ 65535 → n ≡ length (map entry_of pieces) + 1 → e.unit ≤ n → (is_end e.kind ≡ true → (e.object.0 ≡ 0) × (e.ordinal ≡ 0)) → IsJournal unforced pieces → IsJournal (unforced + entry_len e) (pieces ++ entry_image n e ∷ [])
+journal_pushed unforced pieces n e fit before after at unit none held =
     let entries = map entry_of pieces in
-    let more : map entry_of (pieces ++ entry_image n e ∷ []) ≡ entries ++ e ∷ [] = entries_pushed pieces n e fits before in
+    let more : map entry_of (pieces ++ entry_image n e ∷ []) ≡ entries ++ e ∷ [] = entries_pushed pieces n e fit before in
     let place : 1 + length entries ≡ n = omega arith in
-    let here : may_stand (1 + length entries) e ≡ true = rw place (stands_at n e fits before after unit none) in
+    let here : (may_stand (1 + length entries) e && fits e) ≡ true = rw place (both (may_stand n e) _ (stands_at n e before after unit none) fit) in
     record {
       images = rw more (ap (λ (ps : List (List ℕ)). ps ++ entry_image n e ∷ []) held.images
           ∙ ap (λ (k : ℕ). images 1 entries ++ entry_image k e ∷ []) (sym place)

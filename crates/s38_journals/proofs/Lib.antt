@@ -1,3 +1,4 @@
+pub mod Tests
 pub mod CutLaws
 pub mod EntryLaws
 pub mod JournalLaws

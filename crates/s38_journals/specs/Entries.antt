@@ -1,5 +1,5 @@
 -- What an entry of a journal says, and the bytes that say it.
-use Rattle.std.specs.Prelude.{ℕ, ◌+◌, ◌^◌, ◌<◌, Bool, true, false, List, ◌∷◌, ◌++◌, length}
+use Rattle.std.specs.Prelude.{◌==◌, ◌&&◌, ◌||◌, not, nat_lt, nat_le, ℕ, ◌+◌, ◌^◌, Bool, true, false, List, ◌∷◌, ◌++◌, length}
 use Rattle.byteorder.specs.Endian.{big_bytes}
 use Rattle.s38_base.specs.declared.id.ObjNum.{ObjNum}
 use Rattle.s38_journals.specs.declared.entry.EntryKind.{EntryKind}
@@ -58,9 +58,14 @@ head sequence e =
 abbrev pub entry_image : ℕ → Entry → List ℕ
 entry_image sequence e = head sequence e ++ (e.before ++ e.after)
 
--- the numbers of an entry fit their places
-pub record Fits (e : Entry) : Type 0 where
-  pub unit : e.unit < 2 ^ 64
-  pub process : e.process < 2 ^ 32
-  pub object : e.object.0 < 2 ^ 64
-  pub ordinal : e.ordinal < 2 ^ 32
+-- an entry may stand at a sequence: its unit began there or before, the end of a unit names no data space and no
+-- ordinal, and the data have at most 65,535 bytes each
+abbrev pub may_stand : ℕ → Entry → Bool
+may_stand sequence e =
+    (nat_le e.unit sequence && (not (is_end e.kind) || (e.object.0 == 0 && e.ordinal == 0)))
+    && (nat_le (length e.before) 65535 && nat_le (length e.after) 65535)
+
+-- the numbers of an entry fit their places in the head
+abbrev pub fits : Entry → Bool
+fits e =
+    (nat_lt e.unit (2 ^ 64) && nat_lt e.process (2 ^ 32)) && (nat_lt e.object.0 (2 ^ 64) && nat_lt e.ordinal (2 ^ 32))

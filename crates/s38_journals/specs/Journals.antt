@@ -1,6 +1,6 @@
 -- A journal is the list of its entries, numbered from 1 on by their sequence.
-use Rattle.std.specs.Prelude.{IsTrue, ◌≡◌, ℕ, zero, suc, ◌+◌, ◌-◌, ◌*◌, ◌≤◌, ◌==◌, ◌^◌, ◌&&◌, ◌||◌, Bool, true, not, nat_le, nat_lt, Option, Some, None, List, [], ◌∷◌, ◌++◌, length, map, max, sum_by, if◌then◌else◌, option_map, slice_get}
-use Rattle.s38_journals.specs.Entries.{Entry, entry_image, entry_len, is_end}
+use Rattle.std.specs.Prelude.{IsTrue, ◌≡◌, ℕ, zero, suc, ◌+◌, ◌-◌, ◌*◌, ◌≤◌, ◌&&◌, Bool, true, nat_lt, Option, Some, None, List, [], ◌∷◌, ◌++◌, length, map, max, sum_by, if◌then◌else◌, option_map, slice_get}
+use Rattle.s38_journals.specs.Entries.{Entry, entry_image, entry_len, fits, may_stand}
 use Rattle.s38_journals.specs.Stored.{entry_of}
 use Rattle.s38_journals.specs.declared.fault.JournalFault.{JournalFault}
 use Rattle.s38_journals.specs.declared.fault.JournalFault.TheVariants.{Full}
@@ -50,18 +50,10 @@ appended journal entry = record {
 abbrev pub forced : JournalList → JournalList
 forced journal = record journal { unforced = 0 }
 
--- an entry may stand at a sequence: its unit began there or before, the end of a unit names no data, and the numbers
--- fit their places
-abbrev pub may_stand : ℕ → Entry → Bool
-may_stand sequence e =
-    (nat_le e.unit sequence && (not (is_end e.kind) || (e.object.0 == 0 && e.ordinal == 0)))
-    && ((nat_lt e.process (2 ^ 32) && (nat_lt e.object.0 (2 ^ 64) && nat_lt e.ordinal (2 ^ 32)))
-    && (nat_le (length e.before) 65535 && nat_le (length e.after) 65535))
-
--- each of the entries may stand at its sequence, counted from a first on
+-- each of the entries may stand at its sequence, counted from a first on, and its numbers fit
 abbrev pub may_all_stand : ℕ → List Entry → Bool
 may_all_stand sequence [] = true
-may_all_stand sequence (e ∷ entries) = may_stand sequence e && may_all_stand (suc sequence) entries
+may_all_stand sequence (e ∷ entries) = (may_stand sequence e && fits e) && may_all_stand (suc sequence) entries
 
 -- the bytes of the entries, each with its sequence, counted from a first on
 abbrev pub images : ℕ → List Entry → List (List ℕ)

@@ -1,5 +1,5 @@
-ghost use Rattle.std.specs.Prelude.{◌≡◌, ◌≤◌, length};
-ghost use Rattle.s38_journals.specs.Entries.{Fits, entered, head};
+ghost use Rattle.std.specs.Prelude.{◌≡◌, ◌≤◌, IsTrue, length};
+ghost use Rattle.s38_journals.specs.Entries.{entered, fits, head};
 
 use crate::entry::{HEAD, JournalEntry, entry_len};
 use byteorder::{BigEndian, ByteOrder};
@@ -12,7 +12,7 @@ pub fn head_of(sequence: u64, entry: &JournalEntry) -> [u8; 41]
     requires after { length entry.now.after.now ≤ 65535 }
     ensures head { result ≡ head sequence (entered entry.now) }
     ensures len { length result ≡ 41 }
-    ensures fits { Fits (entered entry.now) }
+    ensures fits { IsTrue (fits (entered entry.now)) }
 {
     let mut head = [0; HEAD];
     BigEndian::write_u32(&mut head, entry_len(entry) as u32);

@@ -1,6 +1,6 @@
 ghost use Rattle.std.specs.Prelude.{◌≡◌, ◌+◌, ◌*◌, ◌≤◌, ◌<◌, [], IfErr, IfNone, IsErrOf, IsTrue, None, OnOk, OnErr, length, sum_by};
 ghost use Rattle.std.specs.Option.{option_copied, unwrap_or};
-ghost use Rattle.s38_journals.specs.Entries.{Fits, entered, entry_image, entry_len, is_end};
+ghost use Rattle.s38_journals.specs.Entries.{entered, entry_image, entry_len, fits, is_end};
 ghost use Rattle.s38_journals.specs.Stored.{with_piece};
 ghost use Rattle.s38_journals.specs.Journals.{appended, bytes_at, entries_len, forced, journal_image, may_all_stand, room_refusal, wanted, with_room};
 
@@ -49,7 +49,7 @@ fn push_entry(pieces: &mut Pieces, sequence: u64, entry: &JournalEntry) -> u32
     requires room { entry_len (entered entry.now) ≤ pieces.old.spare }
     ensures pushed { pieces.new ≡ with_piece pieces.old (entry_image sequence (entered entry.now)) }
     ensures len { result ≡ entry_len (entered entry.now) }
-    ensures fits { Fits (entered entry.now) }
+    ensures fits { IsTrue (fits (entered entry.now)) }
     ensures small { sum_by length pieces.new.pieces ≤ 16777216 }
 {
     pieces.push(&head_of(sequence, entry), entry.before, entry.after);
