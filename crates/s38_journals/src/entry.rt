@@ -70,14 +70,14 @@ impl<'a> JournalEntry<'a> {
         let short = self.before.len() <= LONGEST && self.after.len() <= LONGEST;
         in_turn && (!self.kind.is_end() || names_none) && short
     }
-}
 
-/// How many bytes an entry takes in the journal.
-pub fn entry_len(entry: &JournalEntry) -> usize
-    requires before { length entry.now.before.now ≤ 65535 }
-    requires after { length entry.now.after.now ≤ 65535 }
-    ensures len { result ≡ entry_len (entered entry.now) }
-    ensures bound { result ≤ 131111 }
-{
-    HEAD + entry.before.len() + entry.after.len()
+    /// How many bytes the entry takes in the journal.
+    pub fn len(&self) -> u32
+        requires before { length self.now.before.now ≤ 65535 }
+        requires after { length self.now.after.now ≤ 65535 }
+        ensures len { result ≡ entry_len (entered self.now) }
+        ensures bound { result ≤ 131111 }
+    {
+        (HEAD + self.before.len() + self.after.len()) as u32
+    }
 }

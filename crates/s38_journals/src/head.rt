@@ -1,7 +1,7 @@
 ghost use Rattle.std.specs.Prelude.{◌≡◌, ◌≤◌, IsTrue, length};
 ghost use Rattle.s38_journals.specs.Entries.{entered, fits, head};
 
-use crate::entry::{HEAD, JournalEntry, entry_len};
+use crate::entry::{HEAD, JournalEntry};
 use byteorder::{BigEndian, ByteOrder};
 
 /// The bytes of an entry before those of the data: the length of the whole, the sequence, the unit, the process, the
@@ -15,7 +15,7 @@ pub fn head_of(sequence: u64, entry: &JournalEntry) -> [u8; 41]
     ensures fits { IsTrue (fits (entered entry.now)) }
 {
     let mut head = [0; HEAD];
-    BigEndian::write_u32(&mut head, entry_len(entry) as u32);
+    BigEndian::write_u32(&mut head, entry.len());
     BigEndian::write_u64(&mut head[4..], sequence);
     BigEndian::write_u64(&mut head[12..], entry.unit);
     BigEndian::write_u32(&mut head[20..], entry.process);

@@ -4,7 +4,7 @@ ghost use Rattle.s38_journals.specs.Entries.{entered, entry_image, entry_len, fi
 ghost use Rattle.s38_journals.specs.Stored.{with_piece};
 ghost use Rattle.s38_journals.specs.Journals.{appended, bytes_at, entries_len, forced, journal_image, may_all_stand, room_refusal, wanted, with_room};
 
-use crate::entry::{HEAD, JournalEntry, entry_len};
+use crate::entry::{HEAD, JournalEntry};
 use crate::fault::JournalFault;
 use crate::head::head_of;
 use crate::pieces::Pieces;
@@ -53,7 +53,7 @@ fn push_entry(pieces: &mut Pieces, sequence: u64, entry: &JournalEntry) -> u32
     ensures small { sum_by length pieces.new.pieces ≤ 16777216 }
 {
     pieces.push(&head_of(sequence, entry), entry.before, entry.after);
-    entry_len(entry) as u32
+    entry.len()
 }
 
 impl Journal {

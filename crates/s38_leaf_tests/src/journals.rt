@@ -13,6 +13,7 @@ const INSERT: JournalEntry<'static> = JournalEntry {
     before: b"",
     after: b"ab",
 };
+
 const UPDATE: JournalEntry<'static> = JournalEntry {
     unit: 1,
     process: 2,
@@ -22,6 +23,7 @@ const UPDATE: JournalEntry<'static> = JournalEntry {
     before: b"ab",
     after: b"cd",
 };
+
 const DELETE: JournalEntry<'static> = JournalEntry {
     unit: 0,
     process: 0x0102_0304,
@@ -31,6 +33,7 @@ const DELETE: JournalEntry<'static> = JournalEntry {
     before: b"xyz",
     after: b"",
 };
+
 const COMMIT: JournalEntry<'static> = JournalEntry {
     unit: 1,
     process: 2,
@@ -40,6 +43,7 @@ const COMMIT: JournalEntry<'static> = JournalEntry {
     before: b"",
     after: b"",
 };
+
 const DECOMMIT: JournalEntry<'static> = JournalEntry {
     unit: 5,
     process: 0xffff_fffe,
@@ -75,19 +79,9 @@ const ENTRIES: &[(JournalEntry<'static>, &[u8])] = &[
     ),
 ];
 
-/// Whether an entry keeps to the format where it comes next.
-fn may_come(journal: &Journal, entry: &JournalEntry) -> bool {
-    let names_data = entry.object.0 != 0 || entry.ordinal != 0;
-    let ends = matches!(entry.kind, EntryKind::Commit | EntryKind::Decommit);
-    entry.unit <= journal.last() + 1
-        && entry.before.len() <= 65_535
-        && entry.after.len() <= 65_535
-        && !(ends && names_data)
-}
-
-/// Adds an entry, and answers its sequence; None where it may not come next.
+/// Adds an entry, and answers its sequence; None where it may not stand there.
 fn added(journal: &mut Journal, entry: &JournalEntry) -> Result<Option<u64>, JournalFault> {
-    if !may_come(journal, entry) {
+    if !entry.may_stand(journal.last() + 1) {
         return Ok(None);
     }
     journal.reserve((entry.before.len() + entry.after.len()) as u32, 1)?;
@@ -99,7 +93,10 @@ fn entries_have_their_bytes(rt: HostRuntime) -> Result<(), Fail> {
     let mut journal = Journal::new(rt.alloc());
     for (entry, want) in ENTRIES {
         let sequence = added(&mut journal, entry)?.unwrap_or(0);
-        assert_eq!(rt; (journal.last(), journal.entry(sequence)), (sequence, Some(*want)));
+        assert_eq!(rt;
+            (journal.last(), journal.entry(sequence)),
+            (sequence, Some(*want))
+        );
     }
     assert_eq!(rt; (journal.entry(0), journal.entry(6)), (None, None));
     assert_eq!(rt; (journal.len(), journal.image().len()), (214, 214));
@@ -122,6 +119,9 @@ fn a_journal_is_full_with_the_ends_of_open_units(rt: HostRuntime) -> Result<(), 
     assert_eq!(rt; added(&mut journal, &INSERT), Ok(Some(1)));
     assert_eq!(rt; journal.reserve(16_777_092, 2), Err(JournalFault::Full));
     assert_eq!(rt; journal.reserve(16_777_091, 2), Ok(()));
-    assert_eq!(rt; journal.reserve(u32::MAX, u32::MAX), Err(JournalFault::Full));
+    assert_eq!(rt;
+        journal.reserve(u32::MAX, u32::MAX),
+        Err(JournalFault::Full)
+    );
     Ok(())
 }
