@@ -1,6 +1,6 @@
 -- What the bytes of an entry say is the entry.
-use Rattle.std.proofs.Common.{◌≡◌, ◌&&◌, true, ◌<◌, ◌^◌, ℕ, ◌<◌, ◌≤◌, ◌^◌, List, [], ◌++◌, length, take, drop, refl, ◌∙◌, ap, arith, length-append}
-use Rattle.std.proofs.Math.Seq.{take-append_seam, drop-append_seam}
+use Rattle.std.proofs.Common.{◌≡◌, ◌&&◌, true, ℕ, ◌<◌, ◌≤◌, ◌^◌, List, [], ◌++◌, length, take, drop, refl, sym, ◌-◌, ◌∙◌, ap, arith, length-append, length-drop}
+use Rattle.std.proofs.Math.Seq.{take-length, take-append_seam, drop-append_seam}
 use Rattle.std.specs.Prelude.{nat_lt}
 use Rattle.s38_journals.proofs.Tests.{first_of, second_of, lt_tells}
 use Rattle.byteorder.specs.Endian.{big_bytes, big_number}
@@ -97,3 +97,12 @@ after_back n e fit before =
 pub entry_back : (n : ℕ) (e : Entry) → fits e ≡ true → length e.before ≤ 65535 → entry_of (entry_image n e) ≡ e
 entry_back n e fit before =
     same_entry (entry_of (entry_image n e)) e (unit_back n e fit) (process_back n e fit) (kind_is n e) (object_back n e fit) (ordinal_back n e fit) (before_back n e fit before) (after_back n e fit before)
+
+-- where the data before end
+pub before_len : (n : ℕ) (e : Entry) → length e.before ≤ 65535 → big_number 2 (drop 37 (entry_image n e)) ≡ length e.before
+unfolding head
+before_len n e before = half_back (length e.before) [] (omega arith)
+
+-- the part from a place on is all that lies there
+pub all_behind : (n : ℕ) (bytes : List ℕ) → take (length bytes - n) (drop n bytes) ≡ drop n bytes
+all_behind n bytes = rw (sym (length-drop n bytes)) (take-length (drop n bytes))

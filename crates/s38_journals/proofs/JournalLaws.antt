@@ -1,13 +1,14 @@
 -- The images of entries: one more, the one of a sequence, and how long all are.
-use Rattle.std.proofs.Common.{◌≡◌, ℕ, zero, suc, ◌+◌, ◌-◌, ◌<◌, ◌≤◌, Bool, true, false, ◌&&◌, List, [], ◌∷◌, ◌++◌, length, map, refl, sym, ◌∙◌, ap, arith}
+use Rattle.std.proofs.Common.{◌≡◌, ℕ, zero, suc, ◌+◌, ◌-◌, ◌<◌, ◌≤◌, Bool, true, false, ◌&&◌, List, [], ◌∷◌, ◌++◌, length, map, drop, subst, refl, sym, ◌∙◌, ap, arith}
 use Rattle.std.proofs.lemmas.List.{map-append}
 use Rattle.std.proofs.lemmas.List.Sums.{sum_by-append, sum_by-cons}
-use Rattle.std.specs.Prelude.{not, ◌||◌, Some, option_map, slice_get, sum_by}
-use Rattle.s38_journals.proofs.Tests.{both, first_of, second_of, le_holds, eq_holds}
+use Rattle.std.specs.Prelude.{not, ◌||◌, ◌==◌, nat_le, Option, Some, None, option_map, slice_get, sum_by}
+use Rattle.s38_journals.proofs.Tests.{both, first_of, second_of, le_tells, le_holds, eq_holds}
+use Rattle.byteorder.specs.Endian.{big_number}
 use Rattle.s38_journals.specs.Entries.{Entry, fits, entry_image, entry_len, is_end, may_stand}
-use Rattle.s38_journals.specs.Journals.{IsJournal, bytes_at, entries_len, images, journal_image, may_all_stand}
+use Rattle.s38_journals.specs.Journals.{IsJournal, bytes_at, entries_len, entry_at, images, journal_image, may_all_stand}
 use Rattle.s38_journals.specs.Stored.{entry_of, joined}
-use Rattle.s38_journals.proofs.EntryLaws.{entry_back, image_length}
+use Rattle.s38_journals.proofs.EntryLaws.{before_len, entry_back, image_length}
 
 pub images-append : (start : ℕ) (entries : List Entry) (e : Entry) → images start (entries ++ e ∷ []) ≡ images start entries ++ entry_image (start + length entries) e ∷ []
 images-append start [] e = ap (λ (n : ℕ). entry_image n e ∷ []) (omega arith)
@@ -91,3 +92,51 @@ images_joined start (e ∷ entries) = ap (λ (bs : List ℕ). entry_image start 
 
 pub kept_image : (pieces : List (List ℕ)) → pieces ≡ images 1 (map entry_of pieces) → journal_image 1 (map entry_of pieces) ≡ joined pieces
 kept_image pieces e = sym (ap (λ (ps : List (List ℕ)). joined ps) e ∙ images_joined 1 (map entry_of pieces))
+
+-- an entry that was found says what stands there
+pub record IsFound (entries : List Entry) (seq : ℕ) (bytes : List ℕ) : Type 0 where
+  pub head : 41 ≤ length bytes
+  pub before : 41 + big_number 2 (drop 37 bytes) ≤ length bytes
+  pub says : entry_at entries seq ≡ Some (entry_of bytes)
+
+place_stands : (start : ℕ) (entries : List Entry) (k : ℕ) (e : Entry) → may_all_stand start entries ≡ true → slice_get entries k ≡ Some e → (may_stand (start + k) e && fits e) ≡ true
+place_stands start [] k e all here = absurd (cc)
+place_stands start (first ∷ entries) zero e all here =
+    let same : first ≡ e = cc in
+    let at : start + 0 ≡ start = omega arith in
+    rw (at, sym same) (first_of (may_stand start first && fits first) _ all)
+place_stands start (first ∷ entries) (suc k) e all here =
+    let at : suc start + k ≡ start + suc k = omega arith in
+    rw at at (place_stands (suc start) entries k e (second_of (may_stand start first && fits first) _ all) here)
+
+short_before : (n : ℕ) (e : Entry) → may_stand n e ≡ true → length e.before ≤ 65535
+short_before n e stands =
+    le_tells (length e.before) 65535 (first_of (nat_le (length e.before) 65535) _
+    (second_of (nat_le e.unit n && (not (is_end e.kind) || (e.object.0 == 0 && e.ordinal == 0))) _ stands))
+
+found_here : (entries : List Entry) (k : ℕ) (bytes : List ℕ) (o : Option Entry) → may_all_stand 1 entries ≡ true → slice_get entries k ≡ o → Some bytes ≡ option_map (entry_image (suc k)) o → IsFound entries (suc k) bytes
+found_here entries k bytes None all here is = absurd (cc)
+found_here entries k bytes (Some e) all here is =
+    let same : entry_image (suc k) e ≡ bytes = cc in
+    let stands = place_stands 1 entries k e all here in
+    let before = short_before (1 + k) e (first_of (may_stand (1 + k) e) (fits e) stands) in
+    let fit = second_of (may_stand (1 + k) e) (fits e) stands in
+    let len = image_length (suc k) e in
+    let end = before_len (suc k) e before in
+    subst (λ (bs : List ℕ). IsFound entries (suc k) bs) same (record {
+      head = omega arith;
+      before = omega arith;
+      says = here ∙ ap (λ (x : Entry). Some x) (sym (entry_back (suc k) e fit before));
+    })
+
+pub found_entry : (entries : List Entry) (seq : ℕ) (bytes : List ℕ) → may_all_stand 1 entries ≡ true → Some bytes ≡ bytes_at entries seq → IsFound entries seq bytes
+found_entry entries zero bytes all is = absurd (cc)
+found_entry entries (suc k) bytes all is = found_here entries k bytes (slice_get entries k) all refl is
+
+none_here : (f : Entry → List ℕ) (o : Option Entry) → option_map f o ≡ None → o ≡ None
+none_here f None is = refl
+none_here f (Some e) is = absurd (cc)
+
+pub none_found : (entries : List Entry) (seq : ℕ) → bytes_at entries seq ≡ None → entry_at entries seq ≡ None
+none_found entries zero is = refl
+none_found entries (suc k) is = none_here (entry_image (suc k)) (slice_get entries k) is

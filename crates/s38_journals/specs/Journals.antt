@@ -15,6 +15,11 @@ pub record JournalList : Type 0 where
 abbrev pub entries_len : List Entry → ℕ
 entries_len entries = sum_by entry_len entries
 
+-- the entry of a sequence, if there is one
+abbrev pub entry_at : List Entry → ℕ → Option Entry
+entry_at entries zero = None
+entry_at entries (suc k) = slice_get entries k
+
 -- the bytes of the entry of a sequence, if there is one
 abbrev pub bytes_at : List Entry → ℕ → Option (List ℕ)
 bytes_at entries zero = None

@@ -1,13 +1,14 @@
-ghost use Rattle.std.specs.Prelude.{◌≡◌, ◌+◌, ◌*◌, ◌≤◌, ◌<◌, [], IfErr, IfNone, IsErrOf, IsTrue, None, OnOk, OnErr, length, sum_by};
+ghost use Rattle.std.specs.Prelude.{◌≡◌, ◌+◌, ◌*◌, ◌≤◌, ◌<◌, [], IfErr, IfNone, IsErrOf, IsTrue, None, OnOk, OnErr, length, option_map, sum_by};
 ghost use Rattle.std.specs.Option.{option_copied, unwrap_or};
 ghost use Rattle.s38_journals.specs.Entries.{entered, entry_image, entry_len, fits, is_end};
 ghost use Rattle.s38_journals.specs.Stored.{with_piece};
-ghost use Rattle.s38_journals.specs.Journals.{appended, bytes_at, entries_len, forced, journal_image, may_all_stand, room_refusal, wanted, with_room};
+ghost use Rattle.s38_journals.specs.Journals.{appended, bytes_at, entries_len, entry_at, forced, journal_image, may_all_stand, room_refusal, wanted, with_room};
 
 use crate::entry::{HEAD, JournalEntry};
 use crate::fault::JournalFault;
 use crate::head::head_of;
 use crate::pieces::Pieces;
+use crate::read::entry_of;
 use std::alloc::Global;
 use std::marker::Model;
 
@@ -88,12 +89,24 @@ impl Journal {
     /// The bytes of the entry of a sequence; None where there is none.
     #[tactic(auto, using(crate::proofs::JournalLaws::found_bytes))]
     pub fn entry(&self, seq: u64) -> Option<&[u8]>
-        ensures { option_copied result ≡ bytes_at self.now.entries seq }
+        ensures bytes { option_copied result ≡ bytes_at self.now.entries seq }
+        ensures stand { IsTrue (may_all_stand 1 self.now.entries) }
     {
+        let pieces = &self.pieces;
         if seq == 0 {
             return None;
         }
-        self.pieces.get((seq - 1) as usize)
+        pieces.get((seq - 1) as usize)
+    }
+
+    /// What the entry of a sequence says; None where there is none.
+    pub fn get(&self, seq: u64) -> Option<JournalEntry<'_>>
+        ensures { option_map entered result ≡ entry_at self.now.entries seq }
+    {
+        match self.entry(seq) {
+            Some(bytes) => Some(entry_of(bytes)),
+            None => None,
+        }
     }
 
     /// The bytes of all entries, one after another.

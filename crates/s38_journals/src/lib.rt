@@ -6,6 +6,7 @@ mod fault;
 mod head;
 mod journal;
 mod pieces;
+mod read;
 
 pub use entry::{EntryKind, JournalEntry};
 pub use fault::JournalFault;

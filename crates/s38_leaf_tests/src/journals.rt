@@ -79,12 +79,17 @@ const ENTRIES: &[(JournalEntry<'static>, &[u8])] = &[
     ),
 ];
 
+const FAULTS: &[(JournalFault, &str)] = &[
+    (JournalFault::Full, "the journal space would be too large"),
+    (JournalFault::NoMemory, "no memory"),
+];
+
 /// Adds an entry, and answers its sequence; None where it may not stand there.
 fn added(journal: &mut Journal, entry: &JournalEntry) -> Result<Option<u64>, JournalFault> {
     if !entry.may_stand(journal.last() + 1) {
         return Ok(None);
     }
-    journal.reserve((entry.before.len() + entry.after.len()) as u32, 1)?;
+    journal.reserve(entry.len(), 0)?;
     Ok(Some(journal.append(entry)))
 }
 
@@ -123,5 +128,16 @@ fn a_journal_is_full_with_the_ends_of_open_units(rt: HostRuntime) -> Result<(), 
         journal.reserve(u32::MAX, u32::MAX),
         Err(JournalFault::Full)
     );
+    Ok(())
+}
+
+#[test]
+fn faults_have_their_texts(rt: HostRuntime) -> Result<(), Fail> {
+    for (fault, text) in FAULTS {
+        assert!(rt;
+            format!(in rt.alloc(); "{fault}")?.as_str() == *text,
+            "{text}"
+        );
+    }
     Ok(())
 }
