@@ -44,7 +44,7 @@ impl EntryKind {
 
 /// What an entry says: the unit of changes that it belongs to (0 for none), the process, what was done to which
 /// ordinal of which data space, and the data before and after.
-#[derive(Clone, Copy)]
+#[derive(Clone, Copy, PartialEq, Eq, Debug)]
 pub struct JournalEntry<'a> {
     pub unit: u64,
     pub process: u32,

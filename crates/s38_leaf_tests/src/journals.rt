@@ -102,6 +102,7 @@ fn entries_have_their_bytes(rt: HostRuntime) -> Result<(), Fail> {
             (journal.last(), journal.entry(sequence)),
             (sequence, Some(*want))
         );
+        assert_eq!(rt; journal.get(sequence), Some(*entry));
     }
     assert_eq!(rt; (journal.entry(0), journal.entry(6)), (None, None));
     assert_eq!(rt; (journal.len(), journal.image().len()), (214, 214));
