@@ -7,7 +7,7 @@ use byteorder::{BigEndian, ByteOrder};
 /// The bytes of an entry before those of the data: the length of the whole, the sequence, the unit, the process, the
 /// kind, the data space, the ordinal, and the lengths of the data before and after.
 #[tactic(auto, unfolding(crate::specs::Entries::head))]
-pub fn head_of(sequence: u64, entry: &JournalEntry) -> [u8; 41]
+pub fn head_of(sequence: u64, entry: &JournalEntry) -> [u8; HEAD]
     requires before { length entry.now.before.now ≤ 65535 }
     requires after { length entry.now.after.now ≤ 65535 }
     ensures head { result ≡ head sequence (entered entry.now) }

@@ -2,14 +2,12 @@ ghost use Rattle.std.specs.Prelude.{◌≡◌, ◌+◌, ◌-◌, ◌*◌, ◌≤
 ghost use Rattle.std.specs.Option.{option_copied};
 ghost use Rattle.s38_journals.specs.Stored.{are_ends, cut, joined, with_piece};
 
+use crate::entry::HEAD;
 use s38_base::NoMemory;
 use std::alloc::Global;
 use std::marker::Model;
 
-/// How many bytes the shortest piece has.
-const SHORTEST: u32 = 41;
-
-/// Pieces of bytes, one after another.
+/// Pieces of bytes, one after another, each at least as long as the head of an entry.
 #[derive(Drop)]
 pub struct Pieces {
     spare: u32,
@@ -101,7 +99,7 @@ fn reserve_room(ends: &mut Vec<u32>, bytes: &mut Vec<u8>, more: u32) -> Result<(
     ensures room { OnOk result (vec_len bytes.new + more ≤ vec_capacity bytes.new) }
     ensures kept { (vec_capacity ends.old ≤ vec_capacity ends.new) × (vec_capacity bytes.old ≤ vec_capacity bytes.new) }
 {
-    ends.reserve(more.div_ceil(SHORTEST) as usize)?;
+    ends.reserve(more.div_ceil(HEAD as u32) as usize)?;
     bytes.reserve(more as usize)?;
     Ok(())
 }
