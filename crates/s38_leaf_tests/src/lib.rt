@@ -10,6 +10,8 @@ mod decimals;
 #[cfg(test)]
 mod indexes;
 #[cfg(test)]
+mod journals;
+#[cfg(test)]
 mod locks;
 #[cfg(test)]
 mod logs;

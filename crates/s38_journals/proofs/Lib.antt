@@ -1,0 +1,4 @@
+pub mod Tests
+pub mod CutLaws
+pub mod EntryLaws
+pub mod JournalLaws
