@@ -5,12 +5,13 @@ use Rattle.std.proofs.lemmas.Bool.Decides.{nat_tests}
 use Rattle.std.proofs.lemmas.List.{length-append}
 use Rattle.std.proofs.lemmas.Map.Steps.{set_value_same}
 use Rattle.std.specs.Prelude.{Option, Some, None}
-use Rattle.std.specs.Option.{option_map}
+use Rattle.std.specs.Option.{option_and_then, option_map}
 use Rattle.std.specs.Ordering.{nat_cmp}
 use Rattle.std.specs.Map.{keys_of, lookup, set_value}
 use Rattle.std.specs.BTreeMap.{is_at}
+use Rattle.s38_commits.specs.Changes.{note_refusal}
 use Rattle.s38_commits.specs.Unit.{CommitUnit, noted, without_newest}
-use Rattle.s38_commits.specs.Units.{UnitMap, changed_at, unit_of, with_change}
+use Rattle.s38_commits.specs.Units.{UnitMap, changed_at, refusal_in, unit_of, with_change}
 use Rattle.s38_commits.specs.declared.change.UnitChange.{UnitChange}
 
 pub nat_same : (a b : ℕ) → (a == b) ≡ true → a ≡ b
@@ -118,3 +119,18 @@ taken_back n change (e ∷ es) =
       | true ↦ λ is. rw is (ap (λ (u : CommitUnit). (e.0, u) ∷ es) (newest_gone change e.1))
       | false ↦ λ is. rw is (ap (λ (fs : UnitMap). e ∷ fs) rest)
     ] refl
+
+-- a change that was noted and taken back again
+pub back_again : (units noted_in last : UnitMap) (n : ℕ) (change : UnitChange) → noted_in ≡ with_change units n change → last ≡ changed_at noted_in n without_newest → last ≡ units
+back_again units noted_in last n change more less =
+    less ∙ ap (λ (us : UnitMap). changed_at us n without_newest) more ∙ taken_back n change units
+
+-- ---- what is refused
+
+pub refusal_known : (units seen : UnitMap) (block : ℕ) (change copy : UnitChange) → units ≡ seen → copy ≡ change → refusal_in seen block change ≡ None →
+    (u : CommitUnit) → unit_of units block ≡ Some u → note_refusal u.changes copy ≡ None
+refusal_known units seen block change copy same is none u found =
+    ap (note_refusal u.changes) is
+    ∙ sym (ap (λ (o : Option CommitUnit). option_and_then (λ u. note_refusal u.changes change) o) found)
+    ∙ ap (λ (us : UnitMap). refusal_in us block change) same
+    ∙ none

@@ -5,7 +5,7 @@ use Rattle.std.specs.Prelude.{Option, Some, None, ◌&&◌, find, nat_lt, not}
 use Rattle.std.specs.Option.{option_map}
 use Rattle.std.specs.Ordering.{is_lt, nat_cmp}
 use Rattle.std.specs.BTreeMap.Range.{entries_between}
-use Rattle.std.specs.declared.ops.bounds.Bound.TheVariants.{Excluded, Unbounded}
+use Rattle.std.specs.declared.ops.Bound.TheVariants.{Excluded, Unbounded}
 use Rattle.s38_commits.specs.Unit.{CommitUnit}
 use Rattle.s38_commits.specs.Units.{UnitMap, next_block}
 

@@ -7,7 +7,7 @@ use Rattle.std.proofs.lemmas.Map.Keys.{IsDistinct-from_sorted}
 use Rattle.std.proofs.lemmas.Cmp.{nat_cmp_total}
 use Rattle.std.specs.Cmp.{eq_by_cmp_equiv}
 use Rattle.std.specs.Prelude.{Option, Some, None, ◌&&◌, ◌||◌, find, slice_get}
-use Rattle.std.specs.Option.{option_map}
+use Rattle.std.specs.Option.{IsSome, option_map}
 use Rattle.std.specs.declared.cmp.Ordering.{Ordering}
 use Rattle.std.specs.declared.cmp.Ordering.TheVariants.{Less, Equal, Greater}
 use Rattle.std.specs.Ordering.{is_eq, nat_cmp, ordering_then}
@@ -219,6 +219,12 @@ entered_less units left places new block u h found rising removed gone = record 
       ∙ sym (ap (λ o. changes_entry o space at) after)
 }
 
+pub gone_too : (places new : BTreeMap Place ℕ) (shown changes : List UnitChange) → shown ≡ changes →
+    ((space at : ℕ) → get place_cmp new (place space at) ≡ cond (has_change space at shown) None (get place_cmp places (place space at))) →
+    (space at : ℕ) → get place_cmp new (place space at) ≡ cond (has_change space at changes) None (get place_cmp places (place space at))
+gone_too places new shown changes same gone space at =
+    gone space at ∙ ap (λ (cs : List UnitChange). cond (has_change space at cs) None (get place_cmp places (place space at))) same
+
 -- ---- what is read
 
 pub block_read : (units seen : UnitMap) (places : BTreeMap Place ℕ) (space at : ℕ) (p : Place) (r : Option ℕ) → AreEntered units places → units ≡ seen → p ≡ place space at → r ≡ get place_cmp places p → r ≡ block_of seen space at
@@ -240,3 +246,19 @@ holder_read units seen places space at p r h same is read =
 pub free_read : (units seen : UnitMap) (places : BTreeMap Place ℕ) (space at block : ℕ) → AreEntered units places → units ≡ seen → IsFree (block_of seen space at) block → IsFree (get place_cmp places (place space at)) block
 free_read units seen places space at block h same free =
     subst (λ (o : Option ℕ). IsFree o block) (ap (λ (us : UnitMap). block_of us space at) (sym same) ∙ block_stands units places space at h) free
+
+-- ---- a change is noted
+
+some_unit : (o : Option CommitUnit) → IsSome o → (u : CommitUnit) × (o ≡ Some u)
+some_unit None h = absurd (cc)
+some_unit (Some u) h = (u, refl)
+
+pub noted_entered : (units seen after : UnitMap) (places new : BTreeMap Place ℕ) (change copy : UnitChange) (block : ℕ) (p : Place) → AreEntered units places → units ≡ seen →
+    after ≡ with_change units block copy → copy ≡ change → IsSome (unit_of seen block) → IsFree (block_of seen change.space.0 change.at) block → p ≡ place change.space.0 change.at →
+    ((q : Place) → get place_cmp new q ≡ cond (is_at (place_cmp p) q) (Some block) (get place_cmp places q)) → AreEntered after new
+noted_entered units seen after places new change copy block p h same more is begun free at updated =
+    let there = some_unit (unit_of units block) (subst (λ (us : UnitMap). IsSome (unit_of us block)) (sym same) begun) in
+    let freed = free_read units seen places change.space.0 change.at block h same free in
+    let entered : AreEntered (with_change units block change) new = entered_more units places new change block there.0 h there.1 freed
+        (λ q. updated q ∙ ap (λ (r : Place). cond (is_at (place_cmp r) q) (Some block) (get place_cmp places q)) at) in
+    subst (λ (us : UnitMap). AreEntered us new) (sym (more ∙ ap (λ (c : UnitChange). with_change units block c) is)) entered

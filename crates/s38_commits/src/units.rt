@@ -95,8 +95,9 @@ impl Units {
         let Ok(noted) = change.try_clone(self.alloc) else {
             return Err(UnitFault::NoMemory);
         };
-        if unit_map::note(&mut self.units, block.0, noted).is_err() {
-            return Err(UnitFault::NoMemory);
+        match unit_map::note(&mut self.units, block.0, noted) {
+            Ok(()) => {}
+            Err(_) => return Err(UnitFault::NoMemory),
         }
         match self.places.insert(place_of(change.space, change.at), block.0) {
             Ok(_) => Ok(()),
