@@ -1,5 +1,5 @@
 -- The commit blocks stand at the places of the entries that their units change.
-use Rattle.std.proofs.Common.{◌≡◌, ℕ, suc, ◌==◌, Bool, true, false, cond, List, [], ◌∷◌, ◌++◌, refl, sym, ◌∙◌, ap, subst, arith}
+use Rattle.std.proofs.Common.{◌≡◌, ℕ, suc, ◌==◌, Bool, true, false, cond, List, [], ◌∷◌, refl, sym, ◌∙◌, ap, subst, arith}
 use Rattle.std.proofs.lemmas.Bool.Decides.{nat_tests}
 use Rattle.std.proofs.lemmas.List.Folds.{list_any-append}
 use Rattle.std.proofs.lemmas.Map.Entries.{lookup_from_place}
@@ -35,7 +35,7 @@ both_equal Greater b = refl
 
 -- the place of a changed entry is the place of an entry where the change is of that entry
 pub place_same : (change : UnitChange) (space at : ℕ) → is_at (place_cmp (place change.space.0 change.at)) (place space at) ≡ is_of space at change
-place_same change space at = rw (both_equal, nat_ties, nat_ties) refl
+place_same change space at = rw (both_equal, nat_ties change.space.0 space, nat_ties change.at at) refl
 
 -- ---- which unit has a change of an entry
 
@@ -84,8 +84,8 @@ pub owner_stands : (units : UnitMap) (places : BTreeMap Place ℕ) (space at : �
 owner_stands units places space at h =
     let there = get place_cmp places (place space at) in
     let alike : AllByRecursion (λ e. has_change space at e.1.changes ≡ is_block e.0 there) units =
-        each_unit (λ e. has_change space at e.1.changes ≡ is_block e.0 there) units h.rising
-        (λ block u found. sym (changes_known (unit_of units block) u space at found) ∙ sym (h.entered block space at)) in
+    each_unit (λ e. has_change space at e.1.changes ≡ is_block e.0 there) units h.rising
+    (λ block u found. sym (changes_known (unit_of units block) u space at found) ∙ sym (h.entered block space at)) in
     find_alike (λ e. has_change space at e.1.changes) (λ e. is_block e.0 there) units alike ∙ find_stander there units
 
 -- what stands at a place has a unit
@@ -138,6 +138,7 @@ same_place change space at h =
     and_left : (a b : Bool) → (a && b) ≡ true → a ≡ true
     and_left true b h = refl
     and_left false b h = h
+
     and_right : (a b : Bool) → (a && b) ≡ true → b ≡ true
     and_right true b h = h
     and_right false b h = absurd (cc)
@@ -162,17 +163,17 @@ entered_more units places new change block u h found free updated = record {
       let b = is_of space at change in
       let old = get place_cmp places (place space at) in
       let now : get place_cmp new (place space at) ≡ cond b (Some block) old =
-          updated (place space at) ∙ ap (λ c. cond c (Some block) old) (place_same change space at) in
+      updated (place space at) ∙ ap (λ c. cond c (Some block) old) (place_same change space at) in
       let freed : b ≡ true → IsFree old block = λ on. subst (λ (p : Place). IsFree (get place_cmp places p) block) (same_place change space at on) free in
       let here : is_block block (cond b (Some block) old) ≡ changes_entry (unit_of (with_change units block change) block) space at =
-          more_here block b old ∙ ap (λ c. c || b) (h.entered block space at)
-          ∙ sym (noted_too change (unit_of units block) u space at found)
-          ∙ sym (ap (λ o. changes_entry o space at) (same_unit block (noted change) units)) in
+      more_here block b old ∙ ap (λ c. c || b) (h.entered block space at)
+      ∙ sym (noted_too change (unit_of units block) u space at found)
+      ∙ sym (ap (λ o. changes_entry o space at) (same_unit block (noted change) units)) in
       ap (is_block k) now
       ∙ elim (k == block) as (λ c. (k == block) ≡ c → is_block k (cond b (Some block) old) ≡ changes_entry (unit_of (with_change units block change) k) space at) [
         | true ↦ λ is. subst (λ (n : ℕ). is_block n (cond b (Some block) old) ≡ changes_entry (unit_of (with_change units block change) n) space at) (sym (nat_same k block is)) here
         | false ↦ λ off. more_there block k b old off freed ∙ h.entered k space at ∙ sym (ap (λ o. changes_entry o space at) (other_unit block k (noted change) units off))
-      ] refl
+      ] refl;
 }
 
 -- ---- nothing changes
@@ -183,7 +184,7 @@ entered_same units kept places held h same alike = record {
   entered = λ block space at.
       ap (λ (es : List (Place × ℕ)). is_block block (lookup (is_at (place_cmp (place space at))) es)) alike
       ∙ h.entered block space at
-      ∙ ap (λ (us : UnitMap). changes_entry (unit_of us block) space at) (sym same)
+      ∙ ap (λ (us : UnitMap). changes_entry (unit_of us block) space at) (sym same);
 }
 
 -- ---- a unit ends
@@ -216,7 +217,7 @@ entered_less units left places new block u h found rising removed gone = record 
         | true ↦ λ same. subst (λ (n : ℕ). is_block n (cond b None old) ≡ false) (sym (nat_same k block same)) (less_here block b old is)
         | false ↦ λ off. less_there block k b old is off ∙ h.entered k space at
       ] refl
-      ∙ sym (ap (λ o. changes_entry o space at) after)
+      ∙ sym (ap (λ o. changes_entry o space at) after);
 }
 
 pub gone_too : (places new : BTreeMap Place ℕ) (shown changes : List UnitChange) → shown ≡ changes →
@@ -260,5 +261,5 @@ noted_entered units seen after places new change copy block p h same more is beg
     let there = some_unit (unit_of units block) (subst (λ (us : UnitMap). IsSome (unit_of us block)) (sym same) begun) in
     let freed = free_read units seen places change.space.0 change.at block h same free in
     let entered : AreEntered (with_change units block change) new = entered_more units places new change block there.0 h there.1 freed
-        (λ q. updated q ∙ ap (λ (r : Place). cond (is_at (place_cmp r) q) (Some block) (get place_cmp places q)) at) in
+    (λ q. updated q ∙ ap (λ (r : Place). cond (is_at (place_cmp r) q) (Some block) (get place_cmp places q)) at) in
     subst (λ (us : UnitMap). AreEntered us new) (sym (more ∙ ap (λ (c : UnitChange). with_change units block c) is)) entered

@@ -10,11 +10,7 @@ use s38_base::NoMemory;
 use std::collections::BTreeMap;
 
 /// Notes a change in the unit of a block; an error leaves all units as they were.
-pub fn note(
-    units: &mut BTreeMap<u64, Unit>,
-    block: u64,
-    change: UnitChange,
-) -> Result<(), NoMemory>
+pub fn note(units: &mut BTreeMap<u64, Unit>, block: u64, change: UnitChange) -> Result<(), NoMemory>
     requires { ForSome (unit_of units.old.entries block) (λ unit. note_refusal unit.changes change ≡ None) }
     ensures ok { OnOk result (units.new.entries ≡ with_change units.old.entries block change) }
     ensures err { OnErr result (units.new.entries ≡ units.old.entries) }

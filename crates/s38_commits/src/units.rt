@@ -99,7 +99,10 @@ impl Units {
             Ok(()) => {}
             Err(_) => return Err(UnitFault::NoMemory),
         }
-        match self.places.insert(place_of(change.space, change.at), block.0) {
+        match self
+            .places
+            .insert(place_of(change.space, change.at), block.0)
+        {
             Ok(_) => Ok(()),
             Err(_) => {
                 unit_map::take_back(&mut self.units, block.0);

@@ -24,4 +24,6 @@ mod storage;
 #[cfg(test)]
 mod texts;
 #[cfg(test)]
+mod units;
+#[cfg(test)]
 mod values;

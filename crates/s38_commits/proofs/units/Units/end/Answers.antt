@@ -1,5 +1,4 @@
-use Rattle.std.proofs.Common.{sym, ◌∙◌, ap}
-use Rattle.s38_commits.specs.Changes.{has_change}
+use Rattle.std.proofs.Common.{sym}
 use Rattle.s38_commits.proofs.PlaceLaws.{entered_less, gone_too}
 use Rattle.s38_commits.proofs.units.Units.end.Goals as goal
 

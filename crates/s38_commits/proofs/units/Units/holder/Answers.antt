@@ -1,7 +1,5 @@
-use Rattle.std.proofs.Common.{ℕ, ◌∙◌, ap}
-use Rattle.std.specs.Prelude.{Option, Some, None}
-use Rattle.std.specs.Option.{option_map}
-use Rattle.s38_commits.specs.Unit.{CommitUnit}
+use Rattle.std.proofs.Common.{◌∙◌, ap}
+use Rattle.std.specs.Prelude.{Some, None}
 use Rattle.s38_commits.proofs.PlaceLaws.{holder_read, process_at}
 use Rattle.s38_commits.proofs.units.Units.holder.Goals as goal
 

@@ -1,4 +1,4 @@
-use Rattle.std.proofs.Common.{sym, ◌∙◌, ap}
+use Rattle.std.proofs.Common.{◌∙◌}
 use Rattle.s38_commits.proofs.MapLaws.{back_again, refusal_known}
 use Rattle.s38_commits.proofs.PlaceLaws.{entered_same, noted_entered}
 use Rattle.s38_commits.proofs.units.Units.note.Goals as goal
