@@ -162,7 +162,11 @@ fn a_unit_fills_to_the_last_byte(rt: HostRuntime) -> Result<(), Fail> {
     begin(&mut units, ObjNum(5), 1)?;
     for (len, fits) in FILLING {
         let change = deletion(rt.alloc(), 3, 1, *len)?;
-        let want = if *fits { Ok(true) } else { Err(UnitFault::Full) };
+        let want = if *fits {
+            Ok(true)
+        } else {
+            Err(UnitFault::Full)
+        };
         assert_eq!(rt; note(&mut units, ObjNum(5), &change), want);
     }
     let bytes = units.get(ObjNum(5)).map(Unit::journal_bytes);
