@@ -39,7 +39,7 @@ fn entry_clone(alloc: Global, entry: &Option<Bytes>) -> Result<Option<Bytes>, No
 
 impl UnitChange {
     /// Whether the change takes so many bytes of a journal at most.
-    pub fn fits(&self, room: u32) -> bool
+    pub(crate) fn fits(&self, room: u32) -> bool
         ensures { result ≡ nat_le (journal_bytes self.now) room }
     {
         let room = room as usize;

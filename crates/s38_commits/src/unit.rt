@@ -33,7 +33,7 @@ impl Model for Unit {
 
 impl Unit {
     /// A unit without a change; it takes no memory until it grows.
-    pub fn new(alloc: Global, process: u32, number: u64) -> Unit
+    pub(crate) fn new(alloc: Global, process: u32, number: u64) -> Unit
         ensures { result ≡ record { process = process; number = number; changes = [] } }
     {
         Unit {
@@ -88,7 +88,7 @@ impl Unit {
     }
 
     /// Notes a change behind the others; an error leaves the unit as it was.
-    pub fn note(&mut self, change: UnitChange) -> Result<(), NoMemory>
+    pub(crate) fn note(&mut self, change: UnitChange) -> Result<(), NoMemory>
         requires { note_refusal self.old.changes change ≡ None }
         ensures ok { OnOk result (self.new ≡ noted change self.old) }
         ensures err { OnErr result (self.new ≡ self.old) }
@@ -104,7 +104,7 @@ impl Unit {
     }
 
     /// Takes the newest change back.
-    pub fn take_back(&mut self)
+    pub(crate) fn take_back(&mut self)
         ensures { self.new ≡ without_newest self.old }
     {
         if let Some(change) = self.changes.pop() {
