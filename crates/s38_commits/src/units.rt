@@ -1,6 +1,5 @@
 ghost use Rattle.std.specs.Prelude.{◌≡◌, [], None, IfErr, IfSome, IsSome, OnOk, OnErr};
 ghost use Rattle.std.specs.Option.{ForSome, option_copied, option_map, unwrap_or};
-ghost use Rattle.std.specs.BTreeMap.{insert_entry};
 ghost use Rattle.s38_commits.specs.Units.{AreApart, IsRising, begun, block_of, ended, holder, next_block, refusal_in, unit_of, with_change};
 
 use crate::change::UnitChange;
