@@ -26,4 +26,6 @@ mod storage;
 #[cfg(test)]
 mod texts;
 #[cfg(test)]
+mod units;
+#[cfg(test)]
 mod values;

@@ -1,0 +1,3 @@
+pub mod MapLaws
+pub mod PlaceLaws
+pub mod NextLaws

@@ -1,0 +1,4 @@
+pub mod Changes
+pub mod Unit
+pub mod Units
+pub mod Places

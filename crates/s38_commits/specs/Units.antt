@@ -1,0 +1,74 @@
+-- The units that are begun: each commit block that has one, in rising order of its number, with its unit.
+use Rattle.std.specs.Prelude.{◌≡◌, ℕ, ◌==◌, nat_lt, Bool, true, false, Option, Some, None, List, [], ◌∷◌, find, if◌then◌else◌}
+use Rattle.std.specs.Option.{option_and_then, option_map}
+use Rattle.std.specs.Ordering.{nat_cmp}
+use Rattle.std.specs.List.Sorted.{IsStrictlySortedBy}
+use Rattle.std.specs.Map.{keys_of, lookup, remove_entry}
+use Rattle.std.specs.BTreeMap.{insert_entry, is_at}
+use Rattle.s38_commits.specs.Changes.{has_change, note_refusal}
+use Rattle.s38_commits.specs.Unit.{CommitUnit, noted}
+use Rattle.s38_commits.specs.declared.change.UnitChange.{UnitChange}
+use Rattle.s38_commits.specs.declared.fault.UnitFault.{UnitFault}
+
+abbrev pub UnitMap : Type 0
+UnitMap = List (ℕ × CommitUnit)
+
+-- the unit of a commit block
+abbrev pub unit_of : UnitMap → ℕ → Option CommitUnit
+unit_of units block = lookup (is_at (nat_cmp block)) units
+
+-- ---- how the units change
+
+-- a unit without a change
+abbrev pub begun : UnitMap → ℕ → ℕ → ℕ → UnitMap
+begun units block process number = insert_entry nat_cmp units block (record { process = process; number = number; changes = [] })
+
+-- the unit of a block is another one from now on
+abbrev pub changed_at : UnitMap → ℕ → (CommitUnit → CommitUnit) → UnitMap
+changed_at [] block f = []
+changed_at (e ∷ es) block f = if e.0 == block then (e.0, f e.1) ∷ es else e ∷ changed_at es block f
+
+-- one more change in the unit of a block
+abbrev pub with_change : UnitMap → ℕ → UnitChange → UnitMap
+with_change units block change = changed_at units block (noted change)
+
+-- no unit of the block any more
+abbrev pub ended : UnitMap → ℕ → UnitMap
+ended units block = remove_entry (is_at (nat_cmp block)) units
+
+-- why a change is not noted in the unit of a block
+abbrev pub refusal_in : UnitMap → ℕ → UnitChange → Option UnitFault
+refusal_in units block change = option_and_then (λ unit. note_refusal unit.changes change) (unit_of units block)
+
+-- ---- what is asked of them
+
+-- the first unit that has a change of an entry, with its block
+abbrev pub owner : UnitMap → ℕ → ℕ → Option (ℕ × CommitUnit)
+owner units space at = find (λ e. has_change space at e.1.changes) units
+
+-- the block of that unit
+abbrev pub block_of : UnitMap → ℕ → ℕ → Option ℕ
+block_of units space at = option_map (λ e. e.0) (owner units space at)
+
+-- the process of that unit
+abbrev pub holder : UnitMap → ℕ → ℕ → Option ℕ
+holder units space at = option_map (λ e. e.1.process) (owner units space at)
+
+-- the first block above a number
+abbrev pub next_block : UnitMap → ℕ → Option ℕ
+next_block units after = option_map (λ e. e.0) (find (λ e. nat_lt after e.0) units)
+
+-- ---- what is true of them
+
+abbrev pub IsRising : UnitMap → Type 0
+IsRising units = IsStrictlySortedBy nat_cmp (keys_of units)
+
+-- whether the unit of a block has a change of an entry
+abbrev pub changes_entry : Option CommitUnit → ℕ → ℕ → Bool
+changes_entry None space at = false
+changes_entry (Some unit) space at = has_change space at unit.changes
+
+-- an entry is changed in one unit at most
+abbrev pub AreApart : UnitMap → Type 0
+AreApart units = (one other space at : ℕ) → changes_entry (unit_of units one) space at ≡ true
+    → changes_entry (unit_of units other) space at ≡ true → one ≡ other
