@@ -21,6 +21,7 @@ use Rattle.s38_rules.specs.declared.need.Sought.TheVariants.{Of, Container}
 use Rattle.s38_rules.specs.declared.object.Body.{Body}
 use Rattle.s38_rules.specs.declared.object.Object.{Object}
 use Rattle.s38_rules.specs.declared.rows.PrivateRow.{PrivateRow}
+use Rattle.s38_rules.specs.Authority.{is_profile}
 use Rattle.s38_rules.specs.Headers.{limit_of}
 use Rattle.s38_rules.specs.Held.{Held, charge_in, found, has_number, home, object, with_object, without}
 use Rattle.s38_rules.specs.Needs.{on_implied, on_object}
@@ -115,6 +116,7 @@ creation_gives h made = vals.Ptr (new_pointer h made.id)
 abbrev pub maker_rows : ℕ → List PrivateRow
 maker_rows owner = row_for (record { 0 = owner }) (record { 0 = rights.all_rights })
 
+-- a profile is on disk from its creation on
 abbrev pub new_object : Held → ℕ → Creating → Id → Body → Object
 new_object h owner made id body =
     record {
@@ -124,6 +126,7 @@ new_object h owner made id body =
       owner = record { 0 = owner };
       public = made.public;
       rows = maker_rows owner;
+      on_disk = is_profile body;
       body = body;
     }
 

@@ -15,6 +15,8 @@ use Rattle.s38_base.specs.Exceptions as exceptions
 use Rattle.s38_base.specs.RightNames as rights
 use Rattle.s38_base.specs.Scalar.{fraction_of}
 use Rattle.s38_base.specs.Signals.{fails, first}
+use Rattle.s38_commits.specs.declared.change.UnitChange.{UnitChange}
+use Rattle.s38_commits.specs.Units.{is_space_changed}
 use Rattle.s38_dataspaces.specs.Entries.{Entry, entry_at}
 use Rattle.s38_dataspaces.specs.Seeks.{sought}
 use Rattle.s38_dataspaces.specs.Table.{DataTable, are_fields, changed, entry_len, image_size, inserted}
@@ -29,9 +31,11 @@ use Rattle.s38_rules.specs.declared.data_body.DataBody.{DataBody}
 use Rattle.s38_rules.specs.declared.need.Need.{Need}
 use Rattle.s38_rules.specs.declared.need.Sought.TheVariants.{Of}
 use Rattle.s38_rules.specs.declared.object.Body.TheVariants as bodies
+use Rattle.s38_rules.specs.Changing.{block_rules, change_of, held_rule, journal_rule, logged, read_rule}
 use Rattle.s38_rules.specs.Creation.{creation_changes, creation_fails, creation_gives, creation_needs, destruction_changes, destruction_needs, in_context}
 use Rattle.s38_rules.specs.Held.{Held}
 use Rattle.s38_rules.specs.Instruction.{Instruction, inert}
+use Rattle.s38_rules.specs.Journaling.{journal_for}
 use Rattle.s38_rules.specs.Needs.{on_implied, on_object}
 use Rattle.s38_rules.specs.Operands.{bytes_at, fitted, is_given, number_at, place, room_at, scalar_attr, size_at, target, word_at}
 use Rattle.s38_rules.specs.Parts.{cursor_at, on_cursor, on_table, table_at}
@@ -75,9 +79,14 @@ crtds = record inert {
 
 -- ---- DESDS
 
+-- no unit has a change of one of its entries
+unfoldable pub desds_fails : State → List Operand → Option Exception
+desds_fails s ops = fails (is_space_changed s.units (target s.held ops 1)) exceptions.object_in_use 1
+
 abbrev pub desds : Instruction
 desds = record inert {
   needs = λ s p d r. destruction_needs kinds.DataSpace;
+  fails = λ s p d r. desds_fails s r.operands;
   changes = λ s p d r. record s { held = destruction_changes s.held r.operands };
 }
 
@@ -222,32 +231,60 @@ room_rule limit table = fails (nat_lt limit (image_size table.fields (length tab
 abbrev pub position_rule : Held → List Operand → ℕ → Option Exception
 position_rule h ops k = fails (is_none (current h ops k)) exceptions.position_empty k
 
--- ---- INSDSEN
+-- no unit of others holds the entry at which the cursor stands, and the change may belong to the cursor's commit block
+abbrev pub change_rules : State → ℕ → Cursor → ℕ → Option Exception
+change_rules s p cursor at =
+    first (held_rule s.units p cursor.block.0 cursor.space.0 at) (block_rules s p cursor.block.0 cursor.space.0)
 
-unfoldable pub insdsen_fails : State → List Operand → Option Exception
-insdsen_fails s ops = first (entry_rule (table_of s.held ops 1).fields s.held ops) (room_rule s.limit (table_of s.held ops 1))
+-- there is room for the change in the journal space of its data space
+abbrev pub journal_room : State → Cursor → UnitChange → Option Exception
+journal_room s cursor change = journal_rule s cursor.block.0 change (journal_for s.held cursor.space.0)
+
+-- ---- INSDSEN
 
 -- the next ordinal
 abbrev pub next_ordinal : DataTable → ℕ
 next_ordinal table = length table.entries + 1
 
--- the entry stands under the next ordinal, and so does the cursor
-unfoldable pub insdsen_changes : Held → List Operand → Held
-insdsen_changes h ops =
-    on_cursor (on_table h (cursor_of h ops 1).space.0 (λ table. inserted table (bytes_at h ops 2)))
-    (target h ops 1) (at_position (next_ordinal (table_of h ops 1)))
+-- a new entry under the next ordinal
+abbrev pub insertion : Held → List Operand → UnitChange
+insertion h ops = change_of (cursor_of h ops 1).space.0 (next_ordinal (table_of h ops 1)) None (Some (bytes_at h ops 2))
+
+-- the image of the data space, and the journal, have room
+abbrev pub insertion_limits : State → List Operand → Option Exception
+insertion_limits s ops =
+    first (room_rule s.limit (table_of s.held ops 1)) (journal_room s (cursor_of s.held ops 1) (insertion s.held ops))
+
+unfoldable pub insdsen_fails : State → ℕ → List Operand → Option Exception
+insdsen_fails s p ops =
+    first (entry_rule (table_of s.held ops 1).fields s.held ops)
+    (first (change_rules s p (cursor_of s.held ops 1) (next_ordinal (table_of s.held ops 1)))
+    (insertion_limits s ops))
+
+abbrev pub with_inserted : List ℕ → DataTable → DataTable
+with_inserted entry table = inserted table entry
+
+-- the change is logged, and the entry stands under the next ordinal, as the cursor does
+unfoldable pub insdsen_changes : State → ℕ → List Operand → State
+insdsen_changes s p ops = record (logged s p (cursor_of s.held ops 1).block.0 (insertion s.held ops)) {
+  held = on_cursor
+      (on_table (logged s p (cursor_of s.held ops 1).block.0 (insertion s.held ops)).held (cursor_of s.held ops 1).space.0 (with_inserted (bytes_at s.held ops 2)))
+      (target s.held ops 1) (at_position (next_ordinal (table_of s.held ops 1)));
+}
 
 abbrev pub insdsen : Instruction
 insdsen = record inert {
   needs = λ s p d r. through_cursor s.held r.operands 1 Change rights.insert Change;
-  fails = λ s p d r. insdsen_fails s r.operands;
-  changes = λ s p d r. record s { held = insdsen_changes s.held r.operands };
+  fails = λ s p d r. insdsen_fails s p r.operands;
+  changes = λ s p d r. insdsen_changes s p r.operands;
 }
 
 -- ---- RETDSEN
 
-unfoldable pub retdsen_fails : Held → List Operand → Option Exception
-retdsen_fails h ops = position_rule h ops 2
+-- the cursor stands at an entry, and no unit of another process changed it
+unfoldable pub retdsen_fails : State → ℕ → List Operand → Option Exception
+retdsen_fails s p ops =
+    first (position_rule s.held ops 2) (read_rule s.units p (cursor_of s.held ops 2).space.0 (cursor_of s.held ops 2).position)
 
 abbrev pub entry_or_none : Entry → List ℕ
 entry_or_none None = []
@@ -260,43 +297,53 @@ retdsen_gives h ops = vals.Bytes (fitted (room_at ops 1) 0 (entry_or_none (curre
 abbrev pub retdsen : Instruction
 retdsen = record inert {
   needs = λ s p d r. through_cursor s.held r.operands 2 Read rights.retrieve Read;
-  fails = λ s p d r. retdsen_fails s.held r.operands;
+  fails = λ s p d r. retdsen_fails s p r.operands;
   gives = λ s p d r. Some (retdsen_gives s.held r.operands);
+}
+
+-- ---- a change of the entry at which a cursor stands
+
+abbrev pub change_at : Held → List Operand → Entry → UnitChange
+change_at h ops entry = change_of (cursor_of h ops 1).space.0 (cursor_of h ops 1).position (current h ops 1) entry
+
+-- the cursor stands at an entry; then the rules of every change
+unfoldable pub current_fails : State → ℕ → List Operand → Entry → Option Exception
+current_fails s p ops entry =
+    first (position_rule s.held ops 1)
+    (first (change_rules s p (cursor_of s.held ops 1) (cursor_of s.held ops 1).position)
+    (journal_room s (cursor_of s.held ops 1) (change_at s.held ops entry)))
+
+abbrev pub with_changed : ℕ → Entry → DataTable → DataTable
+with_changed at entry table = changed table at entry
+
+-- the change is logged, and another entry is under the cursor's ordinal, or none
+unfoldable pub current_changes : State → ℕ → List Operand → Entry → State
+current_changes s p ops entry = record (logged s p (cursor_of s.held ops 1).block.0 (change_at s.held ops entry)) {
+  held = on_table (logged s p (cursor_of s.held ops 1).block.0 (change_at s.held ops entry)).held
+      (cursor_of s.held ops 1).space.0 (with_changed (cursor_of s.held ops 1).position entry);
 }
 
 -- ---- UPDSEN
 
-unfoldable pub updsen_fails : Held → List Operand → Option Exception
-updsen_fails h ops = first (entry_rule (table_of h ops 1).fields h ops) (position_rule h ops 1)
-
--- another entry is under the cursor's ordinal from now on, or none
-abbrev pub with_current : Held → List Operand → Entry → Held
-with_current h ops entry = on_table h (cursor_of h ops 1).space.0 (λ table. changed table (cursor_of h ops 1).position entry)
-
-unfoldable pub updsen_changes : Held → List Operand → Held
-updsen_changes h ops = with_current h ops (Some (bytes_at h ops 2))
+unfoldable pub updsen_fails : State → ℕ → List Operand → Option Exception
+updsen_fails s p ops =
+    first (entry_rule (table_of s.held ops 1).fields s.held ops) (current_fails s p ops (Some (bytes_at s.held ops 2)))
 
 abbrev pub updsen : Instruction
 updsen = record inert {
   needs = λ s p d r. through_cursor s.held r.operands 1 Change rights.update Change;
-  fails = λ s p d r. updsen_fails s.held r.operands;
-  changes = λ s p d r. record s { held = updsen_changes s.held r.operands };
+  fails = λ s p d r. updsen_fails s p r.operands;
+  changes = λ s p d r. current_changes s p r.operands (Some (bytes_at s.held r.operands 2));
 }
 
 -- ---- DELDSEN
 
-unfoldable pub deldsen_fails : Held → List Operand → Option Exception
-deldsen_fails h ops = position_rule h ops 1
-
 -- the cursor stays where it stands
-unfoldable pub deldsen_changes : Held → List Operand → Held
-deldsen_changes h ops = with_current h ops None
-
 abbrev pub deldsen : Instruction
 deldsen = record inert {
   needs = λ s p d r. through_cursor s.held r.operands 1 Change rights.delete Change;
-  fails = λ s p d r. deldsen_fails s.held r.operands;
-  changes = λ s p d r. record s { held = deldsen_changes s.held r.operands };
+  fails = λ s p d r. current_fails s p r.operands None;
+  changes = λ s p d r. current_changes s p r.operands None;
 }
 
 -- ---- the family

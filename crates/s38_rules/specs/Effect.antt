@@ -17,6 +17,7 @@ use Rattle.s38_rules.specs.Instruction.{Instruction}
 use Rattle.s38_rules.specs.Operands.{Done, delivered}
 use Rattle.s38_rules.specs.Rows.{row}
 use Rattle.s38_rules.specs.State.{State, process_entry, set_process}
+use Rattle.s38_rules.specs.Units.{all_decommitted}
 use Rattle.s38_rules.specs.Verdict.{context_id, profile_id}
 
 -- the value is that of the state before the change, and goes to its receiver after it
@@ -43,10 +44,14 @@ abbrev pub start_at : State → ℕ → Option ProcessEntry → State
 start_at s process None = s
 start_at s process (Some x) = set_process s process (record x { started = Some (started_as s.held x.job) })
 
--- a process has ended, and holds no lock any more
+-- a process holds no lock any more
+abbrev pub unlocked : State → ℕ → State
+unlocked s process = record s { locks = released process s.locks }
+
+-- a process has ended: its units were taken back, in order of the numbers of their commit blocks, and it holds no lock
 abbrev pub end_at : State → ℕ → Option ProcessEntry → State
 end_at s process None = s
-end_at s process (Some x) = set_process (record s { locks = released process s.locks }) process (record x { ended = true })
+end_at s process (Some x) = set_process (unlocked (all_decommitted s process s.units) process) process (record x { ended = true })
 
 unfoldable pub effect_of : State → ℕ → Event → Done
 effect_of s process Start = record { state = start_at s process (process_entry s process); values = [] }

@@ -1,6 +1,6 @@
 -- The objects of the one address space, and the numbers that were given. They are looked into and changed by the
 -- words below and those of `Parts` alone.
-use Rattle.std.specs.Prelude.{ℕ, ◌+◌, ◌*◌, ◌/◌, ◌==◌, Bool, ◌&&◌, not, List, [], ◌∷◌, ◌++◌, length, filter, sum_by, Option, Some, None, is_some, find, nat_lt, if◌then◌else◌}
+use Rattle.std.specs.Prelude.{ℕ, ◌+◌, ◌*◌, ◌/◌, ◌==◌, Bool, true, false, ◌&&◌, not, List, [], ◌∷◌, ◌++◌, length, filter, sum_by, Option, Some, None, is_some, find, nat_lt, if◌then◌else◌}
 use Rattle.s38_base.specs.declared.id.Id.{Id}
 use Rattle.s38_base.specs.declared.id.Kind.{Kind}
 use Rattle.s38_base.specs.declared.id.Kind.TheVariants as kinds
@@ -77,6 +77,9 @@ kind_of (bodies.Queue q) = kinds.Queue
 kind_of (bodies.Index index) = kinds.Index
 kind_of (bodies.DataSpace held) = kinds.DataSpace
 kind_of (bodies.Cursor cursor) = kinds.Cursor
+kind_of (bodies.Port port) = kinds.Port
+kind_of (bodies.Journal journal) = kinds.Journal
+kind_of (bodies.Block block) = kinds.Block
 
 abbrev pub owner_in : Option Object → ℕ
 owner_in None = 0
@@ -86,6 +89,14 @@ owner_in (Some o) = o.owner.0
 abbrev pub context_in : Option Object → ObjNum
 context_in None = record { 0 = 0 }
 context_in (Some o) = o.context
+
+abbrev pub disk_in : Option Object → Bool
+disk_in None = false
+disk_in (Some o) = o.on_disk
+
+-- the number is one of those on disk
+abbrev pub is_on_disk : Held → ℕ → Bool
+is_on_disk h n = disk_in (object h n)
 
 -- ---- changing
 
@@ -104,6 +115,13 @@ renamed h n id = change h n (λ o. record o { id = id })
 -- the object of a number says another context from now on, or none
 abbrev pub moved : Held → ℕ → ObjNum → Held
 moved h n context = change h n (λ o. record o { context = context })
+
+abbrev pub kept_on_disk : Object → Object
+kept_on_disk o = record o { on_disk = true }
+
+-- the number is one of those on disk from now on, where there is such an object
+abbrev pub ensured : Held → ℕ → Held
+ensured h n = change h n kept_on_disk
 
 -- the objects without that of a number
 abbrev pub without_in : List Object → ℕ → List Object

@@ -1,6 +1,6 @@
 -- With what the machine begins: the machine context and the security officer, a context for everybody, a user
 -- without special authorities, and a queue that everybody may find and nobody else may use.
-use Rattle.std.specs.Prelude.{ℕ, ◌+◌, false, List, [], ◌∷◌, None, map, codes}
+use Rattle.std.specs.Prelude.{ℕ, ◌+◌, false, true, List, [], ◌∷◌, None, map, codes}
 use Rattle.s38_base.specs.declared.id.ObjNum.{ObjNum}
 use Rattle.s38_base.specs.declared.id.Id.{Id}
 use Rattle.s38_base.specs.declared.id.Kind.{Kind}
@@ -36,10 +36,10 @@ found_and_filled = rights.retrieve + rights.insert
 abbrev pub both_specials : ℕ
 both_specials = rights.allobj + rights.profile
 
--- an object of the security officer
+-- an object of the security officer, which is on disk
 abbrev pub owned : ℕ → Id → ℕ → ℕ → Body → Object
 owned number id context public body =
-    record { number = num number; id = id; context = num context; owner = num 2; public = record { 0 = public }; rows = officer_rows; body = body }
+    record { number = num number; id = id; context = num context; owner = num 2; public = record { 0 = public }; rows = officer_rows; on_disk = true; body = body }
 
 abbrev pub machine_context : Object
 machine_context = owned 1 (named kinds.Context (codes "QMACHINE")) 1 found_and_filled bodies.Context
@@ -65,10 +65,17 @@ process_entries jobs = map (λ job. record { job = job; started = None; ended = 
 
 abbrev pub state_of : Held → List CheckedTemplate → List Job → State
 state_of held templates jobs =
-    record { held = held; limit = body_limit; templates = templates; processes = process_entries jobs; waiting = []; locks = [] }
+    record { held = held; limit = body_limit; templates = templates; processes = process_entries jobs; waiting = []; locks = []; units = [] }
 
 abbrev pub held_first : Held
 held_first = record { objects = opening; next = 6; ceiling = 5 }
+
+-- the machine context and the security officer alone, as after the installation of a store
+unfoldable pub installed : List Object
+installed = machine_context ∷ officer ∷ []
+
+abbrev pub held_installed : Held
+held_installed = record { objects = installed; next = 3; ceiling = 2 }
 
 -- the state in which a deck's jobs find the machine, with the deck's templates
 abbrev pub opened : List CheckedTemplate → List Job → State

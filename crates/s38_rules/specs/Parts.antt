@@ -7,13 +7,16 @@ use Rattle.s38_base.specs.declared.rights.Special.{Special}
 use Rattle.s38_memory.specs.declared.cell.Cell.{Cell}
 use Rattle.s38_dataspaces.specs.Table.{DataTable}
 use Rattle.s38_indexes.specs.Entries.{EntryIndex}
+use Rattle.s38_journals.specs.Journals.{JournalList}
 use Rattle.s38_queues.specs.MessageQueue.{MessageQueue}
 use Rattle.s38_queues.specs.declared.message.Order.TheVariants.{Fifo}
+use Rattle.s38_rules.specs.declared.block.Block.{Block}
 use Rattle.s38_rules.specs.declared.cursor.Cursor.{Cursor}
 use Rattle.s38_rules.specs.declared.data_body.DataBody.{DataBody}
 use Rattle.s38_rules.specs.declared.object.Object.{Object}
 use Rattle.s38_rules.specs.declared.object.Body.{Body}
 use Rattle.s38_rules.specs.declared.object.Body.TheVariants as bodies
+use Rattle.s38_rules.specs.declared.port.Port.{Port}
 use Rattle.s38_rules.specs.Held.{Held, change, object}
 
 pub record Part (T : Type 0) : Type 0 where
@@ -87,6 +90,27 @@ cursor_of _ = None
 abbrev pub cursor_part : Part Cursor
 cursor_part = record { of = cursor_of; make = bodies.Cursor }
 
+abbrev pub port_of : Body → Option Port
+port_of (bodies.Port port) = Some port
+port_of _ = None
+
+abbrev pub port_part : Part Port
+port_part = record { of = port_of; make = bodies.Port }
+
+abbrev pub journal_of : Body → Option JournalList
+journal_of (bodies.Journal journal) = Some journal
+journal_of _ = None
+
+abbrev pub journal_part : Part JournalList
+journal_part = record { of = journal_of; make = bodies.Journal }
+
+abbrev pub block_of : Body → Option Block
+block_of (bodies.Block block) = Some block
+block_of _ = None
+
+abbrev pub block_part : Part Block
+block_part = record { of = block_of; make = bodies.Block }
+
 -- the special authorities of a user, and how many pages it may own
 abbrev pub profile_of : Body → Option (Special × ℕ)
 profile_of (bodies.Profile special limit) = Some (special, limit)
@@ -132,6 +156,27 @@ cursor_back _ x h = cc
 pub cursor_lawful : IsPart Cursor cursor_part
 cursor_lawful = record { got = λ x. refl; back = cursor_back }
 
+port_back : (b : Body) (x : Port) → port_of b ≡ Some x → b ≡ bodies.Port x
+port_back (bodies.Port held) x h = cc
+port_back _ x h = cc
+
+pub port_lawful : IsPart Port port_part
+port_lawful = record { got = λ x. refl; back = port_back }
+
+journal_back : (b : Body) (x : JournalList) → journal_of b ≡ Some x → b ≡ bodies.Journal x
+journal_back (bodies.Journal held) x h = cc
+journal_back _ x h = cc
+
+pub journal_lawful : IsPart JournalList journal_part
+journal_lawful = record { got = λ x. refl; back = journal_back }
+
+block_back : (b : Body) (x : Block) → block_of b ≡ Some x → b ≡ bodies.Block x
+block_back (bodies.Block held) x h = cc
+block_back _ x h = cc
+
+pub block_lawful : IsPart Block block_part
+block_lawful = record { got = λ x. refl; back = block_back }
+
 -- ---- read where the kind was asked before
 
 abbrev pub no_queue : MessageQueue
@@ -166,6 +211,13 @@ no_cursor = record { space = record { 0 = 0 }; block = record { 0 = 0 }; positio
 abbrev pub cursor_at : Held → ℕ → Cursor
 cursor_at h n = unwrap_or (part_at cursor_part h n) no_cursor
 
+abbrev pub no_journal : JournalList
+no_journal = record { spare = 0; unforced = 0; entries = [] }
+
+-- the entries of the journal space of a number
+abbrev pub journal_at : Held → ℕ → JournalList
+journal_at h n = unwrap_or (part_at journal_part h n) no_journal
+
 -- the cells of the space of a number
 abbrev pub cells_at : Held → ℕ → List Cell
 cells_at h n = unwrap_or (part_at space_part h n) []
@@ -184,6 +236,14 @@ over_table f d = record d { space = f d.space }
 -- the entries of the data space of a number are others from now on
 abbrev pub on_table : Held → ℕ → (DataTable → DataTable) → Held
 on_table h n f = over_part data_part h n (over_table f)
+
+-- what the data space of a number holds is something else from now on
+abbrev pub on_data : Held → ℕ → (DataBody → DataBody) → Held
+on_data h n f = over_part data_part h n f
+
+-- the entries of the journal space of a number are others from now on
+abbrev pub on_journal : Held → ℕ → (JournalList → JournalList) → Held
+on_journal h n f = over_part journal_part h n f
 
 -- the cursor of a number is another one from now on
 abbrev pub on_cursor : Held → ℕ → (Cursor → Cursor) → Held

@@ -1,5 +1,5 @@
--- The row of each instruction, by its family. One that is not built needs nothing and does nothing: creation takes
--- none of them.
+-- The row of each instruction, by its family. A computation of the process itself, and a branch, is no row: it needs
+-- nothing of the machine and does nothing to it.
 use Rattle.s38_base.specs.declared.op.Op.{Op}
 use Rattle.s38_code.specs.declared.family.Family.{Family}
 use Rattle.s38_code.specs.declared.family.Family.TheVariants as families
@@ -10,6 +10,7 @@ use Rattle.s38_rules.specs.DataSpaces.{data_spaces_row}
 use Rattle.s38_rules.specs.Grants.{grants_row}
 use Rattle.s38_rules.specs.Indexes.{indexes_row}
 use Rattle.s38_rules.specs.Instruction.{Instruction, inert}
+use Rattle.s38_rules.specs.Journals.{journals_row}
 use Rattle.s38_rules.specs.Locking.{locks_row}
 use Rattle.s38_rules.specs.Profiles.{profiles_row}
 use Rattle.s38_rules.specs.Programs.{programs_row}
@@ -29,6 +30,7 @@ row_in families.Spaces op = spaces_row op
 row_in families.Queues op = queues_row op
 row_in families.Indexes op = indexes_row op
 row_in families.DataSpaces op = data_spaces_row op
+row_in families.Journals op = journals_row op
 row_in _ op = inert
 
 abbrev pub row : Op → Instruction

@@ -1,6 +1,7 @@
 -- The machine's state: its objects, the deck's templates, and its processes.
 use Rattle.std.specs.Prelude.{ℕ, ◌+◌, ◌-◌, ◌==◌, Bool, true, false, ◌&&◌, ◌||◌, not, filter, length, List, [], ◌∷◌, Option, Some, None, slice_get, slice_set, nat_lt}
 use Rattle.std.specs.List.{list_any, range_with_len}
+use Rattle.s38_commits.specs.Units.{UnitMap}
 use Rattle.s38_locks.specs.Table.{Table}
 use Rattle.s38_code.specs.declared.made.CheckedTemplate.{CheckedTemplate}
 use Rattle.s38_rules.specs.declared.process.ProcessEntry.{ProcessEntry}
@@ -19,6 +20,8 @@ pub record State : Type 0 where
   pub waiting : List ℕ
   -- which processes hold which locks of which objects
   pub locks : Table
+  -- which commit blocks have a unit of changes that is not committed
+  pub units : UnitMap
 
 -- ---- processes
 

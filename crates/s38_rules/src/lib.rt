@@ -3,6 +3,7 @@
 //! and the code speak of one type.
 #![tactic(auto)]
 
+mod block;
 mod creating;
 mod cursor;
 mod data_body;
@@ -10,12 +11,14 @@ mod listed;
 mod need;
 mod object;
 mod part;
+mod port;
 mod process;
 mod rows;
 mod stack;
 mod table;
 mod verdict;
 
+pub use block::Block;
 pub use creating::Creating;
 pub use cursor::Cursor;
 pub use data_body::DataBody;
@@ -23,6 +26,7 @@ pub use listed::Listed;
 pub use need::{Claim, Located, Named, Need, PointerKind, Sought};
 pub use object::{Body, Object};
 pub use part::BodyPart;
+pub use port::Port;
 pub use process::{ProcessEntry, Started};
 pub use rows::{PrivateRow, RowList};
 pub use stack::Stack;

@@ -1,9 +1,12 @@
+use crate::block::Block;
 use crate::cursor::Cursor;
 use crate::data_body::DataBody;
+use crate::port::Port;
 use crate::rows::RowList;
 use s38_base::{Id, ObjNum, Rights, Special, UserNum};
 use s38_code::Code;
 use s38_indexes::Index;
+use s38_journals::Journal;
 use s38_memory::Tagged;
 use s38_queues::Queue;
 
@@ -20,6 +23,10 @@ pub enum Body {
     Index(Index),
     DataSpace(DataBody),
     Cursor(Cursor),
+    Port(Port),
+    /// The entries of a journal space.
+    Journal(Journal),
+    Block(Block),
 }
 
 /// An encapsulated object.
@@ -33,5 +40,7 @@ pub struct Object {
     /// The rights of everybody.
     pub public: Rights,
     pub rows: RowList,
+    /// Whether it outlives the run: its number is one of those on disk.
+    pub on_disk: bool,
     pub body: Body,
 }

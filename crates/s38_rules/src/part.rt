@@ -3,12 +3,15 @@ ghost use Rattle.std.specs.Prelude.{◌≡◌};
 ghost use Rattle.std.specs.Borrow.{sem};
 ghost use Rattle.std.specs.Option.{option_copied, option_copied_mut};
 ghost use Rattle.s38_rules.specs.Lending.{LendsPart};
-ghost use Rattle.s38_rules.specs.Parts.{IsPart, Part, cursor_lawful, cursor_part, data_lawful, data_part, index_lawful, index_part, queue_lawful, queue_part, space_lawful, space_part};
+ghost use Rattle.s38_rules.specs.Parts.{IsPart, Part, block_lawful, block_part, cursor_lawful, cursor_part, data_lawful, data_part, index_lawful, index_part, journal_lawful, journal_part, port_lawful, port_part, queue_lawful, queue_part, space_lawful, space_part};
 
+use crate::block::Block;
 use crate::cursor::Cursor;
 use crate::data_body::DataBody;
 use crate::object::Body;
+use crate::port::Port;
 use s38_indexes::Index;
+use s38_journals::Journal;
 use s38_memory::Tagged;
 use s38_queues::Queue;
 
@@ -123,6 +126,66 @@ impl BodyPart for Cursor {
     fn of_mut(body: &mut Body) -> Option<&mut Cursor> {
         match body {
             Body::Cursor(cursor) => Some(cursor),
+            _ => None,
+        }
+    }
+}
+
+impl BodyPart for Port {
+    ghost part = { port_part };
+
+    ghost lawful = { port_lawful };
+
+    fn of(body: &Body) -> Option<&Port> {
+        match body {
+            Body::Port(port) => Some(port),
+            _ => None,
+        }
+    }
+
+    fn of_mut(body: &mut Body) -> Option<&mut Port> {
+        match body {
+            Body::Port(port) => Some(port),
+            _ => None,
+        }
+    }
+}
+
+impl BodyPart for Journal {
+    ghost part = { journal_part };
+
+    ghost lawful = { journal_lawful };
+
+    fn of(body: &Body) -> Option<&Journal> {
+        match body {
+            Body::Journal(journal) => Some(journal),
+            _ => None,
+        }
+    }
+
+    fn of_mut(body: &mut Body) -> Option<&mut Journal> {
+        match body {
+            Body::Journal(journal) => Some(journal),
+            _ => None,
+        }
+    }
+}
+
+impl BodyPart for Block {
+    ghost part = { block_part };
+
+    ghost lawful = { block_lawful };
+
+    fn of(body: &Body) -> Option<&Block> {
+        match body {
+            Body::Block(block) => Some(block),
+            _ => None,
+        }
+    }
+
+    fn of_mut(body: &mut Body) -> Option<&mut Block> {
+        match body {
+            Body::Block(block) => Some(block),
             _ => None,
         }
     }
