@@ -238,7 +238,7 @@ change_rules s p cursor at =
 
 -- there is room for the change in the journal space of its data space
 abbrev pub journal_room : State → Cursor → UnitChange → Option Exception
-journal_room s cursor change = journal_rule s cursor.block.0 change (journal_for s.held cursor.space.0)
+journal_room s cursor change = journal_rule s cursor.block.0 (journal_bytes change) (journal_for s.held cursor.space.0)
 
 -- ---- INSDSEN
 
