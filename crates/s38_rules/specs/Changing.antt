@@ -8,9 +8,9 @@ use Rattle.s38_base.specs.Exceptions as exceptions
 use Rattle.s38_base.specs.Ids.{same_kind}
 use Rattle.s38_base.specs.Signals.{fails, first, plain}
 use Rattle.s38_commits.specs.declared.change.UnitChange.{UnitChange}
-use Rattle.s38_commits.specs.Changes.{journal_bytes, note_refusal}
+use Rattle.s38_commits.specs.Changes.{journal_bytes}
 use Rattle.s38_commits.specs.Unit.{CommitUnit}
-use Rattle.s38_commits.specs.Units.{UnitMap, joined, owner, unit_of}
+use Rattle.s38_commits.specs.Units.{UnitMap, join_refusal, joined, owner, unit_of}
 use Rattle.s38_dataspaces.specs.Entries as spaces
 use Rattle.s38_journals.specs.declared.entry.EntryKind.{EntryKind}
 use Rattle.s38_journals.specs.declared.entry.EntryKind.TheVariants.{Insert, Update, Delete}
@@ -70,13 +70,9 @@ block_rules s p block space =
 abbrev pub most_units : ℕ
 most_units = 512
 
-abbrev pub changes_in : Option CommitUnit → List UnitChange
-changes_in None = []
-changes_in (Some unit) = unit.changes
-
 -- the unit of the change would take too many bytes of the journal
 abbrev pub is_unit_full : UnitMap → ℕ → UnitChange → Bool
-is_unit_full units block change = not (block == 0) && is_some (note_refusal (changes_in (unit_of units block)) change)
+is_unit_full units block change = not (block == 0) && is_some (join_refusal units block change)
 
 -- one unit too many would be open in the journal space
 abbrev pub are_units_full : Held → UnitMap → ℕ → ℕ → Bool
