@@ -10,7 +10,7 @@ use Rattle.s38_base.specs.Signals.{fails, first, plain}
 use Rattle.s38_commits.specs.declared.change.UnitChange.{UnitChange}
 use Rattle.s38_commits.specs.Changes.{journal_bytes, largest_unit, unit_bytes}
 use Rattle.s38_commits.specs.Unit.{CommitUnit}
-use Rattle.s38_commits.specs.Units.{UnitMap, joined, owner, unit_of}
+use Rattle.s38_commits.specs.Units.{UnitMap, changes_of, joined, owner, unit_of}
 use Rattle.s38_dataspaces.specs.Entries as spaces
 use Rattle.s38_journals.specs.declared.entry.EntryKind.{EntryKind}
 use Rattle.s38_journals.specs.declared.entry.EntryKind.TheVariants.{Insert, Update, Delete}
@@ -70,14 +70,10 @@ block_rules s p block space =
 abbrev pub most_units : ℕ
 most_units = 512
 
-abbrev pub changes_in : Option CommitUnit → List UnitChange
-changes_in None = []
-changes_in (Some unit) = unit.changes
-
 -- the unit of a change of so many bytes would take too many bytes of the journal
 abbrev pub is_unit_full : UnitMap → ℕ → ℕ → Bool
 is_unit_full units block bytes =
-    not (block == 0) && nat_lt largest_unit (unit_bytes (changes_in (unit_of units block)) + bytes)
+    not (block == 0) && nat_lt largest_unit (unit_bytes (changes_of (unit_of units block)) + bytes)
 
 -- one unit too many would be open in the journal space
 abbrev pub are_units_full : Held → UnitMap → ℕ → ℕ → Bool
