@@ -1,4 +1,5 @@
-ghost use Rattle.std.specs.Prelude.{◌≡◌, [], None, IfErr, IfSome, IsSome, OnOk, OnErr};
+ghost use Rattle.std.specs.Prelude.{◌≡◌, ◌<◌, ◌^◌, [], None, IfErr, IfSome, IsSome, OnOk, OnErr, length};
+ghost use Rattle.std.specs.Map.{keys_of};
 ghost use Rattle.std.specs.Option.{ForSome, option_copied, option_map, unwrap_or};
 ghost use Rattle.s38_commits.specs.Units.{AreApart, IsRising, begun, block_of, ended, holder, next_block, refusal_in, unit_of, with_change};
 
@@ -10,6 +11,7 @@ use crate::unit_map;
 use s38_base::{NoMemory, ObjNum, TryClone};
 use std::alloc::Global;
 use std::collections::BTreeMap;
+use std::collections::btree_map::Keys;
 use std::marker::Model;
 use std::ops::Bound;
 
@@ -148,5 +150,14 @@ impl Units {
             Some((block, _)) => Some(ObjNum(*block)),
             None => None,
         }
+    }
+
+    /// The commit blocks that have a unit, in rising order.
+    pub fn blocks(&self) -> Keys<'_, u64, Unit>
+        ensures blocks { result ≡ keys_of self.now }
+        ensures few { length (keys_of self.now) < 2 ^ 63 }
+    {
+        let _len = self.units.len();
+        self.units.keys()
     }
 }
