@@ -1,3 +1,5 @@
 pub mod MapLaws
 pub mod PlaceLaws
 pub mod NextLaws
+pub mod JoinLaws
+pub mod WalkLaws
