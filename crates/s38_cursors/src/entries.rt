@@ -3,9 +3,10 @@ ghost use Rattle.std.specs.Prelude.{◌≡◌, None, Some, IfOk, OnErr, OnOk};
 ghost use Rattle.std.specs.Option.{option_copied};
 ghost use Rattle.s38_dataspaces.specs.Entries.{entry_at};
 ghost use Rattle.s38_rules.specs.Changing.{change_of, logged};
-ghost use Rattle.s38_rules.specs.DataSpaces.{current_changes, current_fails, entry_or_none, insdsen_changes, insdsen_fails, insertion, retdsen_gives, updsen_fails};
+ghost use Rattle.s38_rules.specs.DataSpaces.{change_at, current_changes, current_fails, cursor_of, entry_or_none, insdsen_changes, insdsen_fails, insertion, next_ordinal, retdsen_gives, table_of, updsen_fails, with_inserted};
+ghost use Rattle.s38_rules.specs.Journaling.{journal_for};
 ghost use Rattle.s38_rules.specs.Operands.{bytes_at};
-ghost use Rattle.s38_rules.specs.Parts.{table_at};
+ghost use Rattle.s38_rules.specs.Parts.{on_table, table_at};
 
 use crate::changes::{delete_at, insert_at, stand_at, update_at};
 use crate::entry_rules::current;
@@ -54,7 +55,9 @@ fn insertion(
     })
 }
 
-/// The entry stands under the next ordinal of a journaled data space.
+/// The entry stands under the next ordinal of a journaled data space, and the change is logged; where memory is refused
+/// nothing changes.
+#[tactic(auto, unfolding(s38_rules::specs::DataSpaces::insdsen_fails, s38_rules::specs::Changing::logged))]
 fn insert_journaled(
     alloc: Global,
     world: &mut World<Objects>,
@@ -63,6 +66,13 @@ fn insert_journaled(
     journal: ObjNum,
     entry: &[u8],
 ) -> Result<u32, NoMemory>
+    requires fails { insdsen_fails world.old process operands.now ≡ None }
+    requires entry { entry.now ≡ bytes_at world.old.held operands.now 2 }
+    requires journal { journal_for world.old.held (cursor_of world.old.held operands.now 1).space.0 ≡ Some journal.0 }
+    ensures ordinal { IfOk result (λ at. at ≡ next_ordinal (table_of world.old.held operands.now 1)) }
+    ensures ok { OnOk result (world.new ≡ record (logged world.old process (cursor_of world.old.held operands.now 1).block.0 (insertion world.old.held operands.now)) {
+        held = on_table (logged world.old process (cursor_of world.old.held operands.now 1).block.0 (insertion world.old.held operands.now)).held (cursor_of world.old.held operands.now 1).space.0 (with_inserted entry.now) }) }
+    ensures err { OnErr result (world.new ≡ world.old) }
 {
     let cursor = cursor_of(&world.objects, operands, 1);
     let change = match insertion(alloc, &world.objects, operands, entry) {
