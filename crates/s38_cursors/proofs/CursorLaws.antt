@@ -17,7 +17,7 @@ use Rattle.s38_changes.proofs.KeptLaws.{IsUnkept, part_unkept}
 use Rattle.s38_rules.specs.declared.cursor.Cursor.{Cursor}
 use Rattle.s38_rules.specs.declared.data_body.DataBody.{DataBody}
 use Rattle.s38_rules.specs.Creation.{creation_fails}
-use Rattle.s38_rules.specs.DataSpaces.{created_cursor, created_data_space, crtcr_fails, crtds_fails, cursor_of, deldsen_fails, insdsen_fails, standing, table_of, updsen_fails}
+use Rattle.s38_rules.specs.DataSpaces.{created_cursor, created_data_space, crtcr_fails, crtds_fails, current_fails, cursor_of, entry_rule, insdsen_fails, standing, table_of, updsen_fails}
 use Rattle.s38_rules.specs.Held.{Held}
 use Rattle.s38_rules.specs.Kept.{Mirrors}
 use Rattle.s38_rules.specs.Operands.{bytes_at}
@@ -39,6 +39,10 @@ unfolding crtcr_fails
 crtcr_created s p ops h = (None, h)
 
 -- ---- images and seeks
+
+-- there are no more ordinals than bytes of the image
+pub ordinals_few : (fields : List Attr) (ordinals : ℕ) → image_size fields ordinals ≤ 16777216 → ordinals ≤ 16777216
+ordinals_few fields ordinals small = omega (arith, small, grind arith {ordinals ≤ ordinals * (1 + entry_len fields)})
 
 -- an image grows by a byte and an entry
 pub image_grown : (fields : List Attr) (ordinals : ℕ) → image_size fields (ordinals + 1) ≡ image_size fields ordinals + (1 + entry_len fields)
