@@ -9,7 +9,7 @@ use Rattle.s38_journals.specs.Entries.{Entry}
 use Rattle.s38_journals.specs.Journals.{bytes_at}
 use Rattle.s38_profiles.specs.ProfileMaps.{ProfileMaps}
 use Rattle.s38_changes.proofs.KeptLaws.{left}
-use Rattle.s38_units.proofs.KeptLaws.{body_kept}
+use Rattle.s38_units.proofs.KeptLaws.{data_kept}
 use Rattle.s38_rules.specs.declared.data_body.DataBody.{DataBody}
 use Rattle.s38_rules.specs.Creation.{creation_fails}
 use Rattle.s38_rules.specs.Held.{Held, ensured, kept_on_disk}
@@ -59,4 +59,4 @@ ensured_kept maps h n m =
 
 -- a data space is journaled, and on disk
 pub journaled_kept : (maps : ProfileMaps) (h : Held) (space port : ℕ) → Mirrors maps h → Mirrors maps (ensured (on_data h space (through_port port)) space)
-journaled_kept maps h space port m = ensured_kept maps (on_data h space (through_port port)) space (body_kept maps h space (through_port port) m)
+journaled_kept maps h space port m = ensured_kept maps (on_data h space (through_port port)) space (data_kept maps h space (through_port port) m)

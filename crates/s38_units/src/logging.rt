@@ -1,11 +1,11 @@
 //! A change is logged: it goes to the journal space of its data space, and into the unit of its commit block.
-ghost use Rattle.std.specs.Prelude.{◌≡◌, ◌≤◌, ◌+◌, None, OnErr, OnOk, false, true};
+ghost use Rattle.std.specs.Prelude.{◌≡◌, None, OnErr, OnOk, false, true};
 ghost use Rattle.std.specs.Option.{ForSome, option_copied};
 ghost use Rattle.s38_commits.specs.Changes.{journal_bytes};
 ghost use Rattle.s38_commits.specs.Units.{block_of};
 ghost use Rattle.s38_journals.specs.Entries.{entered};
 ghost use Rattle.s38_journals.specs.Journals.{room_refusal};
-ghost use Rattle.s38_rules.specs.Changing.{bytes_or_none, change_entry, held_rule, is_journal_full, is_unit_full, journal_rule, kind_between, logged, next_sequence, number_for, units_behind, with_change_logged};
+ghost use Rattle.s38_rules.specs.Changing.{bytes_or_none, change_entry, held_rule, is_journal_full, journal_rule, kind_between, logged, next_sequence, number_for, units_behind, with_change_logged};
 ghost use Rattle.s38_rules.specs.Journaling.{is_journal, journal_for, open_behind};
 ghost use Rattle.s38_rules.specs.Parts.{journal_at, on_journal};
 
@@ -68,7 +68,6 @@ fn number_for(units: &Units, block: ObjNum, sequence: u64) -> u64
 // ---- the change joins its unit, and its entry is written
 
 /// A change joins the unit of its block, if it has one; where memory is refused nothing changes.
-#[tactic(auto, using(crate::proofs::UnitLaws::may_join))]
 fn join(
     units: &mut Units,
     block: ObjNum,
@@ -76,8 +75,7 @@ fn join(
     number: u64,
     change: &UnitChange,
 ) -> Result<(), NoMemory>
-    requires fits { is_unit_full units.old block.0 (journal_bytes change.now) ≡ false }
-    requires free { ForSome (block_of units.old change.now.space.0 change.now.at) (λ other. other ≡ block.0) }
+    requires { ForSome (block_of units.old change.now.space.0 change.now.at) (λ other. other ≡ block.0) }
     ensures ok { OnOk result (units.new ≡ units_behind units.old process block.0 number change.now) }
     ensures err { OnErr result (units.new ≡ units.old) }
 {
@@ -101,7 +99,6 @@ fn log_entry(
     change: &UnitChange,
 ) -> Result<(), NoMemory>
     requires room { room_refusal journal.old (journal_bytes change.now) behind ≡ None }
-    requires fits { is_unit_full units.old block.0 (journal_bytes change.now) ≡ false }
     requires free { ForSome (block_of units.old change.now.space.0 change.now.at) (λ other. other ≡ block.0) }
     ensures journal { OnOk result (journal.new ≡ with_change_logged (journal_bytes change.now) behind (entered entry.now) journal.old) }
     ensures units { OnOk result (units.new ≡ units_behind units.old entry.now.process block.0 entry.now.unit change.now) }
@@ -135,7 +132,6 @@ fn log_in(
 ) -> Result<(), NoMemory>
     requires there { is_journal objects.old journal.0 ≡ true }
     requires room { is_journal_full objects.old units.old journal.0 block.0 (journal_bytes change.now) ≡ false }
-    requires fits { is_unit_full units.old block.0 (journal_bytes change.now) ≡ false }
     requires free { ForSome (block_of units.old change.now.space.0 change.now.at) (λ other. other ≡ block.0) }
     ensures objects { OnOk result (objects.new ≡ on_journal objects.old journal.0 (with_change_logged (journal_bytes change.now) (open_behind objects.old units.old journal.0 block.0) (change_entry (number_for units.old block.0 (next_sequence (journal_at objects.old journal.0))) process change.now))) }
     ensures units { OnOk result (units.new ≡ units_behind units.old process block.0 (number_for units.old block.0 (next_sequence (journal_at objects.old journal.0))) change.now) }
