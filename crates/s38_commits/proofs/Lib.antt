@@ -1,3 +1,4 @@
 pub mod MapLaws
 pub mod PlaceLaws
 pub mod NextLaws
+pub mod FirstLaws

@@ -11,7 +11,8 @@ use Rattle.s38_base.specs.Signals.{fails}
 use Rattle.s38_commits.specs.declared.change.UnitChange.{UnitChange}
 use Rattle.s38_commits.specs.Unit.{CommitUnit}
 use Rattle.s38_commits.specs.Units.{IsRising, UnitMap, above, ended, next_block, unit_of}
-use Rattle.s38_commits.proofs.WalkLaws.{ended_above, first_none, first_some, next_none, next_some}
+use Rattle.s38_commits.proofs.WalkLaws.{ended_above, next_none, next_some}
+use Rattle.s38_commits.proofs.FirstLaws.{first_none, first_some}
 use Rattle.s38_rules.specs.declared.port.Port.{Port}
 use Rattle.s38_rules.specs.declared.process.ProcessEntry.{ProcessEntry}
 use Rattle.s38_rules.specs.Changing.{are_units_full, holding_rule, is_journal_full, is_unit_full, journal_rule, of_unit, reading_rule}
