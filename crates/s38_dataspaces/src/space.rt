@@ -225,8 +225,8 @@ impl DataSpace {
         ensures may { result ≡ may_restore self.now at (option_copied entry.entry) }
         ensures first { OnTrue result (1 ≤ at) }
         ensures last { OnTrue result (at ≤ length self.now.entries) }
-        ensures len { OnTrue result (ForSome entry (λ bytes. length bytes.now ≡ entry_len self.now.fields)) }
-        ensures values { OnTrue result (ForSome entry (λ bytes. IsTrue (have_values self.now.fields bytes.now))) }
+        ensures len { OnTrue result (ForSome entry.entry (λ bytes. length bytes.now ≡ entry_len self.now.fields)) }
+        ensures values { OnTrue result (ForSome entry.entry (λ bytes. IsTrue (have_values self.now.fields bytes.now))) }
     {
         if at == 0 || at > self.ordinals() {
             return false;
