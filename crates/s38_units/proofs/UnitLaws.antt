@@ -2,9 +2,11 @@
 -- after another.
 use Rattle.std.proofs.Common.{◌≡◌, ℕ, zero, suc, ◌+◌, ◌==◌, ◌<◌, ◌≤◌, ◌&&◌, ◌||◌, Bool, true, false, cond, List, [], ◌∷◌, ◌++◌, refl, sym, ◌∙◌, ap, arith, length}
 use Rattle.std.proofs.lemmas.Bool.Decides.{nat_tests}
-use Rattle.std.specs.Prelude.{Option, Some, None, filter, if◌then◌else◌, is_some}
+use Rattle.std.specs.Prelude.{Option, Some, None, filter, if◌then◌else◌, is_some, slice_get, take}
 use Rattle.std.specs.Option.{ForSome, option_map}
+use Rattle.std.specs.Ordering.{nat_cmp}
 use Rattle.std.specs.Map.{keys_of}
+use Rattle.std.specs.BTreeMap.{is_at}
 use Rattle.s38_base.specs.declared.exception.Exception.{Exception}
 use Rattle.s38_base.specs.Exceptions as exceptions
 use Rattle.s38_base.specs.Signals.{fails}
@@ -12,6 +14,7 @@ use Rattle.s38_commits.specs.declared.change.UnitChange.{UnitChange}
 use Rattle.s38_commits.specs.Unit.{CommitUnit}
 use Rattle.s38_commits.specs.Units.{IsRising, UnitMap, above, ended, next_block, unit_of}
 use Rattle.s38_commits.proofs.WalkLaws.{ended_above, next_none, next_some}
+use Rattle.s38_commits.proofs.MapLaws.{at_key}
 use Rattle.s38_commits.proofs.FirstLaws.{first_none, first_some}
 use Rattle.s38_rules.specs.declared.port.Port.{Port}
 use Rattle.s38_rules.specs.declared.process.ProcessEntry.{ProcessEntry}
@@ -102,14 +105,40 @@ count_blocks h (e ∷ es) journal =
       | false ↦ rest
     ]
 
+more_few : (a b : ℕ) → a ≤ b → a ≤ suc b
+more_few a b few = omega (arith, few)
+
+pub few_blocks : (h : Held) (journal : ℕ) (blocks : List ℕ) → length (filter (goes_by h journal) blocks) ≤ length blocks
+few_blocks h journal [] = omega arith
+few_blocks h journal (b ∷ bs) =
+    let rest = few_blocks h journal bs in
+    elim (goes_by h journal b) as (λ t. length (cond t (b ∷ filter (goes_by h journal) bs) (filter (goes_by h journal) bs)) ≤ suc (length bs)) [
+      | true ↦ omega (arith, rest)
+      | false ↦ more_few _ _ rest
+    ]
+
 -- ---- changes taken back
 
--- the newest change is taken back first
-pub undone_last : (h : Held) (changes : List UnitChange) (change : UnitChange)
-    → all_undone h (changes ++ change ∷ []) ≡ all_undone (undone h change) changes
+-- of the changes up to a place the newest is taken back first
+pub undone_newest : (h : Held) (changes : List UnitChange) (k : ℕ) (change : UnitChange) → slice_get changes k ≡ Some change
+    → all_undone (undone h change) (take k changes) ≡ all_undone h (take (suc k) changes)
 unfolding all_undone
-undone_last h [] change = refl
-undone_last h (c ∷ changes) change = ap (λ (k : Held). undone k c) (undone_last h changes change)
+undone_newest h [] k change is = absurd (cc)
+undone_newest h (c ∷ changes) zero change is = let same : c ≡ change = cc in rw same refl
+undone_newest h (c ∷ changes) (suc k) change is = ap (λ (x : Held). undone x c) (undone_newest h changes k change is)
+
+-- without a unit of the block none ends
+pub ended_none : (units : UnitMap) (block : ℕ) → unit_of units block ≡ None → ended units block ≡ units
+ended_none [] block none = refl
+ended_none (e ∷ es) block none =
+    let rest = ended_none es block in
+    let at : is_at (nat_cmp block) e.0 ≡ (e.0 == block) = at_key block e.0 in
+    let found : cond (e.0 == block) (Some e.1) (unit_of es block) ≡ None = rw at at none in
+    rw at
+    (elim (e.0 == block) as (λ b. cond b (Some e.1) (unit_of es block) ≡ None → cond b es (e ∷ ended es block) ≡ e ∷ es) [
+      | true ↦ λ q. absurd (some_none e.1 q)
+      | false ↦ λ q. ap (λ (fs : UnitMap). e ∷ fs) (rest q)
+    ] found)
 
 -- ---- units taken back
 

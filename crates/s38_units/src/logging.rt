@@ -121,8 +121,9 @@ fn log_entry(
     }
 }
 
-/// The change goes to the journal space of a number.
-fn log_in(
+/// A change goes to the journal space of a number, and into the unit of its commit block. Where memory is refused
+/// nothing changes.
+pub fn log_in(
     objects: &mut Objects,
     units: &mut Units,
     journal: ObjNum,
@@ -132,7 +133,7 @@ fn log_in(
 ) -> Result<(), NoMemory>
     requires there { is_journal objects.old journal.0 ≡ true }
     requires room { is_journal_full objects.old units.old journal.0 block.0 (journal_bytes change.now) ≡ false }
-    requires free { ForSome (block_of units.old change.now.space.0 change.now.at) (λ other. other ≡ block.0) }
+    requires free { held_rule units.old process block.0 change.now.space.0 change.now.at ≡ None }
     ensures objects { OnOk result (objects.new ≡ on_journal objects.old journal.0 (with_change_logged (journal_bytes change.now) (open_behind objects.old units.old journal.0 block.0) (change_entry (number_for units.old block.0 (next_sequence (journal_at objects.old journal.0))) process change.now))) }
     ensures units { OnOk result (units.new ≡ units_behind units.old process block.0 (number_for units.old block.0 (next_sequence (journal_at objects.old journal.0))) change.now) }
     ensures objects_left { OnErr result (objects.new ≡ objects.old) }
