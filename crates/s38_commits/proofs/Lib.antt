@@ -3,3 +3,4 @@ pub mod PlaceLaws
 pub mod NextLaws
 pub mod JoinLaws
 pub mod WalkLaws
+pub mod FirstLaws
