@@ -67,22 +67,22 @@ number_kept n f o keeps = ap (λ (k : ObjNum). k.0 == n) (keeps o)
 change_commutes : (os : List Object) (n m : ℕ) (f g : Object → Object) → KeepsNumber f → KeepsNumber g → ((o : Object) → g (f o) ≡ f (g o))
     → change_in (change_in os n f) m g ≡ change_in (change_in os m g) n f
 change_commutes [] n m f g kf kg same = refl
-change_commutes (o ∷ os) n m f g kf kg same = by (has_number n o) refl (has_number m o) refl
+change_commutes (o ∷ os) n m f g kf kg same = by (change_commutes os n m f g kf kg same) (has_number n o) refl (has_number m o) refl
   where
-    by : (a : Bool) → has_number n o ≡ a → (b : Bool) → has_number m o ≡ b → change_in (change_in (o ∷ os) n f) m g ≡ change_in (change_in (o ∷ os) m g) n f
-    by true a true b = rw (a, b, number_kept m f o kf, number_kept n g o kg, a, b) (ap (λ (x : Object). x ∷ os) (same o))
-    by true a false b = rw (a, b, number_kept m f o kf, a, b) refl
-    by false a true b = rw (a, b, number_kept n g o kg, a, b) refl
-    by false a false b = rw (a, b, a, b) (ap (λ (l : List Object). o ∷ l) (change_commutes os n m f g kf kg same))
+    by : change_in (change_in os n f) m g ≡ change_in (change_in os m g) n f → (a : Bool) → has_number n o ≡ a → (b : Bool) → has_number m o ≡ b → change_in (change_in (o ∷ os) n f) m g ≡ change_in (change_in (o ∷ os) m g) n f
+    by rest true a true b = rw (a, b, number_kept m f o kf, number_kept n g o kg, a, b) (ap (λ (x : Object). x ∷ os) (same o))
+    by rest true a false b = rw (a, b, number_kept m f o kf, a, b) refl
+    by rest false a true b = rw (a, b, number_kept n g o kg, a, b) refl
+    by rest false a false b = rw (a, b, a, b) (ap (λ (l : List Object). o ∷ l) rest)
 
 change_twice : (os : List Object) (n : ℕ) (f g both : Object → Object) → KeepsNumber f → ((o : Object) → g (f o) ≡ both o)
     → change_in (change_in os n f) n g ≡ change_in os n both
 change_twice [] n f g both kf same = refl
-change_twice (o ∷ os) n f g both kf same = by (has_number n o) refl
+change_twice (o ∷ os) n f g both kf same = by (change_twice os n f g both kf same) (has_number n o) refl
   where
-    by : (a : Bool) → has_number n o ≡ a → change_in (change_in (o ∷ os) n f) n g ≡ change_in (o ∷ os) n both
-    by true a = rw (a, number_kept n f o kf, a) (ap (λ (x : Object). x ∷ os) (same o))
-    by false a = rw (a, a) (ap (λ (l : List Object). o ∷ l) (change_twice os n f g both kf same))
+    by : change_in (change_in os n f) n g ≡ change_in os n both → (a : Bool) → has_number n o ≡ a → change_in (change_in (o ∷ os) n f) n g ≡ change_in (o ∷ os) n both
+    by rest true a = rw (a, number_kept n f o kf, a) (ap (λ (x : Object). x ∷ os) (same o))
+    by rest false a = rw (a, a) (ap (λ (l : List Object). o ∷ l) rest)
 
 -- what an object holds of one kind is not touched by a change of another kind
 pub part_apart : {S T : Type 0} (p : Part S) (q : Part T) (f : T → T) → ((b : Body) → p.of (over_body q f b) ≡ p.of b) → (h : Held) (n m : ℕ) → part_at p (over_part q h n f) m ≡ part_at p h m

@@ -16,6 +16,7 @@ use Rattle.s38_base.specs.RightNames as rights
 use Rattle.s38_base.specs.Scalar.{fraction_of}
 use Rattle.s38_base.specs.Signals.{fails, first}
 use Rattle.s38_commits.specs.declared.change.UnitChange.{UnitChange}
+use Rattle.s38_commits.specs.Changes.{journal_bytes}
 use Rattle.s38_commits.specs.Units.{is_space_changed}
 use Rattle.s38_dataspaces.specs.Entries.{Entry, entry_at}
 use Rattle.s38_dataspaces.specs.Seeks.{sought}
