@@ -4,6 +4,7 @@ ghost use Rattle.std.specs.Prelude.{◌≡◌, ◌+◌, ◌≤◌, ◌^◌, ℕ,
 ghost use Rattle.std.specs.Option.{option_copied};
 ghost use Rattle.s38_base.specs.declared.exception.Exception.{Exception};
 ghost use Rattle.s38_objects.specs.Lawful.{is_place, is_place_of};
+ghost use Rattle.s38_rules.specs.Authority.{is_profile};
 ghost use Rattle.s38_rules.specs.Creation.{creation_changes, creation_fails, creation_gives, creation_limits, creation_needs, in_context, is_another, is_taken, is_taken_beside, machine_needs, maker_rows, name_rule, new_object, new_pointer, number_rule, of_kind, of_machine, pages_rule};
 ghost use Rattle.s38_rules.specs.Held.{ceiling_for, charge_in, found, home, object as object_at, pages_of, with_object};
 
@@ -188,6 +189,13 @@ pub fn creation_gives(objects: &Objects, made: &Creating) -> Val
     Val::Ptr(new_pointer(objects, made.id))
 }
 
+/// A profile is on disk from its creation on.
+fn is_profile(body: &Body) -> bool
+    ensures { result ≡ is_profile body.now }
+{
+    matches!(body, Body::Profile { .. })
+}
+
 /// All eight rights of the user who made an object.
 fn maker_rows(alloc: Global, owner: UserNum) -> Result<RowList, NoMemory>
     ensures { IfOk result (λ rows. rows ≡ maker_rows owner.0) }
@@ -212,6 +220,7 @@ fn new_object(
         owner,
         public: made.public,
         rows: maker_rows(alloc, owner)?,
+        on_disk: is_profile(&body),
         body,
     })
 }

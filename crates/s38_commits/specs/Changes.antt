@@ -32,3 +32,11 @@ is_of space at change = (change.space.0 == space) && (change.at == at)
 -- whether an entry is changed
 abbrev pub has_change : ℕ → ℕ → List UnitChange → Bool
 has_change space at changes = list_any (is_of space at) changes
+
+-- whether a change is of an entry of that data space
+abbrev pub is_in : ℕ → UnitChange → Bool
+is_in space change = change.space.0 == space
+
+-- whether an entry of a data space is changed
+abbrev pub has_change_in : ℕ → List UnitChange → Bool
+has_change_in space changes = list_any (is_in space) changes

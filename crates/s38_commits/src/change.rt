@@ -1,5 +1,5 @@
-ghost use Rattle.std.specs.Prelude.{◌≡◌, ◌≤◌, nat_le, IfOk};
-ghost use Rattle.s38_commits.specs.Changes.{entry_bytes, is_of, journal_bytes, largest_unit};
+ghost use Rattle.std.specs.Prelude.{◌≡◌, ◌<◌, ◌^◌, nat_le, IfOk};
+ghost use Rattle.s38_commits.specs.Changes.{entry_bytes, is_of, journal_bytes};
 
 use s38_base::{Bytes, NoMemory, ObjNum, TryClone};
 use std::alloc::Global;
@@ -50,7 +50,7 @@ impl UnitChange {
 
     /// How many bytes of a journal the change takes.
     pub fn journal_bytes(&self) -> u32
-        requires { journal_bytes self.now ≤ largest_unit }
+        requires { journal_bytes self.now < 2 ^ 32 }
         ensures { result ≡ journal_bytes self.now }
     {
         (HEAD_BYTES + entry_bytes(&self.before) + entry_bytes(&self.after)) as u32

@@ -1,10 +1,10 @@
 ghost use Rattle.std.specs.Prelude.{◌≡◌, ◌≤◌, [], None, Some, IfErr, OnOk, OnErr};
-ghost use Rattle.s38_commits.specs.Changes.{largest_unit, note_refusal, unit_bytes};
+ghost use Rattle.s38_commits.specs.Changes.{has_change_in, largest_unit, note_refusal, unit_bytes};
 ghost use Rattle.s38_commits.specs.Unit.{noted, without_newest};
 
 use crate::change::UnitChange;
 use crate::fault::UnitFault;
-use s38_base::NoMemory;
+use s38_base::{NoMemory, ObjNum};
 use std::alloc::Global;
 use std::marker::Model;
 
@@ -72,6 +72,13 @@ impl Unit {
         ensures bound { result ≤ largest_unit }
     {
         self.bytes
+    }
+
+    /// Whether a change is of an entry of a data space.
+    pub fn changes_space(&self, space: ObjNum) -> bool
+        ensures { result ≡ has_change_in space.0 self.now.changes }
+    {
+        self.changes.iter().any(|change| change.space.0 == space.0)
     }
 
     /// Whether a change may be noted: what `note` answers, want of memory aside. `Full` exactly where the changes

@@ -2,11 +2,11 @@ ghost use Rattle.std.specs.Prelude.{◌≡◌, None, OnOk, OnErr};
 ghost use Rattle.std.specs.Option.{ForSome};
 ghost use Rattle.s38_commits.specs.Changes.{note_refusal};
 ghost use Rattle.s38_commits.specs.Unit.{without_newest};
-ghost use Rattle.s38_commits.specs.Units.{changed_at, unit_of, with_change};
+ghost use Rattle.s38_commits.specs.Units.{changed_at, is_space_changed, unit_of, with_change};
 
 use crate::change::UnitChange;
 use crate::unit::Unit;
-use s38_base::NoMemory;
+use s38_base::{NoMemory, ObjNum};
 use std::collections::BTreeMap;
 
 /// Notes a change in the unit of a block; an error leaves all units as they were.
@@ -28,4 +28,16 @@ pub fn take_back(units: &mut BTreeMap<u64, Unit>, block: u64)
     if let Some(unit) = units.get_mut(&block) {
         unit.take_back();
     }
+}
+
+/// Whether some unit has a change of an entry of a data space.
+pub fn changes_space(units: &BTreeMap<u64, Unit>, space: ObjNum) -> bool
+    ensures { result ≡ is_space_changed units.now.entries space.0 }
+{
+    for unit in units.values() {
+        if unit.changes_space(space) {
+            return true;
+        }
+    }
+    false
 }

@@ -1,6 +1,8 @@
-ghost use Rattle.std.specs.Prelude.{◌≡◌, [], None, IfErr, IfSome, IsSome, OnOk, OnErr};
+ghost use Rattle.std.specs.Prelude.{◌≡◌, ◌<◌, ◌^◌, [], None, IfErr, IfSome, IsSome, OnOk, OnErr, length};
+ghost use Rattle.std.specs.Map.{keys_of};
 ghost use Rattle.std.specs.Option.{ForSome, option_copied, option_map, unwrap_or};
-ghost use Rattle.s38_commits.specs.Units.{AreApart, IsRising, begun, block_of, ended, holder, next_block, refusal_in, unit_of, with_change};
+ghost use Rattle.s38_commits.specs.Changes.{note_refusal};
+ghost use Rattle.s38_commits.specs.Units.{AreApart, IsRising, begun, block_of, ended, holder, is_space_changed, join_refusal, joined, next_block, refusal_in, unit_of, with_change};
 
 use crate::change::UnitChange;
 use crate::fault::UnitFault;
@@ -10,6 +12,7 @@ use crate::unit_map;
 use s38_base::{NoMemory, ObjNum, TryClone};
 use std::alloc::Global;
 use std::collections::BTreeMap;
+use std::collections::btree_map::Keys;
 use std::marker::Model;
 use std::ops::Bound;
 
@@ -110,6 +113,69 @@ impl Units {
         }
     }
 
+    /// Whether a change may join the unit of a commit block, which is begun where the block has none: what `join`
+    /// answers, want of memory aside.
+    pub fn can_join(&self, block: ObjNum, change: &UnitChange) -> Result<(), UnitFault>
+        ensures ok { OnOk result (join_refusal self.now block.0 change.now ≡ None) }
+        ensures fault { IfErr result (λ fault. join_refusal self.now block.0 change.now ≡ Some fault) }
+    {
+        match self.units.get(&block.0) {
+            Some(unit) => unit.can_note(change),
+            None => Unit::new(self.alloc, 0, 0).can_note(change),
+        }
+    }
+
+    /// Notes a change in a unit that is begun for it; an error leaves the units as they were.
+    fn begin_with(
+        &mut self,
+        block: ObjNum,
+        process: u32,
+        number: u64,
+        change: &UnitChange,
+    ) -> Result<(), UnitFault>
+        requires free { ForSome (block_of self.old change.now.space.0 change.now.at) (λ other. other ≡ block.0) }
+        requires new { unit_of self.old block.0 ≡ None }
+        requires fits { note_refusal [] change.now ≡ None }
+        ensures ok { OnOk result (self.new ≡ with_change (begun self.old block.0 process number) block.0 change.now) }
+        ensures fault { IfErr result (λ fault. fault ≡ UnitFault.NoMemory) }
+        ensures err { OnErr result (self.new ≡ self.old) }
+    {
+        match self.begin(block, process, number) {
+            Ok(()) => {}
+            Err(_) => return Err(UnitFault::NoMemory),
+        }
+        match self.note(block, change) {
+            Ok(()) => Ok(()),
+            Err(fault) => {
+                self.end(block);
+                Err(fault)
+            }
+        }
+    }
+
+    /// Notes a change behind the others of a commit block's unit, which is begun for the process and under the number
+    /// where the block has none. No other unit may have a change of that entry. `Full` exactly where the unit's changes
+    /// would take more than 1,048,576 bytes of a journal; an error leaves the units as they were.
+    pub fn join(
+        &mut self,
+        block: ObjNum,
+        process: u32,
+        number: u64,
+        change: &UnitChange,
+    ) -> Result<(), UnitFault>
+        requires { ForSome (block_of self.old change.now.space.0 change.now.at) (λ other. other ≡ block.0) }
+        ensures accepted { OnOk result (join_refusal self.old block.0 change.now ≡ None) }
+        ensures ok { OnOk result (self.new ≡ joined self.old block.0 process number change.now) }
+        ensures fault { IfErr result (λ fault. fault ≡ unwrap_or (join_refusal self.old block.0 change.now) UnitFault.NoMemory) }
+        ensures err { OnErr result (self.new ≡ self.old) }
+    {
+        self.can_join(block, change)?;
+        match self.get(block) {
+            Some(_) => self.note(block, change),
+            None => self.begin_with(block, process, number, change),
+        }
+    }
+
     /// Takes the unit of a commit block out and gives it back, without memory; None exactly where it has none.
     pub fn end(&mut self, block: ObjNum) -> Option<Unit>
         ensures unit { result ≡ unit_of self.old block.0 }
@@ -139,14 +205,31 @@ impl Units {
         Some(unit.process())
     }
 
+    /// Whether some unit has a change of an entry of a data space. It looks at each change of each unit.
+    pub fn changes_space(&self, space: ObjNum) -> bool
+        ensures { result ≡ is_space_changed self.now space.0 }
+    {
+        unit_map::changes_space(&self.units, space)
+    }
+
     /// The least commit block above a number that has a unit, in logarithmic time.
     pub fn next_block(&self, after: ObjNum) -> Option<ObjNum>
-        ensures { option_map (λ block. block.0) result ≡ next_block self.now after.0 }
+        ensures next { option_map (λ block. block.0) result ≡ next_block self.now after.0 }
+        ensures rising { IsRising self.now }
     {
         let above = (Bound::Excluded(after.0), Bound::Unbounded);
         match self.units.range(above).next() {
             Some((block, _)) => Some(ObjNum(*block)),
             None => None,
         }
+    }
+
+    /// The commit blocks that have a unit, in rising order.
+    pub fn blocks(&self) -> Keys<'_, u64, Unit>
+        ensures blocks { result ≡ keys_of self.now }
+        ensures few { length (keys_of self.now) < 2 ^ 63 }
+    {
+        let _len = self.units.len();
+        self.units.keys()
     }
 }

@@ -15,7 +15,7 @@ use Rattle.s38_base.specs.Signals.{fails}
 use Rattle.s38_base.specs.declared.id.Id.{Id}
 use Rattle.s38_base.specs.declared.id.Kind.TheVariants as kinds
 use Rattle.s38_base.specs.declared.id.ObjNum.{ObjNum}
-use Rattle.s38_base.specs.declared.op.Op.TheVariants.{Crtcr, Crtctx, Crtds, Crtinx, Crtpg, Crtq, Crts, Crtup, Desup, Grant, Modup, Retract, Rslvsp, Setdp, Setspfp, Setsppfp, Xfro}
+use Rattle.s38_base.specs.declared.op.Op.TheVariants.{Crtcb, Crtcr, Crtctx, Crtds, Crtinx, Crtjp, Crtjs, Crtpg, Crtq, Crts, Crtup, Desup, Grant, Modup, Retract, Rslvsp, Setdp, Setspfp, Setsppfp, Xfro}
 use Rattle.s38_base.specs.declared.op.Op.{Op}
 use Rattle.s38_base.specs.declared.pointer.Pointer.TheVariants as pointers
 use Rattle.s38_base.specs.declared.pointer.Pointer.{Pointer}
@@ -40,6 +40,7 @@ use Rattle.s38_rules.specs.Profiles.{crtup, modup, profiles_row}
 use Rattle.s38_rules.specs.Programs.{created_program, crtpg_changes, program_in, programs_row, template_at}
 use Rattle.s38_rules.specs.DataSpaces.{crtcr_changes, crtds_changes, data_spaces_row}
 use Rattle.s38_rules.specs.Indexes.{crtinx_changes, indexes_row}
+use Rattle.s38_rules.specs.Journals.{crtcb_changes, crtjp_changes, crtjs_changes, journals_row}
 use Rattle.s38_rules.specs.Queues.{crtq_changes, queues_row}
 use Rattle.s38_rules.specs.Resolving.{carried_rights, num_of, pointer_to, resolved, resolving_row, rslvsp, rslvsp_fails, rslvsp_gives, setspfp_gives}
 use Rattle.s38_rules.specs.Rows.{row, row_in}
@@ -230,7 +231,7 @@ program_lessens s p ops (Some program) o r given = creation_lessens s.held _ _ _
 
 -- those that are not plain
 listed_shut : (op : Op) → makes_or_gives op ≡ true → KeepsShut (row op)
-unfolding row_in family_of contexts_row profiles_row grants_row resolving_row programs_row spaces_row queues_row indexes_row data_spaces_row crtctx_changes crtpg_changes crts_changes crtq_changes crtinx_changes crtds_changes crtcr_changes setspfp_gives
+unfolding row_in family_of contexts_row profiles_row grants_row resolving_row programs_row spaces_row queues_row indexes_row data_spaces_row journals_row crtctx_changes crtpg_changes crts_changes crtq_changes crtinx_changes crtds_changes crtcr_changes crtjs_changes crtjp_changes crtcb_changes setspfp_gives
 listed_shut Crtctx makes s p d t o r closed asked e = (creation_lessens s.held _ _ _ o r closed.given refl tt, created_harmless s.held _ o r)
 listed_shut Crtpg makes s p d t o r closed asked e = (program_lessens s p t.operands (program_in (template_at s t.operands)) o r closed.given, created_harmless s.held _ o r)
 listed_shut Crts makes s p d t o r closed asked e =
@@ -239,6 +240,9 @@ listed_shut Crtq makes s p d t o r closed asked e = (creation_lessens s.held _ _
 listed_shut Crtinx makes s p d t o r closed asked e = (creation_lessens s.held _ _ _ o r closed.given refl tt, created_harmless s.held _ o r)
 listed_shut Crtds makes s p d t o r closed asked e = (creation_lessens s.held _ _ _ o r closed.given refl tt, created_harmless s.held _ o r)
 listed_shut Crtcr makes s p d t o r closed asked e = (creation_lessens s.held _ _ _ o r closed.given refl tt, created_harmless s.held _ o r)
+listed_shut Crtjs makes s p d t o r closed asked e = (creation_lessens s.held _ _ _ o r closed.given refl tt, created_harmless s.held _ o r)
+listed_shut Crtjp makes s p d t o r closed asked e = (creation_lessens s.held _ _ _ o r closed.given refl tt, created_harmless s.held _ o r)
+listed_shut Crtcb makes s p d t o r closed asked e = (creation_lessens s.held _ _ _ o r closed.given refl tt, created_harmless s.held _ o r)
 listed_shut Crtup makes s p d t o r closed asked e = absurd (profile_lacked s.held (acting s p d) o r closed (permitted crtup s p d t e).special)
 listed_shut Modup makes s p d t o r closed asked e = absurd (profile_lacked s.held (acting s p d) o r closed (permitted modup s p d t e).special)
 listed_shut Desup makes s p d t o r closed asked e = (kept_lessens s.held _ o r (destruction_keeps (IsHarmless o r) s.held t.operands), tt)

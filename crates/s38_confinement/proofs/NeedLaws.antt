@@ -7,7 +7,7 @@ use Rattle.std.specs.List.{list_all}
 use Rattle.std.specs.Prelude.{◌||◌, All, None, Option, Some}
 use Rattle.s38_base.specs.declared.id.Kind.TheVariants as kinds
 use Rattle.s38_base.specs.RightNames as rights
-use Rattle.s38_base.specs.declared.op.Op.TheVariants.{Crtcr, Crtds, Crtinx, Crtpg, Crtq, Crts, Grant, Lock, Matau, Matctx, Modadr, Modup, Rename, Retract, Rslvsp}
+use Rattle.s38_base.specs.declared.op.Op.TheVariants.{Crtcb, Crtcr, Crtds, Crtinx, Crtjp, Crtjs, Crtpg, Crtq, Crts, Grant, Lock, Matau, Matctx, Modadr, Modup, Rename, Retract, Rslvsp}
 use Rattle.s38_base.specs.declared.op.Op.{Op}
 use Rattle.s38_code.specs.declared.event.Request.{Request}
 use Rattle.s38_code.specs.declared.family.Family.TheVariants as families
@@ -26,6 +26,7 @@ use Rattle.s38_rules.specs.Profiles.{modup_needs, profiles_row}
 use Rattle.s38_rules.specs.Programs.{call_needs, programs_row}
 use Rattle.s38_rules.specs.Locking.{lock_needs, locks_row, matobjlk_needs, unlock_needs}
 use Rattle.s38_rules.specs.DataSpaces.{block_needs, crtcr_needs, data_spaces_row, through_cursor}
+use Rattle.s38_rules.specs.Journals.{crtcb_needs, crtjp_needs, ensobj_needs, journals_row, jrnlobj_needs, retjent_needs, unit_needs}
 use Rattle.s38_rules.specs.Indexes.{fndinxen_needs, indexes_row, insinxen_needs, rmvinxen_needs}
 use Rattle.s38_rules.specs.Queues.{deq_needs, enq_needs, queues_row}
 use Rattle.s38_rules.specs.Resolving.{listed_need, resolved, resolving_row, rslvsp_needs, setspfp_needs}
@@ -166,14 +167,24 @@ unfolding indexes_row insinxen_needs fndinxen_needs rmvinxen_needs destruction_n
 indexes_so Crtinx s p d t = creation_so t.operands
 indexes_so _ s p d t = refl
 
+-- a need beside those of a creation
+beside_creation : (ops : List Operand) (own : List Need) → AreSo own → AreSo (creation_needs ops ++ own)
+unfolding creation_needs
+beside_creation ops own so = cond_both (is_given ops 2) _ [] (λ w. AreSo (w ++ own)) (λ yes. so) (λ no. so)
+
 data_spaces_so : (op : Op) → RowSpeaks (data_spaces_row op)
-unfolding data_spaces_row creation_needs crtcr_needs block_needs through_cursor destruction_needs
+unfolding data_spaces_row crtcr_needs block_needs through_cursor destruction_needs
 data_spaces_so Crtds s p d t = creation_so t.operands
 data_spaces_so Crtcr s p d t =
-    let own = on_object 5 (Of kinds.DataSpace) rights.retrieve None ++ block_needs t.operands in
-    let so : AreSo own = either (is_given t.operands 6) _ _ refl refl in
-    cond_both (is_given t.operands 2) _ [] (λ w. AreSo (w ++ own)) (λ yes. so) (λ no. so)
+    beside_creation t.operands (on_object 5 (Of kinds.DataSpace) rights.retrieve None ++ block_needs t.operands) (either (is_given t.operands 6) _ _ refl refl)
 data_spaces_so _ s p d t = refl
+
+journals_so : (op : Op) → RowSpeaks (journals_row op)
+unfolding journals_row crtjp_needs crtcb_needs jrnlobj_needs retjent_needs unit_needs ensobj_needs destruction_needs
+journals_so Crtjs s p d t = creation_so t.operands
+journals_so Crtjp s p d t = beside_creation t.operands (on_object 5 (Of kinds.Journal) rights.insert None) refl
+journals_so Crtcb s p d t = beside_creation t.operands (on_object 5 (Of kinds.Port) rights.insert None) refl
+journals_so _ s p d t = refl
 
 row_so : (f : Family) (op : Op) → RowSpeaks (row_in f op)
 unfolding row_in computing_needs
@@ -188,6 +199,7 @@ row_so families.Spaces op = spaces_so op
 row_so families.Queues op = queues_so op
 row_so families.Indexes op = indexes_so op
 row_so families.DataSpaces op = data_spaces_so op
+row_so families.Journals op = journals_so op
 row_so _ op = λ s p d t. refl
 
 -- each need of an instruction

@@ -8,7 +8,7 @@ use Rattle.s38_base.specs.Pointers.{start_of, target_of}
 use Rattle.s38_base.specs.Signals.{plain}
 use Rattle.s38_base.specs.declared.id.Id.{Id}
 use Rattle.s38_base.specs.declared.id.ObjNum.{ObjNum}
-use Rattle.s38_base.specs.declared.op.Op.TheVariants.{Callx, Cpybwp, Crtcr, Crtctx, Crtds, Crtinx, Crtpg, Crtq, Crts, Crtup, Deldsen, Deq, Descr, Desctx, Desds, Desinx, Despg, Desq, Dess, Desup, Enq, Grant, Insdsen, Insinxen, Lock, Modadr, Mods, Modup, Rename, Retract, Rmvinxen, Rslvsp, Setcr, Setdp, Setspfp, Setsppfp, Updsen, Xctl, Xfro}
+use Rattle.s38_base.specs.declared.op.Op.TheVariants.{Callx, Commit, Cpybwp, Crtcb, Crtcr, Crtctx, Crtds, Crtinx, Crtjp, Crtjs, Crtpg, Crtq, Crts, Crtup, Decommit, Deldsen, Deq, Descb, Descr, Desctx, Desds, Desinx, Desjp, Desjs, Despg, Desq, Dess, Desup, Enq, Ensobj, Grant, Insdsen, Insinxen, Jrnlobj, Lock, Modadr, Mods, Modup, Rename, Retract, Rmvinxen, Rslvsp, Setcr, Setdp, Setspfp, Setsppfp, Updsen, Xctl, Xfro}
 use Rattle.s38_base.specs.declared.op.Op.{Op}
 use Rattle.s38_base.specs.declared.pointer.Pointer.{Pointer}
 use Rattle.s38_code.specs.Operations.{family_of}
@@ -20,30 +20,42 @@ use Rattle.s38_code.specs.declared.operand.Operand.{Operand}
 use Rattle.s38_code.specs.declared.program.Program.{Program}
 use Rattle.s38_code.specs.declared.reply.Val.TheVariants as vals
 use Rattle.s38_code.specs.declared.reply.Val.{Val}
+use Rattle.s38_commits.specs.Unit.{CommitUnit}
+use Rattle.s38_commits.specs.Units.{UnitMap}
+use Rattle.s38_commits.specs.declared.change.UnitChange.{UnitChange}
+use Rattle.s38_journals.specs.Entries.{Entry}
+use Rattle.s38_journals.specs.Journals.{JournalList}
+use Rattle.s38_journals.specs.declared.entry.EntryKind.TheVariants as entry_kinds
 use Rattle.s38_memory.specs.declared.cell.Cell.{Cell}
 use Rattle.s38_rules.proofs.ChargeLaws.{KeepsNumber, object_changed, object_without}
 use Rattle.s38_rules.specs.Cells.{first_pointer, with_bytes, with_cells, with_pointer}
+use Rattle.s38_rules.specs.Changing.{logged, logged_in}
 use Rattle.s38_rules.specs.Computing.{computing, computing_gives, of_operands, receiver_at, shift_at}
 use Rattle.s38_rules.specs.Contexts.{contexts_row, matctx_gives, modadr_changes, rename_changes, renamed_by}
 use Rattle.s38_rules.specs.Creation.{destruction_changes}
 use Rattle.s38_rules.specs.Effect.{effect}
 use Rattle.s38_rules.specs.Grants.{grants_row, matau_gives, matauobj_gives, testau_gives}
 use Rattle.s38_rules.specs.Headers.{special_of}
-use Rattle.s38_rules.specs.Held.{Held, change, has_number, moved, object}
+use Rattle.s38_rules.specs.Held.{Held, change, ensured, has_number, kept_on_disk, moved, object}
 use Rattle.s38_rules.specs.Instruction.{Instruction}
 use Rattle.s38_rules.specs.Invocations.{restack_at}
 use Rattle.s38_rules.specs.Operands.{Done, deliver, delivered, id_at, is_in_space, place, put_value, source_cells, target}
-use Rattle.s38_rules.specs.Parts.{IsPart, Part, cursor_lawful, cursor_part, data_lawful, data_part, index_lawful, index_part, on_space, over, over_object, over_part, queue_lawful, queue_part, space_lawful, space_part}
+use Rattle.s38_rules.specs.Parts.{IsPart, Part, cursor_lawful, cursor_part, data_lawful, data_part, index_lawful, index_part, journal_lawful, journal_part, on_cursor, on_data, on_journal, on_space, over, over_object, over_part, over_table, queue_lawful, queue_part, space_lawful, space_part}
 use Rattle.s38_rules.specs.Profiles.{profiles_row}
 use Rattle.s38_rules.specs.Programs.{call_gives, callx_changes, program_at, programs_row, xctl_changes}
 use Rattle.s38_rules.specs.Locking.{lock_changes, locks_row, matobjlk_gives, unlock_changes, xfrlock_changes}
-use Rattle.s38_rules.specs.DataSpaces.{data_spaces_row, deldsen_changes, insdsen_changes, retdsen_gives, setcr_changes, updsen_changes}
+use Rattle.s38_rules.specs.DataSpaces.{current_changes, data_spaces_row, insdsen_changes, retdsen_gives, setcr_changes}
 use Rattle.s38_rules.specs.Indexes.{fndinxen_gives, indexes_row, insinxen_changes, rmvinxen_changes}
+use Rattle.s38_rules.specs.Journaling.{journal_for, journal_for_block}
+use Rattle.s38_rules.specs.Journals.{commit_changes, decommit_changes, ensobj_changes, journals_row, jrnlobj_changes, retjent_gives}
 use Rattle.s38_rules.specs.Queues.{deq_changes, deq_gives, enq_changes, queues_row}
 use Rattle.s38_rules.specs.Resolving.{resolving_row}
 use Rattle.s38_rules.specs.Rows.{row, row_in}
 use Rattle.s38_rules.specs.Spaces.{cells_put, cpybwp_changes, cpybwp_gives, length_at, mods_changes, spaces_row}
 use Rattle.s38_rules.specs.State.{State, process_entry}
+use Rattle.s38_rules.specs.Units.{all_decommitted, all_undone, committed, decommitted, end_entry, end_written, put_back, with_entry}
+use Rattle.s38_rules.specs.declared.cursor.Cursor.{Cursor}
+use Rattle.s38_rules.specs.declared.data_body.DataBody.{DataBody}
 use Rattle.s38_rules.specs.declared.object.Body.{Body}
 use Rattle.s38_rules.specs.declared.object.Object.{Object}
 use Rattle.s38_rules.specs.declared.process.ProcessEntry.{ProcessEntry}
@@ -109,6 +121,9 @@ over_of : {T : Type 0} (q : Pointer → Type 0) (part : Part T) (f : T → T) (b
 over_of q part f b None puts of = of
 over_of q part f b (Some x) puts of = puts x refl
 
+ensured_keeps : (q : Pointer → Type 0) (h : Held) (n : ℕ) → Keeps q h (ensured h n)
+ensured_keeps q h n = change_keeps q h n kept_on_disk (λ x. refl) (λ x. record { standing = refl; special = refl }) (λ x of. of)
+
 -- what the object of a number holds is something else, where no user's profile is of the kind
 part_keeps : {T : Type 0} (q : Pointer → Type 0) (p : Part T) → IsPart T p → ((x : T) → special_of (p.make x) ≡ 0) → (h : Held) (n : ℕ) (f : T → T)
     → ((b : Body) (x : T) → b ≡ p.make x → OfBody q b → OfBody q (p.make (f x))) → Keeps q h (over_part p h n f)
@@ -123,6 +138,55 @@ cells_keep : (q : Pointer → Type 0) (h : Held) (operand : Option Operand) (pie
 cells_keep q h (Some (operands.InSpace base offset attr)) piece given =
     space_keeps q h (target_of base) (with_cells (start_of base offset) piece) (λ cells of. cells_laid q (start_of base offset) piece cells given of)
 cells_keep q h _ piece given = keeps_same q h
+
+-- ---- what is done to data spaces, cursors and journals
+
+data_keeps : (q : Pointer → Type 0) (h : Held) (n : ℕ) (f : DataBody → DataBody) → Keeps q h (on_data h n f)
+data_keeps q h n f = part_keeps q data_part data_lawful (λ x. refl) h n f (λ b x e here. tt)
+
+cursor_keeps : (q : Pointer → Type 0) (h : Held) (n : ℕ) (f : Cursor → Cursor) → Keeps q h (on_cursor h n f)
+cursor_keeps q h n f = part_keeps q cursor_part cursor_lawful (λ x. refl) h n f (λ b x e here. tt)
+
+journal_keeps : (q : Pointer → Type 0) (h : Held) (n : ℕ) (f : JournalList → JournalList) → Keeps q h (on_journal h n f)
+journal_keeps q h n f = part_keeps q journal_part journal_lawful (λ x. refl) h n f (λ b x e here. tt)
+
+logged_in_keeps : (q : Pointer → Type 0) (s : State) (p block : ℕ) (change : UnitChange) (journal : Option ℕ) → Keeps q s.held (logged_in s p block change journal).held
+logged_in_keeps q s p block change None = keeps_same q s.held
+logged_in_keeps q s p block change (Some journal) = journal_keeps q s.held journal _
+
+logged_keeps : (q : Pointer → Type 0) (s : State) (p block : ℕ) (change : UnitChange) → Keeps q s.held (logged s p block change).held
+unfolding logged
+logged_keeps q s p block change = logged_in_keeps q s p block change (journal_for s.held change.space.0)
+
+end_keeps : (q : Pointer → Type 0) (h : Held) (journal : Option ℕ) (entry : Entry) → Keeps q h (end_written h journal entry)
+end_keeps q h None entry = keeps_same q h
+end_keeps q h (Some journal) entry = journal_keeps q h journal (with_entry entry)
+
+undone_keeps : (q : Pointer → Type 0) (changes : List UnitChange) (h : Held) → Keeps q h (all_undone h changes)
+unfolding all_undone
+undone_keeps q [] h = keeps_same q h
+undone_keeps q (change ∷ newer) h =
+    keeps_then q h (all_undone h newer) _ (undone_keeps q newer h) (data_keeps q (all_undone h newer) change.space.0 (over_table (put_back change)))
+
+committed_keeps : (q : Pointer → Type 0) (s : State) (p block : ℕ) (unit : Option CommitUnit) → Keeps q s.held (committed s p block unit).held
+committed_keeps q s p block None = keeps_same q s.held
+committed_keeps q s p block (Some unit) = end_keeps q s.held (journal_for_block s.held block) (end_entry entry_kinds.Commit p unit)
+
+decommitted_keeps : (q : Pointer → Type 0) (s : State) (p block : ℕ) (unit : Option CommitUnit) → Keeps q s.held (decommitted s p block unit).held
+decommitted_keeps q s p block None = keeps_same q s.held
+decommitted_keeps q s p block (Some unit) =
+    keeps_then q s.held (all_undone s.held unit.changes) _ (undone_keeps q unit.changes s.held)
+        (end_keeps q (all_undone s.held unit.changes) (journal_for_block s.held block) (end_entry entry_kinds.Decommit p unit))
+
+-- the units of a process that are taken back
+pub all_decommitted_keeps : (q : Pointer → Type 0) (units : UnitMap) (s : State) (p : ℕ) → Keeps q s.held (all_decommitted s p units).held
+unfolding all_decommitted
+all_decommitted_keeps q [] s p = keeps_same q s.held
+all_decommitted_keeps q (e ∷ units) s p = by (e.1.process == p)
+  where
+    by : (own : Bool) → Keeps q s.held (all_decommitted (cond own (decommitted s p e.0 (Some e.1)) s) p units).held
+    by true = keeps_then q s.held (decommitted s p e.0 (Some e.1)).held _ (decommitted_keeps q s p e.0 (Some e.1)) (all_decommitted_keeps q units (decommitted s p e.0 (Some e.1)) p)
+    by false = all_decommitted_keeps q units s p
 
 pub destruction_keeps : (q : Pointer → Type 0) (h : Held) (ops : List Operand) → Keeps q h (destruction_changes h ops)
 unfolding destruction_changes
@@ -247,17 +311,31 @@ indexes_plain q Rmvinxen other = λ s p d t of asked. (part_keeps q index_part i
 indexes_plain q _ other = λ s p d t of asked. (keeps_same q s.held, tt)
 
 data_spaces_plain : (q : Pointer → Type 0) (op : Op) → makes_or_gives op ≡ false → PlainRow q (data_spaces_row op)
-unfolding data_spaces_row setcr_changes insdsen_changes updsen_changes deldsen_changes retdsen_gives
+unfolding data_spaces_row setcr_changes insdsen_changes current_changes retdsen_gives
 data_spaces_plain q Crtds other = cc
 data_spaces_plain q Crtcr other = cc
 data_spaces_plain q Desds other = λ s p d t of asked. (destruction_keeps q s.held t.operands, tt)
 data_spaces_plain q Descr other = λ s p d t of asked. (destruction_keeps q s.held t.operands, tt)
-data_spaces_plain q Setcr other = λ s p d t of asked. (part_keeps q cursor_part cursor_lawful (λ x. refl) s.held (target s.held t.operands 1) _ (λ b x e here. tt), tt)
+data_spaces_plain q Setcr other = λ s p d t of asked. (cursor_keeps q s.held (target s.held t.operands 1) _, tt)
 data_spaces_plain q Insdsen other = λ s p d t of asked.
-    (keeps_then q s.held _ _ (part_keeps q data_part data_lawful (λ x. refl) s.held _ _ (λ b x e here. tt)) (part_keeps q cursor_part cursor_lawful (λ x. refl) _ (target s.held t.operands 1) _ (λ b x e here. tt)), tt)
-data_spaces_plain q Updsen other = λ s p d t of asked. (part_keeps q data_part data_lawful (λ x. refl) s.held _ _ (λ b x e here. tt), tt)
-data_spaces_plain q Deldsen other = λ s p d t of asked. (part_keeps q data_part data_lawful (λ x. refl) s.held _ _ (λ b x e here. tt), tt)
+    (keeps_then q s.held _ _ (logged_keeps q s p _ _) (keeps_then q _ _ _ (data_keeps q _ _ _) (cursor_keeps q _ (target s.held t.operands 1) _)), tt)
+data_spaces_plain q Updsen other = λ s p d t of asked. (keeps_then q s.held _ _ (logged_keeps q s p _ _) (data_keeps q _ _ _), tt)
+data_spaces_plain q Deldsen other = λ s p d t of asked. (keeps_then q s.held _ _ (logged_keeps q s p _ _) (data_keeps q _ _ _), tt)
 data_spaces_plain q _ other = λ s p d t of asked. (keeps_same q s.held, tt)
+
+journals_plain : (q : Pointer → Type 0) (op : Op) → makes_or_gives op ≡ false → PlainRow q (journals_row op)
+unfolding journals_row jrnlobj_changes ensobj_changes commit_changes decommit_changes retjent_gives
+journals_plain q Crtjs other = cc
+journals_plain q Crtjp other = cc
+journals_plain q Crtcb other = cc
+journals_plain q Desjs other = λ s p d t of asked. (destruction_keeps q s.held t.operands, tt)
+journals_plain q Desjp other = λ s p d t of asked. (destruction_keeps q s.held t.operands, tt)
+journals_plain q Descb other = λ s p d t of asked. (destruction_keeps q s.held t.operands, tt)
+journals_plain q Jrnlobj other = λ s p d t of asked. (keeps_then q s.held _ _ (data_keeps q s.held (target s.held t.operands 1) _) (ensured_keeps q _ (target s.held t.operands 1)), tt)
+journals_plain q Ensobj other = λ s p d t of asked. (ensured_keeps q s.held (target s.held t.operands 1), tt)
+journals_plain q Commit other = λ s p d t of asked. (committed_keeps q s p (target s.held t.operands 1) _, tt)
+journals_plain q Decommit other = λ s p d t of asked. (decommitted_keeps q s p (target s.held t.operands 1) _, tt)
+journals_plain q _ other = λ s p d t of asked. (keeps_same q s.held, tt)
 
 pub row_plain : (q : Pointer → Type 0) → IsClosed q → (f : Family) (op : Op) → makes_or_gives op ≡ false → PlainRow q (row_in f op)
 unfolding row_in
@@ -272,6 +350,7 @@ row_plain q closed families.Spaces op other = spaces_plain q op other
 row_plain q closed families.Queues op other = queues_plain q op other
 row_plain q closed families.Indexes op other = indexes_plain q op other
 row_plain q closed families.DataSpaces op other = data_spaces_plain q op other
+row_plain q closed families.Journals op other = journals_plain q op other
 row_plain q closed _ op other = λ s p d t of asked. (keeps_same q s.held, tt)
 
 effect_keeps : (q : Pointer → Type 0) → IsClosed q → (s : State) (p d : ℕ) (t : Request) → makes_or_gives t.op ≡ false → OfObjects q s.held.objects → All (OfOperand q) t.operands

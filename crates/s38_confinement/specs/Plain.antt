@@ -2,7 +2,7 @@
 -- pointer that did not stand in a space and was not asked with.
 use Rattle.std.specs.Prelude.{◌≡◌, ℕ, Bool, true, false, Option, Some, None}
 use Rattle.s38_base.specs.declared.op.Op.{Op}
-use Rattle.s38_base.specs.declared.op.Op.TheVariants.{Crtctx, Crtup, Modup, Desup, Grant, Retract, Xfro, Rslvsp, Setsppfp, Setspfp, Setdp, Crtcr, Crtds, Crtinx, Crtpg, Crtq, Crts}
+use Rattle.s38_base.specs.declared.op.Op.TheVariants.{Crtctx, Crtup, Modup, Desup, Grant, Retract, Xfro, Rslvsp, Setsppfp, Setspfp, Setdp, Crtcb, Crtcr, Crtds, Crtinx, Crtjp, Crtjs, Crtpg, Crtq, Crts}
 use Rattle.s38_base.specs.declared.pointer.Pointer.{Pointer}
 use Rattle.s38_rules.specs.declared.object.Object.{Object}
 use Rattle.s38_rules.specs.Headers.{special_of}
@@ -21,6 +21,9 @@ makes_or_gives Crtq = true
 makes_or_gives Crtinx = true
 makes_or_gives Crtds = true
 makes_or_gives Crtcr = true
+makes_or_gives Crtjs = true
+makes_or_gives Crtjp = true
+makes_or_gives Crtcb = true
 makes_or_gives Rslvsp = true
 makes_or_gives Setspfp = true
 makes_or_gives Setsppfp = true

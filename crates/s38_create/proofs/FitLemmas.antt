@@ -7,7 +7,6 @@ use Rattle.std.proofs.lemmas.List.Elements.{All-append, All-cons, All-nil, All-w
 use Rattle.std.proofs.lemmas.List.Folds.{list_all-map}
 use Rattle.s38_base.specs.declared.op.Op.{Op}
 use Rattle.s38_code.specs.Operations.{classes, made_kind, operand_rule}
-use Rattle.s38_create.specs.Built.{is_built}
 use Rattle.s38_base.specs.Exceptions as exceptions
 use Rattle.s38_words.specs.ProgramLine.{ActLine, act_of, rounds_right}
 use Rattle.s38_code.specs.declared.program.CreateFault.{CreateFault}
@@ -54,16 +53,15 @@ fits-parts rows op args h =
     (first.0, second.0, second.1)
 
 checked-fits : (rows : List Row) (code : List (List ℕ)) (number : ℕ) (op : Op) (round : Bool) (parsed : List ParsedOperand) (made : Instruction) →
-    is_built op ≡ true → rounds_right round op ≡ true →
+    rounds_right round op ≡ true →
     list_all (λ s. is_filled (arg_of s)) parsed ≡ true → list_all (λ s. lands_in (instruction_count code) (arg_of s)) parsed ≡ true →
     checked rows number op round parsed ≡ Ok made → InstructionFits rows (instruction_count code) made
-checked-fits rows code number op round parsed made built rounded filled lands h =
+checked-fits rows code number op round parsed made rounded filled lands h =
     let fine = unless-ok (cause_of rows (instruction_from op round parsed) (list_all is_declared parsed) (list_all is_placed parsed)) number (instruction_from op round parsed) made h in
     let held = cause_of-none rows (instruction_from op round parsed) (list_all is_declared parsed) (list_all is_placed parsed) fine.0 in
     let parts = fits-parts rows op (map arg_of parsed) held.0 in
     let P : Instruction → Type 0 = λ i. InstructionFits rows (instruction_count code) i in
     subst P fine.1 (record {
-      built = built;
       rounded = rounded;
       suited = record {
         classes = parts.0;
@@ -81,8 +79,7 @@ by_parsed-fits : (rows : List Row) (code : List (List ℕ)) (number : ℕ) (act 
 by_parsed-fits rows code number act made None is h = absurd (let e : Err (Bad exceptions.operands_invalid number) ≡ Ok made = h in cc)
 by_parsed-fits rows code number act made (Some parsed) is h =
     let taken = if-some (is_taken act) (parsed_from rows code [] (classes act.op) act.operands) parsed is in
-    let both = and-both (is_built act.op) (rounds_right act.round act.op) taken.0 in
-    checked-fits rows code number act.op act.round parsed made both.0 both.1
+    checked-fits rows code number act.op act.round parsed made taken.0
     (parsed_from-all (λ s. is_filled (arg_of s)) rows code [] (classes act.op) act.operands parsed
     (λ class word operand found. (parsed_operand-good rows code class word operand found).filled) refl taken.1)
     (parsed_from-all (λ s. lands_in (instruction_count code) (arg_of s)) rows code [] (classes act.op) act.operands parsed

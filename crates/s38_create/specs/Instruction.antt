@@ -3,7 +3,6 @@ use Rattle.std.specs.Prelude.{ℕ, ◌+◌, Bool, true, not, ◌&&◌, ◌==◌,
 use Rattle.std.specs.List.{list_all}
 use Rattle.s38_base.specs.declared.op.Op.{Op}
 use Rattle.s38_code.specs.Operations.{classes}
-use Rattle.s38_create.specs.Built.{is_built}
 use Rattle.s38_code.specs.declared.program.Arg.{Arg}
 use Rattle.s38_code.specs.declared.program.CreateFault.{CreateFault}
 use Rattle.s38_code.specs.declared.program.CreateFault.TheVariants.{Bad}
@@ -21,8 +20,9 @@ use Rattle.s38_words.specs.ProgramLine.{ActLine, act_of, rounds_right}
 
 -- ---- an instruction of words that its row may have
 
+-- `(R)` stands where it may alone
 abbrev pub is_taken : ActLine → Bool
-is_taken act = is_built act.op && rounds_right act.round act.op
+is_taken act = rounds_right act.round act.op
 
 -- the parsed operands of a line, where it has those of the row
 abbrev pub parsed_of : List Row → List (List ℕ) → ActLine → Option (List ParsedOperand)

@@ -1,4 +1,3 @@
-pub mod Built
 pub mod Checked
 pub mod Created
 pub mod Instruction

@@ -2,7 +2,6 @@
 use Rattle.std.specs.Prelude.{◌≤◌, ℕ, IsTrue, List, length}
 use Rattle.std.specs.List.{All, list_all}
 use Rattle.s38_code.specs.Operations.{made_kind}
-use Rattle.s38_create.specs.Built.{is_built}
 use Rattle.s38_code.specs.declared.program.Instruction.{Instruction}
 use Rattle.s38_code.specs.declared.program.Program.{Program}
 use Rattle.s38_code.specs.declared.program.Row.{Row}
@@ -14,7 +13,6 @@ use Rattle.s38_odt.specs.Suited.{IsSuited}
 
 -- an instruction among so many, over these declarations
 pub record InstructionFits (rows : List Row) (count : ℕ) (instruction : Instruction) : Type 0 where
-  pub built : IsTrue (is_built instruction.op)
   pub rounded : IsTrue (rounds_right instruction.round instruction.op)
   -- its operands are of the classes of its row
   pub suited : IsSuited rows count instruction

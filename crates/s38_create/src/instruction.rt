@@ -6,7 +6,6 @@ ghost use Rattle.s38_words.specs.Views.{act_in};
 ghost use Rattle.s38_odt.specs.Labels.{instruction_count};
 ghost use Rattle.s38_create.specs.Parsed.{arg_of, is_declared, is_placed};
 
-use crate::built::is_built;
 use crate::causes::cause;
 use crate::operands::parsed_operands;
 use crate::parsed::{ParsedOperand, arg_of, is_declared, is_placed};
@@ -17,11 +16,11 @@ use s38_odt::is_label;
 use s38_words::{InstructionLine, instruction, rounds_right};
 use std::alloc::Global;
 
-/// This machine has the instruction, and `(R)` stands in its line only where it may.
+/// `(R)` stands in its line only where it may.
 fn is_taken(act: InstructionLine<'_>) -> bool
     ensures { result ≡ is_taken (act_in act.entry) }
 {
-    is_built(act.op) && rounds_right(act.round, act.op)
+    rounds_right(act.round, act.op)
 }
 
 /// The parsed operands of a line; None where they are not those of the row.

@@ -2,7 +2,6 @@
 #![tactic(auto)]
 
 mod attributes;
-mod built;
 mod by_class;
 mod causes;
 mod check;

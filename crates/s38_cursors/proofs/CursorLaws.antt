@@ -17,7 +17,7 @@ use Rattle.s38_changes.proofs.KeptLaws.{IsUnkept, part_unkept}
 use Rattle.s38_rules.specs.declared.cursor.Cursor.{Cursor}
 use Rattle.s38_rules.specs.declared.data_body.DataBody.{DataBody}
 use Rattle.s38_rules.specs.Creation.{creation_fails}
-use Rattle.s38_rules.specs.DataSpaces.{created_cursor, created_data_space, crtcr_fails, crtds_fails, cursor_of, deldsen_fails, insdsen_fails, standing, table_of, updsen_fails}
+use Rattle.s38_rules.specs.DataSpaces.{created_cursor, created_data_space, crtcr_fails, crtds_fails, current_fails, cursor_of, entry_rule, insdsen_fails, standing, table_of, updsen_fails}
 use Rattle.s38_rules.specs.Held.{Held}
 use Rattle.s38_rules.specs.Kept.{Mirrors}
 use Rattle.s38_rules.specs.Operands.{bytes_at}
@@ -39,6 +39,10 @@ unfolding crtcr_fails
 crtcr_created s p ops h = (None, h)
 
 -- ---- images and seeks
+
+-- there are no more ordinals than bytes of the image
+pub ordinals_few : (fields : List Attr) (ordinals : ℕ) → image_size fields ordinals ≤ 16777216 → ordinals ≤ 16777216
+ordinals_few fields ordinals small = omega (arith, small, grind arith {ordinals ≤ ordinals * (1 + entry_len fields)})
 
 -- an image grows by a byte and an entry
 pub image_grown : (fields : List Attr) (ordinals : ℕ) → image_size fields (ordinals + 1) ≡ image_size fields ordinals + (1 + entry_len fields)
@@ -83,23 +87,35 @@ is_there (Some bytes) h = refl
 deleted_there : (table : DataTable) (at : ℕ) → is_none (entry_at table.entries at) ≡ false → delete_refusal table at ≡ None
 deleted_there table at there = rw (is_there (entry_at table.entries at) there) refl
 
-pub insdsen_met : (s : State) (ops : List Operand) → insdsen_fails s ops ≡ None → have_values (table_of s.held ops 1).fields (bytes_at s.held ops 2) ≡ true
+-- the rule of an entry was met
+entry_met : (fields : List Attr) (h : Held) (ops : List Operand) → entry_rule fields h ops ≡ None
+    → ((length (bytes_at h ops 2) == entry_len fields) ≡ true) × (have_values fields (bytes_at h ops 2) ≡ true)
+entry_met fields h ops none =
+    let parts = first_none _ _ none in
+    (not_false _ (fails_none _ _ _ parts.0), not_false _ (fails_none _ _ _ parts.1))
+
+pub insdsen_met : (s : State) (p : ℕ) (ops : List Operand) → insdsen_fails s p ops ≡ None → have_values (table_of s.held ops 1).fields (bytes_at s.held ops 2) ≡ true
 unfolding insdsen_fails
-insdsen_met s ops none = not_false _ (fails_none _ _ _ (first_none _ _ (first_none _ _ none).0).1)
+insdsen_met s p ops none = (entry_met (table_of s.held ops 1).fields s.held ops (first_none _ _ none).0).1
 
-pub updsen_valued : (h : Held) (ops : List Operand) → updsen_fails h ops ≡ None → have_values (table_of h ops 1).fields (bytes_at h ops 2) ≡ true
+pub updsen_valued : (s : State) (p : ℕ) (ops : List Operand) → updsen_fails s p ops ≡ None → have_values (table_of s.held ops 1).fields (bytes_at s.held ops 2) ≡ true
 unfolding updsen_fails
-updsen_valued h ops none = not_false _ (fails_none _ _ _ (first_none _ _ (first_none _ _ none).0).1)
+updsen_valued s p ops none = (entry_met (table_of s.held ops 1).fields s.held ops (first_none _ _ none).0).1
 
-pub updsen_met : (h : Held) (ops : List Operand) → updsen_fails h ops ≡ None → update_refusal (table_of h ops 1) (cursor_of h ops 1).position (bytes_at h ops 2) ≡ None
+-- the entry at which the cursor stands is there
+pub current_met : (s : State) (p : ℕ) (ops : List Operand) (entry : Entry) → current_fails s p ops entry ≡ None → delete_refusal (table_of s.held ops 1) (cursor_of s.held ops 1).position ≡ None
+unfolding current_fails
+current_met s p ops entry none = deleted_there (table_of s.held ops 1) (cursor_of s.held ops 1).position (fails_none _ _ _ (first_none _ _ none).0)
+
+pub updsen_met : (s : State) (p : ℕ) (ops : List Operand) → updsen_fails s p ops ≡ None → update_refusal (table_of s.held ops 1) (cursor_of s.held ops 1).position (bytes_at s.held ops 2) ≡ None
 unfolding updsen_fails
-updsen_met h ops none =
-    let long : (length (bytes_at h ops 2) == entry_len (table_of h ops 1).fields) ≡ true = not_false _ (fails_none _ _ _ (first_none _ _ (first_none _ _ none).0).0) in
-    rw long (deleted_there (table_of h ops 1) (cursor_of h ops 1).position (fails_none _ _ _ (first_none _ _ none).1))
+updsen_met s p ops none =
+    let parts = first_none _ _ none in
+    rw (entry_met (table_of s.held ops 1).fields s.held ops parts.0).0 (current_met s p ops (Some (bytes_at s.held ops 2)) parts.1)
 
-pub deldsen_met : (h : Held) (ops : List Operand) → deldsen_fails h ops ≡ None → delete_refusal (table_of h ops 1) (cursor_of h ops 1).position ≡ None
-unfolding deldsen_fails
-deldsen_met h ops none = deleted_there (table_of h ops 1) (cursor_of h ops 1).position (fails_none _ _ _ none)
+pub updsen_current : (s : State) (p : ℕ) (ops : List Operand) → updsen_fails s p ops ≡ None → current_fails s p ops (Some (bytes_at s.held ops 2)) ≡ None
+unfolding updsen_fails
+updsen_current s p ops none = (first_none _ _ none).1
 
 -- ---- what is kept of users
 

@@ -1,9 +1,8 @@
 //! What is changed of cursors and of the entries of data spaces, by number.
 ghost use Rattle.std.specs.Prelude.{◌≡◌, None, Some, IfOk, IsTrue, OnErr, OnOk};
 ghost use Rattle.s38_dataspaces.specs.Refusals.{delete_refusal, update_refusal};
-ghost use Rattle.s38_dataspaces.specs.Table.{changed, inserted};
 ghost use Rattle.s38_dataspaces.specs.Values.{have_values};
-ghost use Rattle.s38_rules.specs.DataSpaces.{at_position, moved_to, next_ordinal};
+ghost use Rattle.s38_rules.specs.DataSpaces.{at_position, moved_to, next_ordinal, with_changed, with_inserted};
 ghost use Rattle.s38_rules.specs.Parts.{on_cursor, on_table, over_table, table_at};
 
 use s38_base::{NoMemory, ObjNum};
@@ -42,7 +41,7 @@ pub fn stand_at(world: &mut World<Objects>, number: ObjNum, to: Option<u32>)
 fn insert(body: &mut DataBody, entry: &[u8]) -> Result<u32, NoMemory>
     requires { IsTrue (have_values body.old.space.fields entry.now) }
     ensures ordinal { IfOk result (λ at. at ≡ next_ordinal body.old.space) }
-    ensures ok { OnOk result (body.new ≡ over_table (λ table. inserted table entry.now) body.old) }
+    ensures ok { OnOk result (body.new ≡ over_table (with_inserted entry.now) body.old) }
     ensures err { OnErr result (body.new ≡ body.old) }
 {
     match body.space.insert(entry) {
@@ -55,7 +54,7 @@ fn insert(body: &mut DataBody, entry: &[u8]) -> Result<u32, NoMemory>
 fn insert_in(objects: &mut Objects, number: ObjNum, entry: &[u8]) -> Result<u32, NoMemory>
     requires { IsTrue (have_values (table_at objects.old number.0).fields entry.now) }
     ensures ordinal { IfOk result (λ at. at ≡ next_ordinal (table_at objects.old number.0)) }
-    ensures ok { OnOk result (objects.new ≡ on_table objects.old number.0 (λ table. inserted table entry.now)) }
+    ensures ok { OnOk result (objects.new ≡ on_table objects.old number.0 (with_inserted entry.now)) }
     ensures err { OnErr result (objects.new ≡ objects.old) }
 {
     let Some(body) = objects.data_space_mut(number) else {
@@ -68,7 +67,7 @@ fn insert_in(objects: &mut Objects, number: ObjNum, entry: &[u8]) -> Result<u32,
 pub fn insert_at(world: &mut World<Objects>, number: ObjNum, entry: &[u8]) -> Result<u32, NoMemory>
     requires { IsTrue (have_values (table_at world.old.held number.0).fields entry.now) }
     ensures ordinal { IfOk result (λ at. at ≡ next_ordinal (table_at world.old.held number.0)) }
-    ensures ok { OnOk result (world.new ≡ record world.old { held = on_table world.old.held number.0 (λ table. inserted table entry.now) }) }
+    ensures ok { OnOk result (world.new ≡ record world.old { held = on_table world.old.held number.0 (with_inserted entry.now) }) }
     ensures err { OnErr result (world.new ≡ world.old) }
 {
     match insert_in(&mut world.objects, number, entry) {
@@ -82,7 +81,7 @@ pub fn insert_at(world: &mut World<Objects>, number: ObjNum, entry: &[u8]) -> Re
 fn update(body: &mut DataBody, at: u32, entry: &[u8])
     requires fits { update_refusal body.old.space at entry.now ≡ None }
     requires values { IsTrue (have_values body.old.space.fields entry.now) }
-    ensures { body.new ≡ over_table (λ table. changed table at (Some entry.now)) body.old }
+    ensures { body.new ≡ over_table (with_changed at (Some entry.now)) body.old }
 {
     match body.space.update(at, entry) {
         Ok(()) => {}
@@ -94,7 +93,7 @@ fn update(body: &mut DataBody, at: u32, entry: &[u8])
 fn update_in(objects: &mut Objects, number: ObjNum, at: u32, entry: &[u8])
     requires fits { update_refusal (table_at objects.old number.0) at entry.now ≡ None }
     requires values { IsTrue (have_values (table_at objects.old number.0).fields entry.now) }
-    ensures { objects.new ≡ on_table objects.old number.0 (λ table. changed table at (Some entry.now)) }
+    ensures { objects.new ≡ on_table objects.old number.0 (with_changed at (Some entry.now)) }
 {
     if let Some(body) = objects.data_space_mut(number) {
         update(body, at, entry);
@@ -105,7 +104,7 @@ fn update_in(objects: &mut Objects, number: ObjNum, at: u32, entry: &[u8])
 pub fn update_at(world: &mut World<Objects>, number: ObjNum, at: u32, entry: &[u8])
     requires fits { update_refusal (table_at world.old.held number.0) at entry.now ≡ None }
     requires values { IsTrue (have_values (table_at world.old.held number.0).fields entry.now) }
-    ensures { world.new ≡ record world.old { held = on_table world.old.held number.0 (λ table. changed table at (Some entry.now)) } }
+    ensures { world.new ≡ record world.old { held = on_table world.old.held number.0 (with_changed at (Some entry.now)) } }
 {
     update_in(&mut world.objects, number, at, entry);
 }
@@ -114,7 +113,7 @@ pub fn update_at(world: &mut World<Objects>, number: ObjNum, at: u32, entry: &[u
 
 fn delete(body: &mut DataBody, at: u32)
     requires { delete_refusal body.old.space at ≡ None }
-    ensures { body.new ≡ over_table (λ table. changed table at None) body.old }
+    ensures { body.new ≡ over_table (with_changed at None) body.old }
 {
     match body.space.delete(at) {
         Ok(()) => {}
@@ -125,7 +124,7 @@ fn delete(body: &mut DataBody, at: u32)
 /// No entry stands any more under an ordinal of the data space of a number.
 fn delete_in(objects: &mut Objects, number: ObjNum, at: u32)
     requires { delete_refusal (table_at objects.old number.0) at ≡ None }
-    ensures { objects.new ≡ on_table objects.old number.0 (λ table. changed table at None) }
+    ensures { objects.new ≡ on_table objects.old number.0 (with_changed at None) }
 {
     if let Some(body) = objects.data_space_mut(number) {
         delete(body, at);
@@ -135,7 +134,7 @@ fn delete_in(objects: &mut Objects, number: ObjNum, at: u32)
 /// The same, among the objects of a world.
 pub fn delete_at(world: &mut World<Objects>, number: ObjNum, at: u32)
     requires { delete_refusal (table_at world.old.held number.0) at ≡ None }
-    ensures { world.new ≡ record world.old { held = on_table world.old.held number.0 (λ table. changed table at None) } }
+    ensures { world.new ≡ record world.old { held = on_table world.old.held number.0 (with_changed at None) } }
 {
     delete_in(&mut world.objects, number, at);
 }

@@ -6,9 +6,9 @@ ghost use Rattle.s38_rules.specs.DataSpaces.{data_spaces_row, through_cursor};
 use crate::creation::{
     created_cursor, created_data_space, crtcr, crtcr_fails, crtcr_needs, crtds, crtds_fails,
 };
-use crate::entries::{
-    deldsen, deldsen_fails, insdsen, insdsen_fails, retdsen_fails, retdsen_gives, updsen,
-    updsen_fails,
+use crate::entries::{deldsen, insdsen, retdsen_gives, updsen};
+use crate::entry_rules::{
+    current_fails, desds_fails, insdsen_fails, retdsen_fails, updsen_fails,
 };
 use crate::reads::cursor_of;
 use crate::seeking::{setcr, setcr_fails};
@@ -111,10 +111,11 @@ pub fn conditions(
         Op::Crtds => crtds_fails(world, process, operands),
         Op::Crtcr => crtcr_fails(world, process, operands),
         Op::Setcr => setcr_fails(objects, operands),
-        Op::Insdsen => insdsen_fails(world, operands),
-        Op::Retdsen => retdsen_fails(objects, operands),
-        Op::Updsen => updsen_fails(objects, operands),
-        Op::Deldsen => deldsen_fails(objects, operands),
+        Op::Desds => desds_fails(world, operands),
+        Op::Insdsen => insdsen_fails(world, process, operands),
+        Op::Retdsen => retdsen_fails(world, process, operands),
+        Op::Updsen => updsen_fails(world, process, operands),
+        Op::Deldsen => current_fails(world, process, operands, 0),
         _ => None,
     }
 }
@@ -167,12 +168,9 @@ pub fn apply(
             setcr(world, operands);
             Ok(())
         }
-        Op::Insdsen => insdsen(alloc, world, operands),
-        Op::Updsen => updsen(alloc, world, operands),
-        Op::Deldsen => {
-            deldsen(world, operands);
-            Ok(())
-        }
+        Op::Insdsen => insdsen(alloc, world, process, operands),
+        Op::Updsen => updsen(alloc, world, process, operands),
+        Op::Deldsen => deldsen(alloc, world, process, operands),
         _ => Ok(()),
     }
 }

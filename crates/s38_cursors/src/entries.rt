@@ -1,82 +1,88 @@
 //! Entries inserted, read, updated and deleted where a cursor stands.
-ghost use Rattle.std.specs.Prelude.{◌≡◌, None, IfOk, OnErr, OnOk};
-ghost use Rattle.std.specs.Option.{option_copied, unwrap_or};
-ghost use Rattle.s38_base.specs.Signals.{first};
-ghost use Rattle.s38_rules.specs.DataSpaces.{current, deldsen_changes, deldsen_fails, entry_or_none, entry_rule, insdsen_changes, insdsen_fails, position_rule, retdsen_fails, retdsen_gives, room_rule, table_of, updsen_changes, updsen_fails};
-ghost use Rattle.s38_rules.specs.Parts.{no_table};
+ghost use Rattle.std.specs.Prelude.{◌≡◌, None, Some, IfOk, OnErr, OnOk};
+ghost use Rattle.std.specs.Option.{option_copied};
+ghost use Rattle.s38_dataspaces.specs.Entries.{entry_at};
+ghost use Rattle.s38_rules.specs.Changing.{change_of, logged};
+ghost use Rattle.s38_rules.specs.DataSpaces.{change_at, current_changes, current_fails, cursor_of, entry_or_none, insdsen_changes, insdsen_fails, insertion, next_ordinal, retdsen_gives, table_of, updsen_fails, with_inserted};
+ghost use Rattle.s38_rules.specs.Journaling.{journal_for};
+ghost use Rattle.s38_rules.specs.Operands.{bytes_at};
+ghost use Rattle.s38_rules.specs.Parts.{on_table, table_at};
 
 use crate::changes::{delete_at, insert_at, stand_at, update_at};
-use crate::reads::{cursor_of, entry_in, entry_len_in, fields_in, grown_image_in, table_of};
-use s38_base::exceptions::{DECIMAL_DATA, LENGTH_INVALID, LIMIT_EXCEEDED, POSITION_EMPTY};
-use s38_base::{Exception, NoMemory};
+use crate::entry_rules::current;
+use crate::insertion::insert_logged;
+use crate::reads::{cursor_of, next_ordinal_in, standing_in, table_of};
+use s38_base::{Bytes, NoMemory, ObjNum};
 use s38_code::{Operand, Val};
-use s38_dataspaces::DataSpace;
+use s38_commits::UnitChange;
 use s38_invoke::World;
 use s38_objects::Objects;
-use s38_operands::{fails, fitted, have_values_at, piece_at, room_at, size_at, target};
+use s38_operands::{fitted, piece_at, room_at, target};
+use s38_rules::Cursor;
+use s38_units::{journal_for, log_change};
 use std::alloc::Global;
 
-// ---- what an entry must be
-
-/// The bytes of operand 2 have the length of the fields, and each numeric field has a value.
-fn entry_rule(
-    table: Option<&DataSpace>,
-    objects: &Objects,
-    operands: &[Operand],
-) -> Option<Exception>
-    ensures { result ≡ entry_rule (unwrap_or (option_copied table.entry) no_table).fields objects.now operands.now }
+/// The bytes of an entry, if there is one, as a change keeps them.
+fn kept(alloc: Global, entry: Option<&[u8]>) -> Result<Option<Bytes>, NoMemory>
+    ensures { IfOk result (λ kept. kept ≡ option_copied entry.entry) }
 {
-    if size_at(objects, operands, 2) != entry_len_in(table) {
-        return Some(Exception::plain(LENGTH_INVALID, 2));
+    match entry {
+        Some(entry) => match Bytes::from_slice(alloc, entry) {
+            Ok(bytes) => Ok(Some(bytes)),
+            Err(fault) => Err(fault),
+        },
+        None => Ok(None),
     }
-    let have_values = have_values_at(objects, operands, 2, fields_in(table));
-    fails(!have_values, DECIMAL_DATA, 2)
-}
-
-/// One entry more stays within the limit of a body.
-fn room_rule(limit: u32, table: Option<&DataSpace>) -> Option<Exception>
-    ensures { result ≡ room_rule limit (unwrap_or (option_copied table.entry) no_table) }
-{
-    fails(limit < grown_image_in(table), LIMIT_EXCEEDED, 0)
-}
-
-/// The entry at which the cursor of an operand stands.
-fn current<'a>(objects: &'a Objects, operands: &[Operand], k: usize) -> Option<&'a [u8]>
-    ensures { option_copied result ≡ current objects.now operands.now k }
-{
-    let position = cursor_of(objects, operands, k).position;
-    entry_in(table_of(objects, operands, k), position)
-}
-
-/// The cursor stands at an entry.
-fn position_rule(objects: &Objects, operands: &[Operand], k: u8) -> Option<Exception>
-    ensures { result ≡ position_rule objects.now operands.now k }
-{
-    fails(
-        current(objects, operands, usize::from(k)).is_none(),
-        POSITION_EMPTY,
-        k,
-    )
 }
 
 // ---- INSDSEN
 
-/// It is an entry of the data space, and the image stays small.
-fn insert_rule(limit: u32, objects: &Objects, operands: &[Operand]) -> Option<Exception>
-    ensures { result ≡ first (entry_rule (table_of objects.now operands.now 1).fields objects.now operands.now) (room_rule limit (table_of objects.now operands.now 1)) }
+/// The change that an insertion makes.
+fn insertion(
+    alloc: Global,
+    objects: &Objects,
+    operands: &[Operand],
+    entry: &[u8],
+) -> Result<UnitChange, NoMemory>
+    requires { entry.now ≡ bytes_at objects.now operands.now 2 }
+    ensures { IfOk result (λ change. change ≡ insertion objects.now operands.now) }
 {
-    let table = table_of(objects, operands, 1);
-    if let Some(failure) = entry_rule(table, objects, operands) {
-        return Some(failure);
-    }
-    room_rule(limit, table)
+    Ok(UnitChange {
+        space: cursor_of(objects, operands, 1).space,
+        at: next_ordinal_in(table_of(objects, operands, 1)),
+        before: None,
+        after: kept(alloc, Some(entry))?,
+    })
 }
 
-#[tactic(auto, unfolding(s38_rules::specs::DataSpaces::insdsen_fails))]
-pub fn insdsen_fails(world: &World<Objects>, operands: &[Operand]) -> Option<Exception>
-    ensures { result ≡ insdsen_fails world.now operands.now }
+/// The entry stands under the next ordinal of a journaled data space, and the change is logged; where memory is refused
+/// nothing changes.
+#[tactic(auto, unfolding(s38_rules::specs::DataSpaces::insdsen_fails, s38_rules::specs::Changing::logged))]
+fn insert_journaled(
+    alloc: Global,
+    world: &mut World<Objects>,
+    process: u32,
+    operands: &[Operand],
+    journal: ObjNum,
+    entry: &[u8],
+) -> Result<u32, NoMemory>
+    requires fails { insdsen_fails world.old process operands.now ≡ None }
+    requires entry { entry.now ≡ bytes_at world.old.held operands.now 2 }
+    requires journal { journal_for world.old.held (cursor_of world.old.held operands.now 1).space.0 ≡ Some journal.0 }
+    ensures ordinal { IfOk result (λ at. at ≡ next_ordinal (table_of world.old.held operands.now 1)) }
+    ensures ok { OnOk result (world.new ≡ record (logged world.old process (cursor_of world.old.held operands.now 1).block.0 (insertion world.old.held operands.now)) {
+        held = on_table (logged world.old process (cursor_of world.old.held operands.now 1).block.0 (insertion world.old.held operands.now)).held (cursor_of world.old.held operands.now 1).space.0 (with_inserted entry.now) }) }
+    ensures err { OnErr result (world.new ≡ world.old) }
 {
-    insert_rule(world.limit, &world.objects, operands)
+    let cursor = cursor_of(&world.objects, operands, 1);
+    let change = match insertion(alloc, &world.objects, operands, entry) {
+        Ok(change) => change,
+        Err(fault) => return Err(fault),
+    };
+    match insert_logged(world, process, cursor.block, journal, &change, entry) {
+        Ok(()) => Ok(change.at),
+        Err(fault) => Err(fault),
+    }
 }
 
 /// The entry stands under the next ordinal, and so does the cursor; where memory is refused nothing changes.
@@ -84,10 +90,11 @@ pub fn insdsen_fails(world: &World<Objects>, operands: &[Operand]) -> Option<Exc
 pub fn insdsen(
     alloc: Global,
     world: &mut World<Objects>,
+    process: u32,
     operands: &[Operand],
 ) -> Result<(), NoMemory>
-    requires { insdsen_fails world.old operands.now ≡ None }
-    ensures ok { OnOk result (world.new ≡ record world.old { held = insdsen_changes world.old.held operands.now }) }
+    requires { insdsen_fails world.old process operands.now ≡ None }
+    ensures ok { OnOk result (world.new ≡ insdsen_changes world.old process operands.now) }
     ensures err { OnErr result (world.new ≡ world.old) }
 {
     let number = target(&world.objects, operands, 1);
@@ -96,7 +103,11 @@ pub fn insdsen(
         Ok(entry) => entry,
         Err(fault) => return Err(fault),
     };
-    match insert_at(world, space, entry.as_slice()) {
+    let inserted = match journal_for(&world.objects, space) {
+        None => insert_at(world, space, entry.as_slice()),
+        Some(journal) => insert_journaled(alloc, world, process, operands, journal, entry.as_slice()),
+    };
+    match inserted {
         Ok(ordinal) => {
             stand_at(world, number, Some(ordinal));
             Ok(())
@@ -106,14 +117,6 @@ pub fn insdsen(
 }
 
 // ---- RETDSEN
-
-/// The cursor stands at an entry.
-#[tactic(auto, unfolding(s38_rules::specs::DataSpaces::retdsen_fails))]
-pub fn retdsen_fails(objects: &Objects, operands: &[Operand]) -> Option<Exception>
-    ensures { result ≡ retdsen_fails objects.now operands.now }
-{
-    position_rule(objects, operands, 2)
-}
 
 fn entry_or_none(entry: Option<&[u8]>) -> &[u8]
     ensures { result.now ≡ entry_or_none (option_copied entry.entry) }
@@ -138,29 +141,62 @@ pub fn retdsen_gives(
     Ok(Val::Bytes(bytes))
 }
 
-// ---- UPDSEN
+// ---- a change of the entry at which a cursor stands
 
-/// It is an entry of the data space, and the cursor stands at one.
-#[tactic(auto, unfolding(s38_rules::specs::DataSpaces::updsen_fails))]
-pub fn updsen_fails(objects: &Objects, operands: &[Operand]) -> Option<Exception>
-    ensures { result ≡ updsen_fails objects.now operands.now }
+/// The change of an entry, which is there, to another one, or to none.
+fn change_of(
+    alloc: Global,
+    objects: &Objects,
+    cursor: &Cursor,
+    entry: Option<&[u8]>,
+) -> Result<UnitChange, NoMemory>
+    ensures { IfOk result (λ change. change ≡ change_of cursor.now.space.0 cursor.now.position (entry_at (table_at objects.now cursor.now.space.0).entries cursor.now.position) (option_copied entry.entry)) }
 {
-    let table = table_of(objects, operands, 1);
-    if let Some(failure) = entry_rule(table, objects, operands) {
-        return Some(failure);
-    }
-    position_rule(objects, operands, 1)
+    Ok(UnitChange {
+        space: cursor.space,
+        at: cursor.position,
+        before: kept(alloc, standing_in(objects, cursor.space, cursor.position))?,
+        after: kept(alloc, entry)?,
+    })
 }
 
+/// The change of the entry at which a cursor stands is logged where its data space is journaled; where memory is refused
+/// nothing changes.
+#[tactic(auto, unfolding(s38_rules::specs::DataSpaces::current_fails, s38_rules::specs::Changing::logged))]
+fn log_current(
+    alloc: Global,
+    world: &mut World<Objects>,
+    process: u32,
+    operands: &[Operand],
+    entry: Option<&[u8]>,
+) -> Result<(), NoMemory>
+    requires { current_fails world.old process operands.now (option_copied entry.entry) ≡ None }
+    ensures ok { OnOk result (world.new ≡ logged world.old process (cursor_of world.old.held operands.now 1).block.0 (change_at world.old.held operands.now (option_copied entry.entry))) }
+    ensures err { OnErr result (world.new ≡ world.old) }
+{
+    let cursor = cursor_of(&world.objects, operands, 1);
+    if journal_for(&world.objects, cursor.space).is_none() {
+        return Ok(());
+    }
+    let change = match change_of(alloc, &world.objects, &cursor, entry) {
+        Ok(change) => change,
+        Err(fault) => return Err(fault),
+    };
+    log_change(world, process, cursor.block, &change)
+}
+
+// ---- UPDSEN
+
 /// Another entry stands where the cursor does; where memory is refused nothing changes.
-#[tactic(auto, using(crate::proofs::CursorLaws::updsen_met, crate::proofs::CursorLaws::updsen_valued), unfolding(s38_rules::specs::DataSpaces::updsen_changes))]
+#[tactic(auto, using(crate::proofs::CursorLaws::updsen_met, crate::proofs::CursorLaws::updsen_valued), unfolding(s38_rules::specs::DataSpaces::current_changes))]
 pub fn updsen(
     alloc: Global,
     world: &mut World<Objects>,
+    process: u32,
     operands: &[Operand],
 ) -> Result<(), NoMemory>
-    requires { updsen_fails world.old.held operands.now ≡ None }
-    ensures ok { OnOk result (world.new ≡ record world.old { held = updsen_changes world.old.held operands.now }) }
+    requires { updsen_fails world.old process operands.now ≡ None }
+    ensures ok { OnOk result (world.new ≡ current_changes world.old process operands.now (Some (bytes_at world.old.held operands.now 2))) }
     ensures err { OnErr result (world.new ≡ world.old) }
 {
     let cursor = cursor_of(&world.objects, operands, 1);
@@ -168,26 +204,35 @@ pub fn updsen(
         Ok(entry) => entry,
         Err(fault) => return Err(fault),
     };
-    update_at(world, cursor.space, cursor.position, entry.as_slice());
-    Ok(())
+    match log_current(alloc, world, process, operands, Some(entry.as_slice())) {
+        Ok(()) => {
+            update_at(world, cursor.space, cursor.position, entry.as_slice());
+            Ok(())
+        }
+        Err(fault) => Err(fault),
+    }
 }
 
 // ---- DELDSEN
 
-/// The cursor stands at an entry.
-#[tactic(auto, unfolding(s38_rules::specs::DataSpaces::deldsen_fails))]
-pub fn deldsen_fails(objects: &Objects, operands: &[Operand]) -> Option<Exception>
-    ensures { result ≡ deldsen_fails objects.now operands.now }
-{
-    position_rule(objects, operands, 1)
-}
-
-/// The entry at which the cursor stands is there no more.
-#[tactic(auto, using(crate::proofs::CursorLaws::deldsen_met), unfolding(s38_rules::specs::DataSpaces::deldsen_changes))]
-pub fn deldsen(world: &mut World<Objects>, operands: &[Operand])
-    requires { deldsen_fails world.old.held operands.now ≡ None }
-    ensures { world.new ≡ record world.old { held = deldsen_changes world.old.held operands.now } }
+/// The entry at which the cursor stands is there no more; where memory is refused nothing changes.
+#[tactic(auto, using(crate::proofs::CursorLaws::deldsen_met), unfolding(s38_rules::specs::DataSpaces::current_changes))]
+pub fn deldsen(
+    alloc: Global,
+    world: &mut World<Objects>,
+    process: u32,
+    operands: &[Operand],
+) -> Result<(), NoMemory>
+    requires { current_fails world.old process operands.now None ≡ None }
+    ensures ok { OnOk result (world.new ≡ current_changes world.old process operands.now None) }
+    ensures err { OnErr result (world.new ≡ world.old) }
 {
     let cursor = cursor_of(&world.objects, operands, 1);
-    delete_at(world, cursor.space, cursor.position);
+    match log_current(alloc, world, process, operands, None) {
+        Ok(()) => {
+            delete_at(world, cursor.space, cursor.position);
+            Ok(())
+        }
+        Err(fault) => Err(fault),
+    }
 }

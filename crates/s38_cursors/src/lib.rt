@@ -6,5 +6,7 @@ mod changes;
 mod creation;
 pub mod cursors;
 mod entries;
+mod entry_rules;
+mod insertion;
 mod reads;
 mod seeking;

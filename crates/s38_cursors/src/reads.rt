@@ -2,10 +2,11 @@
 //! space as one without fields and entries.
 ghost use Rattle.std.specs.Prelude.{◌≡◌, ◌+◌, ◌≤◌, length};
 ghost use Rattle.std.specs.Option.{option_copied, unwrap_or};
+ghost use Rattle.s38_commits.specs.Changes.{entry_bytes};
 ghost use Rattle.s38_dataspaces.specs.Entries.{entry_at};
 ghost use Rattle.s38_dataspaces.specs.Seeks.{sought};
 ghost use Rattle.s38_dataspaces.specs.Table.{entry_len, image_size};
-ghost use Rattle.s38_rules.specs.DataSpaces.{cursor_of, standing, table_of};
+ghost use Rattle.s38_rules.specs.DataSpaces.{cursor_of, next_ordinal, standing, table_of};
 ghost use Rattle.s38_rules.specs.Parts.{cursor_at, no_table, table_at};
 
 use s38_base::{Attr, ObjNum, Seek};
@@ -95,6 +96,21 @@ pub fn grown_image_in(table: Option<&DataSpace>) -> u32
     image_len_in(table) + (1 + entry_len_in(table) as u32)
 }
 
+/// The ordinal of the next entry.
+#[tactic(auto, using(crate::proofs::CursorLaws::ordinals_few))]
+pub fn next_ordinal_in(table: Option<&DataSpace>) -> u32
+    ensures { result ≡ next_ordinal (unwrap_or (option_copied table.entry) no_table) }
+{
+    match table {
+        Some(table) => {
+            // Its contract says that there are not too many.
+            let _size = table.image_len();
+            table.ordinals() + 1
+        }
+        None => 1,
+    }
+}
+
 /// The entry of an ordinal; None where it is deleted, and where there is no such ordinal.
 pub fn entry_in(table: Option<&DataSpace>, at: u32) -> Option<&[u8]>
     ensures { option_copied result ≡ entry_at (unwrap_or (option_copied table.entry) no_table).entries at }
@@ -103,6 +119,29 @@ pub fn entry_in(table: Option<&DataSpace>, at: u32) -> Option<&[u8]>
         Some(table) => table.get(at),
         None => None,
     }
+}
+
+/// How many bytes the entry of an ordinal has; 0 where there is none.
+pub fn standing_len_in(table: Option<&DataSpace>, at: u32) -> usize
+    ensures len { result ≡ entry_bytes (entry_at (unwrap_or (option_copied table.entry) no_table).entries at) }
+    ensures bound { result ≤ 4096 }
+{
+    let Some(table) = table else {
+        return 0;
+    };
+    // Its contract says how long an entry is at most.
+    let _width = table.entry_len();
+    match table.get(at) {
+        Some(entry) => entry.len(),
+        None => 0,
+    }
+}
+
+/// The entry of an ordinal of the data space of a number.
+pub fn standing_in(objects: &Objects, space: ObjNum, at: u32) -> Option<&[u8]>
+    ensures { option_copied result ≡ entry_at (table_at objects.now space.0).entries at }
+{
+    entry_in(table_at(objects, space), at)
 }
 
 /// The ordinal of the entry that is sought.

@@ -1,10 +1,10 @@
 -- A data space is the attributes of its fields and its entries, all of the fields' length.
-use Rattle.std.specs.Prelude.{◌≡◌, ℕ, ◌+◌, ◌*◌, ◌≤◌, Bool, IsTrue, not, ◌&&◌, nat_le, List, length, sum_by}
+use Rattle.std.specs.Prelude.{◌≡◌, ℕ, ◌+◌, ◌*◌, ◌≤◌, ◌==◌, Bool, true, IsTrue, not, ◌&&◌, nat_le, Some, None, List, length, sum_by, if◌then◌else◌}
 use Rattle.std.specs.List.{list_all}
 use Rattle.s38_base.specs.Scalar.{is_bounded, is_pointer_attr, length_of}
 use Rattle.s38_base.specs.declared.attr.Attr.{Attr}
 use Rattle.s38_dataspaces.specs.Entries.{Entry, put_at, with_entry}
-use Rattle.s38_dataspaces.specs.Values.{is_proper}
+use Rattle.s38_dataspaces.specs.Values.{have_values, is_proper}
 
 -- its fields, its entries from ordinal 1 on, and how many further entries take no memory
 pub record DataTable : Type 0 where
@@ -37,6 +37,19 @@ inserted table entry = record table { spare = 0; entries = with_entry table.entr
 -- another entry under an ordinal, or None to delete it
 abbrev pub changed : DataTable → ℕ → Entry → DataTable
 changed table at entry = record table { entries = put_at table.entries at entry }
+
+-- an entry of these fields, or None: it has their length, and its numeric fields have values
+abbrev pub is_entry_of : List Attr → Entry → Bool
+is_entry_of fields None = true
+is_entry_of fields (Some entry) = (length entry == entry_len fields) && have_values fields entry
+
+-- what may be put back: an entry of the fields, or None, under an ordinal of the data space
+abbrev pub may_restore : DataTable → ℕ → Entry → Bool
+may_restore table at entry = (nat_le 1 at && nat_le at (length table.entries)) && is_entry_of table.fields entry
+
+-- an entry put back under an ordinal; what is no entry of the data space leaves it as it is
+abbrev pub restored : DataTable → ℕ → Entry → DataTable
+restored table at entry = if may_restore table at entry then changed table at entry else table
 
 -- a data space as it is kept: the width of its entries, the size of its image, and its entries
 pub record IsDataSpace (fields : List Attr) (width size : ℕ) (entries : List Entry) : Type 0 where

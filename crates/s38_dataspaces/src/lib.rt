@@ -7,10 +7,12 @@ mod records;
 mod seek;
 mod slots;
 mod space;
+mod values;
 
 pub use fault::EntryFault;
 pub use fields::are_fields;
 pub use space::DataSpace;
+pub use values::{have_values, is_valued};
 
 /// What is sent between threads.
 fn sends<T: Send + Sync>() {}

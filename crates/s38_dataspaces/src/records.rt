@@ -1,4 +1,4 @@
-ghost use Rattle.std.specs.Prelude.{◌≡◌, ◌≤◌, ◌<◌, [], Some, None, IfSome, IsErr, IsOk, OnOk, OnErr, length, map, is_some};
+ghost use Rattle.std.specs.Prelude.{◌≡◌, ◌==◌, ◌≤◌, ◌<◌, [], Some, None, IfSome, IsErr, IsOk, OnOk, OnErr, length, map, is_some, not};
 ghost use Rattle.std.specs.Option.{option_copied};
 ghost use Rattle.s38_dataspaces.specs.Entries.{entry_at, put_at, with_entry};
 
@@ -84,6 +84,20 @@ impl Records {
         }
         self.spare = 1;
         Ok(())
+    }
+
+    /// Whether one further entry takes no memory.
+    pub fn is_reserved(&self) -> bool
+        ensures { result ≡ not (self.now.spare == 0) }
+    {
+        self.spare != 0
+    }
+
+    /// Gives room up that was reserved; the memory stays.
+    pub fn release(&mut self)
+        ensures { self.new ≡ record self.old { spare = 0 } }
+    {
+        self.spare = 0;
     }
 
     /// Adds an entry under the next ordinal, without memory.

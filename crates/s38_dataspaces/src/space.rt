@@ -1,15 +1,17 @@
-ghost use Rattle.std.specs.Prelude.{◌==◌, IsOk, ◌≡◌, ◌+◌, ◌≤◌, ◌<◌, [], Some, None, IfErr, IfNone, IfOk, IfSome, IsErrOf, IsTrue, OnOk, OnErr, length, map, is_some};
+ghost use Rattle.std.specs.Bool.{OnTrue};
+ghost use Rattle.std.specs.Prelude.{◌==◌, ◌&&◌, IsOk, ◌≡◌, ◌+◌, ◌≤◌, ◌<◌, [], Some, None, IfErr, IfNone, IfOk, IfSome, IsErrOf, IsTrue, OnOk, OnErr, length, map, is_some, not};
 ghost use Rattle.std.specs.Option.{ForSome, option_copied, unwrap_or};
 ghost use Rattle.s38_dataspaces.specs.Entries.{entry_at};
 ghost use Rattle.s38_dataspaces.specs.Refusals.{delete_refusal, insert_refusal, update_refusal};
 ghost use Rattle.s38_dataspaces.specs.Seeks.{IsNowhere, IsSought, sought};
-ghost use Rattle.s38_dataspaces.specs.Table.{are_fields, changed, entry_len, image_size, inserted};
+ghost use Rattle.s38_dataspaces.specs.Table.{are_fields, changed, entry_len, image_size, inserted, may_restore, restored};
 ghost use Rattle.s38_dataspaces.specs.Values.{have_values};
 
 use crate::fault::EntryFault;
 use crate::fields::entry_len;
 use crate::records::Records;
 use crate::seek::sought;
+use crate::values::have_values;
 use s38_base::{AttrList, NoMemory, Seek};
 use std::alloc::Global;
 use std::marker::Model;
@@ -93,6 +95,20 @@ impl DataSpace {
         ensures room { 0 < self.old.spare → IsOk result }
     {
         self.records.reserve()
+    }
+
+    /// Whether the memory of one further entry is taken.
+    pub fn is_reserved(&self) -> bool
+        ensures { result ≡ not (self.now.spare == 0) }
+    {
+        self.records.is_reserved()
+    }
+
+    /// Gives room up that was reserved; the memory stays.
+    pub fn release(&mut self)
+        ensures { self.new ≡ record self.old { spare = 0 } }
+    {
+        self.records.release();
     }
 
     /// How many bytes an entry has.
@@ -197,14 +213,38 @@ impl DataSpace {
         Ok(())
     }
 
-    /// Puts an entry, or None for a deleted one, under an ordinal, whatever stands there, without memory.
-    pub fn restore(&mut self, at: u32, entry: Option<&[u8]>)
-        requires first { 1 ≤ at }
-        requires last { at ≤ length self.old.entries }
-        requires len { ForSome entry (λ bytes. length bytes.now ≡ entry_len self.old.fields) }
-        requires values { ForSome entry (λ bytes. IsTrue (have_values self.old.fields bytes.now)) }
-        ensures { self.new ≡ changed self.old at (option_copied entry.entry) }
+    /// Whether bytes may be an entry: they have the length of the fields, and each numeric field has a value.
+    fn is_entry(&self, entry: &[u8]) -> bool
+        ensures { result ≡ (length entry.now == entry_len self.now.fields) && have_values self.now.fields entry.now }
     {
+        self.has_length(entry) && have_values(self.fields.as_slice(), entry)
+    }
+
+    /// Whether an entry, or None, may be put back under an ordinal.
+    fn may_restore(&self, at: u32, entry: Option<&[u8]>) -> bool
+        ensures may { result ≡ may_restore self.now at (option_copied entry.entry) }
+        ensures first { OnTrue result (1 ≤ at) }
+        ensures last { OnTrue result (at ≤ length self.now.entries) }
+        ensures len { OnTrue result (ForSome entry.entry (λ bytes. length bytes.now ≡ entry_len self.now.fields)) }
+        ensures values { OnTrue result (ForSome entry.entry (λ bytes. IsTrue (have_values self.now.fields bytes.now))) }
+    {
+        if at == 0 || at > self.ordinals() {
+            return false;
+        }
+        match entry {
+            Some(bytes) => self.is_entry(bytes),
+            None => true,
+        }
+    }
+
+    /// Puts an entry, or None for a deleted one, under an ordinal, whatever stands there, without memory. What is no
+    /// entry of the data space, for its ordinal, its length or its numeric fields, leaves it as it is.
+    pub fn restore(&mut self, at: u32, entry: Option<&[u8]>)
+        ensures { self.new ≡ restored self.old at (option_copied entry.entry) }
+    {
+        if !self.may_restore(at, entry) {
+            return;
+        }
         match entry {
             Some(bytes) => self.records.put(at as usize, bytes),
             None => self.records.clear(at as usize),

@@ -3,7 +3,7 @@ ghost use Rattle.std.specs.Prelude.{◌≡◌, ◌+◌, ◌<◌, ◌^◌, true, 
 ghost use Rattle.std.specs.Option.{option_map};
 ghost use Rattle.s38_base.specs.Limits.{last_operand, machine_context};
 ghost use Rattle.s38_rules.specs.declared.process.ProcessEntry.{ProcessEntry};
-ghost use Rattle.s38_rules.specs.Effect.{end_at, in_machine, numbers_of, start_at, started_as};
+ghost use Rattle.s38_rules.specs.Effect.{ended_at, in_machine, numbers_of, start_at, started_as};
 ghost use Rattle.s38_rules.specs.Held.{number_found};
 ghost use Rattle.s38_rules.specs.State.{process_entry};
 ghost use Rattle.s38_rules.specs.Verdict.{absent, absent_context, context_id, profile_id, start_failure};
@@ -162,9 +162,9 @@ pub fn start<T: Table>(alloc: Global, world: &mut World<T>, process: u32) -> Res
     }
 }
 
-/// A process has ended, and holds no lock any more.
+/// A process that has no unit of changes has ended, and holds no lock any more.
 pub fn end<T: Table>(world: &mut World<T>, process: u32)
-    ensures { world.new ≡ end_at world.old process (process_entry world.old process) }
+    ensures { world.new ≡ ended_at world.old process (process_entry world.old process) }
 {
     match world.process_entry(process) {
         None => {}

@@ -4,14 +4,15 @@ ghost use Rattle.s38_rules.specs.Kept.{CanBeKept};
 
 use s38_base::NoMemory;
 use s38_code::Checked;
+use s38_commits::Units;
 use s38_locks::LockTable;
 use s38_profiles::Profiles;
 use s38_rules::{ProcessEntry, Table, TableRows};
 use std::alloc::Global;
 use std::marker::Model;
 
-/// The objects, what is kept of users beside them, the deck's templates, the processes and their locks. Contracts see
-/// it as the machine's state, which says of users what the objects say.
+/// The objects, what is kept of users beside them, the deck's templates, the processes, their locks and their units of
+/// changes. Contracts see it as the machine's state, which says of users what the objects say.
 #[derive(Drop)]
 pub struct World<T: Table> {
     pub objects: T,
@@ -23,6 +24,8 @@ pub struct World<T: Table> {
     pub processes: Vec<ProcessEntry>,
     pub waiting: Vec<u32>,
     pub locks: LockTable,
+    /// The units of changes that are not committed.
+    pub units: Units,
 }
 
 impl<T: Table> Model for World<T> {
@@ -40,13 +43,14 @@ impl<T: Table> Model for World<T> {
       processes = w.processes.items;
       waiting = w.waiting.items;
       locks = w.locks;
+      units = w.units;
     } };
 
     ghost invariant = { λ w. (w.limit ≤ furthest) × Mirrors w.profiles (T.held w.objects) };
 }
 
 impl<T: TableRows + Drop> World<T> {
-    /// The world of these objects, where nobody waits and no object is locked. `NoMemory` where memory was refused.
+    /// The world of these objects, where nobody waits, no object is locked and no unit is begun. `NoMemory` where memory was refused.
     pub fn new(
         alloc: Global,
         objects: T,
@@ -56,7 +60,7 @@ impl<T: TableRows + Drop> World<T> {
     ) -> Result<World<T>, NoMemory>
         requires limit { limit ≤ furthest }
         requires kept { CanBeKept (T.held objects) }
-        ensures { IfOk result (λ world. world ≡ record { held = T.held objects; limit = limit; templates = templates; processes = processes.items; waiting = []; locks = [] }) }
+        ensures { IfOk result (λ world. world ≡ record { held = T.held objects; limit = limit; templates = templates; processes = processes.items; waiting = []; locks = []; units = [] }) }
     {
         let profiles = objects.profiles(alloc)?;
         Ok(World {
@@ -67,6 +71,7 @@ impl<T: TableRows + Drop> World<T> {
             processes,
             waiting: Vec::new(alloc),
             locks: LockTable::new(alloc),
+            units: Units::new(alloc),
         })
     }
 }

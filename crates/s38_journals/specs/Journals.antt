@@ -1,5 +1,5 @@
 -- A journal is the list of its entries, numbered from 1 on by their sequence.
-use Rattle.std.specs.Prelude.{IsTrue, ◌≡◌, ℕ, zero, suc, ◌+◌, ◌-◌, ◌*◌, ◌≤◌, ◌&&◌, Bool, true, nat_lt, Option, Some, None, List, [], ◌∷◌, ◌++◌, length, map, max, sum_by, if◌then◌else◌, option_map, slice_get}
+use Rattle.std.specs.Prelude.{IsTrue, ◌≡◌, ℕ, zero, suc, ◌+◌, ◌-◌, ◌*◌, ◌≤◌, ◌&&◌, Bool, true, nat_le, nat_lt, Option, Some, None, List, [], ◌∷◌, ◌++◌, length, map, max, sum_by, if◌then◌else◌, option_map, slice_get}
 use Rattle.s38_journals.specs.Entries.{Entry, entry_image, entry_len, fits, may_stand}
 use Rattle.s38_journals.specs.Stored.{entry_of}
 use Rattle.s38_journals.specs.declared.fault.JournalFault.{JournalFault}
@@ -50,6 +50,14 @@ appended journal entry = record {
   unforced = journal.unforced + entry_len entry;
   entries = journal.entries ++ entry ∷ [];
 }
+
+-- an entry may be written next, and there is room for it
+abbrev pub can_write : JournalList → Entry → Bool
+can_write journal entry = may_stand (length journal.entries + 1) entry && nat_le (entry_len entry) journal.spare
+
+-- one more entry; one that may not stand next, or has no room, leaves the journal as it is
+abbrev pub written : JournalList → Entry → JournalList
+written journal entry = if can_write journal entry then appended journal entry else journal
 
 -- all entries are forced
 abbrev pub forced : JournalList → JournalList

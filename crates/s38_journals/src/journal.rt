@@ -1,8 +1,9 @@
+ghost use Rattle.std.specs.Bool.{OnTrue};
 ghost use Rattle.std.specs.Prelude.{◌≡◌, ◌+◌, ◌*◌, ◌≤◌, ◌<◌, [], IfErr, IfNone, IsErrOf, IsTrue, None, OnOk, OnErr, length, option_map, sum_by};
 ghost use Rattle.std.specs.Option.{option_copied, unwrap_or};
 ghost use Rattle.s38_journals.specs.Entries.{entered, entry_image, entry_len, fits, is_end};
 ghost use Rattle.s38_journals.specs.Stored.{with_piece};
-ghost use Rattle.s38_journals.specs.Journals.{appended, bytes_at, entries_len, entry_at, forced, journal_image, may_all_stand, room_refusal, wanted, with_room};
+ghost use Rattle.s38_journals.specs.Journals.{appended, bytes_at, can_write, entries_len, entry_at, forced, journal_image, may_all_stand, room_refusal, wanted, with_room, written};
 
 use crate::entry::{HEAD, JournalEntry};
 use crate::fault::JournalFault;
@@ -167,6 +168,21 @@ impl Journal {
         Ok(())
     }
 
+    /// How many further bytes of entries take no memory.
+    pub fn spare(&self) -> u32
+        ensures { result ≡ self.now.spare }
+    {
+        self.pieces.spare()
+    }
+
+    /// Gives room up that was reserved, down to a spare number; the memory stays.
+    pub fn release(&mut self, spare: u32)
+        requires { spare ≤ self.old.spare }
+        ensures { self.new ≡ record self.old { spare = spare } }
+    {
+        self.pieces.release(spare);
+    }
+
     /// Adds an entry, without memory, and answers its sequence. The spare number falls by the entry's length.
     pub fn append(&mut self, entry: &JournalEntry) -> u64
         requires unit { entry.now.unit ≤ length self.old.entries + 1 }
@@ -180,5 +196,26 @@ impl Journal {
         let sequence = self.last() + 1;
         self.unforced += push_entry(&mut self.pieces, sequence, entry);
         sequence
+    }
+
+    /// Whether an entry may be written next: it may stand there, and its room is reserved.
+    fn can_write(&self, entry: &JournalEntry) -> bool
+        ensures can { result ≡ can_write self.now (entered entry.now) }
+        ensures unit { OnTrue result (entry.now.unit ≤ length self.now.entries + 1) }
+        ensures end { OnTrue result (IsTrue (is_end entry.now.kind) → (entry.now.object.0 ≡ 0) × (entry.now.ordinal ≡ 0)) }
+        ensures before { OnTrue result (length entry.now.before.now ≤ 65535) }
+        ensures after { OnTrue result (length entry.now.after.now ≤ 65535) }
+        ensures room { OnTrue result (entry_len (entered entry.now) ≤ self.now.spare) }
+    {
+        entry.may_stand(self.last() + 1) && entry.len() <= self.spare()
+    }
+
+    /// Adds an entry, without memory, where it may stand next and the spare number reaches; else nothing changes.
+    pub fn write(&mut self, entry: &JournalEntry)
+        ensures { self.new ≡ written self.old (entered entry.now) }
+    {
+        if self.can_write(entry) {
+            self.append(entry);
+        }
     }
 }

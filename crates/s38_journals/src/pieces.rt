@@ -165,6 +165,21 @@ impl Pieces {
         Ok(())
     }
 
+    /// How many further bytes of pieces take no memory.
+    pub fn spare(&self) -> u32
+        ensures { result ≡ self.now.spare }
+    {
+        self.spare
+    }
+
+    /// Gives room up, down to a spare number; the memory stays.
+    pub fn release(&mut self, spare: u32)
+        requires { spare ≤ self.old.spare }
+        ensures { self.new ≡ record self.old { spare = spare } }
+    {
+        self.spare = spare;
+    }
+
     /// Adds a piece of a head and two further parts, without memory.
     #[tactic(auto, using(crate::proofs::CutLaws::front_of, crate::proofs::CutLaws::back_of, crate::proofs::CutLaws::kept_sum))]
     pub fn push(&mut self, head: &[u8], before: &[u8], after: &[u8])

@@ -15,9 +15,10 @@ use crate::deliveries::{parted, put};
 use crate::rows;
 use s38_base::{NoMemory, Seq};
 use s38_code::{Event, Request, Val, Vals};
-use s38_invoke::{World, end, start};
+use s38_invoke::{World, start};
 use s38_objects::Objects;
 use s38_operands::{receiver_at, shift_at};
+use s38_units::end;
 use std::alloc::Global;
 
 /// The values of the reply to an instruction, and what goes into the space of its receiver.

@@ -47,6 +47,7 @@ fn owned(
         owner: ObjNum(2),
         public,
         rows,
+        on_disk: true,
         body,
     })
 }

@@ -5,6 +5,7 @@ ghost use Rattle.s38_rules.specs.Rows.{row};
 use s38_admin::{contexts, grants, profiles, resolving, spaces};
 use s38_base::{Exception, NoMemory, Special};
 use s38_code::{Family, Request, Val, family_of};
+use s38_commitment::journals;
 use s38_cursors::cursors;
 use s38_data::{indexes, queues};
 use s38_invoke::World;
@@ -31,12 +32,13 @@ pub fn needs(world: &World<Objects>, process: u32, depth: u16, request: &Request
         Family::Queues => queues::needs(world, process, depth, request),
         Family::Indexes => indexes::needs(world, process, depth, request),
         Family::DataSpaces => cursors::needs(world, process, depth, request),
+        Family::Journals => journals::needs(world, process, depth, request),
         _ => Needs::none(),
     }
 }
 
 /// The special authority that an acting user must have.
-#[tactic(auto, using(s38_rules::proofs::Laws::unspecial_contexts, s38_rules::proofs::Laws::unspecial_data_spaces, s38_rules::proofs::Laws::unspecial_indexes, s38_rules::proofs::Laws::unspecial_locks, s38_rules::proofs::Laws::unspecial_programs, s38_rules::proofs::Laws::unspecial_queues, s38_rules::proofs::Laws::unspecial_resolving, s38_rules::proofs::Laws::unspecial_spaces), unfolding(s38_rules::specs::Rows::row_in))]
+#[tactic(auto, using(s38_rules::proofs::Laws::unspecial_contexts, s38_rules::proofs::Laws::unspecial_data_spaces, s38_rules::proofs::Laws::unspecial_indexes, s38_rules::proofs::Laws::unspecial_journals, s38_rules::proofs::Laws::unspecial_locks, s38_rules::proofs::Laws::unspecial_programs, s38_rules::proofs::Laws::unspecial_queues, s38_rules::proofs::Laws::unspecial_resolving, s38_rules::proofs::Laws::unspecial_spaces), unfolding(s38_rules::specs::Rows::row_in))]
 pub fn special(world: &World<Objects>, process: u32, depth: u16, request: &Request) -> Special
     ensures { result.0 ≡ (row request.now.op).special world.now process depth request.now }
 {
@@ -69,6 +71,7 @@ pub fn conditions(
         Family::Queues => queues::conditions(world, process, depth, request),
         Family::Indexes => indexes::conditions(world, process, depth, request),
         Family::DataSpaces => cursors::conditions(world, process, depth, request),
+        Family::Journals => journals::conditions(world, process, depth, request),
         _ => None,
     }
 }
@@ -96,6 +99,7 @@ pub fn value(
         Family::Queues => queues::value(alloc, world, process, depth, request),
         Family::Indexes => indexes::value(alloc, world, process, depth, request),
         Family::DataSpaces => cursors::value(alloc, world, process, depth, request),
+        Family::Journals => journals::value(alloc, world, process, depth, request),
         _ => Ok(None),
     }
 }
@@ -123,6 +127,7 @@ pub fn apply(
         Family::Queues => queues::apply(alloc, world, process, depth, request),
         Family::Indexes => indexes::apply(alloc, world, process, depth, request),
         Family::DataSpaces => cursors::apply(alloc, world, process, depth, request),
+        Family::Journals => journals::apply(alloc, world, process, depth, request),
         _ => Ok(()),
     }
 }

@@ -22,6 +22,7 @@ fn object(alloc: Global, number: u64, kind: Kind, body: Body) -> Result<Object, 
         owner: ObjNum(1),
         public: Rights(0),
         rows: RowList::of(alloc, ObjNum(1), Rights(255))?,
+        on_disk: false,
         body,
     })
 }

@@ -24,6 +24,7 @@ fn with_space(alloc: Global) -> Result<Objects, Fail> {
         owner: ObjNum(1),
         public: Rights(0),
         rows: RowList::of(alloc, ObjNum(1), Rights(255))?,
+        on_disk: false,
         body: Body::Space(Tagged::new(alloc, 32)?),
     };
     objects.add(space)?;

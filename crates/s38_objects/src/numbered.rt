@@ -3,6 +3,7 @@ ghost use Rattle.std.specs.Option.{option_map};
 ghost use Rattle.std.specs.Ordering.{nat_cmp};
 ghost use Rattle.std.specs.BTreeMap.{IsOrdered, get, insert_entry};
 ghost use Rattle.s38_rules.specs.Headers.{row_in};
+ghost use Rattle.s38_rules.specs.Held.{kept_on_disk};
 ghost use Rattle.s38_rules.specs.Parts.{over_object, profile_part};
 ghost use Rattle.s38_rules.specs.Standing.{granted, open_to_all, owned_by};
 ghost use Rattle.s38_objects.specs.Changes.{changed_at, placed, restood};
@@ -53,6 +54,15 @@ pub fn set_public(objects: &mut BTreeMap<u64, Object>, number: u64, rights: Righ
 {
     if let Some(object) = objects.get_mut(&number) {
         object.public = rights;
+    }
+}
+
+/// The object of a number is on disk.
+pub fn ensure(objects: &mut BTreeMap<u64, Object>, number: u64)
+    ensures { objects.new.entries ≡ changed_at objects.old.entries number kept_on_disk }
+{
+    if let Some(object) = objects.get_mut(&number) {
+        object.on_disk = true;
     }
 }
 

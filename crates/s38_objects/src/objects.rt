@@ -4,13 +4,14 @@ ghost use Rattle.std.specs.Option.{option_copied, option_copied_mut};
 ghost use Rattle.s38_memory.specs.contracts.tagged.Tagged.{the_row as tagged_row};
 ghost use Rattle.s38_indexes.specs.contracts.index.Index.{the_row as index_row};
 ghost use Rattle.s38_queues.specs.contracts.queue.Queue.{the_row as queue_row};
+ghost use Rattle.s38_journals.specs.contracts.journal.Journal.{the_row as journal_row};
 ghost use Rattle.s38_rules.specs.contracts.cursor.Cursor.{the_row as cursor_row};
 ghost use Rattle.s38_rules.specs.contracts.data_body.DataBody.{the_row as data_row};
 ghost use Rattle.s38_rules.specs.Contexts.{entered, is_name_beside};
 ghost use Rattle.s38_rules.specs.Creation.{is_taken_beside};
 ghost use Rattle.s38_rules.specs.Headers.{row_in};
-ghost use Rattle.s38_rules.specs.Held.{change, contents, context_in, found, is_there, moved, nothing, number_found, object, renamed, with_added, without};
-ghost use Rattle.s38_rules.specs.Parts.{cursor_part, data_part, index_part, part_at, queue_part, set_profile, space_part};
+ghost use Rattle.s38_rules.specs.Held.{change, contents, context_in, ensured, found, is_there, moved, nothing, number_found, object, renamed, with_added, without};
+ghost use Rattle.s38_rules.specs.Parts.{block_part, cursor_part, data_part, index_part, journal_part, part_at, port_part, queue_part, set_profile, space_part};
 ghost use Rattle.s38_rules.specs.Standing.{granted, open_to_all, owned_by, restand};
 ghost use Rattle.s38_objects.specs.Changes.{placed};
 ghost use Rattle.s38_objects.specs.Lawful.{IsLawful, is_place, is_place_of};
@@ -20,9 +21,10 @@ use crate::name_key::{NameKey, key};
 use crate::{listing, names, numbered};
 use s38_base::{Id, NoMemory, ObjNum, Rights, Special, UserNum};
 use s38_indexes::Index;
+use s38_journals::Journal;
 use s38_memory::Tagged;
 use s38_queues::Queue;
-use s38_rules::{BodyPart, Cursor, DataBody, Listed, Object};
+use s38_rules::{Block, BodyPart, Cursor, DataBody, Listed, Object, Port};
 use std::alloc::{AllocFailed, Global};
 use std::collections::BTreeMap;
 use std::collections::btree_map::Values;
@@ -243,6 +245,27 @@ impl Objects {
         self.part::<Cursor>(number)
     }
 
+    /// The journal port of a number, in logarithmic time.
+    pub fn port(&self, number: ObjNum) -> Option<&Port>
+        ensures { option_copied result ≡ part_at port_part self.now number.0 }
+    {
+        self.part::<Port>(number)
+    }
+
+    /// The journal space of a number, in logarithmic time.
+    pub fn journal(&self, number: ObjNum) -> Option<&Journal>
+        ensures { option_copied result ≡ part_at journal_part self.now number.0 }
+    {
+        self.part::<Journal>(number)
+    }
+
+    /// The commit block of a number, in logarithmic time.
+    pub fn block(&self, number: ObjNum) -> Option<&Block>
+        ensures { option_copied result ≡ part_at block_part self.now number.0 }
+    {
+        self.part::<Block>(number)
+    }
+
     /// What the object of a number holds, to be written. A further kind is a `BodyPart` and calls like `queue` and
     /// `queue_mut`.
     fn part_mut<P: BodyPart>(&mut self, number: ObjNum) -> Option<&mut P>
@@ -298,6 +321,15 @@ impl Objects {
         ensures value { option_copied_mut result ≡ part_at cursor_part self.old number.0 }
     {
         self.part_mut::<Cursor>(number)
+    }
+
+    /// The journal space of a number, to be written, in logarithmic time; None exactly where there is no such object or
+    /// it is no journal space.
+    pub fn journal_mut(&mut self, number: ObjNum) -> Option<&mut Journal>
+        ensures* writes_back { sem 𝓛 (LendsHeld journal_row journal_part self.entry number.0 result) }
+        ensures value { option_copied_mut result ≡ part_at journal_part self.old number.0 }
+    {
+        self.part_mut::<Journal>(number)
     }
 
     /// The object of a number is in this context from now on, or in none, and has this identification. `NoMemory` where
@@ -376,6 +408,13 @@ impl Objects {
         ensures { self.new ≡ restand self.old number.0 (open_to_all rights) }
     {
         numbered::set_public(&mut self.by_number, number.0, rights);
+    }
+
+    /// The number is one of those on disk from now on, where there is such an object.
+    pub fn ensure(&mut self, number: ObjNum)
+        ensures { self.new ≡ ensured self.old number.0 }
+    {
+        numbered::ensure(&mut self.by_number, number.0);
     }
 
     /// The user of a number has these special authorities and this limit from now on. Nothing changes where there is

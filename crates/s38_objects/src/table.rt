@@ -20,6 +20,9 @@ pub fn kind_of(body: &Body) -> Kind
         Body::Index(_) => Kind::Index,
         Body::DataSpace(_) => Kind::DataSpace,
         Body::Cursor(_) => Kind::Cursor,
+        Body::Port(_) => Kind::Port,
+        Body::Journal(_) => Kind::Journal,
+        Body::Block(_) => Kind::Block,
     }
 }
 

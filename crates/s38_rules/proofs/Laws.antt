@@ -1,11 +1,11 @@
 -- Laws of the definitions that the crates above rest on.
-use Rattle.std.proofs.Common.{◌≡◌, ℕ, ◌+◌, ◌-◌, Bool, true, false, List, [], ◌∷◌, ◌++◌, length, map, refl, sym, ◌∙◌, ap, subst, inl, inr, append_assoc, length-append, length-set, get_or-set_other, zero, suc}
+use Rattle.std.proofs.Common.{◌≡◌, ℕ, ◌+◌, ◌-◌, ◌==◌, Bool, true, false, List, [], ◌∷◌, ◌++◌, length, map, refl, sym, ◌∙◌, ap, subst, inl, inr, append_assoc, length-append, length-set, get_or-set_other, zero, suc}
 use Rattle.std.proofs.lemmas.List.{append-nil, length-map}
 use Rattle.std.proofs.lemmas.List.Elements.{All-nil, All-push}
 use Rattle.std.specs.Prelude.{Option, Some, None, slice_get, slice_set}
 use Rattle.s38_base.specs.declared.id.ObjNum.{ObjNum}
 use Rattle.s38_base.specs.declared.op.Op.{Op}
-use Rattle.s38_base.specs.declared.op.Op.TheVariants.{Crtctx, Modadr, Rename, Matctx, Desctx, Crtup, Modup, Desup, Grant, Retract, Xfro, Testau, Matau, Matauobj, Rslvsp, Setsppfp, Setspfp, Setdp, Cpybwp, Crtpg, Callx, Xctl, Lock, Unlock, Xfrlock, Matobjlk, Crtq, Crts, Mods, Despg, Dess, Crtinx, Crtds, Crtcr}
+use Rattle.s38_base.specs.declared.op.Op.TheVariants.{Crtctx, Modadr, Rename, Matctx, Desctx, Crtup, Modup, Desup, Grant, Retract, Xfro, Testau, Matau, Matauobj, Rslvsp, Setsppfp, Setspfp, Setdp, Cpybwp, Crtpg, Callx, Xctl, Lock, Unlock, Xfrlock, Matobjlk, Crtq, Crts, Mods, Despg, Dess, Crtinx, Crtds, Crtcr, Insdsen, Updsen, Deldsen, Crtjs, Crtjp, Crtcb, Commit, Decommit}
 use Rattle.s38_code.specs.declared.entry.Entry.{Entry}
 use Rattle.s38_code.specs.declared.event.Event.{Event}
 use Rattle.s38_code.specs.declared.event.Event.TheVariants.{Start, Act, Finish}
@@ -19,21 +19,28 @@ use Rattle.s38_code.specs.declared.reply.Reply.TheVariants.{MustWait}
 use Rattle.s38_code.specs.declared.reply.Val.{Val}
 use Rattle.s38_code.specs.Operations.{family_of}
 use Rattle.s38_code.specs.History.{IsAnswered, entry_after}
+use Rattle.s38_commits.specs.declared.change.UnitChange.{UnitChange}
+use Rattle.s38_commits.specs.Unit.{CommitUnit}
+use Rattle.s38_commits.specs.Units.{UnitMap, unit_of}
+use Rattle.s38_dataspaces.specs.Entries as data_spaces
 use Rattle.s38_rules.specs.declared.process.ProcessEntry.{ProcessEntry}
 use Rattle.s38_rules.specs.declared.process.Started.{Started}
 use Rattle.s38_rules.specs.declared.verdict.Verdict.{Verdict}
 use Rattle.s38_rules.specs.declared.verdict.Verdict.TheVariants.{Permit, Wait, Refuse}
 use Rattle.s38_rules.specs.Computing.{receiver_at, shift_at}
 use Rattle.s38_rules.specs.Contexts.{contexts_row, crtctx_changes}
-use Rattle.s38_rules.specs.DataSpaces.{crtcr_changes, crtds_changes, data_spaces_row}
+use Rattle.s38_rules.specs.Changing.{logged, logged_in}
+use Rattle.s38_rules.specs.DataSpaces.{change_at, crtcr_changes, crtds_changes, current_changes, cursor_of, data_spaces_row, insdsen_changes, insertion}
 use Rattle.s38_rules.specs.Grants.{grants_row}
+use Rattle.s38_rules.specs.Journaling.{journal_for}
+use Rattle.s38_rules.specs.Journals.{commit_changes, crtcb_changes, crtjp_changes, crtjs_changes, decommit_changes, journals_row}
 use Rattle.s38_rules.specs.Locking.{lock_changes, locks_row, unlock_changes, xfrlock_changes}
 use Rattle.s38_rules.specs.Profiles.{crtup_changes, profiles_row}
 use Rattle.s38_rules.specs.Effect.{effect, effect_of, start_at, end_at}
 use Rattle.s38_rules.specs.Instruction.{AreKept, Instruction, KeepsProcesses, inert, unstacked}
 use Rattle.s38_rules.specs.Invocations.{pushed, replaced, restack, restack_at, restacked, with_stack}
 use Rattle.s38_rules.specs.Legal.{IsEntry, IsProcess, IsSound, IsUnstored, Leads, Run, after, after_by, begun, history_after}
-use Rattle.s38_rules.specs.Operands.{deliver, delivered, target}
+use Rattle.s38_rules.specs.Operands.{bytes_at, deliver, delivered, target}
 use Rattle.s38_rules.specs.Programs.{callx_changes, created_program, crtpg_changes, program_in, programs_row, template_at, xctl_changes}
 use Rattle.s38_rules.specs.Indexes.{crtinx_changes, indexes_row}
 use Rattle.s38_rules.specs.Queues.{crtq_changes, queues_row}
@@ -42,6 +49,7 @@ use Rattle.s38_rules.specs.Rows.{row, row_in}
 use Rattle.s38_rules.specs.Spaces.{crts_changes, spaces_row}
 use Rattle.s38_rules.specs.State.{State, process_entry, waits}
 use Rattle.s38_rules.specs.Step.{step, by_verdict, by_waiting}
+use Rattle.s38_rules.specs.Units.{all_decommitted, committed, decommitted, decommitted_of}
 use Rattle.s38_rules.specs.Verdict.{awake_verdict}
 
 -- entries that lead somewhere, and one more from there
@@ -86,9 +94,23 @@ start_keeps : (s : State) (p : ℕ) (x : Option ProcessEntry) → length (start_
 start_keeps s p None = refl
 start_keeps s p (Some x) = simp length-set
 
+pub decommitted_keeps : (s : State) (p block : ℕ) (unit : Option CommitUnit) → (decommitted s p block unit).processes ≡ s.processes
+decommitted_keeps s p block None = refl
+decommitted_keeps s p block (Some unit) = refl
+
+decommitted_of_keeps : (s : State) (p : ℕ) (e : ℕ × CommitUnit) (b : Bool) → (e.1.process == p) ≡ b → (decommitted_of s p e).processes ≡ s.processes
+decommitted_of_keeps s p e true h = rw h refl
+decommitted_of_keeps s p e false h = rw h refl
+
+-- units are taken back without a change of a process
+pub all_decommitted_keeps : (units : UnitMap) (s : State) (p : ℕ) → (all_decommitted s p units).processes ≡ s.processes
+unfolding all_decommitted
+all_decommitted_keeps [] s p = refl
+all_decommitted_keeps (e ∷ units) s p = all_decommitted_keeps units (decommitted_of s p e) p ∙ decommitted_of_keeps s p e (e.1.process == p) refl
+
 end_keeps : (s : State) (p : ℕ) (x : Option ProcessEntry) → length (end_at s p x).processes ≡ length s.processes
 end_keeps s p None = refl
-end_keeps s p (Some x) = simp length-set
+end_keeps s p (Some x) = length-set _ (p - 1) _ ∙ ap length (all_decommitted_keeps s.units s p)
 
 deliver_keeps : (s : State) (shift : ℕ) (receiver : Option Operand) (v : Val) → (deliver s shift receiver v).state.processes ≡ s.processes
 deliver_keeps s shift (Some (InSpace base offset attr)) v = refl
@@ -178,11 +200,44 @@ unfolding indexes_row crtinx_changes
 keeps_indexes Crtinx = record { kept = λ s p d r. same_kept p s.processes }
 keeps_indexes _ = record { kept = λ s p d r. same_kept p s.processes }
 
+logged_in_keeps : (s : State) (p block : ℕ) (change : UnitChange) (journal : Option ℕ) → (logged_in s p block change journal).processes ≡ s.processes
+logged_in_keeps s p block change None = refl
+logged_in_keeps s p block change (Some journal) = refl
+
+-- a change is logged without a change of a process
+pub logged_keeps : (s : State) (p block : ℕ) (change : UnitChange) → (logged s p block change).processes ≡ s.processes
+unfolding logged
+logged_keeps s p block change = logged_in_keeps s p block change (journal_for s.held change.space.0)
+
+inserted_keeps : (s : State) (p : ℕ) (ops : List Operand) → (insdsen_changes s p ops).processes ≡ s.processes
+unfolding insdsen_changes
+inserted_keeps s p ops = logged_keeps s p (cursor_of s.held ops 1).block.0 (insertion s.held ops)
+
+changed_keeps : (s : State) (p : ℕ) (ops : List Operand) (entry : data_spaces.Entry) → (current_changes s p ops entry).processes ≡ s.processes
+unfolding current_changes
+changed_keeps s p ops entry = logged_keeps s p (cursor_of s.held ops 1).block.0 (change_at s.held ops entry)
+
 keeps_data_spaces : (op : Op) → KeepsProcesses (data_spaces_row op)
 unfolding data_spaces_row crtds_changes crtcr_changes
 keeps_data_spaces Crtds = record { kept = λ s p d r. same_kept p s.processes }
 keeps_data_spaces Crtcr = record { kept = λ s p d r. same_kept p s.processes }
+keeps_data_spaces Insdsen = record { kept = λ s p d r. still p s.processes _ (inserted_keeps s p r.operands) }
+keeps_data_spaces Updsen = record { kept = λ s p d r. still p s.processes _ (changed_keeps s p r.operands (Some (bytes_at s.held r.operands 2))) }
+keeps_data_spaces Deldsen = record { kept = λ s p d r. still p s.processes _ (changed_keeps s p r.operands None) }
 keeps_data_spaces _ = record { kept = λ s p d r. same_kept p s.processes }
+
+committed_keeps : (s : State) (p block : ℕ) (unit : Option CommitUnit) → (committed s p block unit).processes ≡ s.processes
+committed_keeps s p block None = refl
+committed_keeps s p block (Some unit) = refl
+
+keeps_journals : (op : Op) → KeepsProcesses (journals_row op)
+unfolding journals_row crtjs_changes crtjp_changes crtcb_changes commit_changes decommit_changes
+keeps_journals Crtjs = record { kept = λ s p d r. same_kept p s.processes }
+keeps_journals Crtjp = record { kept = λ s p d r. same_kept p s.processes }
+keeps_journals Crtcb = record { kept = λ s p d r. same_kept p s.processes }
+keeps_journals Commit = record { kept = λ s p d r. still p s.processes _ (committed_keeps s p (target s.held r.operands 1) (unit_of s.units (target s.held r.operands 1))) }
+keeps_journals Decommit = record { kept = λ s p d r. still p s.processes _ (decommitted_keeps s p (target s.held r.operands 1) (unit_of s.units (target s.held r.operands 1))) }
+keeps_journals _ = record { kept = λ s p d r. same_kept p s.processes }
 
 keeps_contexts : (op : Op) → KeepsProcesses (contexts_row op)
 unfolding contexts_row crtctx_changes
@@ -234,6 +289,7 @@ keeps_row families.Spaces op = keeps_spaces op
 keeps_row families.Queues op = keeps_queues op
 keeps_row families.Indexes op = keeps_indexes op
 keeps_row families.DataSpaces op = keeps_data_spaces op
+keeps_row families.Journals op = keeps_journals op
 keeps_row _ op = keeps_inert
 
 -- ---- no row of these families needs a special authority
@@ -294,6 +350,12 @@ unfolding data_spaces_row
 unspecial_data_spaces Crtds s p d r = refl
 unspecial_data_spaces Crtcr s p d r = refl
 unspecial_data_spaces _ s p d r = refl
+
+pub unspecial_journals : (op : Op) (s : State) (p d : ℕ) (r : Request) → (journals_row op).special s p d r ≡ 0
+unfolding journals_row
+unspecial_journals Crtjs s p d r = refl
+unspecial_journals Crtjp s p d r = refl
+unspecial_journals _ s p d r = refl
 
 -- ---- effects
 

@@ -1,6 +1,6 @@
 -- What is asked and done where an entry of a data space is changed: nobody else holds it by a unit; the change belongs
 -- to the unit of the cursor's commit block; it is journaled where the data space is.
-use Rattle.std.specs.Prelude.{ℕ, ◌+◌, ◌==◌, Bool, not, ◌&&◌, ◌||◌, List, [], length, nat_le, Option, Some, None, is_some, if◌then◌else◌}
+use Rattle.std.specs.Prelude.{ℕ, ◌+◌, ◌==◌, Bool, not, ◌&&◌, ◌||◌, List, [], length, nat_le, nat_lt, Option, Some, None, is_some, if◌then◌else◌}
 use Rattle.s38_base.specs.declared.exception.Exception.{Exception}
 use Rattle.s38_base.specs.declared.exception.Rule.TheVariants.{Unit}
 use Rattle.s38_base.specs.declared.id.Kind.TheVariants as kinds
@@ -8,9 +8,9 @@ use Rattle.s38_base.specs.Exceptions as exceptions
 use Rattle.s38_base.specs.Ids.{same_kind}
 use Rattle.s38_base.specs.Signals.{fails, first, plain}
 use Rattle.s38_commits.specs.declared.change.UnitChange.{UnitChange}
-use Rattle.s38_commits.specs.Changes.{journal_bytes, note_refusal}
+use Rattle.s38_commits.specs.Changes.{journal_bytes, largest_unit, unit_bytes}
 use Rattle.s38_commits.specs.Unit.{CommitUnit}
-use Rattle.s38_commits.specs.Units.{UnitMap, joined, owner, unit_of}
+use Rattle.s38_commits.specs.Units.{UnitMap, changes_of, joined, owner, unit_of}
 use Rattle.s38_dataspaces.specs.Entries as spaces
 use Rattle.s38_journals.specs.declared.entry.EntryKind.{EntryKind}
 use Rattle.s38_journals.specs.declared.entry.EntryKind.TheVariants.{Insert, Update, Delete}
@@ -70,29 +70,27 @@ block_rules s p block space =
 abbrev pub most_units : ℕ
 most_units = 512
 
-abbrev pub changes_in : Option CommitUnit → List UnitChange
-changes_in None = []
-changes_in (Some unit) = unit.changes
-
--- the unit of the change would take too many bytes of the journal
-abbrev pub is_unit_full : UnitMap → ℕ → UnitChange → Bool
-is_unit_full units block change = not (block == 0) && is_some (note_refusal (changes_in (unit_of units block)) change)
+-- the unit of a change of so many bytes would take too many bytes of the journal
+abbrev pub is_unit_full : UnitMap → ℕ → ℕ → Bool
+is_unit_full units block bytes =
+    not (block == 0) && nat_lt largest_unit (unit_bytes (changes_of (unit_of units block)) + bytes)
 
 -- one unit too many would be open in the journal space
 abbrev pub are_units_full : Held → UnitMap → ℕ → ℕ → Bool
 are_units_full h units journal block = begins_unit units block && nat_le most_units (open_units h units journal)
 
--- the journal space has no room for the change and for the ends of all units that are then open
-abbrev pub is_journal_full : Held → UnitMap → ℕ → ℕ → UnitChange → Bool
-is_journal_full h units journal block change =
-    is_some (room_refusal (journal_at h journal) (journal_bytes change) (open_behind h units journal block))
+-- the journal space has no room for a change of so many bytes and for the ends of all units that are then open
+abbrev pub is_journal_full : Held → UnitMap → ℕ → ℕ → ℕ → Bool
+is_journal_full h units journal block bytes =
+    is_some (room_refusal (journal_at h journal) bytes (open_behind h units journal block))
 
--- room in the journal space, for another unit, and in the unit; of a data space that is not journaled nothing is asked
-abbrev pub journal_rule : State → ℕ → UnitChange → Option ℕ → Option Exception
-journal_rule s block change None = None
-journal_rule s block change (Some journal) =
-    fails (is_journal_full s.held s.units journal block change
-        || (are_units_full s.held s.units journal block || is_unit_full s.units block change)) exceptions.limit_exceeded 0
+-- for a change of so many bytes there is room in the journal space, for another unit, and in the unit; of a data space
+-- that is not journaled nothing is asked
+abbrev pub journal_rule : State → ℕ → ℕ → Option ℕ → Option Exception
+journal_rule s block bytes None = None
+journal_rule s block bytes (Some journal) =
+    fails (is_journal_full s.held s.units journal block bytes
+        || (are_units_full s.held s.units journal block || is_unit_full s.units block bytes)) exceptions.limit_exceeded 0
 
 -- ---- what a change does beside the data space
 

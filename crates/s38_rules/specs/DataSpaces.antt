@@ -16,6 +16,7 @@ use Rattle.s38_base.specs.RightNames as rights
 use Rattle.s38_base.specs.Scalar.{fraction_of}
 use Rattle.s38_base.specs.Signals.{fails, first}
 use Rattle.s38_commits.specs.declared.change.UnitChange.{UnitChange}
+use Rattle.s38_commits.specs.Changes.{journal_bytes}
 use Rattle.s38_commits.specs.Units.{is_space_changed}
 use Rattle.s38_dataspaces.specs.Entries.{Entry, entry_at}
 use Rattle.s38_dataspaces.specs.Seeks.{sought}
@@ -238,7 +239,7 @@ change_rules s p cursor at =
 
 -- there is room for the change in the journal space of its data space
 abbrev pub journal_room : State → Cursor → UnitChange → Option Exception
-journal_room s cursor change = journal_rule s cursor.block.0 change (journal_for s.held cursor.space.0)
+journal_room s cursor change = journal_rule s cursor.block.0 (journal_bytes change) (journal_for s.held cursor.space.0)
 
 -- ---- INSDSEN
 

@@ -48,10 +48,15 @@ start_at s process (Some x) = set_process s process (record x { started = Some (
 abbrev pub unlocked : State → ℕ → State
 unlocked s process = record s { locks = released process s.locks }
 
+-- a process that has no unit has ended, and holds no lock any more
+abbrev pub ended_at : State → ℕ → Option ProcessEntry → State
+ended_at s process None = s
+ended_at s process (Some x) = set_process (unlocked s process) process (record x { ended = true })
+
 -- a process has ended: its units were taken back, in order of the numbers of their commit blocks, and it holds no lock
 abbrev pub end_at : State → ℕ → Option ProcessEntry → State
 end_at s process None = s
-end_at s process (Some x) = set_process (unlocked (all_decommitted s process s.units) process) process (record x { ended = true })
+end_at s process (Some x) = ended_at (all_decommitted s process s.units) process (Some x)
 
 unfoldable pub effect_of : State → ℕ → Event → Done
 effect_of s process Start = record { state = start_at s process (process_entry s process); values = [] }

@@ -1,6 +1,7 @@
 pub mod Authority
 pub mod Blocking
 pub mod Cells
+pub mod Changing
 pub mod Computing
 pub mod Contexts
 pub mod Creation
@@ -12,6 +13,8 @@ pub mod Held
 pub mod Indexes
 pub mod Instruction
 pub mod Invocations
+pub mod Journaling
+pub mod Journals
 pub mod Keeping
 pub mod Kept
 pub mod Legal
@@ -31,5 +34,6 @@ pub mod Spaces
 pub mod Standing
 pub mod State
 pub mod Step
+pub mod Units
 pub mod Users
 pub mod Verdict

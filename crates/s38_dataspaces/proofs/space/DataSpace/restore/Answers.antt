@@ -8,7 +8,7 @@ use Rattle.s38_dataspaces.proofs.space.DataSpace.restore.Goals as goal
 pub invariant_of-self : goal.invariant_of-self
 invariant_of-self c =
     let entry = c.in-Some.bytes.now in
-    let values = c.requires.values c.in-Some.bytes c.in-Some.is in
+    let values = c.if-not-may_restore.ensures.values c.in-Some.bytes c.in-Some.is in
     still_kept c.self.inside.fields c.self.inside.size c.self.inside.records c.put.new.self c.args.at (Some entry) c.put.ensures
     (subst (λ (t : DataTable). IsTrue (have_values t.fields entry)) (sym c.self.view_is) values) c.self.invariant
 

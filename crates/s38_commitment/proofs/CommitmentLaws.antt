@@ -1,0 +1,62 @@
+-- What making journal spaces, ports and commit blocks has met, entries that are not there, and what is kept of users.
+use Rattle.std.proofs.Common.{◌≡◌, ℕ, zero, suc, ◌<◌, List, [], ◌∷◌, arith, length, refl}
+use Rattle.std.specs.Prelude.{Option, Some, None}
+use Rattle.s38_base.specs.declared.exception.Exception.{Exception}
+use Rattle.s38_base.specs.Exceptions as exceptions
+use Rattle.s38_base.specs.Signals.{fails}
+use Rattle.s38_code.specs.declared.operand.Operand.{Operand}
+use Rattle.s38_journals.specs.Entries.{Entry}
+use Rattle.s38_journals.specs.Journals.{bytes_at}
+use Rattle.s38_profiles.specs.ProfileMaps.{ProfileMaps}
+use Rattle.s38_changes.proofs.KeptLaws.{left}
+use Rattle.s38_units.proofs.KeptLaws.{data_kept}
+use Rattle.s38_rules.specs.declared.data_body.DataBody.{DataBody}
+use Rattle.s38_rules.specs.Creation.{creation_fails}
+use Rattle.s38_rules.specs.Held.{Held, ensured, kept_on_disk}
+use Rattle.s38_rules.specs.Journals.{crtcb_fails, created_block, created_journal, created_port, crtjp_fails, crtjs_fails, is_attached, through_port}
+use Rattle.s38_rules.specs.Kept.{Mirrors}
+use Rattle.s38_rules.specs.Operands.{target}
+use Rattle.s38_rules.specs.Parts.{on_data}
+use Rattle.s38_rules.specs.State.{State}
+use Rattle.s38_rules.specs.Users.{user_of}
+
+-- ---- creation
+
+pub crtjs_created : (s : State) (p : ℕ) (ops : List Operand) → crtjs_fails s p ops ≡ None
+    → (own : Option Exception) × (creation_fails s.held (user_of s p) (created_journal s.held ops) own ≡ None)
+unfolding crtjs_fails
+crtjs_created s p ops h = (None, h)
+
+pub crtjp_created : (s : State) (p : ℕ) (ops : List Operand) → crtjp_fails s p ops ≡ None
+    → (own : Option Exception) × (creation_fails s.held (user_of s p) (created_port s.held ops) own ≡ None)
+unfolding crtjp_fails
+crtjp_created s p ops h = (fails (is_attached s.held (target s.held ops 5)) exceptions.object_in_use 5, h)
+
+pub crtcb_created : (s : State) (p : ℕ) (ops : List Operand) → crtcb_fails s p ops ≡ None
+    → (own : Option Exception) × (creation_fails s.held (user_of s p) (created_block s.held ops) own ≡ None)
+unfolding crtcb_fails
+crtcb_created s p ops h = (None, h)
+
+-- ---- entries
+
+-- a journal without an entry has no bytes of one
+pub no_bytes : (sequence : ℕ) → bytes_at [] sequence ≡ None
+no_bytes zero = refl
+no_bytes (suc k) = refl
+
+-- behind the last sequence there is none
+pub none_behind : (entries : List Entry) (sequence : ℕ) → length entries < sequence → bytes_at entries sequence ≡ None
+none_behind entries zero far = refl
+none_behind [] (suc k) far = refl
+none_behind entries (suc k) far = grind arith
+
+-- ---- what is kept of users
+
+-- an object is on disk
+pub ensured_kept : (maps : ProfileMaps) (h : Held) (n : ℕ) → Mirrors maps h → Mirrors maps (ensured h n)
+ensured_kept maps h n m =
+    left maps h n kept_on_disk (λ o. refl) (λ o there. record { owner = refl; rows = refl; pages = refl; profile = λ charge. refl }) m
+
+-- a data space is journaled, and on disk
+pub journaled_kept : (maps : ProfileMaps) (h : Held) (space port : ℕ) → Mirrors maps h → Mirrors maps (ensured (on_data h space (through_port port)) space)
+journaled_kept maps h space port m = ensured_kept maps (on_data h space (through_port port)) space (data_kept maps h space (through_port port) m)

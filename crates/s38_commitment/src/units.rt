@@ -1,0 +1,47 @@
+//! Units are committed and taken back by their commit blocks.
+ghost use Rattle.std.specs.Prelude.{◌≡◌};
+ghost use Rattle.s38_rules.specs.Journals.{commit_changes, decommit_changes, unit_fails, unit_needs};
+
+use s38_base::{Category, Exception, Kind, Rights};
+use s38_code::Operand;
+use s38_invoke::World;
+use s38_objects::Objects;
+use s38_operands::{Needs, on_object, target};
+use s38_rules::Sought;
+use s38_units::unit_rule;
+
+/// UPDATE on the commit block.
+#[tactic(auto, unfolding(s38_rules::specs::Journals::unit_needs))]
+pub fn unit_needs() -> Needs
+    ensures { result ≡ unit_needs }
+{
+    let block = Sought::Of(Kind::Block);
+    on_object(1, block, Rights::UPDATE, Some(Category::Change))
+}
+
+/// The unit of the commit block, where it has one, is of the process.
+#[tactic(auto, unfolding(s38_rules::specs::Journals::unit_fails))]
+pub fn unit_fails(world: &World<Objects>, process: u32, operands: &[Operand]) -> Option<Exception>
+    ensures { result ≡ unit_fails world.now process operands.now }
+{
+    let block = target(&world.objects, operands, 1);
+    unit_rule(process, world.units.get(block))
+}
+
+/// What the unit of the commit block changed stays.
+#[tactic(auto, unfolding(s38_rules::specs::Journals::commit_changes))]
+pub fn commit(world: &mut World<Objects>, process: u32, operands: &[Operand])
+    ensures { world.new ≡ commit_changes world.old process operands.now }
+{
+    let block = target(&world.objects, operands, 1);
+    s38_units::commit(world, process, block);
+}
+
+/// What the unit of the commit block changed is taken back.
+#[tactic(auto, unfolding(s38_rules::specs::Journals::decommit_changes))]
+pub fn decommit(world: &mut World<Objects>, process: u32, operands: &[Operand])
+    ensures { world.new ≡ decommit_changes world.old process operands.now }
+{
+    let block = target(&world.objects, operands, 1);
+    s38_units::decommit(world, process, block);
+}

@@ -1,0 +1,202 @@
+-- Who holds an entry, what a change that is logged has met, how many units are open, and how units are taken back one
+-- after another.
+use Rattle.std.proofs.Common.{◌≡◌, ℕ, zero, suc, ◌+◌, ◌==◌, ◌<◌, ◌≤◌, ◌&&◌, ◌||◌, Bool, true, false, cond, List, [], ◌∷◌, ◌++◌, refl, sym, ◌∙◌, ap, arith, length}
+use Rattle.std.proofs.lemmas.Bool.Decides.{nat_tests}
+use Rattle.std.specs.Prelude.{Option, Some, None, filter, if◌then◌else◌, is_some, slice_get, take}
+use Rattle.std.specs.Option.{ForSome, option_map}
+use Rattle.std.specs.Ordering.{nat_cmp}
+use Rattle.std.specs.Map.{keys_of}
+use Rattle.std.specs.BTreeMap.{is_at}
+use Rattle.s38_base.specs.declared.exception.Exception.{Exception}
+use Rattle.s38_base.specs.Exceptions as exceptions
+use Rattle.s38_base.specs.Signals.{fails}
+use Rattle.s38_commits.specs.declared.change.UnitChange.{UnitChange}
+use Rattle.s38_commits.specs.Unit.{CommitUnit}
+use Rattle.s38_commits.specs.Units.{IsRising, UnitMap, above, ended, next_block, unit_of}
+use Rattle.s38_commits.proofs.WalkLaws.{ended_above, next_none, next_some}
+use Rattle.s38_commits.proofs.MapLaws.{at_key}
+use Rattle.s38_commits.proofs.FirstLaws.{first_none, first_some}
+use Rattle.s38_rules.specs.declared.port.Port.{Port}
+use Rattle.s38_rules.specs.declared.process.ProcessEntry.{ProcessEntry}
+use Rattle.s38_rules.specs.Changing.{are_units_full, holding_rule, is_journal_full, is_unit_full, journal_rule, of_unit, reading_rule}
+use Rattle.s38_rules.specs.Held.{Held}
+use Rattle.s38_rules.specs.Journaling.{goes_to, is_journal, is_number, journal_for_block, journal_named, open_units}
+use Rattle.s38_rules.specs.State.{State}
+use Rattle.s38_rules.specs.Units.{all_decommitted, all_undone, decommitted, decommitted_of, undone}
+use Rattle.s38_rules.proofs.RuleLaws.{fails_none}
+use Rattle.s38_units.specs.Ends.{is_unit_of, taken_back}
+
+some_none : {A : Type 0} (x : A) → Some x ≡ None → ⊥
+some_none x h = cc
+
+nat_same : (a b : ℕ) → (a == b) ≡ true → a ≡ b
+nat_same a b h = grind (arith, nat_tests)
+
+or_false : (a b : Bool) → (a || b) ≡ false → a ≡ false
+or_false true b h = h
+or_false false b h = refl
+
+and_true : (a b : Bool) → (a && b) ≡ true → a ≡ true
+and_true true b h = refl
+and_true false b h = h
+
+-- ---- who holds an entry
+
+-- by the process of the unit alone
+pub read_by : (p holder : ℕ) (o : Option (ℕ × CommitUnit)) → option_map (λ e. e.1.process) o ≡ Some holder
+    → reading_rule p o ≡ (if holder == p then None else of_unit exceptions.entry_held 1 holder)
+read_by p holder None is = absurd (cc)
+read_by p holder (Some e) is = let same : e.1.process ≡ holder = cc in rw same refl
+
+pub read_free : (p : ℕ) (o : Option (ℕ × CommitUnit)) → option_map (λ e. e.1.process) o ≡ None → reading_rule p o ≡ None
+read_free p None is = refl
+read_free p (Some e) is = absurd (some_none e.1.process is)
+
+-- by its block and its process
+pub held_by : (p block other holder : ℕ) (o : Option (ℕ × CommitUnit)) → option_map (λ e. e.0) o ≡ Some other → option_map (λ e. e.1.process) o ≡ Some holder
+    → holding_rule p block o ≡ (if (other == block) && (holder == p) then None else of_unit exceptions.entry_held 1 holder)
+held_by p block other holder None at is = absurd (cc)
+held_by p block other holder (Some e) at is =
+    let here : e.0 ≡ other = cc in
+    let same : e.1.process ≡ holder = cc in
+    rw (here, same) refl
+
+pub held_free : (p block : ℕ) (o : Option (ℕ × CommitUnit)) → option_map (λ e. e.0) o ≡ None → holding_rule p block o ≡ None
+held_free p block None is = refl
+held_free p block (Some e) is = absurd (some_none e.0 is)
+
+-- no unit of another block holds it
+pub free_by : (p block : ℕ) (o : Option (ℕ × CommitUnit)) → holding_rule p block o ≡ None → ForSome (option_map (λ e. e.0) o) (λ other. other ≡ block)
+free_by p block None none = unit
+free_by p block (Some e) none =
+    elim ((e.0 == block) && (e.1.process == p)) as (λ b. ((e.0 == block) && (e.1.process == p)) ≡ b
+    → (if b then None else of_unit exceptions.entry_held 1 e.1.process) ≡ None → e.0 ≡ block) [
+      | true ↦ λ is q. nat_same e.0 block (and_true _ _ is)
+      | false ↦ λ is q. absurd (cc)
+    ] refl none
+
+-- ---- what a change that is logged has met
+
+pub named_there : (h : Held) (port : Option Port) (n : ℕ) → journal_named h port ≡ Some n → is_journal h n ≡ true
+named_there h None n is = absurd (cc)
+named_there h (Some port) n is =
+    elim (is_journal h port.journal.0) as (λ b. is_journal h port.journal.0 ≡ b → (if b then Some port.journal.0 else None) ≡ Some n → is_journal h n ≡ true) [
+      | true ↦ λ there q. let same : port.journal.0 ≡ n = cc in rw (← same) there
+      | false ↦ λ there q. absurd (cc)
+    ] refl is
+
+-- the journal space has room
+pub room_met : (s : State) (block bytes journal : ℕ) → journal_rule s block bytes (Some journal) ≡ None → is_journal_full s.held s.units journal block bytes ≡ false
+room_met s block bytes journal none = or_false _ _ (fails_none _ _ _ none)
+
+-- ---- how many units are open
+
+-- the unit of a block goes to a journal space
+abbrev pub goes_by : Held → ℕ → ℕ → Bool
+goes_by h journal block = is_number journal (journal_for_block h block)
+
+pub count_blocks : (h : Held) (units : UnitMap) (journal : ℕ) → length (filter (goes_by h journal) (keys_of units)) ≡ open_units h units journal
+count_blocks h [] journal = refl
+count_blocks h (e ∷ es) journal =
+    let rest = count_blocks h es journal in
+    elim (goes_by h journal e.0) as (λ b. length (cond b (e.0 ∷ filter (goes_by h journal) (keys_of es)) (filter (goes_by h journal) (keys_of es)))
+    ≡ length (cond b (e ∷ filter (goes_to h journal) es) (filter (goes_to h journal) es))) [
+      | true ↦ ap suc rest
+      | false ↦ rest
+    ]
+
+more_few : (a b : ℕ) → a ≤ b → a ≤ suc b
+more_few a b few = omega (arith, few)
+
+pub few_blocks : (h : Held) (journal : ℕ) (blocks : List ℕ) → length (filter (goes_by h journal) blocks) ≤ length blocks
+few_blocks h journal [] = omega arith
+few_blocks h journal (b ∷ bs) =
+    let rest = few_blocks h journal bs in
+    elim (goes_by h journal b) as (λ t. length (cond t (b ∷ filter (goes_by h journal) bs) (filter (goes_by h journal) bs)) ≤ suc (length bs)) [
+      | true ↦ omega (arith, rest)
+      | false ↦ more_few _ _ rest
+    ]
+
+-- ---- changes taken back
+
+-- of the changes up to a place the newest is taken back first
+pub undone_newest : (h : Held) (changes : List UnitChange) (k : ℕ) (change : UnitChange) → slice_get changes k ≡ Some change
+    → all_undone (undone h change) (take k changes) ≡ all_undone h (take (suc k) changes)
+unfolding all_undone
+undone_newest h [] k change is = absurd (cc)
+undone_newest h (c ∷ changes) zero change is = let same : c ≡ change = cc in rw same refl
+undone_newest h (c ∷ changes) (suc k) change is = ap (λ (x : Held). undone x c) (undone_newest h changes k change is)
+
+-- without a unit of the block none ends
+pub ended_none : (units : UnitMap) (block : ℕ) → unit_of units block ≡ None → ended units block ≡ units
+ended_none [] block none = refl
+ended_none (e ∷ es) block none =
+    let rest = ended_none es block in
+    let at : is_at (nat_cmp block) e.0 ≡ (e.0 == block) = at_key block e.0 in
+    let found : cond (e.0 == block) (Some e.1) (unit_of es block) ≡ None = rw at at none in
+    rw at
+    (elim (e.0 == block) as (λ b. cond b (Some e.1) (unit_of es block) ≡ None → cond b es (e ∷ ended es block) ≡ e ∷ es) [
+      | true ↦ λ q. absurd (some_none e.1 q)
+      | false ↦ λ q. ap (λ (fs : UnitMap). e ∷ fs) (rest q)
+    ] found)
+
+-- ---- units taken back
+
+taken_units : (s : State) (p block : ℕ) → above block (taken_back s p block).units ≡ above block s.units
+taken_units s p block = by (unit_of s.units block)
+  where
+    by : (u : Option CommitUnit) → above block (if is_unit_of p u then decommitted s p block u else s).units ≡ above block s.units
+    by None = refl
+    by (Some u) =
+        elim (u.process == p) as (λ b. above block (if b then decommitted s p block (Some u) else s).units ≡ above block s.units) [
+          | true ↦ ended_above s.units block block (omega arith)
+          | false ↦ refl
+        ]
+
+taken_is : (s : State) (p block : ℕ) (unit : CommitUnit) → unit_of s.units block ≡ Some unit → taken_back s p block ≡ decommitted_of s p (block, unit)
+taken_is s p block unit there = rw there refl
+
+taken_none : (s : State) (p block : ℕ) → unit_of s.units block ≡ None → taken_back s p block ≡ s
+taken_none s p block none = rw none refl
+
+-- all units but that of a block that ended before are left
+pub taken_first : (s : State) (p : ℕ) → IsRising s.units → all_decommitted s p s.units ≡ all_decommitted (taken_back s p 0) p (above 0 (taken_back s p 0).units)
+unfolding all_decommitted
+taken_first s p rising = by (unit_of s.units 0) refl
+  where
+    by : (u : Option CommitUnit) → unit_of s.units 0 ≡ u → all_decommitted s p s.units ≡ all_decommitted (taken_back s p 0) p (above 0 (taken_back s p 0).units)
+    by None is =
+        ap (all_decommitted s p) (sym (first_none s.units rising is))
+        ∙ ap (λ (t : State). all_decommitted t p (above 0 t.units)) (sym (taken_none s p 0 is))
+    by (Some u) is =
+        ap (all_decommitted s p) (first_some s.units u rising is)
+        ∙ ap (λ (t : State). all_decommitted t p (above 0 s.units)) (sym (taken_is s p 0 u is))
+        ∙ ap (all_decommitted (taken_back s p 0) p) (sym (taken_units s p 0))
+
+pub taken_next : (s : State) (p after block : ℕ) → IsRising s.units → next_block s.units after ≡ Some block
+    → all_decommitted s p (above after s.units) ≡ all_decommitted (taken_back s p block) p (above block (taken_back s p block).units)
+unfolding all_decommitted
+taken_next s p after block rising is =
+    let next = next_some s.units after block rising is in
+    ap (all_decommitted s p) next.above
+    ∙ ap (λ (t : State). all_decommitted t p (above block s.units)) (sym (taken_is s p block next.unit next.stands))
+    ∙ ap (all_decommitted (taken_back s p block) p) (sym (taken_units s p block))
+
+pub taken_last : (s : State) (p after : ℕ) → next_block s.units after ≡ None → all_decommitted s p (above after s.units) ≡ s
+unfolding all_decommitted
+taken_last s p after none = ap (all_decommitted s p) (next_none s.units after none)
+
+-- ---- what stays
+
+stays_of : (s : State) (p : ℕ) (e : ℕ × CommitUnit) → (decommitted_of s p e).processes ≡ s.processes
+stays_of s p e =
+    elim (e.1.process == p) as (λ b. (if b then decommitted s p e.0 (Some e.1) else s).processes ≡ s.processes) [
+      | true ↦ refl
+      | false ↦ refl
+    ]
+
+-- the processes stay as they are
+pub processes_stay : (s : State) (p : ℕ) (units : UnitMap) → (all_decommitted s p units).processes ≡ s.processes
+unfolding all_decommitted
+processes_stay s p [] = refl
+processes_stay s p (e ∷ units) = processes_stay (decommitted_of s p e) p units ∙ stays_of s p e
