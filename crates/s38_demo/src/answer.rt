@@ -31,10 +31,10 @@ fn bytes_of(reply: &Reply) -> Option<&[u8]>
 }
 
 /// What a process was given by a RETDSEN.
-fn given(process: u32, entry: &Entry) -> Option<&[u8]>
+fn given(process: u64, entry: &Entry) -> Option<&[u8]>
     ensures { option_copied result ≡ given process entry.now }
 {
-    if entry.process == process && asks_entry(&entry.event) {
+    if u64::from(entry.process) == process && asks_entry(&entry.event) {
         bytes_of(&entry.reply)
     } else {
         None
@@ -43,11 +43,10 @@ fn given(process: u32, entry: &Entry) -> Option<&[u8]>
 
 /// What the last process of the deck was given first.
 fn total_bytes(size: u32, history: &[Entry]) -> Option<&[u8]>
-    requires { size ≤ 200 }
     ensures { option_copied result ≡ total_bytes size history.now }
 {
     for entry in history {
-        if let Some(bytes) = given(size + 2, entry) {
+        if let Some(bytes) = given(u64::from(size) + 2, entry) {
             return Some(bytes);
         }
     }
@@ -58,7 +57,6 @@ fn total_bytes(size: u32, history: &[Entry]) -> Option<&[u8]>
 /// where there is none.
 #[tactic(auto, unfolding(crate::specs::Total::total_of))]
 pub fn total(size: u32, history: &[Entry]) -> i128
-    requires { size ≤ 200 }
     ensures { result ≡ total_of size history.now }
 {
     let Some(bytes) = total_bytes(size, history) else {
@@ -77,7 +75,6 @@ pub fn total(size: u32, history: &[Entry]) -> i128
 /// What is printed of the run of the generated deck: the number of its postings, and the total.
 #[tactic(auto, unfolding(crate::specs::Total::demo_text))]
 pub fn demo_text(alloc: Global, size: u32, history: &[Entry]) -> Result<Vec<u8>, NoMemory>
-    requires { size ≤ 200 }
     ensures { IfOk result (λ text. text.items ≡ demo_text size history.now) }
 {
     let mut text = Vec::new(alloc);
