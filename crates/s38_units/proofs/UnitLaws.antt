@@ -2,7 +2,7 @@
 -- after another.
 use Rattle.std.proofs.Common.{◌≡◌, ℕ, zero, suc, ◌+◌, ◌==◌, ◌<◌, ◌≤◌, ◌&&◌, ◌||◌, Bool, true, false, cond, List, [], ◌∷◌, ◌++◌, refl, sym, ◌∙◌, ap, arith, length}
 use Rattle.std.proofs.lemmas.Bool.Decides.{nat_tests}
-use Rattle.std.specs.Prelude.{Option, Some, None, filter, if◌then◌else◌, is_some, slice_get, take}
+use Rattle.std.specs.Prelude.{Option, Some, None, Result, Ok, Err, OnOk, filter, if◌then◌else◌, is_some, slice_get, take}
 use Rattle.std.specs.Option.{ForSome, option_map}
 use Rattle.std.specs.Ordering.{nat_cmp}
 use Rattle.std.specs.Map.{keys_of}
@@ -11,6 +11,8 @@ use Rattle.s38_base.specs.declared.exception.Exception.{Exception}
 use Rattle.s38_base.specs.Exceptions as exceptions
 use Rattle.s38_base.specs.Signals.{fails}
 use Rattle.s38_commits.specs.declared.change.UnitChange.{UnitChange}
+use Rattle.s38_base.specs.declared.fault.NoMemory.{NoMemory}
+use Rattle.s38_commits.specs.Changes.{journal_bytes}
 use Rattle.s38_commits.specs.Unit.{CommitUnit}
 use Rattle.s38_commits.specs.Units.{IsRising, UnitMap, above, ended, next_block, unit_of}
 use Rattle.s38_commits.proofs.WalkLaws.{ended_above, next_none, next_some}
@@ -18,9 +20,10 @@ use Rattle.s38_commits.proofs.MapLaws.{at_key}
 use Rattle.s38_commits.proofs.FirstLaws.{first_none, first_some}
 use Rattle.s38_rules.specs.declared.port.Port.{Port}
 use Rattle.s38_rules.specs.declared.process.ProcessEntry.{ProcessEntry}
-use Rattle.s38_rules.specs.Changing.{are_units_full, holding_rule, is_journal_full, is_unit_full, journal_rule, of_unit, reading_rule}
+use Rattle.s38_rules.specs.Changing.{are_units_full, change_entry, holding_rule, is_journal_full, is_unit_full, journal_rule, logged, next_sequence, number_for, of_unit, reading_rule, units_behind, with_change_logged}
 use Rattle.s38_rules.specs.Held.{Held}
-use Rattle.s38_rules.specs.Journaling.{goes_to, is_journal, is_number, journal_for_block, journal_named, open_units}
+use Rattle.s38_rules.specs.Journaling.{goes_to, is_journal, is_number, journal_for, journal_for_block, journal_named, open_behind, open_units}
+use Rattle.s38_rules.specs.Parts.{journal_at, on_journal}
 use Rattle.s38_rules.specs.State.{State}
 use Rattle.s38_rules.specs.Units.{all_decommitted, all_undone, decommitted, decommitted_of, undone}
 use Rattle.s38_rules.proofs.RuleLaws.{fails_none}
@@ -66,12 +69,13 @@ held_free p block None is = refl
 held_free p block (Some e) is = absurd (some_none e.0 is)
 
 -- no unit of another block holds it
-pub free_by : (p block : ℕ) (o : Option (ℕ × CommitUnit)) → holding_rule p block o ≡ None → ForSome (option_map (λ e. e.0) o) (λ other. other ≡ block)
-free_by p block None none = unit
-free_by p block (Some e) none =
+pub free_by : (p block other : ℕ) (o : Option (ℕ × CommitUnit)) → holding_rule p block o ≡ None → option_map (λ e. e.0) o ≡ Some other → other ≡ block
+free_by p block other None none at = absurd (cc)
+free_by p block other (Some e) none at =
+    let here : e.0 ≡ other = cc in
     elim ((e.0 == block) && (e.1.process == p)) as (λ b. ((e.0 == block) && (e.1.process == p)) ≡ b
-    → (if b then None else of_unit exceptions.entry_held 1 e.1.process) ≡ None → e.0 ≡ block) [
-      | true ↦ λ is q. nat_same e.0 block (and_true _ _ is)
+    → (if b then None else of_unit exceptions.entry_held 1 e.1.process) ≡ None → other ≡ block) [
+      | true ↦ λ is q. sym here ∙ nat_same e.0 block (and_true _ _ is)
       | false ↦ λ is q. absurd (cc)
     ] refl none
 
@@ -88,6 +92,15 @@ named_there h (Some port) n is =
 -- the journal space has room
 pub room_met : (s : State) (block bytes journal : ℕ) → journal_rule s block bytes (Some journal) ≡ None → is_journal_full s.held s.units journal block bytes ≡ false
 room_met s block bytes journal none = or_false _ _ (fails_none _ _ _ none)
+
+-- a change that is logged, or refused for want of memory
+pub logged_ok : (s : State) (p block journal : ℕ) (change : UnitChange) (r : Result (Unit {0}) NoMemory) (h : Held) (units : UnitMap) → journal_for s.held change.space.0 ≡ Some journal
+    → OnOk r (h ≡ on_journal s.held journal (with_change_logged (journal_bytes change) (open_behind s.held s.units journal block) (change_entry (number_for s.units block (next_sequence (journal_at s.held journal))) p change)))
+    → OnOk r (units ≡ units_behind s.units p block (number_for s.units block (next_sequence (journal_at s.held journal))) change)
+    → OnOk r (record s { held = h; units = units } ≡ logged s p block change)
+unfolding logged
+logged_ok s p block journal change (Ok x) h units there objects behind = rw (there, objects, behind) refl
+logged_ok s p block journal change (Err e) h units there objects behind = tt
 
 -- ---- how many units are open
 

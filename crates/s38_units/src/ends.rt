@@ -31,6 +31,7 @@ fn take_back(world: &mut World<Objects>, process: u32, block: ObjNum)
 }
 
 /// The units of a process are taken back, in order of the numbers of their commit blocks.
+#[tactic(auto, using(crate::proofs::UnitLaws::taken_first, crate::proofs::UnitLaws::taken_last, crate::proofs::UnitLaws::taken_next))]
 fn take_all_back(world: &mut World<Objects>, process: u32)
     ensures { world.new ≡ all_decommitted world.old process world.old.units }
 {
@@ -44,6 +45,7 @@ fn take_all_back(world: &mut World<Objects>, process: u32)
 
 /// A process has ended: its units were taken back, in order of the numbers of their commit blocks, and it holds no
 /// lock any more.
+#[tactic(auto, using(crate::proofs::UnitLaws::processes_stay))]
 pub fn end(world: &mut World<Objects>, process: u32)
     ensures { world.new ≡ end_at world.old process (process_entry world.old process) }
 {

@@ -89,7 +89,7 @@ fn goes_to(objects: &Objects, journal: ObjNum, block: u64) -> bool
 }
 
 /// How many units are open in a journal space.
-#[tactic(auto, using(crate::proofs::UnitLaws::count_blocks))]
+#[tactic(auto, using(crate::proofs::UnitLaws::count_blocks, crate::proofs::UnitLaws::few_blocks))]
 pub fn open_units(objects: &Objects, units: &Units, journal: ObjNum) -> usize
     ensures count { result ≡ open_units objects.now units.now journal.0 }
     ensures few { result < 2 ^ 63 }
