@@ -24,15 +24,15 @@ returns-clause-objects c =
     let next : c.last.result + 1 ≡ next_sequence (journal_at h n) = ap (λ (k : ℕ). k + 1) c.last.ensures.last ∙ ap next_sequence (sym here) in
     let number : c.number_for-number.result ≡ number_for units block (next_sequence (journal_at h n)) = c.number_for-number.ensures ∙ ap (number_for units block) next in
     let entry : entered c.change_entry-entry.result ≡ change_entry (number_for units block (next_sequence (journal_at h n))) c.args.process change =
-        c.change_entry-entry.ensures ∙ ap (λ (k : ℕ). change_entry k c.args.process change) number in
+    c.change_entry-entry.ensures ∙ ap (λ (k : ℕ). change_entry k c.args.process change) number in
     let same : with_change_logged (journal_bytes change) c.open_behind-behind.result (entered c.change_entry-entry.result) held
-        ≡ with_change_logged (journal_bytes change) (open_behind h units n block) (change_entry (number_for units block (next_sequence (journal_at h n))) c.args.process change) held =
-        ap (λ (k : ℕ). with_change_logged (journal_bytes change) k (entered c.change_entry-entry.result) held) c.open_behind-behind.ensures
-        ∙ ap (λ (e : Entry). with_change_logged (journal_bytes change) (open_behind h units n block) e held) entry in
+    ≡ with_change_logged (journal_bytes change) (open_behind h units n block) (change_entry (number_for units block (next_sequence (journal_at h n))) c.args.process change) held =
+    ap (λ (k : ℕ). with_change_logged (journal_bytes change) k (entered c.change_entry-entry.result) held) c.open_behind-behind.ensures
+    ∙ ap (λ (e : Entry). with_change_logged (journal_bytes change) (open_behind h units n block) e held) entry in
     on_ok_weaker c.log_entry.result
     (λ e. ap (λ (x : JournalList). over_part journal_part h n (λ _. x)) (e ∙ same)
     ∙ part_written journal_part h n
-        (with_change_logged (journal_bytes change) (open_behind h units n block) (change_entry (number_for units block (next_sequence (journal_at h n))) c.args.process change)) held told)
+    (with_change_logged (journal_bytes change) (open_behind h units n block) (change_entry (number_for units block (next_sequence (journal_at h n))) c.args.process change)) held told)
     c.log_entry.ensures.journal
 
 pub returns-clause-objects_left : goal.returns-clause-objects_left
