@@ -1,6 +1,7 @@
 -- Room that is taken in a data space is nothing to the journals, and an entry that takes it stands as if it had taken
 -- none; room that is given back was never taken.
-use Rattle.std.proofs.Common.{◌≡◌, ℕ, ◌+◌, ◌==◌, Bool, true, false, cond, List, [], ◌∷◌, ap, length, refl, sym, ◌∙◌, zero, suc}
+use Rattle.std.proofs.Common.{◌≡◌, ℕ, ◌+◌, ◌==◌, Bool, true, false, cond, List, [], ◌∷◌, ap, arith, length, refl, sym, ◌∙◌}
+use Rattle.std.proofs.lemmas.Bool.Decides.{nat_tests}
 use Rattle.std.specs.Prelude.{Option, Some, None, filter}
 use Rattle.std.specs.Option.{option_map}
 use Rattle.s38_commits.specs.Unit.{CommitUnit}
@@ -91,8 +92,7 @@ room_lost : (d : DataBody) → (d.space.spare == 0) ≡ true → over_table room
 room_lost d none = rw none (ap (λ (n : ℕ). record d { space = record (d.space) { spare = n } }) (zero_is d.space.spare none))
   where
     zero_is : (n : ℕ) → (n == 0) ≡ true → 0 ≡ n
-    zero_is zero e = refl
-    zero_is (suc n) e = cc
+    zero_is n e = grind (arith, nat_tests)
 
 room_kept : (d : DataBody) → (d.space.spare == 0) ≡ false → over_table roomy d ≡ d
 room_kept d some = rw some refl
@@ -103,15 +103,19 @@ room_back h space = by (part_at data_part h space) refl
   where
     same : (x d : DataBody) → Some d ≡ Some x → d ≡ x
     same x d e = cc
+
     some_lost : (x d : DataBody) → Some d ≡ Some x → (d.space.spare == 0) ≡ true → over_table roomless (over_table roomy x) ≡ x
     some_lost x d e none = room_lost x (rw (← same x d e) none)
+
     some_kept : (x d : DataBody) → Some d ≡ Some x → (d.space.spare == 0) ≡ false → over_table roomy x ≡ x
     some_kept x d e some = room_kept x (rw (← same x d e) some)
+
     of_room : (d : DataBody) → part_at data_part h space ≡ Some d → (b : Bool) → (d.space.spare == 0) ≡ b → given_back (with_room h space) space b ≡ h
     of_room d there true none =
         part_twice data_part data_lawful (over_table roomy) (over_table roomless) (λ x. over_table roomless (over_table roomy x)) (λ x. refl) h space
         ∙ part_left data_part data_lawful (λ x. over_table roomless (over_table roomy x)) h space (Some d) there (λ x e. some_lost x d e none)
     of_room d there false some = part_left data_part data_lawful (over_table roomy) h space (Some d) there (λ x e. some_kept x d e some)
+
     by : (r : Option DataBody) → part_at data_part h space ≡ r → given_back (with_room h space) space (needs_room r) ≡ h
     by None there = part_left data_part data_lawful (over_table roomy) h space None there (λ x e. cc)
     by (Some d) there = of_room d there (d.space.spare == 0) refl

@@ -4,8 +4,9 @@ ghost use Rattle.std.specs.Option.{option_copied, unwrap_or};
 ghost use Rattle.s38_base.specs.Signals.{first};
 ghost use Rattle.s38_commits.specs.Changes.{entry_bytes};
 ghost use Rattle.s38_dataspaces.specs.Entries.{Entry};
+ghost use Rattle.s38_dataspaces.specs.Table.{entry_len};
 ghost use Rattle.s38_rules.specs.Changing.{journal_rule};
-ghost use Rattle.s38_rules.specs.DataSpaces.{change_rules, current, current_fails, desds_fails, entry_rule, insdsen_fails, position_rule, retdsen_fails, room_rule, table_of, updsen_fails};
+ghost use Rattle.s38_rules.specs.DataSpaces.{change_rules, current, current_fails, cursor_of, desds_fails, entry_rule, insdsen_fails, position_rule, retdsen_fails, room_rule, table_of, updsen_fails};
 ghost use Rattle.s38_rules.specs.Journaling.{journal_for};
 ghost use Rattle.s38_rules.specs.Parts.{no_table};
 
@@ -13,10 +14,10 @@ use crate::reads::{
     cursor_of, entry_in, entry_len_in, fields_in, grown_image_in, next_ordinal_in, standing_len_in,
     table_of,
 };
+use s38_base::Exception;
 use s38_base::exceptions::{
     DECIMAL_DATA, LENGTH_INVALID, LIMIT_EXCEEDED, OBJECT_IN_USE, POSITION_EMPTY,
 };
-use s38_base::Exception;
 use s38_code::Operand;
 use s38_dataspaces::DataSpace;
 use s38_invoke::World;
@@ -85,12 +86,7 @@ fn position_rule(objects: &Objects, operands: &[Operand], k: u8) -> Option<Excep
 // ---- what a change must be
 
 /// No unit of others holds the entry, and the change may belong to the cursor's commit block.
-fn change_rules(
-    world: &World<Objects>,
-    process: u32,
-    cursor: &Cursor,
-    at: u32,
-) -> Option<Exception>
+fn change_rules(world: &World<Objects>, process: u32, cursor: &Cursor, at: u32) -> Option<Exception>
     ensures { result ≡ change_rules world.now process cursor.now at }
 {
     let held = held_rule(&world.units, process, cursor.block, cursor.space, at);
@@ -198,11 +194,7 @@ pub fn current_fails(
 
 /// It is an entry of the data space, and the one at which the cursor stands may be changed.
 #[tactic(auto, using(crate::proofs::CursorLaws::entry_sized), unfolding(s38_rules::specs::DataSpaces::updsen_fails))]
-pub fn updsen_fails(
-    world: &World<Objects>,
-    process: u32,
-    operands: &[Operand],
-) -> Option<Exception>
+pub fn updsen_fails(world: &World<Objects>, process: u32, operands: &[Operand]) -> Option<Exception>
     ensures { result ≡ updsen_fails world.now process operands.now }
 {
     let objects = &world.objects;

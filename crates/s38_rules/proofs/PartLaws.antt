@@ -72,8 +72,8 @@ change_commutes (o ∷ os) n m f g kf kg same = by (change_commutes os n m f g k
     by : change_in (change_in os n f) m g ≡ change_in (change_in os m g) n f → (a : Bool) → has_number n o ≡ a → (b : Bool) → has_number m o ≡ b → change_in (change_in (o ∷ os) n f) m g ≡ change_in (change_in (o ∷ os) m g) n f
     by rest true a true b = rw (a, b, number_kept m f o kf, number_kept n g o kg, a, b) (ap (λ (x : Object). x ∷ os) (same o))
     by rest true a false b = rw (a, b, number_kept m f o kf, a, b) refl
-    by rest false a true b = rw (a, b, number_kept n g o kg, a, b) refl
-    by rest false a false b = rw (a, b, a, b) (ap (λ (l : List Object). o ∷ l) rest)
+    by rest false a true b = rw (a, b, number_kept n g o kg, a) refl
+    by rest false a false b = rw (a, b, a) (ap (λ (l : List Object). o ∷ l) rest)
 
 change_twice : (os : List Object) (n : ℕ) (f g both : Object → Object) → KeepsNumber f → ((o : Object) → g (f o) ≡ both o)
     → change_in (change_in os n f) n g ≡ change_in os n both
