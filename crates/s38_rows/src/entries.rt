@@ -128,7 +128,7 @@ pub static ADDRESSES: Table = Table {
         ("DESDS H", "DESDS 2202 1"),
         ("DESDS K", "DESDS 2403 1"),
         ("DESDS D", "DESDS OK"),
-        // A cursor is one of a data space, and without a commit block; there is none yet.
+        // A cursor is one of a data space; what is behind that is a commit block, or none.
         ("CRTCR W,C,CURSOR/00/M,NONE,D,*NONE", "CRTCR OK S17/00"),
         ("CRTCR W,*NONE,CURSOR/00/W,NONE,N,*NONE", "CRTCR 2401 5"),
         ("CRTCR W,*NONE,CURSOR/00/W,NONE,S,*NONE", "CRTCR 2402 5"),

@@ -2,6 +2,7 @@
 
 use crate::answers::answers;
 use crate::commands::{BAD_DECKS, BAD_LINES, BAD_WORDS, CHECKED, RUN};
+use crate::commitment::{CHANGES, ENDED, HELD_ENTRY, UNITS};
 use crate::computed::COMPUTED;
 use crate::confinement::WAYS;
 use crate::contexts::{CONTEXTS, SHOPS};
@@ -13,6 +14,7 @@ use crate::exceptions::EXCEPTIONS;
 use crate::grants::{CARRIED, GRANTED, LENT, OWNED, SEEN};
 use crate::indexes::{ENTERED, FOUND, HELD, INDEXES, RIGHTS};
 use crate::invocations::{ADOPTED, CALLED, MISMATCHED, OFFERED, PASSED};
+use crate::journals::{JOURNALED, JOURNALS, KEPT, SEQUENCES};
 use crate::keyed::{ASKED, ORDERED, TAKEN};
 use crate::locks::{BLOCKED, LOCKING, PAIRS};
 use crate::profiles::{PAID, PROFILES, USERS};
@@ -238,6 +240,14 @@ fn data_spaces_are_answered(rt: HostRuntime) -> Result<(), Fail> {
 }
 
 #[test]
+fn journals_and_units_are_answered(rt: HostRuntime) -> Result<(), Fail> {
+    for table in [&JOURNALS, &SEQUENCES, &HELD_ENTRY, &ENDED, &UNITS] {
+        assert_eq!(rt; wrong_call(rt.alloc(), table)?, None);
+    }
+    Ok(())
+}
+
+#[test]
 fn acts_of_users_are_answered(rt: HostRuntime) -> Result<(), Fail> {
     for acts in [&CONTEXTS, &PROFILES, &LOCKING] {
         assert_eq!(rt; wrong_act(rt.alloc(), acts)?, None);
@@ -247,7 +257,7 @@ fn acts_of_users_are_answered(rt: HostRuntime) -> Result<(), Fail> {
 
 #[test]
 fn acts_on_data_are_answered(rt: HostRuntime) -> Result<(), Fail> {
-    for acts in [&RIGHTS, &ALLOWED] {
+    for acts in [&RIGHTS, &ALLOWED, &JOURNALED] {
         assert_eq!(rt; wrong_act(rt.alloc(), acts)?, None);
     }
     Ok(())
@@ -255,7 +265,7 @@ fn acts_on_data_are_answered(rt: HostRuntime) -> Result<(), Fail> {
 
 #[test]
 fn every_pair_is_answered(rt: HostRuntime) -> Result<(), Fail> {
-    for between in [&PAIRS, &BLOCKED, &HELD, &BESIDE] {
+    for between in [&PAIRS, &BLOCKED, &HELD, &BESIDE, &KEPT, &CHANGES] {
         assert_eq!(rt; wrong_pair(rt.alloc(), between)?, None);
     }
     Ok(())
