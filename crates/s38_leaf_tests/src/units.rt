@@ -41,6 +41,9 @@ const NEXT: &[(u64, Option<u64>, Option<u64>)] = &[
 /// The data spaces and ordinals of the changes in the unit of block 7.
 const CHANGES: &[(u64, u32)] = &[(4, 2), (3, 1), (4, 2)];
 
+/// A commit block, the process, and the data space and ordinal of a change that joins there.
+const JOINED: &[(u64, u32, u64, u32)] = &[(7, 1, 4, 2), (5, 2, 3, 2), (7, 2, 3, 1)];
+
 /// How many bytes an entry has before it is deleted, and whether the deletion may still be noted.
 const FILLING: &[(usize, bool)] = &[
     (1_048_536, false),
@@ -91,6 +94,21 @@ fn note(units: &mut Units, block: ObjNum, change: &UnitChange) -> Result<bool, U
     Ok(true)
 }
 
+/// Notes a change in the block's unit, or a new one, if no other unit has a change of that entry.
+fn join(
+    units: &mut Units,
+    block: ObjNum,
+    process: u32,
+    change: &UnitChange,
+) -> Result<bool, UnitFault> {
+    let owner = units.block_of(change.space, change.at);
+    if owner.is_some_and(|other| other.0 != block.0) {
+        return Ok(false);
+    }
+    units.join(block, process, 11, change)?;
+    Ok(true)
+}
+
 /// The units of `BEGUN` with the changes of `NOTED`.
 fn noted(alloc: Global) -> Result<Units, Fail> {
     let mut units = Units::new(alloc);
@@ -116,6 +134,20 @@ fn units_are_begun_and_changes_noted(rt: HostRuntime) -> Result<(), Fail> {
     }
     let unit = units.get(ObjNum(5));
     assert!(rt; unit.is_some_and(|unit| unit.process() == 2 && unit.number() == 11));
+    Ok(())
+}
+
+#[test]
+fn changes_begin_their_units(rt: HostRuntime) -> Result<(), Fail> {
+    let mut units = Units::new(rt.alloc());
+    for (block, process, space, at) in JOINED {
+        let change = deletion(rt.alloc(), *space, *at, 3)?;
+        let joined = join(&mut units, ObjNum(*block), *process, &change);
+        assert_eq!(rt; joined, Ok(true));
+    }
+    let unit = units.get(ObjNum(7));
+    assert!(rt; unit.is_some_and(|unit| unit.process() == 1 && unit.changes().len() == 2));
+    assert!(rt; units.changes_space(ObjNum(3)) && !units.changes_space(ObjNum(5)));
     Ok(())
 }
 
