@@ -40,11 +40,14 @@ event_lessens s p (Act d t) users o r some closed asked within may =
     let way = among s.held users (acting s p d) o r closed within in
     let done = effect_lessens s p d t o r way asked none in
     (done.0, done.1, unused s p d t o r some way asked none)
-event_lessens s p (Finish cause) users o r some closed asked within may =
-    (elim (process_entry s p) as (λ x. Lessens s.held (end_at s p x).held o r) [
-      | None ↦ lessens_same s.held o r
-      | Some x ↦ kept_lessens s.held _ o r (all_decommitted_keeps (IsHarmless o r) s.units s p)
-    ], All-nil (OfVal (IsHarmless o r)), λ uses. uses)
+event_lessens s p (Finish cause) users o r some closed asked within may = (
+  elim (process_entry s p) as (λ x. Lessens s.held (end_at s p x).held o r) [
+    | None ↦ lessens_same s.held o r
+    | Some x ↦ kept_lessens s.held _ o r (all_decommitted_keeps (IsHarmless o r) s.units s p)
+  ],
+  All-nil (OfVal (IsHarmless o r)),
+  λ uses. uses,
+)
 
 verdict_kept : (users : List ℕ) (o r : ℕ) (s : State) (e : Entry) (v : Verdict) → o ≢ 0 → IsShut s.held users o r → OfEvent (IsHarmless o r) e.event → ActsWithin users s e.process e.event
     → awake_verdict s e.process e.event ≡ v → KeepsOut users o r s e (by_verdict s e.process e.event v)

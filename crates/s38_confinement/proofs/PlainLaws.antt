@@ -176,7 +176,7 @@ decommitted_keeps : (q : Pointer → Type 0) (s : State) (p block : ℕ) (unit :
 decommitted_keeps q s p block None = keeps_same q s.held
 decommitted_keeps q s p block (Some unit) =
     keeps_then q s.held (all_undone s.held unit.changes) _ (undone_keeps q unit.changes s.held)
-        (end_keeps q (all_undone s.held unit.changes) (journal_for_block s.held block) (end_entry entry_kinds.Decommit p unit))
+    (end_keeps q (all_undone s.held unit.changes) (journal_for_block s.held block) (end_entry entry_kinds.Decommit p unit))
 
 -- the units of a process that are taken back
 pub all_decommitted_keeps : (q : Pointer → Type 0) (units : UnitMap) (s : State) (p : ℕ) → Keeps q s.held (all_decommitted s p units).held
@@ -185,8 +185,8 @@ all_decommitted_keeps q [] s p = keeps_same q s.held
 all_decommitted_keeps q (e ∷ units) s p =
     let taken = decommitted s p e.0 (Some e.1) in
     cond_both (e.1.process == p) taken s (λ (t : State). Keeps q s.held (all_decommitted t p units).held)
-        (λ own. keeps_then q s.held taken.held _ (decommitted_keeps q s p e.0 (Some e.1)) (all_decommitted_keeps q units taken p))
-        (λ other. all_decommitted_keeps q units s p)
+    (λ own. keeps_then q s.held taken.held _ (decommitted_keeps q s p e.0 (Some e.1)) (all_decommitted_keeps q units taken p))
+    (λ other. all_decommitted_keeps q units s p)
 
 pub destruction_keeps : (q : Pointer → Type 0) (h : Held) (ops : List Operand) → Keeps q h (destruction_changes h ops)
 unfolding destruction_changes

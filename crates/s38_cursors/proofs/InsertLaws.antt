@@ -103,15 +103,19 @@ room_back h space = by (part_at data_part h space) refl
   where
     same : (x d : DataBody) → Some d ≡ Some x → d ≡ x
     same x d e = cc
+
     some_lost : (x d : DataBody) → Some d ≡ Some x → (d.space.spare == 0) ≡ true → over_table roomless (over_table roomy x) ≡ x
     some_lost x d e none = room_lost x (rw (← same x d e) none)
+
     some_kept : (x d : DataBody) → Some d ≡ Some x → (d.space.spare == 0) ≡ false → over_table roomy x ≡ x
     some_kept x d e some = room_kept x (rw (← same x d e) some)
+
     of_room : (d : DataBody) → part_at data_part h space ≡ Some d → (b : Bool) → (d.space.spare == 0) ≡ b → given_back (with_room h space) space b ≡ h
     of_room d there true none =
         part_twice data_part data_lawful (over_table roomy) (over_table roomless) (λ x. over_table roomless (over_table roomy x)) (λ x. refl) h space
         ∙ part_left data_part data_lawful (λ x. over_table roomless (over_table roomy x)) h space (Some d) there (λ x e. some_lost x d e none)
     of_room d there false some = part_left data_part data_lawful (over_table roomy) h space (Some d) there (λ x e. some_kept x d e some)
+
     by : (r : Option DataBody) → part_at data_part h space ≡ r → given_back (with_room h space) space (needs_room r) ≡ h
     by None there = part_left data_part data_lawful (over_table roomy) h space None there (λ x e. cc)
     by (Some d) there = of_room d there (d.space.spare == 0) refl

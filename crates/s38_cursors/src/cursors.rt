@@ -7,9 +7,7 @@ use crate::creation::{
     created_cursor, created_data_space, crtcr, crtcr_fails, crtcr_needs, crtds, crtds_fails,
 };
 use crate::entries::{deldsen, insdsen, retdsen_gives, updsen};
-use crate::entry_rules::{
-    current_fails, desds_fails, insdsen_fails, retdsen_fails, updsen_fails,
-};
+use crate::entry_rules::{current_fails, desds_fails, insdsen_fails, retdsen_fails, updsen_fails};
 use crate::reads::cursor_of;
 use crate::seeking::{setcr, setcr_fails};
 use s38_base::{Category, Exception, Kind, NoMemory, Op, Rights};

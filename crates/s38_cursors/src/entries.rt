@@ -71,7 +71,8 @@ fn insert_journaled(
     requires journal { journal_for world.old.held (cursor_of world.old.held operands.now 1).space.0 ≡ Some journal.0 }
     ensures ordinal { IfOk result (λ at. at ≡ next_ordinal (table_of world.old.held operands.now 1)) }
     ensures ok { OnOk result (world.new ≡ record (logged world.old process (cursor_of world.old.held operands.now 1).block.0 (insertion world.old.held operands.now)) {
-        held = on_table (logged world.old process (cursor_of world.old.held operands.now 1).block.0 (insertion world.old.held operands.now)).held (cursor_of world.old.held operands.now 1).space.0 (with_inserted entry.now) }) }
+      held = on_table (logged world.old process (cursor_of world.old.held operands.now 1).block.0 (insertion world.old.held operands.now)).held (cursor_of world.old.held operands.now 1).space.0 (with_inserted entry.now);
+    }) }
     ensures err { OnErr result (world.new ≡ world.old) }
 {
     let cursor = cursor_of(&world.objects, operands, 1);
@@ -105,7 +106,14 @@ pub fn insdsen(
     };
     let inserted = match journal_for(&world.objects, space) {
         None => insert_at(world, space, entry.as_slice()),
-        Some(journal) => insert_journaled(alloc, world, process, operands, journal, entry.as_slice()),
+        Some(journal) => insert_journaled(
+            alloc,
+            world,
+            process,
+            operands,
+            journal,
+            entry.as_slice(),
+        ),
     };
     match inserted {
         Ok(ordinal) => {

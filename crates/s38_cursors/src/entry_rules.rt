@@ -13,10 +13,10 @@ use crate::reads::{
     cursor_of, entry_in, entry_len_in, fields_in, grown_image_in, next_ordinal_in, standing_len_in,
     table_of,
 };
+use s38_base::Exception;
 use s38_base::exceptions::{
     DECIMAL_DATA, LENGTH_INVALID, LIMIT_EXCEEDED, OBJECT_IN_USE, POSITION_EMPTY,
 };
-use s38_base::Exception;
 use s38_code::Operand;
 use s38_dataspaces::DataSpace;
 use s38_invoke::World;
@@ -85,12 +85,7 @@ fn position_rule(objects: &Objects, operands: &[Operand], k: u8) -> Option<Excep
 // ---- what a change must be
 
 /// No unit of others holds the entry, and the change may belong to the cursor's commit block.
-fn change_rules(
-    world: &World<Objects>,
-    process: u32,
-    cursor: &Cursor,
-    at: u32,
-) -> Option<Exception>
+fn change_rules(world: &World<Objects>, process: u32, cursor: &Cursor, at: u32) -> Option<Exception>
     ensures { result ≡ change_rules world.now process cursor.now at }
 {
     let held = held_rule(&world.units, process, cursor.block, cursor.space, at);
@@ -198,11 +193,7 @@ pub fn current_fails(
 
 /// It is an entry of the data space, and the one at which the cursor stands may be changed.
 #[tactic(auto, using(crate::proofs::CursorLaws::entry_sized), unfolding(s38_rules::specs::DataSpaces::updsen_fails))]
-pub fn updsen_fails(
-    world: &World<Objects>,
-    process: u32,
-    operands: &[Operand],
-) -> Option<Exception>
+pub fn updsen_fails(world: &World<Objects>, process: u32, operands: &[Operand]) -> Option<Exception>
     ensures { result ≡ updsen_fails world.now process operands.now }
 {
     let objects = &world.objects;

@@ -113,7 +113,8 @@ pub fn insert_logged(
     requires fits { insert_refusal (table_at world.old.held change.now.space.0) entry.now ≡ None }
     requires values { IsTrue (have_values (table_at world.old.held change.now.space.0).fields entry.now) }
     ensures ok { OnOk result (world.new ≡ record (logged_in world.old process block.0 change.now (Some journal.0)) {
-        held = on_table (logged_in world.old process block.0 change.now (Some journal.0)).held change.now.space.0 (with_inserted entry.now) }) }
+      held = on_table (logged_in world.old process block.0 change.now (Some journal.0)).held change.now.space.0 (with_inserted entry.now);
+    }) }
     ensures err { OnErr result (world.new ≡ world.old) }
 {
     let space = change.space;

@@ -61,8 +61,8 @@ abbrev pub block_rules : State → ℕ → ℕ → ℕ → Option Exception
 block_rules s p block space =
     if block == 0 then None
     else first (block_rule (object s.held block))
-        (first (fails (not (is_journaled_to s.held space (block_port s.held block))) exceptions.not_journaled 1)
-        (unit_rule p (unit_of s.units block)))
+    (first (fails (not (is_journaled_to s.held space (block_port s.held block))) exceptions.not_journaled 1)
+    (unit_rule p (unit_of s.units block)))
 
 -- ---- limits
 
@@ -90,7 +90,7 @@ abbrev pub journal_rule : State → ℕ → ℕ → Option ℕ → Option Except
 journal_rule s block bytes None = None
 journal_rule s block bytes (Some journal) =
     fails (is_journal_full s.held s.units journal block bytes
-        || (are_units_full s.held s.units journal block || is_unit_full s.units block bytes)) exceptions.limit_exceeded 0
+    || (are_units_full s.held s.units journal block || is_unit_full s.units block bytes)) exceptions.limit_exceeded 0
 
 -- ---- what a change does beside the data space
 

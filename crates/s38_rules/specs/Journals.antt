@@ -108,7 +108,7 @@ crtjp_needs ops = creation_needs ops ++ on_object 5 (Of kinds.Journal) rights.in
 unfoldable pub crtjp_fails : State → ℕ → List Operand → Option Exception
 crtjp_fails s p ops =
     creation_fails s.held (user_of s p) (created_port s.held ops)
-        (fails (is_attached s.held (target s.held ops 5)) exceptions.object_in_use 5)
+    (fails (is_attached s.held (target s.held ops 5)) exceptions.object_in_use 5)
 
 abbrev pub new_port : Held → List Operand → Port
 new_port h ops = record { journal = record { 0 = target h ops 5 } }
