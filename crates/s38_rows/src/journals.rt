@@ -145,8 +145,8 @@ pub static SEQUENCES: Table = Table {
     ],
 };
 
-/// One instruction of a user, or of the security officer, over objects of its own. Of these the user QUSER has no INSERT
-/// any more on the context C, no OBJMGT on the data space E, no OBJCTL, RETRIEVE and INSERT on the journal space X, no
+/// One instruction of a user, or of the security officer, over objects of its own. Of these the user QUSER has no
+/// INSERT any more on the context C, no OBJMGT on the data space E, no OBJCTL, RETRIEVE and INSERT on the journal space X, no
 /// OBJCTL, OBJMGT and INSERT on the port Y of M, and no OBJCTL, RETRIEVE and UPDATE on the commit block G.
 pub static JOURNALED: Acts = Acts {
     deck: (
