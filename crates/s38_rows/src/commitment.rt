@@ -341,8 +341,8 @@ COMMIT B;INSDSEN K,V;END;STAGE;JOB A USER QSECOFR RUN P;",
 };
 
 /// A journal space has 16,777,216 bytes. An entry of 4,095 bytes takes 4,136, and 2,037 updates of it 8,231 each. Of
-/// the 6,533 that are left an open unit takes 41 for its end beside its one change; that and another change of 3,205 bytes
-/// take 3,246 each.
+/// the 6,533 that are left an open unit takes 41 for its end beside its one change; that and another change of 3,205
+/// bytes take 3,246 each.
 const JOURNAL: Filled = Filled {
     deck: (
         "PROGRAM P;DCL S PTR;DCL P PTR;DCL D PTR;DCL F PTR;DCL B PTR;DCL K PTR;DCL L PTR;DCL V CHAR:4095
