@@ -1,1 +1,2 @@
 mod UnitLaws
+mod JoinLaws
