@@ -81,11 +81,11 @@ any_last test [] x h = by (test x) h
     by : (b : Bool) → (b || false) ≡ true → (false ≡ true) ⊎ (b ≡ true)
     by true h = inr refl
     by false h = cc
-any_last test (y ∷ ys) x h = by (test y) h
+any_last test (y ∷ ys) x h = by (any_last test ys x) (test y) h
   where
-    by : (b : Bool) → (b || list_any test (ys ++ x ∷ [])) ≡ true → ((b || list_any test ys) ≡ true) ⊎ (test x ≡ true)
-    by true h = inl refl
-    by false h = any_last test ys x h
+    by : (list_any test (ys ++ x ∷ []) ≡ true → (list_any test ys ≡ true) ⊎ (test x ≡ true)) → (b : Bool) → (b || list_any test (ys ++ x ∷ [])) ≡ true → ((b || list_any test ys) ≡ true) ⊎ (test x ≡ true)
+    by rest true h = inl refl
+    by rest false h = rest h
 
 of_parts : (space at : ℕ) (change : UnitChange) → is_of space at change ≡ true → (change.space.0 ≡ space) × (change.at ≡ at)
 of_parts space at change h = by (change.space.0 == space) refl h
@@ -146,29 +146,29 @@ apart_ended units block rising apart one other space at first second = apart one
 
 found_is : (P : Both → Type 0) (test : Both → Bool) (es : UnitMap) (e : Both) → All P es → find test es ≡ Some e → P e × (test e ≡ true)
 found_is P test [] e all h = cc
-found_is P test (x ∷ xs) e all h = by (test x) refl h
+found_is P test (x ∷ xs) e all h = by (found_is P test xs e (All-tail P x xs all)) (test x) refl h
   where
-    by : (b : Bool) → test x ≡ b → cond b (Some x) (find test xs) ≡ Some e → P e × (test e ≡ true)
-    by true is h = let same : x ≡ e = cc in (subst P same (All-head P x xs all), subst (λ (y : Both). test y ≡ true) same is)
-    by false is h = found_is P test xs e (All-tail P x xs all) h
+    by : (find test xs ≡ Some e → P e × (test e ≡ true)) → (b : Bool) → test x ≡ b → cond b (Some x) (find test xs) ≡ Some e → P e × (test e ≡ true)
+    by rest true is h = let same : x ≡ e = cc in (subst P same (All-head P x xs all), subst (λ (y : Both). test y ≡ true) same is)
+    by rest false is h = rest h
+
+abbrev HasNot : ℕ → ℕ → Both → Type 0
+HasNot space at e = has_change space at e.1.changes ≡ false
+
+all_off : (space at : ℕ) (es : UnitMap) → owner es space at ≡ None → All (HasNot space at) es
+all_off space at [] none = All-nil (HasNot space at)
+all_off space at (e ∷ es) none = by (all_off space at es) (has_change space at e.1.changes) refl none
+  where
+    by : (owner es space at ≡ None → All (HasNot space at) es) → (b : Bool) → has_change space at e.1.changes ≡ b → cond b (Some e) (owner es space at) ≡ None → All (HasNot space at) (e ∷ es)
+    by rest true is h = absurd (some_none e h)
+    by rest false is h = All-cons (HasNot space at) e es is (rest h)
 
 none_is : (space at k : ℕ) (es : UnitMap) → owner es space at ≡ None → changes_entry (unit_of es k) space at ≡ true → ⊥
 none_is space at k es none h = by (unit_of es k) refl h
   where
-    passed : (es : UnitMap) (unit : CommitUnit) → owner es space at ≡ None → unit_of es k ≡ Some unit → has_change space at unit.changes ≡ true → ⊥
-    passed es unit none found h = absurd (true≢false (sym h ∙ all_found (λ e. has_change space at e.1.changes ≡ false) es k unit (all_off es none) found))
-      where
-        all_off : (es : UnitMap) → owner es space at ≡ None → All (λ (e : Both). has_change space at e.1.changes ≡ false) es
-        all_off [] none = All-nil (λ (e : Both). has_change space at e.1.changes ≡ false)
-        all_off (e ∷ es) none = by (has_change space at e.1.changes) refl none
-          where
-            by : (b : Bool) → has_change space at e.1.changes ≡ b → cond b (Some e) (owner es space at) ≡ None → All (λ (e : Both). has_change space at e.1.changes ≡ false) (e ∷ es)
-            by true is h = absurd (some_none e h)
-            by false is h = All-cons (λ (e : Both). has_change space at e.1.changes ≡ false) e es is (all_off es h)
-
     by : (r : Option CommitUnit) → unit_of es k ≡ r → changes_entry r space at ≡ true → ⊥
     by None is h = false≢true h
-    by (Some unit) is h = passed es unit none is h
+    by (Some unit) is h = true≢false (sym h ∙ all_found (HasNot space at) es k unit (all_off space at es none) is)
 
 -- an entry that no unit changed, or that of the block, is free for it
 pub free_none : (units : UnitMap) (block space at : ℕ) → owner units space at ≡ None → IsFree units block space at

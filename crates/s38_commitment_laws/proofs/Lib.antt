@@ -1,2 +1,4 @@
-mod UnitLaws
+mod HeldLaws
 mod JoinLaws
+mod KeptLaws
+mod UnitLaws

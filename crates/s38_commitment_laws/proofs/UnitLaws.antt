@@ -94,7 +94,7 @@ module _ (test : Both → Bool) where
   counted true e es = omega arith
   counted false e es = omega arith
 
-  count_first : (e : Both) (es : UnitMap) → count (e ∷ es) ≡ count es + one_if (test e)
+  pub count_first : (e : Both) (es : UnitMap) → count (e ∷ es) ≡ count es + one_if (test e)
   count_first e es = counted (test e) e (filter test es)
 
   pub count_put_in : (units : UnitMap) (block : ℕ) (unit : CommitUnit) → unit_of units block ≡ None → count (put_in units block unit) ≡ count units + one_if (test (block, unit))

@@ -1,6 +1,6 @@
 -- When the units of changes of a state are right: the end of each can be written in its journal space, and each of its
 -- changes can be taken back.
-use Rattle.std.specs.Prelude.{◌≤◌, ◌*◌, ℕ, All, IsTrue, List, [], ◌∷◌, Option, Some, None, is_some, length}
+use Rattle.std.specs.Prelude.{◌≡◌, ◌≤◌, ◌*◌, ℕ, All, IsTrue, List, [], ◌∷◌, Option, Some, None, is_some, length}
 use Rattle.std.specs.Option.{unwrap_or}
 use Rattle.s38_base.specs.declared.attr.Attr.{Attr}
 use Rattle.s38_code.specs.declared.entry.Entry.{Entry}
@@ -11,7 +11,7 @@ use Rattle.s38_dataspaces.specs.Entries as spaces
 use Rattle.s38_dataspaces.specs.Table.{DataTable, are_fields, is_entry_of, may_restore}
 use Rattle.s38_journals.specs.Journals.{JournalList}
 use Rattle.s38_rules.specs.declared.data_body.DataBody.{DataBody}
-use Rattle.s38_rules.specs.Held.{Held}
+use Rattle.s38_rules.specs.Held.{Held, object}
 use Rattle.s38_rules.specs.Journaling.{block_port, is_journaled_to, journal_for_block, open_units}
 use Rattle.s38_rules.specs.Parts.{block_part, data_part, journal_at, part_at, table_at}
 use Rattle.s38_rules.specs.State.{State}
@@ -70,6 +70,11 @@ pub record IsUnit (h : Held) (e : ℕ × CommitUnit) : Type 0 where
   pub some : 1 ≤ length e.1.changes
   pub changes : All (IsLogged h (block_port h e.0)) e.1.changes
 
+-- 0 is the number of no object, and never will be: what is named by it is not there
+pub record IsUnused (h : Held) : Type 0 where
+  pub none : object h 0 ≡ None
+  pub next : 1 ≤ h.next
+
 -- the units over the objects that are there
 pub record AreRight (h : Held) (units : UnitMap) : Type 0 where
   -- each block has one unit at most
@@ -80,6 +85,7 @@ pub record AreRight (h : Held) (units : UnitMap) : Type 0 where
   -- each journal space has kept room for the ends of its units, which are heads alone
   pub room : (journal : ℕ) → 41 * open_units h units journal ≤ (journal_at h journal).spare
   pub tables : (n : ℕ) → IsData (part_at data_part h n)
+  pub unused : IsUnused h
 
 abbrev pub IsRight : State → Type 0
 IsRight s = AreRight s.held s.units
