@@ -1,3 +1,6 @@
+mod ChangeLaws
+mod DestroyLaws
+mod EndLaws
 mod HeldLaws
 mod JoinLaws
 mod KeptLaws

@@ -167,7 +167,7 @@ below_ended k (e ∷ es) block below =
 head_of : (e : Both) (es : UnitMap) → IsRising (e ∷ es) → Below e.0 es
 head_of e es rising = sorted_head nat_cmp e.0 (keys_of es) rising
 
-tail_of : (e : Both) (es : UnitMap) → IsRising (e ∷ es) → IsRising es
+pub tail_of : (e : Both) (es : UnitMap) → IsRising (e ∷ es) → IsRising es
 tail_of e es rising = sorted_tail nat_cmp e.0 (keys_of es) rising
 
 rising_first : (e : Both) (es : UnitMap) → Below e.0 es → IsRising es → IsRising (e ∷ es)
