@@ -252,7 +252,7 @@ module _ (s : State) (p block journal : ℕ) (change : UnitChange) (t : DataTabl
     pub table : IsData (option_map to_data (part_at data_part s.held space))
     pub of : IsChangeOf change (option_map to_data (part_at data_part s.held space))
     pub free : IsFree s.units block space change.at
-    pub block : (block == 0) ≡ false → IsBlock s.held block space
+    pub ruled : (block == 0) ≡ false → IsBlock s.held block space
 
   grows : (j : JournalList) → length j.entries ≤ length (to_journal j).entries
   grows j = logged_grows (journal_bytes change) opened entry j
@@ -406,8 +406,8 @@ module _ (s : State) (p block journal : ℕ) (change : UnitChange) (t : DataTabl
   right_logged known = by (block == 0) refl
     where
       with_block : (r : Option CommitUnit) → unit_of s.units block ≡ r → (block == 0) ≡ false → AreRight now (joined s.units block p number change)
-      with_block None found some = right_new known some found (known.block some)
-      with_block (Some unit) found some = right_more unit known (known.block some) found
+      with_block None found some = right_new known some found (known.ruled some)
+      with_block (Some unit) found some = right_more unit known (known.ruled some) found
 
       by : (b : Bool) → (block == 0) ≡ b → AreRight now (cond b s.units (joined s.units block p number change))
       by true none = right_alone known

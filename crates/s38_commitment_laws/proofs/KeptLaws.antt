@@ -131,7 +131,7 @@ port_lasts change None y of lasts = absurd of
 port_lasts change (Some x) None of lasts = absurd lasts
 port_lasts change (Some x) (Some y) of lasts = ap (λ (n : ObjNum). n.0) lasts.port
 
-change_lasts : (change : UnitChange) (x y : Option DataBody) → IsChangeOf change x → Lasts x y → IsChangeOf change y
+pub change_lasts : (change : UnitChange) (x y : Option DataBody) → IsChangeOf change x → Lasts x y → IsChangeOf change y
 change_lasts change None y of lasts = absurd of
 change_lasts change (Some x) None of lasts = absurd lasts
 change_lasts change (Some x) (Some y) of lasts = record {
