@@ -50,7 +50,7 @@ use Rattle.s38_commitment_laws.specs.Right.{AreRight, IsChangeOf, IsData, IsEntr
 -- ---- what the rules of a change say
 
 -- no unit of another block holds the entry
-holding_free : (units : UnitMap) (p block space at : ℕ) (r : Option Both) → IsRising units → AreApart units → owner units space at ≡ r → holding_rule p block r ≡ None → IsFree units block space at
+pub holding_free : (units : UnitMap) (p block space at : ℕ) (r : Option Both) → IsRising units → AreApart units → owner units space at ≡ r → holding_rule p block r ≡ None → IsFree units block space at
 holding_free units p block space at None rising apart is rule = free_none units block space at is
 holding_free units p block space at (Some e) rising apart is rule = subst (λ (n : ℕ). IsFree units n space at) (own _ (e.0 == block) (e.1.process == p) refl rule) (free_own units e space at rising apart is)
   where
@@ -139,7 +139,7 @@ behind_same h k port same there = ap (journal_named k) same ∙ by (part_at port
     by (Some p) = ap (λ b. cond b (Some p.journal.0) None) (there p.journal.0)
 
 -- a journaled data space is there
-journaled_there : (h : Held) (space journal : ℕ) → IsUnused h → journal_for h space ≡ Some journal → is_some (part_at data_part h space) ≡ true
+pub journaled_there : (h : Held) (space journal : ℕ) → IsUnused h → journal_for h space ≡ Some journal → is_some (part_at data_part h space) ≡ true
 journaled_there h space journal unused is = by (part_at data_part h space) is
   where
     by : (x : Option DataBody) → journal_behind h (data_port_in x) ≡ Some journal → is_some x ≡ true

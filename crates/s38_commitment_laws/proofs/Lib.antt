@@ -1,7 +1,10 @@
 mod ChangeLaws
 mod DestroyLaws
 mod EndLaws
+mod EntryLaws
 mod HeldLaws
 mod JoinLaws
 mod KeptLaws
+mod RowLaws
+mod StepLaws
 mod UnitLaws

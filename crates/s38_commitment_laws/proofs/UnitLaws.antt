@@ -174,7 +174,7 @@ rising_first : (e : Both) (es : UnitMap) → Below e.0 es → IsRising es → Is
 unfolding IsStrictlySortedBy
 rising_first e es below rising = (below, rising)
 
-rising_none : IsRising []
+pub rising_none : IsRising []
 unfolding IsStrictlySortedBy
 rising_none = tt
 
