@@ -43,7 +43,7 @@ use Rattle.s38_rules.specs.declared.object.Body.TheVariants as bodies
 use Rattle.s38_rules.specs.declared.object.Body.{Body}
 use Rattle.s38_rules.specs.declared.object.Object.{Object}
 use Rattle.s38_commitment_laws.proofs.HeldLaws.{Follows, IsOther, Stays, destroyed_carries, other_gone, part_without, without_unused}
-use Rattle.s38_commitment_laws.proofs.KeptLaws.{Grows, Lasts, LastsAt, Spares, all_by, all_then, grows_same, journal_number, lasts_same, right_carried, right_kept}
+use Rattle.s38_commitment_laws.proofs.KeptLaws.{Lasts, LastsAt, Spares, all_by, all_then, grows_by, lasts_by, stays_by, journal_number, lasts_same, right_carried, right_kept}
 use Rattle.s38_commitment_laws.proofs.UnitLaws.{Both, StandsIn, all_stand, count_first, one_if}
 use Rattle.s38_commitment_laws.specs.Right.{AreRight, IsChangeOf, IsData, IsLogged, IsUnit, IsUnused}
 
@@ -102,8 +102,11 @@ plain_body kind (bodies.Journal x) plain is = absurd (true≢false (sym is ∙ p
 plain_body kind (bodies.Block x) plain is = absurd (true≢false (sym is ∙ plain.3))
 plain_body kind _ plain is = record { block = refl; port = refl; journal = refl; space = refl }
 
+nothing_gone : Follows None None
+nothing_gone = record { block = tt; port = tt; journal = tt; space = tt; table = λ t. t }
+
 plain_gone : (kind : Kind) (x : Option Object) → IsPlainKind kind → IsKind kind x → Follows x None
-plain_gone kind None plain is = record { block = tt; port = tt; journal = tt; space = tt; table = λ t. t }
+plain_gone kind None plain is = nothing_gone
 plain_gone kind (Some x) plain is = other_gone x (plain_body kind x.body plain is)
 
 pub right_destroyed : (h : Held) (units : UnitMap) (ops : List Operand) (kind : Kind) → AreRight h units → IsPlainKind kind → address_rules h ops (destruction_needs kind) ≡ None
@@ -120,13 +123,6 @@ away p h n m none = part_without p h n m ∙ elim (n == m) as (λ b. (n == m) �
   | true ↦ λ e. sym (none (nat_same n m e))
   | false ↦ λ e. refl
 ] refl
-
-stays_by : {T : Type 0} (x y : Option T) → y ≡ x → Stays x y
-stays_by None y e = tt
-stays_by (Some x) y e = e
-
-grows_by : (x y : Option JournalList) → y ≡ x → Grows x y
-grows_by x y e = subst (Grows x) (sym e) (grows_same x)
 
 -- no change of a unit is of a data space
 abbrev pub IsOffSpace : Held → ℕ → UnitChange → Type 0
@@ -145,7 +141,7 @@ unnamed_spares h n e off = record {
   port = stays_by _ _ (away port_part h n (block_port h e.0) off.port);
   journal = grows_by _ _ (away journal_part h n (journal_number h e.0) off.journal);
   changes = all_then (IsOffSpace h n) (IsOffSpace h n) (LastsAt h (without h n)) e.1.changes
-      (λ c one two. subst (Lasts (part_at data_part h c.space.0)) (sym (away data_part h n c.space.0 one)) (lasts_same (part_at data_part h c.space.0))) off.changes off.changes;
+      (λ c one two. lasts_by _ _ (away data_part h n c.space.0 one)) off.changes off.changes;
 }
 
 right_without : (h : Held) (n : ℕ) (units : UnitMap) → AreRight h units → All (IsUnnamed h n) units → open_units h units n ≡ 0 → AreRight (without h n) units
@@ -156,6 +152,10 @@ right_without h n units right off closed =
     (cond_both (n == m) None (part_at journal_part h m) (λ r. 41 * open_units h units m ≤ (unwrap_or r no_journal).spare)
     (λ q. subst (λ (i : ℕ). 41 * open_units h units i ≤ 0) (nat_same n m q) (subst (λ (c : ℕ). 41 * c ≤ 0) (sym closed) (omega arith))) (λ q. right.room m)))
     (without_unused h n right.unused)
+
+-- where nothing is there
+right_nothing : (h : Held) (units : UnitMap) (n : ℕ) → AreRight h units → object h n ≡ None → AreRight (without h n) units
+right_nothing h units n right none = right_carried h _ units right (destroyed_carries h n (subst (λ r. Follows r None) (sym none) nothing_gone))
 
 -- what is no journal space has no unit
 unit_free : (h : Held) (units : UnitMap) (n : ℕ) → AreRight h units → part_at journal_part h n ≡ None → open_units h units n ≡ 0
@@ -203,7 +203,7 @@ block_unnamed h n x units e found is none stands =
     }
 
 right_no_block : (h : Held) (units : UnitMap) (n : ℕ) (x : Option Object) → AreRight h units → object h n ≡ x → IsKind kinds.Block x → is_some (unit_of units n) ≡ false → AreRight (without h n) units
-right_no_block h units n None right found is none = right_carried h _ units right (destroyed_carries h n (subst (λ r. Follows r None) (sym found) (record { block = tt; port = tt; journal = tt; space = tt; table = λ t. t })))
+right_no_block h units n None right found is none = right_nothing h units n right found
 right_no_block h units n (Some x) right found is none =
     right_without h n units right
     (all_then (StandsIn units) (StandsIn units) (IsUnnamed h n) units (λ e one two. block_unnamed h n x units e found is none one) (all_stand units right.rising) (all_stand units right.rising))
@@ -239,7 +239,7 @@ space_unnamed h n x e found is none =
     }
 
 right_no_space : (h : Held) (units : UnitMap) (n : ℕ) (x : Option Object) → AreRight h units → object h n ≡ x → IsKind kinds.DataSpace x → is_space_changed units n ≡ false → AreRight (without h n) units
-right_no_space h units n None right found is none = right_carried h _ units right (destroyed_carries h n (subst (λ r. Follows r None) (sym found) (record { block = tt; port = tt; journal = tt; space = tt; table = λ t. t })))
+right_no_space h units n None right found is none = right_nothing h units n right found
 right_no_space h units n (Some x) right found is none =
     let off = none_any (is_unit_in n) units none in
     right_without h n units right
@@ -299,7 +299,7 @@ port_unnamed h n x e found is none unit =
     }
 
 right_no_port : (h : Held) (units : UnitMap) (n : ℕ) (x : Option Object) → AreRight h units → object h n ≡ x → IsKind kinds.Port x → is_used h n ≡ false → AreRight (without h n) units
-right_no_port h units n None right found is none = right_carried h _ units right (destroyed_carries h n (subst (λ r. Follows r None) (sym found) (record { block = tt; port = tt; journal = tt; space = tt; table = λ t. t })))
+right_no_port h units n None right found is none = right_nothing h units n right found
 right_no_port h units n (Some x) right found is none =
     right_without h n units right (all_then (IsUnit h) (IsUnit h) (IsUnnamed h n) units (λ e one two. port_unnamed h n x e found is none one) right.each right.each)
     (unit_free h units n right (part_of journal_part h n x found (port_body x.body is).1))
@@ -361,7 +361,7 @@ none_open h n (e ∷ es) none =
     omega (arith, count_first (goes_to h n) e es, rest, one)
 
 right_no_journal : (h : Held) (units : UnitMap) (n : ℕ) (x : Option Object) → AreRight h units → object h n ≡ x → IsKind kinds.Journal x → is_attached h n ≡ false → AreRight (without h n) units
-right_no_journal h units n None right found is none = right_carried h _ units right (destroyed_carries h n (subst (λ r. Follows r None) (sym found) (record { block = tt; port = tt; journal = tt; space = tt; table = λ t. t })))
+right_no_journal h units n None right found is none = right_nothing h units n right found
 right_no_journal h units n (Some x) right found is none =
     right_without h n units right (all_then (IsUnit h) (IsUnit h) (IsUnnamed h n) units (λ e one two. journal_unnamed h n x e found is none one) right.each right.each)
     (none_open h n units none)

@@ -27,7 +27,7 @@ use Rattle.s38_rules.specs.declared.object.Body.TheVariants as bodies
 use Rattle.s38_rules.specs.declared.object.Body.{Body}
 use Rattle.s38_commitment_laws.proofs.HeldLaws.{Stays, over_unused, part_over}
 use Rattle.s38_commitment_laws.proofs.JoinLaws.{apart_ended}
-use Rattle.s38_commitment_laws.proofs.KeptLaws.{Grows, IsLater, Lasts, LastsAt, Spares, all_by, block_leads, both_hold, change_lasts, grows_same, journal_number, lasts_same, open_kept, right_kept, units_kept}
+use Rattle.s38_commitment_laws.proofs.KeptLaws.{Grows, IsLater, Lasts, LastsAt, Spares, all_by, lasts_by, grows_by, stays_by, block_leads, both_hold, change_lasts, grows_same, journal_number, lasts_same, open_kept, right_kept, units_kept}
 use Rattle.s38_commitment_laws.proofs.UnitLaws.{Both, StandsIn, all_ended, all_found, all_stand, count_ended, one_if, rising_ended, stand_ended, tail_of}
 use Rattle.s38_commitment_laws.specs.Right as right_spec
 use Rattle.s38_commitment_laws.specs.Right.{AllPutBack, AreRight, IsChangeOf, IsData, IsEntryOf, IsLogged, IsRight, IsTable, IsUnit, IsUnused}
@@ -77,16 +77,6 @@ port_by_journal h n m f = part_apart port_part journal_part f (port_beside_journ
 
 pub data_by_journal : (h : Held) (n m : ℕ) (f : JournalList → JournalList) → part_at data_part (on_journal h n f) m ≡ part_at data_part h m
 data_by_journal h n m f = part_apart data_part journal_part f (data_beside_journal f) h n m
-
-pub stays_by : {T : Type 0} (x y : Option T) → y ≡ x → Stays x y
-stays_by None y e = tt
-stays_by (Some x) y e = e
-
-pub grows_by : (x y : Option JournalList) → y ≡ x → Grows x y
-grows_by x y e = subst (Grows x) (sym e) (grows_same x)
-
-pub lasts_by : (x y : Option DataBody) → y ≡ x → Lasts x y
-lasts_by x y e = subst (Lasts x) (sym e) (lasts_same x)
 
 -- ---- a data space has other entries
 

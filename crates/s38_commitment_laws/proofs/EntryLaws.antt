@@ -30,10 +30,10 @@ use Rattle.s38_rules.specs.Verdict.{refused_by}
 use Rattle.s38_rules.specs.declared.data_body.DataBody.{DataBody}
 use Rattle.s38_commitment_laws.proofs.ChangeLaws.{IsBlock, block_met, holding_free, journaled_there, right_logged}
 use Rattle.s38_commitment_laws.proofs.DestroyLaws.{rule_met}
-use Rattle.s38_commitment_laws.proofs.EndLaws.{block_by_data, data_tables, grows_by, journal_by_data, port_by_data, right_data, stays_by}
-use Rattle.s38_commitment_laws.proofs.HeldLaws.{IsOther, other_carries, over_unused, part_over}
+use Rattle.s38_commitment_laws.proofs.EndLaws.{block_by_data, data_tables, journal_by_data, port_by_data, right_data}
+use Rattle.s38_commitment_laws.proofs.HeldLaws.{cursor_other, other_carries, over_unused, part_over}
 use Rattle.s38_commitment_laws.proofs.JoinLaws.{IsFree}
-use Rattle.s38_commitment_laws.proofs.KeptLaws.{IsLater, Lasts, LastsAt, Spares, all_then, both_hold, journal_number, lasts_same, right_carried, right_kept}
+use Rattle.s38_commitment_laws.proofs.KeptLaws.{IsLater, Lasts, LastsAt, Spares, all_then, both_hold, grows_by, stays_by, journal_number, lasts_same, right_carried, right_kept}
 use Rattle.s38_commitment_laws.proofs.UnitLaws.{Both}
 use Rattle.s38_commitment_laws.specs.Right.{AreRight, IsChangeOf, IsData, IsEntryOf, IsLogged, IsRight, IsTable, IsUnit}
 
@@ -89,7 +89,7 @@ inserted_change space bytes (Some d) entry there = record { first = omega arith;
 -- the cursor is none of what units name
 cursor_right : (h : Held) (units : UnitMap) (n position : ℕ) → AreRight h units → AreRight (on_cursor h n (at_position position)) units
 cursor_right h units n position right =
-    right_carried h _ units right (other_carries cursor_part cursor_lawful (λ x. record { block = refl; port = refl; journal = refl; space = refl }) h n (at_position position))
+    right_carried h _ units right (other_carries cursor_part cursor_lawful cursor_other h n (at_position position))
 
 pub insdsen_right : (s : State) (p d : ℕ) (t : Request) → IsRight s → refused_by insdsen s p d t ≡ None → IsRight (insdsen_changes s p t.operands)
 unfolding insdsen_fails insdsen_changes

@@ -17,6 +17,12 @@ use Rattle.s38_rules.specs.Operands.{target}
 use Rattle.s38_rules.specs.Parts.{IsPart, Part, block_of, block_part, data_of, data_part, journal_of, journal_part, over, over_body, over_object, over_part, part_at, part_in, port_of, port_part}
 use Rattle.s38_rules.specs.declared.creating.Creating.{Creating}
 use Rattle.s38_rules.specs.declared.data_body.DataBody.{DataBody}
+use Rattle.s38_base.specs.declared.rights.Special.{Special}
+use Rattle.s38_indexes.specs.Entries.{EntryIndex}
+use Rattle.s38_memory.specs.declared.cell.Cell.{Cell}
+use Rattle.s38_queues.specs.MessageQueue.{MessageQueue}
+use Rattle.s38_rules.specs.declared.cursor.Cursor.{Cursor}
+use Rattle.s38_rules.specs.declared.object.Body.TheVariants as bodies
 use Rattle.s38_rules.specs.declared.object.Body.{Body}
 use Rattle.s38_rules.specs.declared.object.Object.{Object}
 use Rattle.s38_commitment_laws.specs.Right.{IsData, IsUnused}
@@ -83,6 +89,21 @@ pub record IsOther (b : Body) : Type 0 where
   pub port : port_of b ≡ None
   pub journal : journal_of b ≡ None
   pub space : data_of b ≡ None
+
+pub cursor_other : (x : Cursor) → IsOther (bodies.Cursor x)
+cursor_other x = record { block = refl; port = refl; journal = refl; space = refl }
+
+pub index_other : (x : EntryIndex) → IsOther (bodies.Index x)
+index_other x = record { block = refl; port = refl; journal = refl; space = refl }
+
+pub profile_other : (x : Special × ℕ) → IsOther (bodies.Profile x.0 x.1)
+profile_other x = record { block = refl; port = refl; journal = refl; space = refl }
+
+pub queue_other : (x : MessageQueue) → IsOther (bodies.Queue x)
+queue_other x = record { block = refl; port = refl; journal = refl; space = refl }
+
+pub space_other : (x : List Cell) → IsOther (bodies.Space x)
+space_other x = record { block = refl; port = refl; journal = refl; space = refl }
 
 none_stays : {T : Type 0} (x y : Option T) → x ≡ None → Stays x y
 none_stays {T} x y none = subst (λ (r : Option T). Stays r y) (sym none) tt

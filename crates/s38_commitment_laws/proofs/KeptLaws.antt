@@ -69,6 +69,17 @@ pub stays_last : (x y : Option DataBody) → Stays x y → Lasts x y
 stays_last None y e = tt
 stays_last (Some x) y e = subst (Lasts (Some x)) (sym e) (lasts_same (Some x))
 
+-- what is there is the same
+pub stays_by : {T : Type 0} (x y : Option T) → y ≡ x → Stays x y
+stays_by None y e = tt
+stays_by (Some x) y e = e
+
+pub grows_by : (x y : Option JournalList) → y ≡ x → Grows x y
+grows_by x y e = subst (Grows x) (sym e) (grows_same x)
+
+pub lasts_by : (x y : Option DataBody) → y ≡ x → Lasts x y
+lasts_by x y e = subst (Lasts x) (sym e) (lasts_same x)
+
 -- the number of the journal space to which the unit of a block goes
 abbrev pub journal_number : Held → ℕ → ℕ
 journal_number h block = unwrap_or (journal_for_block h block) 0

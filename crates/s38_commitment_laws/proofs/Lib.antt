@@ -6,5 +6,5 @@ mod HeldLaws
 mod JoinLaws
 mod KeptLaws
 mod RowLaws
-mod StepLaws
+pub mod StepLaws
 mod UnitLaws

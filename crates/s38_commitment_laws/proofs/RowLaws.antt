@@ -1,8 +1,9 @@
 -- Units stay right whatever a permitted instruction changes: each row.
 use Rattle.std.proofs.Common.{◌∙◌, ◌∷◌, ◌≡◌, Bool, List, [], ap, cond, false, refl, sym, true, ℕ}
 use Rattle.std.proofs.lemmas.List.Elements.{All-nil}
-use Rattle.std.specs.Prelude.{None, Option, Some, is_some}
+use Rattle.std.specs.Prelude.{◌-◌, ◌^◌, None, Option, Some, bit_and, bit_or, is_some}
 use Rattle.s38_base.specs.Pointers.{start_of, target_of}
+use Rattle.s38_base.specs.RightNames as rights
 use Rattle.s38_base.specs.declared.attr.Attr.TheVariants as attrs
 use Rattle.s38_base.specs.declared.attr.Attr.{Attr}
 use Rattle.s38_base.specs.declared.id.Id.{Id}
@@ -29,7 +30,7 @@ use Rattle.s38_rules.specs.Computing.{receiver_at, shift_at}
 use Rattle.s38_rules.specs.Contexts.{contexts_row, crtctx_changes, desctx, modadr_changes, rename_changes, renamed_by}
 use Rattle.s38_rules.specs.DataSpaces.{attributes_of, crtcr_changes, crtds_changes, data_spaces_row, deldsen, descr, desds, desds_fails, insdsen, new_data_space, proper_fields, setcr_changes, updsen}
 use Rattle.s38_rules.specs.Effect.{effect}
-use Rattle.s38_rules.specs.Grants.{grant_changes, grants_row, retract_changes, xfro_changes}
+use Rattle.s38_rules.specs.Grants.{grant_changes, grants_row, retract_changes, rights_of, user_at, with_rights, xfro_changes}
 use Rattle.s38_rules.specs.Held.{Held, ensured, kept_on_disk, moved}
 use Rattle.s38_rules.specs.Indexes.{crtinx_changes, desinx, indexes_row, insinxen_changes, rmvinxen_changes}
 use Rattle.s38_rules.specs.Instruction.{Instruction}
@@ -37,7 +38,7 @@ use Rattle.s38_rules.specs.Invocations.{restack_at}
 use Rattle.s38_rules.specs.Journaling.{journal_for}
 use Rattle.s38_rules.specs.Journals.{commit_changes, crtcb_changes, crtjp_changes, crtjs_changes, decommit_changes, descb, descb_fails, desjp, desjp_fails, desjs, desjs_fails, ensobj_changes, journals_row, jrnlobj, jrnlobj_changes, jrnlobj_fails, through_port}
 use Rattle.s38_rules.specs.Locking.{lock_changes, locks_row, unlock_changes, xfrlock_changes}
-use Rattle.s38_rules.specs.Operands.{deliver, delivered, id_at, place, put_value, source_cells, target}
+use Rattle.s38_rules.specs.Operands.{deliver, delivered, id_at, is_given, place, put_value, rights_at, source_cells, target}
 use Rattle.s38_rules.specs.Parts.{IsPart, cursor_lawful, cursor_part, index_lawful, index_part, on_data, on_space, profile_of, profile_part, queue_lawful, queue_part, space_lawful, space_part}
 use Rattle.s38_rules.specs.Profiles.{crtup_changes, desup, modup_changes, profiles_row}
 use Rattle.s38_rules.specs.Programs.{callx_changes, created_program, crtpg_changes, despg, program_in, programs_row, template_at, xctl_changes}
@@ -45,7 +46,7 @@ use Rattle.s38_rules.specs.Queues.{crtq_changes, deq_changes, desq, enq_changes,
 use Rattle.s38_rules.specs.Resolving.{resolving_row}
 use Rattle.s38_rules.specs.Rows.{row, row_in}
 use Rattle.s38_rules.specs.Spaces.{cells_put, cpybwp_changes, crts_changes, dess, mods_changes, spaces_row}
-use Rattle.s38_rules.specs.Standing.{Standing, restand, standing_of, with_standing}
+use Rattle.s38_rules.specs.Standing.{Standing, granted, owned_by, restand, standing_of, with_standing}
 use Rattle.s38_rules.specs.State.{State, process_entry}
 use Rattle.s38_rules.specs.Verdict.{refused_by}
 use Rattle.s38_rules.specs.declared.object.Body.TheVariants as bodies
@@ -54,7 +55,7 @@ use Rattle.s38_rules.specs.declared.process.ProcessEntry.{ProcessEntry}
 use Rattle.s38_commitment_laws.proofs.DestroyLaws.{address_met, right_block_destroyed, right_destroyed, right_journal_destroyed, right_port_destroyed, right_space_destroyed, rule_met}
 use Rattle.s38_commitment_laws.proofs.EndLaws.{commit_right, decommit_right}
 use Rattle.s38_commitment_laws.proofs.EntryLaws.{deldsen_right, insdsen_right, journaling_right, updsen_right}
-use Rattle.s38_commitment_laws.proofs.HeldLaws.{Carries, IsOther, carries_same, creation_carries, header_carries, other_carries}
+use Rattle.s38_commitment_laws.proofs.HeldLaws.{Carries, carries_same, cursor_other, index_other, profile_other, queue_other, space_other, creation_carries, header_carries, other_carries}
 use Rattle.s38_commitment_laws.proofs.KeptLaws.{right_carried}
 use Rattle.s38_commitment_laws.specs.Right.{AreRight, IsData, IsEntryOf, IsRight}
 
@@ -62,6 +63,9 @@ use Rattle.s38_commitment_laws.specs.Right.{AreRight, IsData, IsEntryOf, IsRight
 
 restand_carries : (h : Held) (n : ℕ) (g : Standing → Standing) → Carries h (restand h n g)
 restand_carries h n g = header_carries h n (λ x. with_standing (g (standing_of x)) x) (λ x. refl) (λ x. refl)
+
+rights_carry : (h : Held) (n : ℕ) (given : Bool) (user : ObjNum) (new : ℕ → ℕ) → Carries h (restand h n (λ z. with_rights given user (new (rights_of given user z)) z))
+rights_carry h n given user new = restand_carries h n (λ z. with_rights given user (new (rights_of given user z)) z)
 
 moved_carries : (h : Held) (n : ℕ) (context : ObjNum) → Carries h (moved h n context)
 moved_carries h n context = header_carries h n (λ x. record x { context = context }) (λ x. refl) (λ x. refl)
@@ -74,7 +78,7 @@ ensured_carries : (h : Held) (n : ℕ) → Carries h (ensured h n)
 ensured_carries h n = header_carries h n kept_on_disk (λ x. refl) (λ x. refl)
 
 space_carries : (h : Held) (n : ℕ) (f : List Cell → List Cell) → Carries h (on_space h n f)
-space_carries h n f = other_carries space_part space_lawful (λ x. record { block = refl; port = refl; journal = refl; space = refl }) h n f
+space_carries h n f = other_carries space_part space_lawful space_other h n f
 
 cells_carry : (h : Held) (operand : Option Operand) (piece : List Cell) → Carries h (cells_put h operand piece)
 cells_carry h (Some (operands.InSpace base offset attr)) piece = space_carries h (target_of base) (with_cells (start_of base offset) piece)
@@ -129,7 +133,7 @@ profiles_right : (op : Op) → KeepsRight (profiles_row op)
 unfolding profiles_row crtup_changes modup_changes
 profiles_right Crtup = λ s p d t right e. right_carried s.held _ s.units right (creation_carries s.held _ _ _ tt)
 profiles_right Modup = λ s p d t right e.
-    right_carried s.held _ s.units right (other_carries profile_part profile_lawful (λ x. record { block = refl; port = refl; journal = refl; space = refl }) s.held (target s.held t.operands 1) _)
+    right_carried s.held _ s.units right (other_carries profile_part profile_lawful profile_other s.held (target s.held t.operands 1) _)
 profiles_right Desup = λ s p d t right e. right_destroyed s.held s.units t.operands kinds.Profile right (refl, refl, refl, refl) (address_met desup s p d t e)
 profiles_right _ = λ s p d t right e. right
 
@@ -140,9 +144,13 @@ locks_right _ = λ s p d t right e. right
 
 grants_right : (op : Op) → KeepsRight (grants_row op)
 unfolding grants_row grant_changes retract_changes xfro_changes
-grants_right Grant = λ s p d t right e. right_carried s.held _ s.units right (restand_carries s.held (target s.held t.operands 1) _)
-grants_right Retract = λ s p d t right e. right_carried s.held _ s.units right (restand_carries s.held (target s.held t.operands 1) _)
-grants_right Xfro = λ s p d t right e. right_carried s.held _ s.units right (restand_carries s.held (target s.held t.operands 1) _)
+grants_right Grant = λ s p d t right e.
+    right_carried s.held _ s.units right (rights_carry s.held (target s.held t.operands 1) (is_given t.operands 2) (user_at s.held t.operands 2) (λ n. bit_or n (rights_at t.operands 3)))
+grants_right Retract = λ s p d t right e.
+    right_carried s.held _ s.units right (rights_carry s.held (target s.held t.operands 1) (is_given t.operands 2) (user_at s.held t.operands 2) (λ n. bit_and n (2 ^ 8 - 1 - rights_at t.operands 3)))
+grants_right Xfro = λ s p d t right e.
+    right_carried s.held _ s.units right
+    (restand_carries s.held (target s.held t.operands 1) (λ z. owned_by (user_at s.held t.operands 2) (granted (user_at s.held t.operands 2) (record { 0 = rights.all_rights }) z)))
 grants_right _ = λ s p d t right e. right
 
 programs_right : (op : Op) → KeepsRight (programs_row op)
@@ -166,9 +174,9 @@ unfolding queues_row crtq_changes enq_changes deq_changes
 queues_right Crtq = λ s p d t right e. right_carried s.held _ s.units right (creation_carries s.held _ _ _ tt)
 queues_right Desq = λ s p d t right e. right_destroyed s.held s.units t.operands kinds.Queue right (refl, refl, refl, refl) (address_met desq s p d t e)
 queues_right Enq = λ s p d t right e.
-    right_carried s.held _ s.units right (other_carries queue_part queue_lawful (λ x. record { block = refl; port = refl; journal = refl; space = refl }) s.held (target s.held t.operands 1) _)
+    right_carried s.held _ s.units right (other_carries queue_part queue_lawful queue_other s.held (target s.held t.operands 1) _)
 queues_right Deq = λ s p d t right e.
-    right_carried s.held _ s.units right (other_carries queue_part queue_lawful (λ x. record { block = refl; port = refl; journal = refl; space = refl }) s.held (target s.held t.operands 2) _)
+    right_carried s.held _ s.units right (other_carries queue_part queue_lawful queue_other s.held (target s.held t.operands 2) _)
 queues_right _ = λ s p d t right e. right
 
 indexes_right : (op : Op) → KeepsRight (indexes_row op)
@@ -176,9 +184,9 @@ unfolding indexes_row crtinx_changes insinxen_changes rmvinxen_changes
 indexes_right Crtinx = λ s p d t right e. right_carried s.held _ s.units right (creation_carries s.held _ _ _ tt)
 indexes_right Desinx = λ s p d t right e. right_destroyed s.held s.units t.operands kinds.Index right (refl, refl, refl, refl) (address_met desinx s p d t e)
 indexes_right Insinxen = λ s p d t right e.
-    right_carried s.held _ s.units right (other_carries index_part index_lawful (λ x. record { block = refl; port = refl; journal = refl; space = refl }) s.held (target s.held t.operands 1) _)
+    right_carried s.held _ s.units right (other_carries index_part index_lawful index_other s.held (target s.held t.operands 1) _)
 indexes_right Rmvinxen = λ s p d t right e.
-    right_carried s.held _ s.units right (other_carries index_part index_lawful (λ x. record { block = refl; port = refl; journal = refl; space = refl }) s.held (target s.held t.operands 1) _)
+    right_carried s.held _ s.units right (other_carries index_part index_lawful index_other s.held (target s.held t.operands 1) _)
 indexes_right _ = λ s p d t right e. right
 
 desds_right : KeepsRight desds
@@ -192,7 +200,7 @@ data_spaces_right Desds = desds_right
 data_spaces_right Crtcr = λ s p d t right e. right_carried s.held _ s.units right (creation_carries s.held _ _ _ tt)
 data_spaces_right Descr = λ s p d t right e. right_destroyed s.held s.units t.operands kinds.Cursor right (refl, refl, refl, refl) (address_met descr s p d t e)
 data_spaces_right Setcr = λ s p d t right e.
-    right_carried s.held _ s.units right (other_carries cursor_part cursor_lawful (λ x. record { block = refl; port = refl; journal = refl; space = refl }) s.held (target s.held t.operands 1) _)
+    right_carried s.held _ s.units right (other_carries cursor_part cursor_lawful cursor_other s.held (target s.held t.operands 1) _)
 data_spaces_right Insdsen = insdsen_right
 data_spaces_right Updsen = updsen_right
 data_spaces_right Deldsen = deldsen_right

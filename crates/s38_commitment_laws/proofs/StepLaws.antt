@@ -1,7 +1,8 @@
 -- Step by step the units stay right, from the machine's beginning on.
-use Rattle.std.proofs.Common.{◌++◌, ◌+◌, ◌∷◌, ◌≡◌, ◌≤◌, Bool, List, [], arith, cond, false, refl, subst, true, ℕ}
+use Rattle.std.proofs.Common.{◌++◌, ◌+◌, ◌∷◌, ◌≡◌, ◌≤◌, Bool, List, [], arith, cond, false, refl, subst, sym, true, ℕ}
+use Rattle.std.proofs.lemmas.Bool.{cond_both}
 use Rattle.std.proofs.lemmas.List.Elements.{All-nil}
-use Rattle.std.specs.List.Sorted.{IsStrictlySortedBy}
+use Rattle.std.specs.List.{AllByRecursion}
 use Rattle.std.specs.Prelude.{IsTrue, None, Option, Some}
 use Rattle.s38_code.specs.declared.deck.Job.{Job}
 use Rattle.s38_code.specs.declared.entry.Entry.{Entry}
@@ -15,10 +16,10 @@ use Rattle.s38_journals.specs.declared.entry.EntryKind.{EntryKind}
 use Rattle.s38_rules.specs.Units.{all_undone, end_entry}
 use Rattle.s38_rules.proofs.VerdictLaws.{permitted_none}
 use Rattle.s38_rules.specs.Effect.{effect_of, end_at, start_at}
-use Rattle.s38_rules.specs.Held.{Held, object}
+use Rattle.s38_rules.specs.Held.{Held, has_number, object, object_in}
 use Rattle.s38_rules.specs.Legal.{Leads}
 use Rattle.s38_rules.specs.Opening.{held_first, held_installed, installed, opening, state_of}
-use Rattle.s38_rules.specs.Parts.{data_part, part_at, part_in}
+use Rattle.s38_rules.specs.Parts.{data_of, data_part, part_at, part_in}
 use Rattle.s38_rules.specs.Rows.{row}
 use Rattle.s38_rules.specs.State.{State, process_entry, waits}
 use Rattle.s38_rules.specs.Step.{Stepped, by_verdict, by_waiting, step}
@@ -45,17 +46,18 @@ no_units h none next tables = record {
   unused = record { none = none; next = next };
 }
 
-either_table : (b : Bool) (x : Object) (y : Option Object) → IsData (part_in data_part (Some x)) → IsData (part_in data_part y) → IsData (part_in data_part (cond b (Some x) y))
-either_table true x y here rest = here
-either_table false x y here rest = rest
+no_data : (os : List Object) (n : ℕ) → AllByRecursion (λ x. data_of x.body ≡ None) os → IsData (part_in data_part (object_in os n))
+no_data [] n none = tt
+no_data (x ∷ xs) n none =
+    cond_both (has_number n x) (Some x) (object_in xs n) (λ r. IsData (part_in data_part r)) (λ q. subst IsData (sym none.0) tt) (λ q. no_data xs n none.1)
 
 pub first_right : (templates : List CheckedTemplate) (jobs : List Job) → IsRight (state_of held_first templates jobs)
 unfolding opening
-first_right templates jobs = no_units held_first refl (omega arith) (λ n. either_table _ _ _ tt (either_table _ _ _ tt (either_table _ _ _ tt (either_table _ _ _ tt (either_table _ _ None tt tt)))))
+first_right templates jobs = no_units held_first refl (omega arith) (λ n. no_data opening n (refl, (refl, (refl, (refl, (refl, tt))))))
 
 pub installed_right : (templates : List CheckedTemplate) (jobs : List Job) → IsRight (state_of held_installed templates jobs)
 unfolding installed
-installed_right templates jobs = no_units held_installed refl (omega arith) (λ n. either_table _ _ _ tt (either_table _ _ None tt tt))
+installed_right templates jobs = no_units held_installed refl (omega arith) (λ n. no_data installed n (refl, (refl, tt)))
 
 -- ---- a step
 
