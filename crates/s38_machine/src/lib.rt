@@ -15,6 +15,7 @@ mod verdicts;
 
 use log::Log;
 pub use machine::Machine;
+pub use opening::{general_opening, installed};
 use s38_invoke::World;
 use s38_objects::Objects;
 use std::snapshot::Snapshot;

@@ -1,7 +1,8 @@
 ghost use Rattle.std.specs.Prelude.{◌≡◌, ◌-◌, ◌<◌, ◌≤◌, ◌==◌, ◌^◌, not, IfOk, IsErrOf, OnErr, OnOk, length};
 ghost use Rattle.s38_rules.specs.declared.verdict.Verdict.{Verdict};
+ghost use Rattle.s38_rules.specs.Kept.{CanBeKept};
 ghost use Rattle.s38_rules.specs.Legal.{IsProcess, IsSound, after, after_by, begun, no_moment};
-ghost use Rattle.s38_rules.specs.Opening.{opened};
+ghost use Rattle.s38_rules.specs.Opening.{state_of};
 ghost use Rattle.s38_rules.specs.State.{ready, ready_list};
 ghost use Rattle.s38_rules.specs.Step.{by_verdict, step};
 ghost use Rattle.s38_rules.specs.Verdict.{awake_verdict, verdict_of};
@@ -45,10 +46,16 @@ impl Model for Machine {
 
 impl Machine {
     /// A machine with the objects that it begins with, the templates of a deck, each checked, and its jobs.
-    pub fn start(alloc: Global, templates: Checked, jobs: &[Job]) -> Result<Machine, NoMemory>
-        ensures { IfOk result (λ machine. machine ≡ begun (opened templates jobs.now)) }
+    pub fn start(
+        alloc: Global,
+        objects: Objects,
+        templates: Checked,
+        jobs: &[Job],
+    ) -> Result<Machine, NoMemory>
+        requires kept { CanBeKept objects }
+        ensures { IfOk result (λ machine. machine ≡ begun (state_of objects templates jobs.now)) }
     {
-        let world = opened(alloc, templates, jobs)?;
+        let world = opened(alloc, objects, templates, jobs)?;
         let log = Log::new(alloc, jobs.len())?;
         let origin = Snapshot::of(&world);
         Ok(Machine {

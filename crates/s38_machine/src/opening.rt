@@ -2,7 +2,8 @@ ghost use Rattle.std.specs.Prelude.{◌≡◌, ◌<◌, ◌≤◌, ◌^◌, None
 ghost use Rattle.s38_objects.specs.Lawful.{is_place_of};
 ghost use Rattle.s38_rules.specs.Held.{found, with_added};
 ghost use Rattle.s38_base.specs.NameText.{is_name};
-ghost use Rattle.s38_rules.specs.Opening.{general_context, held_first, locked_queue, machine_context, named, officer, officer_rows, opened, opening, owned, plain_user, process_entries};
+ghost use Rattle.s38_rules.specs.Kept.{CanBeKept};
+ghost use Rattle.s38_rules.specs.Opening.{general_context, held_first, held_installed, locked_queue, machine_context, named, officer, officer_rows, owned, plain_user, process_entries, state_of};
 
 use s38_base::limits::BODY_LIMIT;
 use s38_base::{Id, Kind, Name, NoMemory, ObjNum, Rights, Special, TryClone};
@@ -109,10 +110,12 @@ fn add(objects: &mut Objects, object: Object) -> Result<(), NoMemory>
     }
 }
 
-/// The objects that the machine begins with.
-#[tactic(auto, unfolding(s38_rules::specs::Opening::opening, s38_base::specs::Ids::same_id))]
-fn opening(alloc: Global) -> Result<Objects, NoMemory>
-    ensures { IfOk result (λ objects. objects ≡ held_first) }
+/// The objects of the general opening: the machine context and the security officer, a context for everybody, a user
+/// without special authorities, and a queue that everybody may find and nobody else may use.
+#[tactic(auto, using(crate::proofs::OpeningLaws::opening_kept), unfolding(s38_rules::specs::Opening::opening, s38_base::specs::Ids::same_id))]
+pub fn general_opening(alloc: Global) -> Result<Objects, NoMemory>
+    ensures objects { IfOk result (λ objects. objects ≡ held_first) }
+    ensures kept { IfOk result (λ objects. CanBeKept objects) }
 {
     let mut objects = Objects::new(alloc);
     add(&mut objects, machine_context(alloc)?)?;
@@ -121,6 +124,19 @@ fn opening(alloc: Global) -> Result<Objects, NoMemory>
     add(&mut objects, plain_user(alloc)?)?;
     add(&mut objects, locked_queue(alloc)?)?;
     objects.raise(6, 5);
+    Ok(objects)
+}
+
+/// The objects of a store that was installed: the machine context and the security officer.
+#[tactic(auto, using(crate::proofs::OpeningLaws::installed_kept), unfolding(s38_rules::specs::Opening::installed, s38_base::specs::Ids::same_id))]
+pub fn installed(alloc: Global) -> Result<Objects, NoMemory>
+    ensures objects { IfOk result (λ objects. objects ≡ held_installed) }
+    ensures kept { IfOk result (λ objects. CanBeKept objects) }
+{
+    let mut objects = Objects::new(alloc);
+    add(&mut objects, machine_context(alloc)?)?;
+    add(&mut objects, officer(alloc)?)?;
+    objects.raise(3, 2);
     Ok(objects)
 }
 
@@ -140,12 +156,16 @@ fn process_entries(alloc: Global, jobs: &[Job]) -> Result<Vec<ProcessEntry>, NoM
     Ok(made)
 }
 
-/// The state in which the jobs find the machine, with the deck's templates.
-#[tactic(auto, using(crate::proofs::OpeningLaws::opening_kept))]
-pub fn opened(alloc: Global, templates: Checked, jobs: &[Job]) -> Result<World<Objects>, NoMemory>
-    ensures { IfOk result (λ world. world ≡ opened templates jobs.now) }
+/// The state in which the jobs find the machine: its objects, and the deck's templates.
+pub fn opened(
+    alloc: Global,
+    objects: Objects,
+    templates: Checked,
+    jobs: &[Job],
+) -> Result<World<Objects>, NoMemory>
+    requires kept { CanBeKept objects }
+    ensures { IfOk result (λ world. world ≡ state_of objects templates jobs.now) }
 {
-    let objects = opening(alloc)?;
     let processes = process_entries(alloc, jobs)?;
     World::new(alloc, objects, BODY_LIMIT, templates, processes)
 }

@@ -10,6 +10,7 @@ use Rattle.s38_code.specs.declared.entry.Entry.{Entry}
 use Rattle.s38_code.specs.declared.made.CheckedTemplate.{CheckedTemplate}
 use Rattle.s38_code.specs.declared.made.CreateResult.{CreateResult}
 use Rattle.s38_rules.specs.declared.process.ProcessEntry.{ProcessEntry}
+use Rattle.s38_rules.specs.Held.{Held}
 use Rattle.s38_rules.specs.State.{State, is_early, ready, ready_in, runs_before, process_entry, waits, ready_list}
 use Rattle.s38_rules.specs.Legal.{Leads, Run, begun}
 use Rattle.s38_rules.specs.Opening as opening
@@ -88,10 +89,10 @@ fresh_stands one budget ended state still is =
     going : Fresh ≢ Ended
     going g = cc
 
-pub between_begun : (templates : List CheckedTemplate) (made : List CreateResult) (jobs : List Job) → length made ≡ length jobs
-    → IsBetween made jobs (begun (opening.opened templates jobs)) (unbegun jobs) (ready_list (opening.opened templates jobs))
-between_begun templates made jobs count = record {
-  sound = sound_begun (opening.opened templates jobs);
+pub between_begun : (held : Held) (templates : List CheckedTemplate) (made : List CreateResult) (jobs : List Job) → length made ≡ length jobs
+    → IsBetween made jobs (begun (opening.state_of held templates jobs)) (unbegun jobs) (ready_list (opening.state_of held templates jobs))
+between_begun held templates made jobs count = record {
+  sound = sound_begun (opening.state_of held templates jobs);
   begun = refl;
   count_made = count;
   count_states = length-map jobs _;
@@ -132,25 +133,25 @@ behind_one_more after x (y ∷ es) e = behind_one_more after (after x) es e
 -- ---- between two turns of a whole run
 
 -- the jobs have come so far, by the picks from x up to y
-pub record ComesOn {S : Type 0} (answer : S → ℕ) (after : S → S) (x : S) (templates : List CheckedTemplate) (made : List CreateResult) (jobs : List Job) (m : Run) (all : List JobState) (list : List ℕ) (y : S) : Type 0 where
+pub record ComesOn {S : Type 0} (answer : S → ℕ) (after : S → S) (x : S) (held : Held) (templates : List CheckedTemplate) (made : List CreateResult) (jobs : List Job) (m : Run) (all : List JobState) (list : List ℕ) (y : S) : Type 0 where
   pub between : IsBetween made jobs m all list
-  pub origin : m.origin ≡ opening.opened templates jobs
+  pub origin : m.origin ≡ opening.state_of held templates jobs
   pub picked : Picked (picks_of answer after (length m.history) x) m.origin m.history
   pub picker : y ≡ behind_picks after (length m.history) x
 
-pub comes_begun : {S : Type 0} (answer : S → ℕ) (after : S → S) (x : S) (templates : List CheckedTemplate) (made : List CreateResult) (jobs : List Job) (m : Run) (all : List JobState) (list : List ℕ) → length made ≡ length jobs
-    → m ≡ begun (opening.opened templates jobs) → all ≡ unbegun jobs → list ≡ ready_list m.state → ComesOn answer after x templates made jobs m all list x
-comes_begun answer after x templates made jobs m all list count is unbegun_yet listed =
-    let first : list ≡ ready_list (opening.opened templates jobs) = listed ∙ ap (λ (n : Run). ready_list n.state) is in
-    subst (λ (n : Run). ComesOn answer after x templates made jobs n all list x) (sym is)
-    (subst (λ (ys : List JobState). ComesOn answer after x templates made jobs (begun (opening.opened templates jobs)) ys list x) (sym unbegun_yet)
-    (subst (λ (qs : List ℕ). ComesOn answer after x templates made jobs (begun (opening.opened templates jobs)) (unbegun jobs) qs x) (sym first)
-    (record { between = between_begun templates made jobs count; origin = refl; picked = tt; picker = refl })))
+pub comes_begun : {S : Type 0} (answer : S → ℕ) (after : S → S) (x : S) (held : Held) (templates : List CheckedTemplate) (made : List CreateResult) (jobs : List Job) (m : Run) (all : List JobState) (list : List ℕ) → length made ≡ length jobs
+    → m ≡ begun (opening.state_of held templates jobs) → all ≡ unbegun jobs → list ≡ ready_list m.state → ComesOn answer after x held templates made jobs m all list x
+comes_begun answer after x held templates made jobs m all list count is unbegun_yet listed =
+    let first : list ≡ ready_list (opening.state_of held templates jobs) = listed ∙ ap (λ (n : Run). ready_list n.state) is in
+    subst (λ (n : Run). ComesOn answer after x held templates made jobs n all list x) (sym is)
+    (subst (λ (ys : List JobState). ComesOn answer after x held templates made jobs (begun (opening.state_of held templates jobs)) ys list x) (sym unbegun_yet)
+    (subst (λ (qs : List ℕ). ComesOn answer after x held templates made jobs (begun (opening.state_of held templates jobs)) (unbegun jobs) qs x) (sym first)
+    (record { between = between_begun held templates made jobs count; origin = refl; picked = tt; picker = refl })))
 
-pub comes_on : {S : Type 0} (answer : S → ℕ) (after : S → S) (x : S) (templates : List CheckedTemplate) (made : List CreateResult) (jobs : List Job) (m : Run) (all : List JobState) (list : List ℕ) (y : S) (place : ℕ) (m' : Run)
-    (all' : List JobState) (list' : List ℕ) → ComesOn answer after x templates made jobs m all list y → place ≡ answer y % length list → WentOn made jobs m all list place m' all' list'
-    → ComesOn answer after x templates made jobs m' all' list' (after y)
-comes_on answer after x templates made jobs m all list y place m' all' list' comes at went =
+pub comes_on : {S : Type 0} (answer : S → ℕ) (after : S → S) (x : S) (held : Held) (templates : List CheckedTemplate) (made : List CreateResult) (jobs : List Job) (m : Run) (all : List JobState) (list : List ℕ) (y : S) (place : ℕ) (m' : Run)
+    (all' : List JobState) (list' : List ℕ) → ComesOn answer after x held templates made jobs m all list y → place ≡ answer y % length list → WentOn made jobs m all list place m' all' list'
+    → ComesOn answer after x held templates made jobs m' all' list' (after y)
+comes_on answer after x held templates made jobs m all list y place m' all' list' comes at went =
     let listed = comes.between.ready in
     let pick : answer y ≡ answer (behind_picks after (length m.history) x) = ap answer comes.picker in
     let by : chosen m.state (answer (behind_picks after (length m.history) x)) ≡ Some went.entry.process =

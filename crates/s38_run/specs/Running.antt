@@ -15,7 +15,7 @@ use Rattle.s38_rules.specs.State.{State, ready_list}
 use Rattle.s38_rules.specs.Step.{step}
 use Rattle.s38_rules.specs.Legal.{Run, IsSound, after, no_moment}
 use Rattle.s38_process.specs.Process.{ProcessState, RanFrom, absorbed, behind, ends_by_finish, event_of, fresh}
-use Rattle.s38_rules.specs.Opening.{opened}
+use Rattle.s38_rules.specs.Opening.{state_of}
 use Rattle.s38_run.specs.declared.job_state.JobState.{JobState}
 use Rattle.s38_run.specs.declared.job_state.JobState.TheVariants as states
 use Rattle.s38_run.specs.declared.outcome.Outcome.{Outcome}
@@ -109,7 +109,7 @@ pub record EachStands (made : List CreateResult) (jobs : List Job) (m : Run) (st
 -- between two turns
 pub record IsBetween (made : List CreateResult) (jobs : List Job) (m : Run) (states : List JobState) (list : List ℕ) : Type 0 where
   pub sound : IsSound m
-  pub begun : m.origin ≡ opened m.origin.templates jobs
+  pub begun : m.origin ≡ state_of m.origin.held m.origin.templates jobs
   pub count_made : length made ≡ length jobs
   pub count_states : length states ≡ length jobs
   pub ready : list ≡ ready_list m.state

@@ -1,6 +1,6 @@
 ghost use Rattle.std.specs.Prelude.{◌≡◌, ◌-◌, ◌<◌, ◌^◌, ◌==◌, not, IfOk, OnOk, filter, length, vec_len};
 ghost use Rattle.s38_rules.specs.Legal.{IsSound, begun};
-ghost use Rattle.s38_rules.specs.Opening.{opened};
+ghost use Rattle.s38_rules.specs.Opening.{state_of};
 ghost use Rattle.s38_run.specs.Picked.{Picked};
 ghost use Rattle.s38_run.specs.Pickers.{behind_picks, picks_of};
 ghost use Rattle.s38_run.specs.Running.{IsBetween, WentOn, ready_behind};
@@ -89,11 +89,11 @@ pub fn serial<P: Picker>(
     made: &[CreateResult],
     picker: &mut P,
 ) -> Result<Machine, NoMemory>
-    requires begun { machine ≡ begun (opened machine.state.templates jobs.now) }
+    requires begun { machine ≡ begun (state_of machine.state.held machine.state.templates jobs.now) }
     requires made { length made.now ≡ length jobs.now }
     requires few { length jobs.now < 2 ^ 32 - 1 }
     ensures sound { IfOk result IsSound }
-    ensures origin { IfOk result (λ m. m.origin ≡ opened machine.state.templates jobs.now) }
+    ensures origin { IfOk result (λ m. m.origin ≡ state_of machine.state.held machine.state.templates jobs.now) }
     ensures picked { IfOk result (λ m. Picked (picks_of P.answer P.after (length m.history) picker.old) m.origin m.history) }
     ensures picker { IfOk result (λ m. picker.new ≡ behind_picks P.after (length m.history) picker.old) }
     ensures ran { IfOk result (λ m. AllRan made.now jobs.now m.history) }

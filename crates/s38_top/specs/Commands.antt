@@ -3,7 +3,7 @@ use Rattle.std.specs.Prelude.{ℕ, ◌&&◌, List, [], ◌∷◌, Option, Some, 
 use Rattle.std.specs.Str.{bytes_eq}
 use Rattle.s38_words.specs.Number.{natural_of}
 use Rattle.s38_top.specs.declared.command.Command.{Command}
-use Rattle.s38_top.specs.declared.command.Command.TheVariants.{Serial, Check}
+use Rattle.s38_top.specs.declared.command.Command.TheVariants.{Serial, Check, Demo}
 
 abbrev pub greatest_pick : ℕ
 greatest_pick = 4294967295
@@ -22,10 +22,27 @@ abbrev pub picked_by : List ℕ → List ℕ → List ℕ → Option Command
 picked_by word option number =
     if bytes_eq word (codes "serial") && bytes_eq option (codes "--pick") then pick_of (natural_of number) else None
 
--- `serial`, `serial --pick n`, `check`
+abbrev pub most_postings : ℕ
+most_postings = 200
+
+-- a number of postings, 1 to 200
+abbrev pub demo_of : Option ℕ → Option Command
+demo_of None = None
+demo_of (Some n) = if nat_le 1 n && nat_le n most_postings then Some (Demo n) else None
+
+abbrev pub sized_by : List ℕ → List ℕ → Option Command
+sized_by word number = if bytes_eq word (codes "demo") then demo_of (natural_of number) else None
+
+-- `serial`, `serial --pick n`, `check`, `demo n`
 abbrev pub command_of : List (List ℕ) → Option Command
 command_of [] = None
 command_of (word ∷ []) = command_by word
-command_of (word ∷ option ∷ []) = None
+command_of (word ∷ number ∷ []) = sized_by word number
 command_of (word ∷ option ∷ number ∷ []) = picked_by word option number
 command_of (word ∷ option ∷ number ∷ other ∷ words) = None
+
+-- how many postings the generated deck has, where it is to be run
+abbrev pub demo_size : Command → Option ℕ
+demo_size (Serial pick) = None
+demo_size Check = None
+demo_size (Demo size) = Some size

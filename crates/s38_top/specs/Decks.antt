@@ -13,7 +13,8 @@ use Rattle.s38_confinement.specs.NoWay.{NoWay}
 use Rattle.s38_create.specs.Checked.{made_of}
 use Rattle.s38_rules.specs.State.{State}
 use Rattle.s38_rules.specs.Legal.{IsUnstored, Leads}
-use Rattle.s38_rules.specs.Opening.{held_first, opened}
+use Rattle.s38_rules.specs.Held.{Held}
+use Rattle.s38_rules.specs.Opening.{state_of}
 use Rattle.s38_process.specs.Process.{ProcessState, fresh}
 use Rattle.s38_run.specs.Picked.{Picked}
 use Rattle.s38_run.specs.Pickers.{number_after, number_answer, picks_of}
@@ -43,12 +44,16 @@ pub record IsRunOfJob (deck : Deck) (job : Job) (entries : List Entry) : Type 0 
 abbrev pub picks_by : ℕ → ℕ → List ℕ
 picks_by pick count = picks_of number_answer number_after count pick
 
--- the history is the one-thread machine's, from its opening with the deck's templates, for the whole runs of all
+-- the state in which the jobs of a deck find a machine of these objects, with the deck's templates
+abbrev pub opened : Held → Deck → State
+opened held deck = state_of held (checked_of deck) deck.jobs
+
+-- the history is the one-thread machine's, from these objects with the deck's templates, for the whole runs of all
 -- jobs of the deck; each entry is that of a job, made by the process that its pick chooses of those that are ready
-pub record IsRunOf (picks : List ℕ) (deck : Deck) (history : List Entry) : Type 0 where
+pub record IsRunOf (held : Held) (picks : List ℕ) (deck : Deck) (history : List Entry) : Type 0 where
   pub state : State
-  pub legal : Leads (opened (checked_of deck) deck.jobs) [] history state
-  pub order : Picked picks (opened (checked_of deck) deck.jobs) history
+  pub legal : Leads (opened held deck) [] history state
+  pub order : Picked picks (opened held deck) history
   pub each : (k : ℕ) (job : Job) → slice_get deck.jobs k ≡ Some job → IsRunOfJob deck job (entries_of (k + 1) history)
 
 -- ---- confinement
@@ -66,10 +71,10 @@ processes_of deck = map (process_of deck) deck.jobs
 
 -- where no way to a right on an object is open for users at the beginning, and they alone act, the right is never used,
 -- and no way is open at the end
-abbrev pub IsConfined : Deck → List Entry → State → Type 0
-IsConfined deck history end =
-    (users : List ℕ) (o r : ℕ) → o ≢ 0 → NoWay held_first users o r → AllWithin users (opened (checked_of deck) deck.jobs) history
-    → NeverUsed (opened (checked_of deck) deck.jobs) history o r × StaysClosed (processes_of deck) history end users o r
+abbrev pub IsConfined : Held → Deck → List Entry → State → Type 0
+IsConfined held deck history end =
+    (users : List ℕ) (o r : ℕ) → o ≢ 0 → NoWay held users o r → AllWithin users (opened held deck) history
+    → NeverUsed (opened held deck) history o r × StaysClosed (processes_of deck) history end users o r
 
 -- each entry has a mark, and since there is no store all are those of one moment
 pub record AreMarks (marks : List ℕ) (history : List Entry) : Type 0 where

@@ -1,5 +1,5 @@
 -- What the program may come to, what it then answers and prints, and what it rests on.
-use Rattle.std.specs.Prelude.{◌≡◌, ◌⊎◌, ℕ, IsTrue, List, [], ◌∷◌, ◌++◌, length, take, Option, Some, None, is_some, Err, codes}
+use Rattle.std.specs.Prelude.{◌≡◌, ◌⊎◌, ℕ, Bool, true, false, IsTrue, List, [], ◌∷◌, ◌++◌, length, take, Option, Some, None, is_some, Err, codes}
 use Rattle.std.specs.Io.KnownBytes.{Appends, Keeps}
 use Rattle.s38_base.specs.Faults.{Rose}
 use Rattle.s38_io.specs.Source.{ReadsAll}
@@ -7,15 +7,18 @@ use Rattle.s38_io.specs.Sink.{AppendsFront}
 use Rattle.s38_code.specs.declared.deck.Deck.{Deck}
 use Rattle.s38_code.specs.declared.entry.Entry.{Entry}
 use Rattle.s38_code.specs.declared.made.CheckedTemplate.{CheckedTemplate}
+use Rattle.s38_demo.specs.GeneratedDeck.{deck_of}
+use Rattle.s38_demo.specs.Total.{demo_text}
 use Rattle.s38_joblog.specs.Check.{check_text}
 use Rattle.s38_joblog.specs.Log.{bad_line, last_line, log_text}
+use Rattle.s38_rules.specs.Opening.{held_first, held_installed}
 use Rattle.s38_template.specs.Grammar.{Spells}
 use Rattle.s38_template.specs.Reading.{read_of}
 use Rattle.s38_template.specs.declared.fault.DeckFault.TheVariants as faults
 use Rattle.s38_top.specs.declared.command.Command.{Command}
-use Rattle.s38_top.specs.declared.command.Command.TheVariants.{Serial, Check}
+use Rattle.s38_top.specs.declared.command.Command.TheVariants.{Serial, Check, Demo}
 use Rattle.s38_top.specs.declared.outcome.Outcome.{Outcome}
-use Rattle.s38_top.specs.declared.outcome.Outcome.TheVariants.{BadWords, BadDeck, DeckFault, NoMemory, Complete, Checked}
+use Rattle.s38_top.specs.declared.outcome.Outcome.TheVariants.{BadWords, BadDeck, DeckFault, NoMemory, Complete, Checked, Demonstrated}
 use Rattle.s38_top.specs.Commands.{command_of}
 use Rattle.s38_top.specs.Decks.{AreMarks, IsConfined, IsRunOf, checked_of, picks_by}
 
@@ -32,6 +35,7 @@ status_of DeckFault = 5
 status_of NoMemory = 7
 status_of (Complete pick whole) = 0
 status_of (Checked checked) = 0
+status_of (Demonstrated size whole) = 0
 
 abbrev pub history_of : Outcome → List Entry
 history_of BadWords = []
@@ -40,6 +44,7 @@ history_of DeckFault = []
 history_of NoMemory = []
 history_of (Complete pick whole) = whole.history.items
 history_of (Checked checked) = []
+history_of (Demonstrated size whole) = whole.history.items
 
 abbrev pub marks_of : Outcome → List ℕ
 marks_of BadWords = []
@@ -48,6 +53,7 @@ marks_of DeckFault = []
 marks_of NoMemory = []
 marks_of (Complete pick whole) = whole.marks.items
 marks_of (Checked checked) = []
+marks_of (Demonstrated size whole) = whole.marks.items
 
 abbrev pub line : List ℕ → List ℕ
 line text = text ++ 10 ∷ []
@@ -67,12 +73,23 @@ text_of DeckFault = line (codes "DECK FAULT")
 text_of NoMemory = line (codes "NO MEMORY")
 text_of (Complete pick whole) = run_text whole.deck whole.history.items
 text_of (Checked checked) = checked_text checked.templates
+text_of (Demonstrated size whole) = demo_text size whole.history.items
 
 -- ---- what it rests on
 
 -- the words are a command
 abbrev pub IsServed : List (List ℕ) → Type 0
 IsServed words = IsTrue (is_some (command_of words))
+
+abbrev pub reads_deck : Option Command → Bool
+reads_deck None = false
+reads_deck (Some (Serial pick)) = true
+reads_deck (Some Check) = true
+reads_deck (Some (Demo size)) = false
+
+-- the words are a command that reads a deck
+abbrev pub ReadsDeck : List (List ℕ) → Type 0
+ReadsDeck words = IsTrue (reads_deck (command_of words))
 
 -- a line of the text that was taken is the first bad one, with this code, and the text spells no deck
 pub record NoDeck (old new : Option (List ℕ)) (line code : ℕ) : Type 0 where
@@ -90,7 +107,13 @@ pub record HasDeck (old new : Option (List ℕ)) (deck : Deck) : Type 0 where
 -- the history is that of the whole runs of its jobs, in turns of the picker that begins at a number
 pub record RanDeck (pick : ℕ) (old new : Option (List ℕ)) (deck : Deck) (history : List Entry) : Type 0 where
   pub taken : HasDeck old new deck
-  pub run : IsRunOf (picks_by pick (length history)) deck history
+  pub run : IsRunOf held_first (picks_by pick (length history)) deck history
+
+-- the generated deck of so many postings was run from the objects of a store that was installed, in turns of the
+-- picker that begins at their number
+pub record RanGenerated (size : ℕ) (deck : Deck) (history : List Entry) : Type 0 where
+  pub is : Spells (deck_of size) deck
+  pub run : IsRunOf held_installed (picks_by size (length history)) deck history
 
 -- each of its templates was checked
 pub record CheckedAll (old new : Option (List ℕ)) (deck : Deck) (templates : List CheckedTemplate) : Type 0 where
@@ -100,12 +123,14 @@ pub record CheckedAll (old new : Option (List ℕ)) (deck : Deck) (templates : L
 -- each outcome has its cause; want of memory alone is free
 abbrev pub Holds : List (List ℕ) → Option (List ℕ) → Option (List ℕ) → ℕ → ℕ → Outcome → Type 0
 Holds words old new before now BadWords = (command_of words ≡ None) × Keeps old new
-Holds words old new before now (BadDeck line code) = IsServed words × NoDeck old new line code
-Holds words old new before now DeckFault = IsServed words × Rose before now
+Holds words old new before now (BadDeck line code) = ReadsDeck words × NoDeck old new line code
+Holds words old new before now DeckFault = ReadsDeck words × Rose before now
 Holds words old new before now NoMemory = Unit {0}
 Holds words old new before now (Complete pick whole) =
     (command_of words ≡ Some (Serial pick)) × (RanDeck pick old new whole.deck whole.history.items × AreMarks whole.marks.items whole.history.items)
 Holds words old new before now (Checked checked) = (command_of words ≡ Some Check) × CheckedAll old new checked.deck checked.templates
+Holds words old new before now (Demonstrated size whole) =
+    (command_of words ≡ Some (Demo size)) × (Keeps old new × (RanGenerated size whole.deck whole.history.items × AreMarks whole.marks.items whole.history.items))
 
 -- ---- how it is told
 
@@ -117,6 +142,7 @@ faulted DeckFault = 6
 faulted NoMemory = 7
 faulted (Complete pick whole) = 6
 faulted (Checked checked) = 6
+faulted (Demonstrated size whole) = 6
 
 -- the text was written, or the sink failed and a prefix of it was
 abbrev pub Tells : Option (List ℕ) → Option (List ℕ) → ℕ → ℕ → ℕ → Outcome → Type 0
@@ -139,7 +165,7 @@ pub record Ends (words : List (List ℕ)) (left left' : Option (List ℕ)) (take
 pub record IsComplete (pick : ℕ) (left left' written written' : Option (List ℕ)) (history : List Entry) : Type 0 where
   pub deck : Deck
   pub ran : RanDeck pick left left' deck history
-  pub confined : IsConfined deck history ran.run.state
+  pub confined : IsConfined held_first deck history ran.run.state
   pub told : Appends written written' (run_text deck history)
   pub finished : (bytes : List ℕ) → left ≡ Some bytes → left' ≡ Some []
 
@@ -152,21 +178,42 @@ pub record IsChecked (left left' written written' : Option (List ℕ)) (history 
   pub finished : (bytes : List ℕ) → left ≡ Some bytes → left' ≡ Some []
   pub still : history ≡ []
 
+-- the generated deck was run so, the history opens no way to a right, the text of the demonstration was written, and
+-- the input was not read
+pub record IsDemonstrated (size : ℕ) (left left' written written' : Option (List ℕ)) (history : List Entry) : Type 0 where
+  pub deck : Deck
+  pub ran : RanGenerated size deck history
+  pub confined : IsConfined held_installed deck history ran.run.state
+  pub told : Appends written written' (demo_text size history)
+  pub unread : Keeps left left'
+
 -- what status 0 says of each command
 abbrev pub Serves : Option Command → Option (List ℕ) → Option (List ℕ) → Option (List ℕ) → Option (List ℕ) → List Entry → Type 0
 Serves None left left' written written' history = ⊥
 Serves (Some (Serial pick)) left left' written written' history = IsComplete pick left left' written written' history
 Serves (Some Check) left left' written written' history = IsChecked left left' written written' history
+Serves (Some (Demo size)) left left' written written' history = IsDemonstrated size left left' written written' history
 
 -- ---- completeness
 
--- good words, a good deck, and no count of faults that rose
-pub record IsGood (words : List (List ℕ)) (left : Option (List ℕ)) (taken taken' put put' : ℕ) : Type 0 where
-  pub served : IsServed words
+-- what was to be read is known, and spells a deck
+pub record IsGoodDeck (left : Option (List ℕ)) : Type 0 where
   pub text : List ℕ
   pub told : left ≡ Some text
   pub deck : Deck
   pub is : Spells (take most text) deck
+
+-- what a command asks of what is to be read; a demonstration reads nothing
+abbrev pub IsGoodFor : Option Command → Option (List ℕ) → Type 0
+IsGoodFor None left = ⊥
+IsGoodFor (Some (Serial pick)) left = IsGoodDeck left
+IsGoodFor (Some Check) left = IsGoodDeck left
+IsGoodFor (Some (Demo size)) left = Unit {0}
+
+-- good words, a good deck where one is read, and no count of faults that rose
+pub record IsGood (words : List (List ℕ)) (left : Option (List ℕ)) (taken taken' put put' : ℕ) : Type 0 where
+  pub served : IsServed words
+  pub deck : IsGoodFor (command_of words) left
   pub source : Rose taken taken' → ⊥
   pub sink : Rose put put' → ⊥
 
@@ -177,5 +224,7 @@ OfText command text (BadDeck line code) = (read_of text ≡ Err (faults.Bad line
 OfText command text DeckFault = ⊥
 OfText command text NoMemory = Unit {0}
 OfText command text (Complete pick whole) =
-    (command ≡ Serial pick) × (Spells text whole.deck × (IsRunOf (picks_by pick (length whole.history.items)) whole.deck whole.history.items × AreMarks whole.marks.items whole.history.items))
+    (command ≡ Serial pick) × (Spells text whole.deck × (IsRunOf held_first (picks_by pick (length whole.history.items)) whole.deck whole.history.items × AreMarks whole.marks.items whole.history.items))
 OfText command text (Checked checked) = (command ≡ Check) × (Spells text checked.deck × (checked.templates ≡ checked_of checked.deck))
+OfText command text (Demonstrated size whole) =
+    (command ≡ Demo size) × (Spells text whole.deck × (IsRunOf held_installed (picks_by size (length whole.history.items)) whole.deck whole.history.items × AreMarks whole.marks.items whole.history.items))

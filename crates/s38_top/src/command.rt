@@ -1,6 +1,6 @@
-ghost use Rattle.std.specs.Prelude.{◌≡◌, map};
+ghost use Rattle.std.specs.Prelude.{◌≡◌, ◌≤◌, ℕ, map, Some};
 ghost use Rattle.s38_words.specs.Number.{natural_of};
-ghost use Rattle.s38_top.specs.Commands.{command_by, command_of, pick_of, picked_by};
+ghost use Rattle.s38_top.specs.Commands.{command_by, command_of, demo_of, demo_size, pick_of, picked_by, sized_by};
 
 use s38_words::natural;
 
@@ -11,6 +11,8 @@ pub enum Command {
     Serial { pick: u32 },
     /// The templates of a deck are checked.
     Check,
+    /// The generated deck of so many postings is run.
+    Demo { size: u32 },
 }
 
 fn command_by(word: &[u8]) -> Option<Command>
@@ -52,14 +54,54 @@ fn picked_by(word: &[u8], option: &[u8], number: &[u8]) -> Option<Command>
     }
 }
 
-/// The command that the words are: `serial`, `serial --pick n`, `check`.
+/// How many postings the generated deck has: 1 to 200, in decimal digits without a leading zero.
+#[tactic(auto, using(crate::proofs::CommandLaws::size_held))]
+fn demo_of(number: &[u8]) -> Option<Command>
+    ensures { result ≡ demo_of (natural_of number.now) }
+{
+    match natural(number) {
+        None => None,
+        Some(size) => {
+            if 1 <= size && size <= 200 {
+                Some(Command::Demo { size: size as u32 })
+            } else {
+                None
+            }
+        }
+    }
+}
+
+fn sized_by(word: &[u8], number: &[u8]) -> Option<Command>
+    ensures { result ≡ sized_by word.now number.now }
+{
+    if word == b"demo".as_slice() {
+        demo_of(number)
+    } else {
+        None
+    }
+}
+
+/// How many postings the generated deck has, where it is to be run.
+pub fn demo_size(command: Command) -> Option<u32>
+    ensures { result ≡ demo_size command }
+{
+    match command {
+        Command::Serial { .. } => None,
+        Command::Check => None,
+        Command::Demo { size } => Some(size),
+    }
+}
+
+/// The command that the words are: `serial`, `serial --pick n`, `check`, `demo n`.
+#[tactic(auto, using(crate::proofs::CommandLaws::demo_in_range))]
 pub fn command_of(words: &[&str]) -> Option<Command>
-    ensures { result ≡ command_of (map (λ w. w.now) words.now) }
+    ensures command { result ≡ command_of (map (λ w. w.now) words.now) }
+    ensures size { (n : ℕ) → result ≡ Some (Command.Demo n) → (1 ≤ n) × (n ≤ 200) }
 {
     match words {
         [] => None,
         [word] => command_by(word.as_bytes()),
-        [_, _] => None,
+        [word, number] => sized_by(word.as_bytes(), number.as_bytes()),
         [word, option, number] => {
             picked_by(word.as_bytes(), option.as_bytes(), number.as_bytes())
         }

@@ -30,4 +30,6 @@ pub enum Outcome {
     Complete { pick: u32, whole: Whole },
     /// Each template was checked.
     Checked(CheckedDeck),
+    /// Each job of the generated deck of so many postings ran to its end.
+    Demonstrated { size: u32, whole: Whole },
 }

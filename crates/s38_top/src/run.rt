@@ -1,5 +1,7 @@
 ghost use Rattle.std.specs.Prelude.{◌≡◌, ◌≤◌, ℕ, List, IfOk, Some, length, map, slice_get};
 ghost use Rattle.s38_code.specs.declared.deck.Job.{Job};
+ghost use Rattle.s38_demo.specs.GeneratedDeck.{deck_of};
+ghost use Rattle.s38_rules.specs.Kept.{CanBeKept};
 ghost use Rattle.s38_template.specs.Grammar.{Spells};
 ghost use Rattle.s38_template.specs.Places.{HasTemplate};
 ghost use Rattle.s38_run.specs.Pickers.{picks_of};
@@ -7,13 +9,15 @@ ghost use Rattle.s38_top.specs.Commands.{command_of};
 ghost use Rattle.s38_top.specs.Decks.{AreMarks, IsRunOf, checked_of};
 ghost use Rattle.s38_top.specs.Outcome.{Holds, OfText};
 
-use crate::command::{Command, command_of};
+use crate::command::{Command, command_of, demo_size};
 use crate::outcome::{CheckedDeck, Outcome, Whole};
 use crate::templates::{checked_templates, made_of_jobs};
 use s38_base::NoMemory;
 use s38_code::{Checked, Deck};
+use s38_demo::deck_of;
 use s38_io::{ReadFault, Source, read_to_end};
-use s38_machine::Machine;
+use s38_machine::{Machine, general_opening, installed};
+use s38_objects::Objects;
 use s38_run::{NumberPicker, Picker, serial};
 use s38_template::{DeckFault, each_job_has_its_template, read_deck};
 use std::alloc::Global;
@@ -21,9 +25,10 @@ use std::alloc::Global;
 /// How many bytes of a deck are taken at most: with them the line that passes 4,194,304 bytes is decided.
 const MOST: usize = 4_194_560;
 
-/// Runs the jobs of a deck whose templates were checked, in turns that a picker chooses.
+/// Runs the jobs of a deck whose templates were checked, from these objects, in turns that a picker chooses.
 pub fn run_deck<P: Picker>(
     alloc: Global,
+    objects: Objects,
     deck: Deck,
     templates: Checked,
     picker: &mut P,
@@ -31,12 +36,13 @@ pub fn run_deck<P: Picker>(
     requires has { (k : ℕ) (job : Job) → slice_get deck.jobs k ≡ Some job → HasTemplate deck job }
     requires checked { templates ≡ checked_of deck }
     requires few { length deck.jobs ≤ 256 }
+    requires kept { CanBeKept objects }
     ensures deck { IfOk result (λ whole. whole.deck ≡ deck) }
-    ensures run { IfOk result (λ whole. IsRunOf (picks_of P.answer P.after (length whole.history.items) picker.old) deck whole.history.items) }
+    ensures run { IfOk result (λ whole. IsRunOf objects (picks_of P.answer P.after (length whole.history.items) picker.old) deck whole.history.items) }
     ensures marks { IfOk result (λ whole. AreMarks whole.marks.items whole.history.items) }
 {
     let made = made_of_jobs(alloc, &deck, templates.as_slice())?;
-    let machine = Machine::start(alloc, templates, deck.jobs.as_slice())?;
+    let machine = Machine::start(alloc, objects, templates, deck.jobs.as_slice())?;
     let machine = serial(
         alloc,
         machine,
@@ -59,11 +65,33 @@ fn of_run(alloc: Global, pick: u32, text: &[u8], deck: Deck, templates: Checked)
     ensures { OfText (Command.Serial pick) text.now result }
 {
     let _ = text;
+    let Ok(objects) = general_opening(alloc) else {
+        return Outcome::NoMemory;
+    };
     each_job_has_its_template();
     let mut picker = NumberPicker::new(u64::from(pick));
-    match run_deck(alloc, deck, templates, &mut picker) {
+    match run_deck(alloc, objects, deck, templates, &mut picker) {
         Err(_) => Outcome::NoMemory,
         Ok(whole) => Outcome::Complete { pick, whole },
+    }
+}
+
+/// What the demonstration of a deck whose templates were checked comes to: it begins with the objects of a store that
+/// was installed, and its picker with the number of the postings.
+fn of_demo(alloc: Global, size: u32, text: &[u8], deck: Deck, templates: Checked) -> Outcome
+    requires spelled { Spells text.now deck }
+    requires checked { templates ≡ checked_of deck }
+    ensures { OfText (Command.Demo size) text.now result }
+{
+    let _ = text;
+    let Ok(objects) = installed(alloc) else {
+        return Outcome::NoMemory;
+    };
+    each_job_has_its_template();
+    let mut picker = NumberPicker::new(u64::from(size));
+    match run_deck(alloc, objects, deck, templates, &mut picker) {
+        Err(_) => Outcome::NoMemory,
+        Ok(whole) => Outcome::Demonstrated { size, whole },
     }
 }
 
@@ -77,6 +105,7 @@ fn of_deck(alloc: Global, command: Command, text: &[u8], deck: Deck) -> Outcome
         Ok(templates) => match command {
             Command::Serial { pick } => of_run(alloc, pick, text, deck, templates),
             Command::Check => Outcome::Checked(CheckedDeck { deck, templates }),
+            Command::Demo { size } => of_demo(alloc, size, text, deck, templates),
         },
     }
 }
@@ -92,13 +121,28 @@ fn of_text(alloc: Global, command: Command, text: &[u8]) -> Outcome
     }
 }
 
-/// What the words and the text of a source come to. The words are looked at first.
+/// What the generated deck of so many postings comes to.
+fn of_generated(alloc: Global, size: u32) -> Outcome
+    requires first { 1 ≤ size }
+    requires last { size ≤ 200 }
+    ensures { OfText (Command.Demo size) (deck_of size) result }
+{
+    match deck_of(alloc, size) {
+        Err(_) => Outcome::NoMemory,
+        Ok(text) => of_text(alloc, Command::Demo { size }, text.as_slice()),
+    }
+}
+
+/// What the words and the text of a source come to. The words are looked at first; a demonstration reads nothing.
 pub fn decide<S: Source>(alloc: Global, words: &[&str], source: &mut S) -> Outcome
     ensures holds { Holds (map (λ w. w.now) words.now) (S.left source.old) (S.left source.new) (S.faults source.old) (S.faults source.new) result }
 {
     let Some(command) = command_of(words) else {
         return Outcome::BadWords;
     };
+    if let Some(size) = demo_size(command) {
+        return of_generated(alloc, size);
+    }
     match read_to_end(alloc, source, MOST) {
         Err(ReadFault::Failed) => Outcome::DeckFault,
         Err(ReadFault::NoMemory) => Outcome::NoMemory,

@@ -8,6 +8,7 @@ ghost use Rattle.s38_top.specs.Outcome.{checked_text, run_text, text_of};
 use crate::outcome::{CheckedDeck, Outcome, Whole};
 use s38_base::NoMemory;
 use s38_code::{CheckedTemplate, Deck, Entry};
+use s38_demo::demo_text;
 use s38_io::Sink;
 use s38_joblog::{bad_line, check_text, last_line, log_text};
 use std::alloc::Global;
@@ -87,6 +88,21 @@ fn tell_check<O: Sink>(alloc: Global, checked: CheckedDeck, out: &mut O) -> Told
     }
 }
 
+fn tell_demo<O: Sink>(alloc: Global, size: u32, whole: Whole, out: &mut O) -> Told
+    ensures outcome { (result.outcome ≡ Outcome.Demonstrated size whole) ⊎ (result.outcome ≡ Outcome.NoMemory) }
+    ensures told { MatchBool result.written (Appends (O.written out.old) (O.written out.new) (text_of result.outcome))
+        (Rose (O.faults out.old) (O.faults out.new) × AppendsFront (O.written out.old) (O.written out.new) (text_of result.outcome)) }
+{
+    match demo_text(alloc, size, whole.history.as_slice()) {
+        Err(_) => tell_text(Outcome::NoMemory, b"NO MEMORY\n", out),
+        Ok(text) => tell_text(
+            Outcome::Demonstrated { size, whole },
+            text.as_slice(),
+            out,
+        ),
+    }
+}
+
 fn tell_bad<O: Sink>(alloc: Global, line: u32, code: u8, out: &mut O) -> Told
     ensures outcome { (result.outcome ≡ Outcome.BadDeck line code) ⊎ (result.outcome ≡ Outcome.NoMemory) }
     ensures told { MatchBool result.written (Appends (O.written out.old) (O.written out.new) (text_of result.outcome))
@@ -111,5 +127,6 @@ pub fn tell<O: Sink>(alloc: Global, outcome: Outcome, out: &mut O) -> Told
         Outcome::NoMemory => tell_text(Outcome::NoMemory, b"NO MEMORY\n", out),
         Outcome::Complete { pick, whole } => tell_run(alloc, pick, whole, out),
         Outcome::Checked(checked) => tell_check(alloc, checked, out),
+        Outcome::Demonstrated { size, whole } => tell_demo(alloc, size, whole, out),
     }
 }

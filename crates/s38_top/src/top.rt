@@ -30,7 +30,21 @@ fn status(told: &Told) -> u8
         Outcome::NoMemory => 7,
         Outcome::Complete { .. } => { if written { 0 } else { 6 } }
         Outcome::Checked(_) => { if written { 0 } else { 6 } }
+        Outcome::Demonstrated { .. } => { if written { 0 } else { 6 } }
     }
+}
+
+/// The history and the marks of a run.
+fn parted(whole: Whole) -> (Vec<Entry>, Vec<u64>)
+    ensures history { result.0 ≡ whole.history }
+    ensures marks { result.1 ≡ whole.marks }
+{
+    let Whole {
+        deck: _,
+        history,
+        marks,
+    } = whole;
+    (history, marks)
 }
 
 /// The history and the marks of an outcome.
@@ -39,14 +53,8 @@ fn entries(alloc: Global, outcome: Outcome) -> (Vec<Entry>, Vec<u64>)
     ensures marks { result.1.items ≡ marks_of outcome }
 {
     match outcome {
-        Outcome::Complete { pick: _, whole } => {
-            let Whole {
-                deck: _,
-                history,
-                marks,
-            } = whole;
-            (history, marks)
-        }
+        Outcome::Complete { pick: _, whole } => parted(whole),
+        Outcome::Demonstrated { size: _, whole } => parted(whole),
         _ => (Vec::new(alloc), Vec::new(alloc)),
     }
 }
@@ -80,7 +88,8 @@ fn report_of<D: Drop>(alloc: Global, told: Told, disk: D) -> Report<D>
 
 /// Serves the words. Under `serial` the deck of the source is read, its jobs are run on a machine of its own, and
 /// the log of the run is written. Under `check` it is read, and a line for each of its templates is written: what
-/// creation makes of it. The disk that is handed in comes back untouched.
+/// creation makes of it. Under `demo n` the generated deck of n postings is run from the objects of a store that was
+/// installed, and n and the total are written. The disk that is handed in comes back untouched.
 pub fn plain_top<D: Drop, I: Source, O: Sink>(
     alloc: Global,
     words: &[&str],
@@ -96,10 +105,11 @@ pub fn plain_top<D: Drop, I: Source, O: Sink>(
     ensures disk { (result.status ≡ 7) ⊎ (result.disk ≡ Some disk) }
 
     // With status 0 of serial the history is the one-thread machine's for the deck, and its log was written; with
-    // status 0 of check what creation makes of each template was written.
+    // status 0 of check what creation makes of each template was written; with status 0 of demo the history is the
+    // one-thread machine's for the generated deck, and its total was written.
     ensures serves { result.status ≡ 0 → Serves (command_of (map (λ w. w.now) words.now)) (I.left deck.old) (I.left deck.new) (O.written out.old) (O.written out.new) result.history.items }
 
-    // A good deck is run or checked, unless memory is wanted.
+    // A good deck is run or checked, and a demonstration is run, unless memory is wanted.
     ensures good { IsGood (map (λ w. w.now) words.now) (I.left deck.old) (I.faults deck.old) (I.faults deck.new) (O.faults out.old) (O.faults out.new)
         → (result.status ≡ 0) ⊎ (result.status ≡ 7) }
 {

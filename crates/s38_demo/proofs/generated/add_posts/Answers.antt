@@ -1,0 +1,7 @@
+use Rattle.std.proofs.Common.{◌+◌}
+use Rattle.s38_demo.proofs.GeneratedLaws.{posts_more}
+use Rattle.s38_demo.proofs.generated.add_posts.Goals as goal
+
+pub loop-number-preserved : goal.loop-number-preserved
+loop-number-preserved c =
+    posts_more c.loop-number.text.items c.add_post.new.text.items _ c.loop-number.number (c.args.size + 1) c.loop-number-test.true c.in_ok-add_post.ensures c.loop-number.invariant

@@ -1,0 +1,16 @@
+use Rattle.std.proofs.Common.{◌++◌, ap, ◌∙◌}
+use Rattle.s38_demo.proofs.GeneratedLaws.{deck_parts}
+use Rattle.s38_demo.specs.GeneratedDeck.{before_posts, behind_posts, post_jobs, posts, setup, text_of, total}
+use Rattle.s38_demo.proofs.generated.deck_of.Goals as goal
+
+pub returns : goal.returns
+returns c =
+    let n = c.args.size in
+    c.in_ok-add-2.ensures
+    ∙ ap (λ t. t ++ text_of behind_posts) (c.in_ok-add_post_jobs.ensures
+    ∙ ap (λ t. t ++ text_of (post_jobs n)) (c.in_ok-add.ensures
+    ∙ ap (λ t. t ++ text_of before_posts) (c.in_ok-add_total.ensures
+    ∙ ap (λ t. t ++ text_of total) (c.in_ok-add_posts.ensures
+    ∙ ap (λ t. t ++ text_of (posts n)) (c.in_ok-add_setup.ensures
+    ∙ ap (λ t. t ++ text_of setup) c.new-text.ensures.items)))))
+    ∙ deck_parts n

@@ -1,0 +1,2 @@
+pub mod GeneratedDeck
+pub mod Total
