@@ -1,19 +1,19 @@
 -- What making journal spaces, ports and commit blocks has met, entries that are not there, and what is kept of users.
-use Rattle.std.proofs.Common.{◌≡◌, ℕ, zero, suc, ◌<◌, List, [], ◌∷◌, arith, length, refl}
-use Rattle.std.specs.Prelude.{Option, Some, None}
+use Rattle.std.proofs.Common.{◌≡◌, ℕ, zero, suc, ◌<◌, ◌≤◌, List, [], ◌∷◌, ap, arith, length, not, refl, sym}
+use Rattle.std.specs.Prelude.{Option, Some, None, is_some, option_map, slice_get}
 use Rattle.s38_base.specs.declared.exception.Exception.{Exception}
 use Rattle.s38_base.specs.Exceptions as exceptions
-use Rattle.s38_base.specs.Signals.{fails}
+use Rattle.s38_base.specs.Signals.{fails, first}
 use Rattle.s38_code.specs.declared.operand.Operand.{Operand}
-use Rattle.s38_journals.specs.Entries.{Entry}
+use Rattle.s38_journals.specs.Entries.{Entry, entry_image}
 use Rattle.s38_journals.specs.Journals.{bytes_at}
 use Rattle.s38_profiles.specs.ProfileMaps.{ProfileMaps}
 use Rattle.s38_changes.proofs.KeptLaws.{left}
 use Rattle.s38_units.proofs.KeptLaws.{data_kept}
-use Rattle.s38_rules.specs.declared.data_body.DataBody.{DataBody}
 use Rattle.s38_rules.specs.Creation.{creation_fails}
 use Rattle.s38_rules.specs.Held.{Held, ensured, kept_on_disk}
-use Rattle.s38_rules.specs.Journals.{crtcb_fails, created_block, created_journal, created_port, crtjp_fails, crtjs_fails, is_attached, through_port}
+use Rattle.s38_rules.specs.Journals.{crtcb_fails, created_block, created_journal, created_port, crtjp_fails, crtjs_fails, is_attached, is_port_on_disk, jrnlobj_fails, through_port}
+use Rattle.s38_rules.specs.Journaling.{journal_for}
 use Rattle.s38_rules.specs.Kept.{Mirrors}
 use Rattle.s38_rules.specs.Operands.{target}
 use Rattle.s38_rules.specs.Parts.{on_data}
@@ -44,11 +44,29 @@ pub no_bytes : (sequence : ℕ) → bytes_at [] sequence ≡ None
 no_bytes zero = refl
 no_bytes (suc k) = refl
 
+none_there : (entries : List Entry) (k : ℕ) → length entries ≤ k → slice_get entries k ≡ None
+none_there [] k far = refl
+none_there (e ∷ entries) zero far = absurd (omega (arith, far))
+none_there (e ∷ entries) (suc k) far = none_there entries k (omega (arith, far))
+
 -- behind the last sequence there is none
 pub none_behind : (entries : List Entry) (sequence : ℕ) → length entries < sequence → bytes_at entries sequence ≡ None
 none_behind entries zero far = refl
-none_behind [] (suc k) far = refl
-none_behind entries (suc k) far = grind arith
+none_behind entries (suc k) far = ap (option_map (entry_image (suc k))) (none_there entries k (omega (arith, far)))
+
+-- ---- the rules of journaling, one after another
+
+pub journaled_first : (h : Held) (ops : List Operand) (failure : Exception) → fails (is_some (journal_for h (target h ops 1))) exceptions.object_in_use 1 ≡ Some failure
+    → Some failure ≡ jrnlobj_fails h ops
+unfolding jrnlobj_fails
+journaled_first h ops failure is =
+    sym (ap (λ (x : Option Exception). first x (fails (not (is_port_on_disk h (target h ops 2))) exceptions.object_not_on_disk 2)) is)
+
+pub journaled_then : (h : Held) (ops : List Operand) → fails (is_some (journal_for h (target h ops 1))) exceptions.object_in_use 1 ≡ None
+    → fails (not (is_port_on_disk h (target h ops 2))) exceptions.object_not_on_disk 2 ≡ jrnlobj_fails h ops
+unfolding jrnlobj_fails
+journaled_then h ops is =
+    sym (ap (λ (x : Option Exception). first x (fails (not (is_port_on_disk h (target h ops 2))) exceptions.object_not_on_disk 2)) is)
 
 -- ---- what is kept of users
 

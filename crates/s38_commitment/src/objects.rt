@@ -1,8 +1,9 @@
 //! Which ports a journal space has, and which data spaces a port; what destroys, journals and ensures.
-ghost use Rattle.std.specs.Prelude.{◌≡◌};
+ghost use Rattle.std.specs.Prelude.{◌≡◌, is_some};
 ghost use Rattle.std.specs.Option.{option_copied};
 ghost use Rattle.s38_rules.specs.Held.{disk_in, ensured, is_on_disk};
 ghost use Rattle.s38_rules.specs.Journals.{descb_fails, desjp_fails, desjs_fails, ensobj_changes, is_attached, is_port_on_disk, is_used, jrnlobj_changes, jrnlobj_fails, jrnlobj_needs, leads_to, names_port, port_journal, through_port};
+ghost use Rattle.s38_rules.specs.Journaling.{journal_for};
 ghost use Rattle.s38_rules.specs.Parts.{on_data};
 
 use s38_base::exceptions::{OBJECT_IN_USE, OBJECT_NOT_ON_DISK};
@@ -128,6 +129,13 @@ fn is_port_on_disk(objects: &Objects, port: ObjNum) -> bool
     is_on_disk(objects, port) && is_on_disk(objects, port_journal(objects, port))
 }
 
+/// A data space is journaled.
+fn is_journaled(objects: &Objects, space: ObjNum) -> bool
+    ensures { result ≡ is_some (journal_for objects.now space.0) }
+{
+    journal_for(objects, space).is_some()
+}
+
 /// The data space is not journaled yet, and the port and its journal space are on disk.
 #[tactic(auto, unfolding(s38_rules::specs::Journals::jrnlobj_fails))]
 pub fn jrnlobj_fails(objects: &Objects, operands: &[Operand]) -> Option<Exception>
@@ -135,8 +143,8 @@ pub fn jrnlobj_fails(objects: &Objects, operands: &[Operand]) -> Option<Exceptio
 {
     let space = target(objects, operands, 1);
     let port = target(objects, operands, 2);
-    if journal_for(objects, space).is_some() {
-        return Some(Exception::plain(OBJECT_IN_USE, 1));
+    if let Some(failure) = fails(is_journaled(objects, space), OBJECT_IN_USE, 1) {
+        return Some(failure);
     }
     fails(!is_port_on_disk(objects, port), OBJECT_NOT_ON_DISK, 2)
 }

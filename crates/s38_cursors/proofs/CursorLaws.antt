@@ -1,5 +1,5 @@
 -- Seeks that find nothing, what a change of entries has met, and what it leaves of what is kept of users.
-use Rattle.std.proofs.Common.{◌≡◌, ℕ, zero, suc, ◌+◌, ◌-◌, ◌<◌, ◌==◌, true, false, List, [], ◌∷◌, arith, length, refl, sym, subst}
+use Rattle.std.proofs.Common.{◌≡◌, ℕ, zero, suc, ◌+◌, ◌*◌, ◌-◌, ◌<◌, ◌≤◌, ◌==◌, true, false, List, [], ◌∷◌, arith, length, refl, sym, subst}
 use Rattle.std.specs.Prelude.{min, Option, Some, None, Result, Ok, Err, OnOk, OnErr, is_none, is_some}
 use Rattle.s38_base.specs.declared.attr.Attr.{Attr}
 use Rattle.s38_base.specs.declared.exception.Exception.{Exception}
@@ -42,7 +42,10 @@ crtcr_created s p ops h = (None, h)
 
 -- there are no more ordinals than bytes of the image
 pub ordinals_few : (fields : List Attr) (ordinals : ℕ) → image_size fields ordinals ≤ 16777216 → ordinals ≤ 16777216
-ordinals_few fields ordinals small = omega (arith, small, grind arith {ordinals ≤ ordinals * (1 + entry_len fields)})
+ordinals_few fields ordinals small =
+    let apart : image_size fields ordinals ≡ 22 + 3 * length fields + (ordinals + ordinals * entry_len fields) = grind arith in
+    let room : 22 + 3 * length fields + (ordinals + ordinals * entry_len fields) ≤ 16777216 = subst (λ (n : ℕ). n ≤ 16777216) apart small in
+    omega (arith, room)
 
 -- an image grows by a byte and an entry
 pub image_grown : (fields : List Attr) (ordinals : ℕ) → image_size fields (ordinals + 1) ≡ image_size fields ordinals + (1 + entry_len fields)

@@ -1,6 +1,7 @@
 -- Room that is taken in a data space is nothing to the journals, and an entry that takes it stands as if it had taken
 -- none; room that is given back was never taken.
-use Rattle.std.proofs.Common.{◌≡◌, ℕ, ◌+◌, ◌==◌, Bool, true, false, cond, List, [], ◌∷◌, ap, length, refl, sym, ◌∙◌, zero, suc}
+use Rattle.std.proofs.Common.{◌≡◌, ℕ, ◌+◌, ◌==◌, Bool, true, false, cond, List, [], ◌∷◌, ap, arith, length, refl, sym, ◌∙◌}
+use Rattle.std.proofs.lemmas.Bool.Decides.{nat_tests}
 use Rattle.std.specs.Prelude.{Option, Some, None, filter}
 use Rattle.std.specs.Option.{option_map}
 use Rattle.s38_commits.specs.Unit.{CommitUnit}
@@ -91,8 +92,7 @@ room_lost : (d : DataBody) → (d.space.spare == 0) ≡ true → over_table room
 room_lost d none = rw none (ap (λ (n : ℕ). record d { space = record (d.space) { spare = n } }) (zero_is d.space.spare none))
   where
     zero_is : (n : ℕ) → (n == 0) ≡ true → 0 ≡ n
-    zero_is zero e = refl
-    zero_is (suc n) e = cc
+    zero_is n e = grind (arith, nat_tests)
 
 room_kept : (d : DataBody) → (d.space.spare == 0) ≡ false → over_table roomy d ≡ d
 room_kept d some = rw some refl

@@ -178,7 +178,7 @@ fn log_current(
     operands: &[Operand],
     entry: Option<&[u8]>,
 ) -> Result<(), NoMemory>
-    requires { current_fails world.old process operands.now (option_copied entry.entry) ≡ None }
+    requires { current_fails world.old process operands.now (option_copied entry) ≡ None }
     ensures ok { OnOk result (world.new ≡ logged world.old process (cursor_of world.old.held operands.now 1).block.0 (change_at world.old.held operands.now (option_copied entry.entry))) }
     ensures err { OnErr result (world.new ≡ world.old) }
 {

@@ -4,8 +4,9 @@ ghost use Rattle.std.specs.Option.{option_copied, unwrap_or};
 ghost use Rattle.s38_base.specs.Signals.{first};
 ghost use Rattle.s38_commits.specs.Changes.{entry_bytes};
 ghost use Rattle.s38_dataspaces.specs.Entries.{Entry};
+ghost use Rattle.s38_dataspaces.specs.Table.{entry_len};
 ghost use Rattle.s38_rules.specs.Changing.{journal_rule};
-ghost use Rattle.s38_rules.specs.DataSpaces.{change_rules, current, current_fails, desds_fails, entry_rule, insdsen_fails, position_rule, retdsen_fails, room_rule, table_of, updsen_fails};
+ghost use Rattle.s38_rules.specs.DataSpaces.{change_rules, current, current_fails, cursor_of, desds_fails, entry_rule, insdsen_fails, position_rule, retdsen_fails, room_rule, table_of, updsen_fails};
 ghost use Rattle.s38_rules.specs.Journaling.{journal_for};
 ghost use Rattle.s38_rules.specs.Parts.{no_table};
 

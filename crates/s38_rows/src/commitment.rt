@@ -61,8 +61,8 @@ STAGE;JOB A USER QSECOFR RUN ONE;JOB B USER QSECOFR RUN TWO CONTEXTS QGPL;",
     ],
 };
 
-/// How a process ends that has begun a unit of the block B and then one of A, whose number is less. Both are taken back,
-/// that of A first; then the block B is free for another process.
+/// How a process ends that has begun a unit of the block B and then one of A, whose number is less. Both are taken
+/// back, that of A first; then the block B is free for another process.
 pub static ENDED: Table = Table {
     calls: SERIAL,
     deck: (
@@ -95,8 +95,8 @@ JOB A USER QSECOFR RUN ONE BUDGET 99;STAGE;JOB B USER QSECOFR RUN TWO CONTEXTS Q
     ],
 };
 
-/// What one process does through cursors: N of the data space D without a block, K of D and L of E with the block B, and
-/// O of D with the block A. N and K stand at the first entry, and L and O before it.
+/// What one process does through cursors: N of the data space D without a block, K of D and L of E with the block B,
+/// and O of D with the block A. N and K stand at the first entry, and L and O before it.
 pub static UNITS: Table = Table {
     calls: SERIAL,
     deck: (
@@ -176,12 +176,12 @@ CRTDS E,*NONE,DATASPACE/00/E,NONE,CHAR:2;JRNLOBJ E,P;CRTCR L,*NONE,CURSOR/00/L,N
 };
 
 /// The unit of the first process, of the block H, changed the first of the two entries of D. E is journaled to another
-/// port and N is not journaled; both have one entry. B has no unit. The second process makes a cursor of a data space and
-/// a block, destroys the block G, sets the cursor, and does an instruction.
+/// port and N is not journaled; both have one entry. B has no unit. The second process makes a cursor of a data space
+/// and a block, destroys the block G, sets the cursor, and does an instruction.
 pub static CHANGES: Between = Between {
     deck: (
-        "PROGRAM HOLD;DCL C PTR;DCL S PTR;DCL P PTR;DCL O PTR;DCL D PTR;DCL E PTR;DCL N PTR;DCL H PTR;DCL B PTR;DCL K PTR
-DCL R PTR;DCL L PTR;DCL M CHAR:4;RSLVSP C,*MACHINE,CONTEXT/00/QGPL,NONE;CRTJS S,C,JSPACE/00/S,NONE;ENSOBJ S
+        "PROGRAM HOLD;DCL C PTR;DCL S PTR;DCL P PTR;DCL O PTR;DCL D PTR;DCL E PTR;DCL N PTR;DCL H PTR;DCL B PTR
+DCL K PTR;DCL R PTR;DCL L PTR;DCL M CHAR:4;RSLVSP C,*MACHINE,CONTEXT/00/QGPL,NONE;CRTJS S,C,JSPACE/00/S,NONE;ENSOBJ S
 CRTJP P,C,JPORT/00/P,NONE,S;ENSOBJ P;CRTJS S,C,JSPACE/00/T,NONE;ENSOBJ S;CRTJP O,C,JPORT/00/O,NONE,S;ENSOBJ O
 CRTDS D,C,DATASPACE/00/D,NONE,PKD:1:0;CRTDS E,C,DATASPACE/00/E,NONE,PKD:1:0;CRTDS N,C,DATASPACE/00/N,NONE,PKD:1:0
 CRTCR K,*NONE,CURSOR/00/K,NONE,E,*NONE;INSDSEN K,X'3F';CRTCR K,*NONE,CURSOR/00/K,NONE,N,*NONE;INSDSEN K,X'4F'
@@ -340,9 +340,9 @@ COMMIT B;INSDSEN K,V;END;STAGE;JOB A USER QSECOFR RUN P;",
     ),
 };
 
-/// A journal space has 16,777,216 bytes. An entry of 4,095 bytes takes 4,136, and 2,037 updates of it 8,231 each. Of the
-/// 6,533 that are left an open unit takes 41 for its end beside its one change; that and another change of 3,205 bytes
-/// take 3,246 each.
+/// A journal space has 16,777,216 bytes. An entry of 4,095 bytes takes 4,136, and 2,037 updates of it 8,231 each. Of
+/// the 6,533 that are left an open unit takes 41 for its end beside its one change; that and another change of 3,205
+/// bytes take 3,246 each.
 const JOURNAL: Filled = Filled {
     deck: (
         "PROGRAM P;DCL S PTR;DCL P PTR;DCL D PTR;DCL F PTR;DCL B PTR;DCL K PTR;DCL L PTR;DCL V CHAR:4095

@@ -145,9 +145,9 @@ pub static SEQUENCES: Table = Table {
     ],
 };
 
-/// One instruction of a user, or of the security officer, over objects of its own. Of these the user QUSER has no INSERT
-/// any more on the context C, no OBJMGT on the data space E, no OBJCTL, RETRIEVE and INSERT on the journal space X, no
-/// OBJCTL, OBJMGT and INSERT on the port Y of M, and no OBJCTL, RETRIEVE and UPDATE on the commit block G.
+/// One instruction of a user, or of the security officer, over objects of its own. Of these the user QUSER has no
+/// INSERT any more on the context C, no OBJMGT on the data space E, no OBJCTL, RETRIEVE and INSERT on the journal space
+/// X, no OBJCTL, OBJMGT and INSERT on the port Y of M, and no OBJCTL, RETRIEVE and UPDATE on the commit block G.
 pub static JOURNALED: Acts = Acts {
     deck: (
         "PROGRAM P;DCL O PTR;DCL C PTR;DCL J PTR;DCL P PTR;DCL X PTR;DCL M PTR;DCL Y PTR;DCL D PTR;DCL E PTR;DCL B PTR

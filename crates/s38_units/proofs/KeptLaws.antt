@@ -3,7 +3,6 @@ use Rattle.std.proofs.Common.{◌≡◌, ℕ, List, [], ◌∷◌, refl, sym, su
 use Rattle.std.specs.Prelude.{Option, Some, None, Result, Ok, Err, OnOk, OnErr}
 use Rattle.s38_base.specs.declared.fault.NoMemory.{NoMemory}
 use Rattle.s38_commits.specs.declared.change.UnitChange.{UnitChange}
-use Rattle.s38_dataspaces.specs.Table.{DataTable}
 use Rattle.s38_journals.specs.Entries.{Entry}
 use Rattle.s38_journals.specs.Journals.{JournalList}
 use Rattle.s38_profiles.specs.ProfileMaps.{ProfileMaps}
@@ -11,8 +10,8 @@ use Rattle.s38_changes.proofs.KeptLaws.{IsUnkept, part_unkept}
 use Rattle.s38_rules.specs.declared.data_body.DataBody.{DataBody}
 use Rattle.s38_rules.specs.Held.{Held}
 use Rattle.s38_rules.specs.Kept.{Mirrors}
-use Rattle.s38_rules.specs.Parts.{data_lawful, data_part, journal_lawful, journal_part, on_data, on_journal, on_table, over_table}
-use Rattle.s38_rules.specs.Units.{all_undone, end_written, put_back, undone, with_entry}
+use Rattle.s38_rules.specs.Parts.{data_lawful, data_part, journal_lawful, journal_part, on_data, on_journal, over_table}
+use Rattle.s38_rules.specs.Units.{all_undone, end_written, put_back, with_entry}
 
 data_free : IsUnkept DataBody data_part
 data_free = record { pages = λ x. refl; profile = λ x charge. refl }

@@ -1,29 +1,30 @@
 -- Who holds an entry, what a change that is logged has met, how many units are open, and how units are taken back one
 -- after another.
-use Rattle.std.proofs.Common.{◌≡◌, ℕ, zero, suc, ◌+◌, ◌==◌, ◌<◌, ◌≤◌, ◌&&◌, ◌||◌, Bool, true, false, cond, List, [], ◌∷◌, ◌++◌, refl, sym, ◌∙◌, ap, arith, length}
+use Rattle.std.proofs.Common.{◌≡◌, ℕ, zero, suc, ◌==◌, ◌<◌, ◌≤◌, ◌&&◌, ◌||◌, Bool, true, false, cond, List, [], ◌∷◌, refl, sym, ◌∙◌, ap, arith, get_or, length}
 use Rattle.std.proofs.lemmas.Bool.Decides.{nat_tests}
-use Rattle.std.specs.Prelude.{Option, Some, None, filter, if◌then◌else◌, is_some, slice_get, take}
-use Rattle.std.specs.Option.{ForSome, option_map}
+use Rattle.std.specs.Prelude.{Option, Some, None, Result, Ok, Err, OnOk, filter, if◌then◌else◌, take}
+use Rattle.std.specs.Option.{option_map}
 use Rattle.std.specs.Ordering.{nat_cmp}
 use Rattle.std.specs.Map.{keys_of}
 use Rattle.std.specs.BTreeMap.{is_at}
-use Rattle.s38_base.specs.declared.exception.Exception.{Exception}
 use Rattle.s38_base.specs.Exceptions as exceptions
-use Rattle.s38_base.specs.Signals.{fails}
 use Rattle.s38_commits.specs.declared.change.UnitChange.{UnitChange}
+use Rattle.s38_base.specs.declared.fault.NoMemory.{NoMemory}
+use Rattle.s38_commits.specs.Changes.{journal_bytes}
 use Rattle.s38_commits.specs.Unit.{CommitUnit}
 use Rattle.s38_commits.specs.Units.{IsRising, UnitMap, above, ended, next_block, unit_of}
 use Rattle.s38_commits.proofs.WalkLaws.{ended_above, next_none, next_some}
 use Rattle.s38_commits.proofs.MapLaws.{at_key}
 use Rattle.s38_commits.proofs.FirstLaws.{first_none, first_some}
 use Rattle.s38_rules.specs.declared.port.Port.{Port}
-use Rattle.s38_rules.specs.declared.process.ProcessEntry.{ProcessEntry}
-use Rattle.s38_rules.specs.Changing.{are_units_full, holding_rule, is_journal_full, is_unit_full, journal_rule, of_unit, reading_rule}
+use Rattle.s38_rules.specs.Changing.{change_entry, holding_rule, is_journal_full, journal_rule, logged, next_sequence, number_for, of_unit, reading_rule, units_behind, with_change_logged}
 use Rattle.s38_rules.specs.Held.{Held}
-use Rattle.s38_rules.specs.Journaling.{goes_to, is_journal, is_number, journal_for_block, journal_named, open_units}
+use Rattle.s38_rules.specs.Journaling.{goes_to, is_journal, journal_for, journal_named, open_behind, open_units}
+use Rattle.s38_rules.specs.Parts.{journal_at, on_journal}
 use Rattle.s38_rules.specs.State.{State}
 use Rattle.s38_rules.specs.Units.{all_decommitted, all_undone, decommitted, decommitted_of, undone}
 use Rattle.s38_rules.proofs.RuleLaws.{fails_none}
+use Rattle.s38_units.specs.Blocks.{leads_to}
 use Rattle.s38_units.specs.Ends.{is_unit_of, taken_back}
 
 some_none : {A : Type 0} (x : A) → Some x ≡ None → ⊥
@@ -66,12 +67,13 @@ held_free p block None is = refl
 held_free p block (Some e) is = absurd (some_none e.0 is)
 
 -- no unit of another block holds it
-pub free_by : (p block : ℕ) (o : Option (ℕ × CommitUnit)) → holding_rule p block o ≡ None → ForSome (option_map (λ e. e.0) o) (λ other. other ≡ block)
-free_by p block None none = unit
-free_by p block (Some e) none =
+pub free_by : (p block other : ℕ) (o : Option (ℕ × CommitUnit)) → holding_rule p block o ≡ None → option_map (λ e. e.0) o ≡ Some other → other ≡ block
+free_by p block other None none at = absurd (cc)
+free_by p block other (Some e) none at =
+    let here : e.0 ≡ other = cc in
     elim ((e.0 == block) && (e.1.process == p)) as (λ b. ((e.0 == block) && (e.1.process == p)) ≡ b
-    → (if b then None else of_unit exceptions.entry_held 1 e.1.process) ≡ None → e.0 ≡ block) [
-      | true ↦ λ is q. nat_same e.0 block (and_true _ _ is)
+    → (if b then None else of_unit exceptions.entry_held 1 e.1.process) ≡ None → other ≡ block) [
+      | true ↦ λ is q. sym here ∙ nat_same e.0 block (and_true _ _ is)
       | false ↦ λ is q. absurd (cc)
     ] refl none
 
@@ -89,17 +91,24 @@ named_there h (Some port) n is =
 pub room_met : (s : State) (block bytes journal : ℕ) → journal_rule s block bytes (Some journal) ≡ None → is_journal_full s.held s.units journal block bytes ≡ false
 room_met s block bytes journal none = or_false _ _ (fails_none _ _ _ none)
 
+-- a change that is logged, or refused for want of memory
+pub logged_ok : (s : State) (p block journal : ℕ) (change : UnitChange) (r : Result (Unit {0}) NoMemory) (h : Held) (units : UnitMap) → journal_for s.held change.space.0 ≡ Some journal
+    → OnOk r (h ≡ on_journal s.held journal (with_change_logged (journal_bytes change) (open_behind s.held s.units journal block) (change_entry (number_for s.units block (next_sequence (journal_at s.held journal))) p change)))
+    → OnOk r (units ≡ units_behind s.units p block (number_for s.units block (next_sequence (journal_at s.held journal))) change)
+    → OnOk r (record s { held = h; units = units } ≡ logged s p block change)
+unfolding logged
+logged_ok s p block journal change (Ok x) h units there objects behind = rw (there, objects, behind) refl
+logged_ok s p block journal change (Err e) h units there objects behind = tt
+
 -- ---- how many units are open
 
--- the unit of a block goes to a journal space
-abbrev pub goes_by : Held → ℕ → ℕ → Bool
-goes_by h journal block = is_number journal (journal_for_block h block)
-
-pub count_blocks : (h : Held) (units : UnitMap) (journal : ℕ) → length (filter (goes_by h journal) (keys_of units)) ≡ open_units h units journal
+-- by the blocks alone
+pub count_blocks : (h : Held) (units : UnitMap) (journal : ℕ) → length (filter (leads_to h journal) (keys_of units)) ≡ open_units h units journal
+unfolding leads_to
 count_blocks h [] journal = refl
 count_blocks h (e ∷ es) journal =
     let rest = count_blocks h es journal in
-    elim (goes_by h journal e.0) as (λ b. length (cond b (e.0 ∷ filter (goes_by h journal) (keys_of es)) (filter (goes_by h journal) (keys_of es)))
+    elim (leads_to h journal e.0) as (λ b. length (cond b (e.0 ∷ filter (leads_to h journal) (keys_of es)) (filter (leads_to h journal) (keys_of es)))
     ≡ length (cond b (e ∷ filter (goes_to h journal) es) (filter (goes_to h journal) es))) [
       | true ↦ ap suc rest
       | false ↦ rest
@@ -108,11 +117,11 @@ count_blocks h (e ∷ es) journal =
 more_few : (a b : ℕ) → a ≤ b → a ≤ suc b
 more_few a b few = omega (arith, few)
 
-pub few_blocks : (h : Held) (journal : ℕ) (blocks : List ℕ) → length (filter (goes_by h journal) blocks) ≤ length blocks
+pub few_blocks : (h : Held) (journal : ℕ) (blocks : List ℕ) → length (filter (leads_to h journal) blocks) ≤ length blocks
 few_blocks h journal [] = omega arith
 few_blocks h journal (b ∷ bs) =
     let rest = few_blocks h journal bs in
-    elim (goes_by h journal b) as (λ t. length (cond t (b ∷ filter (goes_by h journal) bs) (filter (goes_by h journal) bs)) ≤ suc (length bs)) [
+    elim (leads_to h journal b) as (λ t. length (cond t (b ∷ filter (leads_to h journal) bs) (filter (leads_to h journal) bs)) ≤ suc (length bs)) [
       | true ↦ omega (arith, rest)
       | false ↦ more_few _ _ rest
     ]
@@ -120,12 +129,14 @@ few_blocks h journal (b ∷ bs) =
 -- ---- changes taken back
 
 -- of the changes up to a place the newest is taken back first
-pub undone_newest : (h : Held) (changes : List UnitChange) (k : ℕ) (change : UnitChange) → slice_get changes k ≡ Some change
+pub undone_newest : (h : Held) (changes : List UnitChange) (k : ℕ) (change : UnitChange) → k < length changes → change ≡ get_or changes k change
     → all_undone (undone h change) (take k changes) ≡ all_undone h (take (suc k) changes)
 unfolding all_undone
-undone_newest h [] k change is = absurd (cc)
-undone_newest h (c ∷ changes) zero change is = let same : c ≡ change = cc in rw same refl
-undone_newest h (c ∷ changes) (suc k) change is = ap (λ (x : Held). undone x c) (undone_newest h changes k change is)
+undone_newest h [] k change within is = absurd (omega (arith, within))
+undone_newest h (c ∷ changes) zero change within is = rw (← is) refl
+undone_newest h (c ∷ changes) (suc k) change within is =
+    let inner : k < length changes = omega (arith, within) in
+    ap (λ (x : Held). undone x c) (undone_newest h changes k change inner is)
 
 -- without a unit of the block none ends
 pub ended_none : (units : UnitMap) (block : ℕ) → unit_of units block ≡ None → ended units block ≡ units

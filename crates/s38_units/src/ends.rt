@@ -1,6 +1,7 @@
 //! The end of a process, whose units are taken back.
 ghost use Rattle.std.specs.Prelude.{◌≡◌};
 ghost use Rattle.std.specs.Option.{option_copied};
+ghost use Rattle.s38_commits.specs.Units.{IsRising};
 ghost use Rattle.s38_rules.specs.Effect.{end_at};
 ghost use Rattle.s38_rules.specs.State.{process_entry};
 ghost use Rattle.s38_rules.specs.Units.{all_decommitted};
@@ -23,7 +24,8 @@ fn is_unit_of(process: u32, unit: Option<&Unit>) -> bool
 
 /// The unit of a commit block is taken back where it is of the process.
 fn take_back(world: &mut World<Objects>, process: u32, block: ObjNum)
-    ensures { world.new ≡ taken_back world.old process block.0 }
+    ensures taken { world.new ≡ taken_back world.old process block.0 }
+    ensures rising { IsRising world.old.units }
 {
     if is_unit_of(process, world.units.get(block)) {
         decommit(world, process, block);
@@ -31,6 +33,7 @@ fn take_back(world: &mut World<Objects>, process: u32, block: ObjNum)
 }
 
 /// The units of a process are taken back, in order of the numbers of their commit blocks.
+#[tactic(auto, using(crate::proofs::UnitLaws::taken_first, crate::proofs::UnitLaws::taken_last, crate::proofs::UnitLaws::taken_next))]
 fn take_all_back(world: &mut World<Objects>, process: u32)
     ensures { world.new ≡ all_decommitted world.old process world.old.units }
 {
@@ -44,6 +47,7 @@ fn take_all_back(world: &mut World<Objects>, process: u32)
 
 /// A process has ended: its units were taken back, in order of the numbers of their commit blocks, and it holds no
 /// lock any more.
+#[tactic(auto, using(crate::proofs::UnitLaws::processes_stay))]
 pub fn end(world: &mut World<Objects>, process: u32)
     ensures { world.new ≡ end_at world.old process (process_entry world.old process) }
 {

@@ -1,7 +1,9 @@
 //! Which data spaces are journaled, and where; how many units of a journal space are open.
-ghost use Rattle.std.specs.Prelude.{◌≡◌, ◌<◌, ◌^◌};
+ghost use Rattle.std.specs.Prelude.{◌≡◌, ◌<◌, ◌^◌, filter, length};
+ghost use Rattle.std.specs.Map.{keys_of};
 ghost use Rattle.std.specs.Option.{option_copied, option_map};
-ghost use Rattle.s38_rules.specs.Journaling.{begins_unit, block_port, data_port, is_journal, is_journaled_to, is_number, journal_behind, journal_for, journal_for_block, journal_named, open_behind, open_units};
+ghost use Rattle.s38_rules.specs.Journaling.{begins_unit, block_port, data_port, is_journal, is_journaled_to, journal_behind, journal_for, journal_for_block, journal_named, open_behind, open_units};
+ghost use Rattle.s38_units.specs.Blocks.{leads_to};
 
 use s38_base::ObjNum;
 use s38_commits::Units;
@@ -79,25 +81,35 @@ pub(crate) fn is_journaled_to(objects: &Objects, space: ObjNum, port: ObjNum) ->
 }
 
 /// The unit of a commit block goes to a journal space.
-fn goes_to(objects: &Objects, journal: ObjNum, block: u64) -> bool
-    ensures { result ≡ is_number journal.0 (journal_for_block objects.now block) }
+#[tactic(auto, unfolding(crate::specs::Blocks::leads_to))]
+fn leads_to(objects: &Objects, journal: ObjNum, block: &u64) -> bool
+    ensures { result ≡ leads_to objects.now journal.0 block.now }
 {
-    match journal_for_block(objects, ObjNum(block)) {
+    match journal_for_block(objects, ObjNum(*block)) {
         Some(other) => other.0 == journal.0,
         None => false,
     }
 }
 
+/// How many commit blocks have a unit that goes to a journal space.
+fn count_blocks(objects: &Objects, units: &Units, journal: ObjNum) -> usize
+    ensures { result ≡ length (filter (leads_to objects.now journal.0) (keys_of units.now)) }
+{
+    units
+        .blocks()
+        .filter(|block| leads_to(objects, journal, block))
+        .count()
+}
+
 /// How many units are open in a journal space.
-#[tactic(auto, using(crate::proofs::UnitLaws::count_blocks))]
+#[tactic(auto, using(crate::proofs::UnitLaws::count_blocks, crate::proofs::UnitLaws::few_blocks))]
 pub fn open_units(objects: &Objects, units: &Units, journal: ObjNum) -> usize
     ensures count { result ≡ open_units objects.now units.now journal.0 }
     ensures few { result < 2 ^ 63 }
 {
-    units
-        .blocks()
-        .filter(|block| goes_to(objects, journal, **block))
-        .count()
+    // Its contract says that they are few.
+    let _blocks = units.blocks();
+    count_blocks(objects, units, journal)
 }
 
 /// A change begins a unit where its commit block, if it has one, has none.

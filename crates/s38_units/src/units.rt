@@ -34,8 +34,8 @@ fn end_entry(kind: EntryKind, process: u32, unit: &Unit) -> JournalEntry<'static
 fn write_in(objects: &mut Objects, journal: ObjNum, entry: &JournalEntry)
     ensures { objects.new ≡ on_journal objects.old journal.0 (with_entry (entered entry.now)) }
 {
-    if let Some(journal) = objects.journal_mut(journal) {
-        journal.write(entry);
+    if let Some(held) = objects.journal_mut(journal) {
+        held.write(entry);
     }
 }
 
@@ -76,6 +76,7 @@ fn undo(objects: &mut Objects, change: &UnitChange)
 }
 
 /// Changes are taken back, the newest first.
+#[tactic(auto, using(crate::proofs::UnitLaws::undone_newest))]
 fn undo_all(objects: &mut Objects, changes: &[UnitChange])
     ensures { objects.new ≡ all_undone objects.old changes.now }
 {
@@ -89,6 +90,7 @@ fn undo_all(objects: &mut Objects, changes: &[UnitChange])
 // ---- a unit ends
 
 /// What the unit of a commit block changed stays, and the journal says so; without a unit nothing happens.
+#[tactic(auto, using(crate::proofs::UnitLaws::ended_none))]
 pub fn commit(world: &mut World<Objects>, process: u32, block: ObjNum)
     ensures { world.new ≡ committed world.old process block.0 (unit_of world.old.units block.0) }
 {
@@ -116,6 +118,7 @@ fn undo_unit(objects: &mut Objects, journal: Option<ObjNum>, process: u32, unit:
 
 /// What the unit of a commit block changed is taken back, the newest change first, and the journal says so; without a
 /// unit nothing happens.
+#[tactic(auto, using(crate::proofs::UnitLaws::ended_none))]
 pub fn decommit(world: &mut World<Objects>, process: u32, block: ObjNum)
     ensures { world.new ≡ decommitted world.old process block.0 (unit_of world.old.units block.0) }
 {

@@ -1,6 +1,6 @@
 use Rattle.std.proofs.Common.{sym, ap, ◌∙◌}
 use Rattle.std.proofs.lemmas.Result.{on_ok_weaker, on_err_weaker}
-use Rattle.s38_dataspaces.specs.Table.{inserted}
+use Rattle.s38_rules.specs.DataSpaces.{with_inserted}
 use Rattle.s38_rules.specs.declared.data_body.DataBody.{DataBody}
 use Rattle.s38_rules.specs.Parts.{data_lawful, data_part, over_part, over_table}
 use Rattle.s38_rules.proofs.PartLaws.{part_kept, part_same, part_written}
@@ -8,13 +8,13 @@ use Rattle.s38_cursors.proofs.changes.insert_in.Goals as goal
 
 pub returns-in_default-clause-ok : goal.returns-in_default-clause-ok
 returns-in_default-clause-ok c =
-    sym (part_kept data_part c.args.objects.now c.args.number.0 (over_table (λ table. inserted table c.args.entry.now)) (sym c.in_default.ensures.value))
+    sym (part_kept data_part c.args.objects.now c.args.number.0 (over_table (with_inserted c.args.entry.now)) (sym c.in_default.ensures.value))
 
 pub returns-clause-ok : goal.returns-clause-ok
 returns-clause-ok c =
     on_ok_weaker c.insert.result
     (λ e. ap (λ (x : DataBody). over_part data_part c.args.objects.now c.args.number.0 (λ _. x)) e
-    ∙ part_written data_part c.args.objects.now c.args.number.0 (over_table (λ table. inserted table c.args.entry.now)) c.in-Some.body.now (sym c.in-Some.ensures.value))
+    ∙ part_written data_part c.args.objects.now c.args.number.0 (over_table (with_inserted c.args.entry.now)) c.in-Some.body.now (sym c.in-Some.ensures.value))
     c.insert.ensures.ok
 
 pub returns-clause-err : goal.returns-clause-err

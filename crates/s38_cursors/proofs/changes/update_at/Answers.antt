@@ -1,6 +1,6 @@
 use Rattle.std.proofs.Common.{subst, sym}
 use Rattle.std.specs.Prelude.{Some}
-use Rattle.s38_dataspaces.specs.Table.{changed}
+use Rattle.s38_rules.specs.DataSpaces.{with_changed}
 use Rattle.s38_rules.specs.Held.{Held}
 use Rattle.s38_rules.specs.Kept.{Mirrors}
 use Rattle.s38_cursors.proofs.CursorLaws.{table_kept}
@@ -10,5 +10,5 @@ pub invariant_of-world : goal.invariant_of-world
 invariant_of-world c = (
   c.world.invariant.0,
   subst (λ (h : Held). Mirrors c.world.inside.profiles h) (sym c.update_in.ensures)
-      (table_kept c.world.inside.profiles c.world.inside.objects c.args.number.0 (λ table. changed table c.args.at (Some c.args.entry.now)) c.world.invariant.1),
+      (table_kept c.world.inside.profiles c.world.inside.objects c.args.number.0 (with_changed c.args.at (Some c.args.entry.now)) c.world.invariant.1),
 )

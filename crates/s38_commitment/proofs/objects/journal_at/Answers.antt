@@ -1,0 +1,12 @@
+use Rattle.std.proofs.Common.{subst, sym}
+use Rattle.s38_rules.specs.Held.{Held}
+use Rattle.s38_rules.specs.Kept.{Mirrors}
+use Rattle.s38_commitment.proofs.CommitmentLaws.{journaled_kept}
+use Rattle.s38_commitment.proofs.objects.journal_at.Goals as goal
+
+pub invariant_of-world : goal.invariant_of-world
+invariant_of-world c = (
+  c.world.invariant.0,
+  subst (λ (h : Held). Mirrors c.world.inside.profiles h) (sym c.journal_through.ensures)
+      (journaled_kept c.world.inside.profiles c.world.inside.objects c.args.space.0 c.args.port.0 c.world.invariant.1),
+)

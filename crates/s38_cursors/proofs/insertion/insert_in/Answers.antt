@@ -1,0 +1,14 @@
+use Rattle.std.proofs.Common.{sym, ap, ◌∙◌}
+use Rattle.s38_rules.specs.declared.data_body.DataBody.{DataBody}
+use Rattle.s38_rules.specs.DataSpaces.{with_inserted}
+use Rattle.s38_rules.specs.Parts.{data_part, over_part, over_table}
+use Rattle.s38_rules.proofs.PartLaws.{part_kept, part_written}
+use Rattle.s38_cursors.proofs.insertion.insert_in.Goals as goal
+
+pub returns-in-Some : goal.returns-in-Some
+returns-in-Some c =
+    ap (λ (x : DataBody). over_part data_part c.args.objects.now c.args.number.0 (λ _. x)) c.insert.ensures
+    ∙ part_written data_part c.args.objects.now c.args.number.0 (over_table (with_inserted c.args.entry.now)) c.in-Some.body.now (sym c.in-Some.ensures.value)
+
+pub returns-in_default : goal.returns-in_default
+returns-in_default c = sym (part_kept data_part c.args.objects.now c.args.number.0 (over_table (with_inserted c.args.entry.now)) (sym c.in_default.ensures.value))

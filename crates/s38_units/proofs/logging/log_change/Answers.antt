@@ -1,0 +1,28 @@
+use Rattle.std.proofs.Common.{◌≡◌, sym, ap, ◌∙◌}
+use Rattle.std.specs.Prelude.{Option, Some}
+use Rattle.std.specs.Option.{option_map}
+use Rattle.s38_base.specs.declared.id.ObjNum.{ObjNum}
+use Rattle.s38_commits.specs.Changes.{journal_bytes}
+use Rattle.s38_rules.specs.Changing.{change_entry, next_sequence, number_for, with_change_logged}
+use Rattle.s38_rules.specs.Journaling.{journal_for, open_behind}
+use Rattle.s38_rules.specs.Parts.{journal_at}
+use Rattle.s38_units.proofs.KeptLaws.{journal_left}
+use Rattle.s38_units.proofs.UnitLaws.{logged_ok}
+use Rattle.s38_units.proofs.logging.log_change.Goals as goal
+
+pub invariant_of-world : goal.invariant_of-world
+invariant_of-world c = (
+  c.world.invariant.0,
+  journal_left c.world.inside.profiles c.world.inside.objects c.log_in.new.objects c.in-Some.journal.0
+      (with_change_logged (journal_bytes c.args.change.now) (open_behind c.world.inside.objects c.world.inside.units c.in-Some.journal.0 c.args.block.0)
+      (change_entry (number_for c.world.inside.units c.args.block.0 (next_sequence (journal_at c.world.inside.objects c.in-Some.journal.0))) c.args.process c.args.change.now))
+      c.log_in.result c.log_in.ensures.objects c.log_in.ensures.objects_left c.world.invariant.1,
+)
+
+pub returns-in-Some-clause-ok : goal.returns-in-Some-clause-ok
+returns-in-Some-clause-ok c =
+    let there : journal_for c.world.inside.objects c.args.change.now.space.0 ≡ Some c.in-Some.journal.0 =
+    sym c.journal_for.ensures ∙ ap (λ (o : Option ObjNum). option_map (λ n. n.0) o) c.in-Some.is in
+    rw (← c.world.view_is)
+    (logged_ok _ c.args.process c.args.block.0 c.in-Some.journal.0 c.args.change.now c.log_in.result c.log_in.new.objects c.log_in.new.units there
+    c.log_in.ensures.objects c.log_in.ensures.units)
