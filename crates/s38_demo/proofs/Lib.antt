@@ -1,1 +1,4 @@
+pub mod CheckedLaws
 pub mod GeneratedLaws
+pub mod NameLaws
+pub mod SpelledLaws

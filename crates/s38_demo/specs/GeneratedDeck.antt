@@ -2,6 +2,8 @@
 -- entry of that data space, and a job that reads the total.
 use Rattle.std.specs.Prelude.{ℕ, ◌+◌, ◌*◌, ◌%◌, List, [], ◌∷◌, ◌++◌, map, codes, decimal}
 use Rattle.std.specs.List.{flat_map, range_with_len}
+use Rattle.s38_code.specs.declared.deck.Deck.{Deck}
+use Rattle.s38_code.specs.declared.deck.Job.{Job}
 
 -- ---- templates
 
@@ -134,3 +136,18 @@ text_of lines = flat_map with_feed lines
 
 unfoldable pub deck_of : ℕ → List ℕ
 deck_of n = text_of (deck_lines n)
+
+-- ---- the deck that this text spells
+
+-- a job with the default budget and an empty list of contexts
+abbrev pub job_of : ℕ → List ℕ → Job
+job_of stage name = record { name = name; user = codes "QSECOFR"; template = name; budget = 1000000; contexts = []; stage = stage }
+
+abbrev pub job_of_post : ℕ → Job
+job_of_post j = job_of 2 (post_name j)
+
+abbrev pub generated : ℕ → Deck
+generated n = record {
+  templates = setup ∷ (map post (up_to n) ++ total ∷ []);
+  jobs = job_of 1 (codes "SETUP") ∷ (map job_of_post (up_to n) ++ job_of 3 (codes "TOTAL") ∷ []);
+}

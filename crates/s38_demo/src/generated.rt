@@ -1,5 +1,6 @@
 ghost use Rattle.std.specs.Prelude.{◌≡◌, ◌≤◌, ◌++◌, IfOk, OnOk};
-ghost use Rattle.s38_demo.specs.GeneratedDeck.{amount, deck_lines, deck_of, job_line, post, post_back, post_front, post_head, post_job, post_jobs, post_name, post_sum, posts, setup, stage, text_of, total, with_feed};
+ghost use Rattle.s38_template.specs.Grammar.{Spells};
+ghost use Rattle.s38_demo.specs.GeneratedDeck.{amount, deck_lines, deck_of, generated, job_line, post, post_back, post_front, post_head, post_job, post_jobs, post_name, post_sum, posts, setup, stage, text_of, total, with_feed};
 
 use crate::text::{add, add_line, add_lines, add_number};
 use s38_base::NoMemory;
@@ -168,11 +169,13 @@ fn add_post_jobs(text: &mut Vec<u8>, size: u32) -> Result<(), NoMemory>
 }
 
 /// The text of the generated deck of so many postings: their templates between those of SETUP and TOTAL, and then
-/// three stages of jobs, each of which runs the template of its name under the security officer.
+/// three stages of jobs, each of which runs the template of its name under the security officer. The text spells a
+/// deck for each of these counts.
 pub fn deck_of(alloc: Global, size: u32) -> Result<Vec<u8>, NoMemory>
     requires first { 1 ≤ size }
     requires last { size ≤ 200 }
-    ensures { IfOk result (λ text. text.items ≡ deck_of size) }
+    ensures text { IfOk result (λ text. text.items ≡ deck_of size) }
+    ensures spelled { IfOk result (λ text. Spells text.items (generated size)) }
 {
     let mut text = Vec::new(alloc);
     add_setup(&mut text)?;

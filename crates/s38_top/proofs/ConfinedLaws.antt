@@ -14,14 +14,14 @@ use Rattle.s38_code.specs.History.{entries_of}
 use Rattle.s38_process.specs.Process.{ProcessState, RanFrom, fresh}
 use Rattle.s38_rules.specs.declared.object.Object.{Object}
 use Rattle.s38_rules.specs.Headers.{rows_in}
-use Rattle.s38_rules.specs.Held.{has_number, object_in}
-use Rattle.s38_rules.specs.Opening.{general_context, held_first, locked_queue, machine_context, officer, officer_rows, opened, opening, plain_user}
+use Rattle.s38_rules.specs.Held.{Held, has_number, object_in}
+use Rattle.s38_rules.specs.Opening.{general_context, installed, locked_queue, machine_context, officer, officer_rows, opening, plain_user}
 use Rattle.s38_rules.specs.PrivateRows.{AreRows}
 use Rattle.s38_confinement.specs.Confined.{AreRun, BeginsClosed}
 use Rattle.s38_confinement.specs.NoWay.{IsHarmless, NoWay, NoWayIn}
 use Rattle.s38_confinement.proofs.ProcessLaws.{begins}
 use Rattle.s38_confinement.proofs.StepLaws.{closed_history}
-use Rattle.s38_top.specs.Decks.{IsConfined, IsRunOf, checked_of, made_for, no_program, process_of, processes_of}
+use Rattle.s38_top.specs.Decks.{IsConfined, IsRunOf, made_for, no_program, opened, process_of, processes_of}
 
 -- what stands at a place of a list that was mapped
 mapped_at : {A B : Type 0} (f : A → B) (xs : List A) (k : ℕ) (y : B) → slice_get (map f xs) k ≡ Some y → (x : A) × (slice_get xs k ≡ Some x) × (f x ≡ y)
@@ -33,8 +33,8 @@ made_is : (deck : Deck) (job : Job) (made : CreateResult) → made_for deck job 
 made_is deck job made h = ap (λ (m : Option CreateResult). fresh (unwrap_or m no_program) job.budget) h
 
 -- each process of the deck ran by its job
-each_ran : (picks : List ℕ) (deck : Deck) (history : List Entry) → IsRunOf picks deck history → AreRun (processes_of deck) history
-each_ran picks deck history run = record {
+each_ran : (held : Held) (picks : List ℕ) (deck : Deck) (history : List Entry) → IsRunOf held picks deck history → AreRun (processes_of deck) history
+each_ran held picks deck history run = record {
   each = λ k d there.
       let at = mapped_at (process_of deck) deck.jobs k d there in
       let one = run.each k at.0 at.1 in
@@ -46,10 +46,10 @@ begins_closed deck o r k d there =
     let at = mapped_at (process_of deck) deck.jobs k d there in
     subst (λ (x : ProcessState). NoWayIn o r x) at.2 (begins (IsHarmless o r) (unwrap_or (made_for deck at.0) no_program) at.0.budget)
 
-as_many : (deck : Deck) → length (processes_of deck) ≡ length (opened (checked_of deck) deck.jobs).processes
-as_many deck = length-map deck.jobs (process_of deck) ∙ sym (length-map deck.jobs _)
+as_many : (held : Held) (deck : Deck) → length (processes_of deck) ≡ length (opened held deck).processes
+as_many held deck = length-map deck.jobs (process_of deck) ∙ sym (length-map deck.jobs _)
 
--- ---- the opening
+-- ---- the openings
 
 rows_kept : (os : List Object) (n : ℕ) → All (λ x. AreRows x.rows) os → AreRows (rows_in (object_in os n))
 rows_kept [] n all = tt
@@ -63,7 +63,7 @@ officer_in_order = (λ e. omega (arith, e), tt, tt)
 owned_in_order : (x : Object) (os : List Object) → x.rows ≡ officer_rows → All (λ x. AreRows x.rows) os → All (λ x. AreRows x.rows) (x ∷ os)
 owned_in_order x os own rest = All-cons (λ x. AreRows x.rows) x os (subst AreRows (sym own) officer_in_order) rest
 
-opening_in_order : All (λ x. AreRows x.rows) opening
+pub opening_in_order : All (λ x. AreRows x.rows) opening
 unfolding opening
 opening_in_order =
     owned_in_order machine_context (officer ∷ general_context ∷ plain_user ∷ locked_queue ∷ []) refl
@@ -72,15 +72,21 @@ opening_in_order =
     (owned_in_order plain_user (locked_queue ∷ []) refl
     (owned_in_order locked_queue [] refl (All-nil (λ x. AreRows x.rows))))))
 
-begins_shut : (deck : Deck) (users : List ℕ) (o r : ℕ) → o ≢ 0 → NoWay held_first users o r → BeginsClosed (processes_of deck) (opened (checked_of deck) deck.jobs) users o r
-begins_shut deck users o r some none = record {
-  count = as_many deck;
+pub installed_in_order : All (λ x. AreRows x.rows) installed
+unfolding installed
+installed_in_order =
+    owned_in_order machine_context (officer ∷ []) refl
+    (owned_in_order officer [] refl (All-nil (λ x. AreRows x.rows)))
+
+begins_shut : (held : Held) (deck : Deck) (users : List ℕ) (o r : ℕ) → All (λ x. AreRows x.rows) held.objects → o ≢ 0 → NoWay held users o r → BeginsClosed (processes_of deck) (opened held deck) users o r
+begins_shut held deck users o r in_order some none = record {
+  count = as_many held deck;
   number = some;
   objects = none;
-  rows = rows_kept opening o opening_in_order;
+  rows = rows_kept held.objects o in_order;
   variables = begins_closed deck o r;
 }
 
-pub run_confined : (picks : List ℕ) (deck : Deck) (history : List Entry) (run : IsRunOf picks deck history) → IsConfined deck history run.state
-run_confined picks deck history run users o r some none within =
-    closed_history (processes_of deck) (opened (checked_of deck) deck.jobs) history run.state users o r (begins_shut deck users o r some none) run.legal within (each_ran picks deck history run)
+pub run_confined : (held : Held) (picks : List ℕ) (deck : Deck) (history : List Entry) → All (λ x. AreRows x.rows) held.objects → (run : IsRunOf held picks deck history) → IsConfined held deck history run.state
+run_confined held picks deck history in_order run users o r some none within =
+    closed_history (processes_of deck) (opened held deck) history run.state users o r (begins_shut held deck users o r in_order some none) run.legal within (each_ran held picks deck history run)

@@ -2,7 +2,7 @@
 use Rattle.std.proofs.Common.{◌≡◌, ℕ, zero, suc, ◌<◌, ◌≤◌, ◌⊎◌, All, Bool, true, false, List, [], ◌∷◌, length, inl, inr, refl, sym, ◌∙◌, ap, subst, arith}
 use Rattle.std.specs.Prelude.{MatchBool, Err, Option, Some, None, is_some, drop, min, slice_get, take, if◌then◌else◌}
 use Rattle.std.proofs.lemmas.List.{drop_all, length-take}
-use Rattle.std.proofs.lemmas.Option.{slice_get_within}
+use Rattle.std.proofs.lemmas.Option.{same_Some, slice_get_within}
 use Rattle.s38_code.specs.declared.deck.Deck.{Deck}
 use Rattle.s38_code.specs.declared.deck.Job.{Job}
 use Rattle.s38_code.specs.declared.entry.Entry.{Entry}
@@ -10,24 +10,28 @@ use Rattle.s38_code.specs.declared.made.CheckedTemplate.{CheckedTemplate}
 use Rattle.s38_code.specs.declared.made.CreateResult.{CreateResult}
 use Rattle.s38_rules.specs.State.{State}
 use Rattle.s38_rules.specs.Legal.{IsSound, IsUnstored, Leads, Run, begun}
-use Rattle.s38_rules.specs.Opening.{opened}
+use Rattle.s38_rules.specs.Held.{Held}
+use Rattle.s38_rules.specs.Opening.{held_first, held_installed, state_of}
 use Rattle.s38_run.specs.Picked.{Picked}
 use Rattle.s38_run.specs.Whole.{AllRan}
-use Rattle.std.specs.Io.KnownBytes.{Appends}
+use Rattle.std.specs.Io.KnownBytes.{Appends, Keeps}
 use Rattle.s38_base.specs.Faults.{Rose}
 use Rattle.s38_io.specs.Source.{ReadsAll}
 use Rattle.s38_io.specs.Sink.{AppendsFront}
+use Rattle.s38_demo.specs.GeneratedDeck.{deck_of, generated}
+use Rattle.s38_demo.proofs.SpelledLaws.{generated_is_spelled}
 use Rattle.s38_template.specs.Grammar.{Spells}
 use Rattle.s38_template.specs.Reading.{read_of}
 use Rattle.s38_template.specs.declared.fault.DeckFault.{DeckFault as Fault}
 use Rattle.s38_template.specs.declared.fault.DeckFault.TheVariants as faults
 use Rattle.s38_top.specs.declared.command.Command.{Command}
+use Rattle.s38_top.specs.declared.command.Command.TheVariants.{Serial, Check, Demo}
 use Rattle.s38_top.specs.declared.outcome.Outcome.{Outcome}
-use Rattle.s38_top.specs.declared.outcome.Outcome.TheVariants.{BadWords, BadDeck, DeckFault, NoMemory, Complete, Checked}
-use Rattle.s38_top.specs.Commands.{command_of}
+use Rattle.s38_top.specs.declared.outcome.Outcome.TheVariants.{BadWords, BadDeck, DeckFault, NoMemory, Complete, Checked, Demonstrated}
+use Rattle.s38_top.specs.Commands.{command_of, demo_size}
 use Rattle.s38_top.specs.Decks.{AreMarks, IsRunOf, checked_of, made_for}
-use Rattle.s38_top.proofs.ConfinedLaws.{run_confined}
-use Rattle.s38_top.specs.Outcome.{Ends, HasDeck, Holds, IsChecked, IsComplete, IsGood, OfText, Serves, Tells, checked_text, faulted, history_of, marks_of, most, status_of, text_of}
+use Rattle.s38_top.proofs.ConfinedLaws.{installed_in_order, opening_in_order, run_confined}
+use Rattle.s38_top.specs.Outcome.{Ends, HasDeck, Holds, IsChecked, IsComplete, IsDemonstrated, IsGood, IsGoodDeck, IsGoodFor, OfText, Serves, Tells, checked_text, faulted, history_of, marks_of, most, reads_deck, status_of, text_of}
 
 there_is : {A : Type 0} (xs : List A) (k : ℕ) → k < length xs → (x : A) × (slice_get xs k ≡ Some x)
 there_is [] k h = absurd (omega arith)
@@ -36,16 +40,16 @@ there_is (x ∷ xs) (suc k) h = there_is xs k (omega arith)
 
 -- a sound machine that was begun with the deck's checked templates, and ran each job by what is made of its
 -- template, has the history of the deck
-pub run_of : (picks : List ℕ) (deck : Deck) (made : List CreateResult) (ts : List CheckedTemplate) (begun_by m : Run) → length made ≡ length deck.jobs
+pub run_of : (held : Held) (picks : List ℕ) (deck : Deck) (made : List CreateResult) (ts : List CheckedTemplate) (begun_by m : Run) → length made ≡ length deck.jobs
     → ((k : ℕ) (job : Job) (one : CreateResult) → slice_get deck.jobs k ≡ Some job → slice_get made k ≡ Some one → made_for deck job ≡ Some one)
-    → ts ≡ checked_of deck → begun_by ≡ begun (opened ts deck.jobs)
-    → IsSound m → m.origin ≡ opened begun_by.state.templates deck.jobs → Picked picks m.origin m.history → AllRan made deck.jobs m.history → IsRunOf picks deck m.history
-run_of picks deck made ts begun_by m count each checked begins sound origin order ran =
-    let first : m.origin ≡ opened ts deck.jobs = origin ∙ ap (λ (r : Run). opened r.state.templates deck.jobs) begins in
+    → ts ≡ checked_of deck → begun_by ≡ begun (state_of held ts deck.jobs)
+    → IsSound m → m.origin ≡ state_of begun_by.state.held begun_by.state.templates deck.jobs → Picked picks m.origin m.history → AllRan made deck.jobs m.history → IsRunOf held picks deck m.history
+run_of held picks deck made ts begun_by m count each checked begins sound origin order ran =
+    let first : m.origin ≡ state_of held ts deck.jobs = origin ∙ ap (λ (r : Run). state_of r.state.held r.state.templates deck.jobs) begins in
     record {
       state = m.state;
-      legal = subst (λ (s : State). Leads s [] m.history m.state) (first ∙ ap (λ xs. opened xs deck.jobs) checked) sound.legal;
-      order = subst (λ (s : State). Picked picks s m.history) (first ∙ ap (λ xs. opened xs deck.jobs) checked) order;
+      legal = subst (λ (s : State). Leads s [] m.history m.state) (first ∙ ap (λ xs. state_of held xs deck.jobs) checked) sound.legal;
+      order = subst (λ (s : State). Picked picks s m.history) (first ∙ ap (λ xs. state_of held xs deck.jobs) checked) order;
       each = λ k job at.
           let one = there_is made k (omega (arith, count, slice_get_within deck.jobs k job at)) in
           record { made = one.0; is = each k job one.0 at one.1; ran = ran.each k job one.0 at one.1 };
@@ -78,18 +82,55 @@ refused text fault line code is first none = (
     differ : faults.Bad line code ≡ faults.NoMemory → ⊥
     differ e = cc
 
+reads_of : (command : Command) → demo_size command ≡ None → reads_deck (Some command) ≡ true
+reads_of (Serial pick) h = refl
+reads_of Check h = refl
+reads_of (Demo size) h = cc
+
+no_size : (size : ℕ) → Some size ≡ None → ⊥
+no_size size h = cc
+
+same_size : (size number : ℕ) → Demo size ≡ Demo number → size ≡ number
+same_size size number h = cc
+
+size_is : (command : Command) (size : ℕ) → demo_size command ≡ Some size → command ≡ Demo size
+size_is (Serial pick) size h = cc
+size_is Check size h = cc
+size_is (Demo number) size h = ap Demo (same_Some number size h)
+
 -- what a text comes to holds of the words and the source that it was taken from
 pub text_holds : (words : List (List ℕ)) (old new : Option (List ℕ)) (before now : ℕ) (command : Command) (text : List ℕ) (o : Outcome)
-    → command_of words ≡ Some command → ReadsAll most old new text → OfText command text o → Holds words old new before now o
-text_holds words old new before now command text BadWords is read of = absurd of
-text_holds words old new before now command text (BadDeck line code) is read of =
-    (rw is refl, record { text = text; read = read; first = of.0; none = of.1 })
-text_holds words old new before now command text DeckFault is read of = absurd of
-text_holds words old new before now command text NoMemory is read of = tt
-text_holds words old new before now command text (Complete pick whole) is read of =
+    → command_of words ≡ Some command → demo_size command ≡ None → ReadsAll most old new text → OfText command text o → Holds words old new before now o
+text_holds words old new before now command text BadWords is reads read of = absurd of
+text_holds words old new before now command text (BadDeck line code) is reads read of =
+    (rw is (reads_of command reads), record { text = text; read = read; first = of.0; none = of.1 })
+text_holds words old new before now command text DeckFault is reads read of = absurd of
+text_holds words old new before now command text NoMemory is reads read of = tt
+text_holds words old new before now command text (Complete pick whole) is reads read of =
     (is ∙ ap Some of.0, (record { taken = record { text = text; read = read; is = of.1.0 }; run = of.1.1.0 }, of.1.1.1))
-text_holds words old new before now command text (Checked checked) is read of =
+text_holds words old new before now command text (Checked checked) is reads read of =
     (is ∙ ap Some of.0, record { taken = record { text = text; read = read; is = of.1.0 }; each = of.1.1 })
+text_holds words old new before now command text (Demonstrated size whole) is reads read of = absurd (no_size size (sym (ap demo_size of.0) ∙ reads))
+
+-- what the generated deck comes to holds of the words, of a source that was not read
+pub generated_holds : (words : List (List ℕ)) (old new : Option (List ℕ)) (before now : ℕ) (command : Command) (size : ℕ) (o : Outcome)
+    → command_of words ≡ Some command → demo_size command ≡ Some size → 1 ≤ size → size ≤ 200 → Keeps old new → OfText (Demo size) (deck_of size) o → Holds words old new before now o
+generated_holds words old new before now command size BadWords is sized first last kept of = absurd of
+generated_holds words old new before now command size (BadDeck line code) is sized first last kept of = absurd (of.1 (generated size) (generated_is_spelled size first last))
+generated_holds words old new before now command size DeckFault is sized first last kept of = absurd of
+generated_holds words old new before now command size NoMemory is sized first last kept of = tt
+generated_holds words old new before now command size (Complete pick whole) is sized first last kept of = absurd (differ of.0)
+  where
+    differ : Demo size ≡ Serial pick → ⊥
+    differ e = cc
+generated_holds words old new before now command size (Checked checked) is sized first last kept of = absurd (differ of.0)
+  where
+    differ : Demo size ≡ Check → ⊥
+    differ e = cc
+generated_holds words old new before now command size (Demonstrated number whole) is sized first last kept of = (
+  is ∙ ap Some (size_is command size sized ∙ of.0),
+  (kept, (record { is = subst (λ n. Spells (deck_of n) whole.deck) (same_size size number of.0) of.1.0; run = of.1.1.0 }, of.1.1.1)),
+)
 
 -- ---- the end of the program
 
@@ -127,6 +168,7 @@ faulted_not DeckFault h = omega arith
 faulted_not NoMemory h = omega arith
 faulted_not (Complete pick whole) h = omega arith
 faulted_not (Checked checked) h = omega arith
+faulted_not (Demonstrated size whole) h = omega arith
 
 -- a text that spells a deck is not cut by the limit of what is taken, so nothing is left behind it
 nothing_left : (xs text : List ℕ) → text ≡ take most xs → length text ≤ 4194304 → drop (length text) xs ≡ []
@@ -153,7 +195,7 @@ serves_by words left left' taken taken' written written' (Complete pick whole) h
     subst (λ (es : List Entry). IsComplete pick left left' written written' es) (sym h) (record {
       deck = whole.deck;
       ran = holds.1.0;
-      confined = run_confined _ whole.deck whole.history.items holds.1.0.run;
+      confined = run_confined held_first _ whole.deck whole.history.items opening_in_order holds.1.0.run;
       told = told;
       finished = λ xs e. read_out left left' whole.deck xs holds.1.0.taken e;
     }) in
@@ -167,6 +209,17 @@ serves_by words left left' taken taken' written written' (Checked checked) histo
       still = h;
     } in
     subst (λ (c : Option Command). Serves c left left' written written' history) (sym holds.0) checked_is
+
+serves_by words left left' taken taken' written written' (Demonstrated size whole) history holds told s h =
+    let demonstrated : IsDemonstrated size left left' written written' history =
+    subst (λ (es : List Entry). IsDemonstrated size left left' written written' es) (sym h) (record {
+      deck = whole.deck;
+      ran = holds.1.1.0;
+      confined = run_confined held_installed _ whole.deck whole.history.items installed_in_order holds.1.1.0.run;
+      told = told;
+      unread = holds.1.0;
+    }) in
+    subst (λ (c : Option Command). Serves c left left' written written' history) (sym holds.0) demonstrated
 
 pub serves_of : (words : List (List ℕ)) (left left' : Option (List ℕ)) (taken taken' : ℕ) (written written' : Option (List ℕ)) (put put' : ℕ) (status : ℕ) (history : List Entry) (marks : List ℕ)
     → Ends words left left' taken taken' written written' put put' status history marks → status ≡ 0 → Serves (command_of words) left left' written written' history
@@ -183,6 +236,12 @@ read_is (Some ys) new xs text e h = h.front ∙ ap (λ zs. take most zs) (same y
     same : (a b : List ℕ) → Some a ≡ Some b → a ≡ b
     same a b g = cc
 
+deck_told : (command : Option Command) (left : Option (List ℕ)) → reads_deck command ≡ true → IsGoodFor command left → IsGoodDeck left
+deck_told None left h good = absurd good
+deck_told (Some (Serial pick)) left h good = good
+deck_told (Some Check) left h good = good
+deck_told (Some (Demo size)) left h good = cc
+
 good_by : (words : List (List ℕ)) (left left' : Option (List ℕ)) (taken taken' put put' : ℕ) (o : Outcome) → IsGood words left taken taken' put put' → Holds words left left' taken taken' o → (status_of o ≡ 0) ⊎ (status_of o ≡ 7)
 good_by words left left' taken taken' put put' BadWords good holds = absurd (differ (command_of words) holds.0 good.served)
   where
@@ -190,11 +249,13 @@ good_by words left left' taken taken' put put' BadWords good holds = absurd (dif
     differ None e h = cc
     differ (Some x) e h = cc
 good_by words left left' taken taken' put put' (BadDeck line code) good holds =
-    absurd (holds.1.none good.deck (subst (λ (t : List ℕ). Spells t good.deck) (sym (read_is left left' good.text holds.1.text good.told holds.1.read)) good.is))
+    let deck : IsGoodDeck left = deck_told (command_of words) left holds.0 good.deck in
+    absurd (holds.1.none deck.deck (subst (λ (t : List ℕ). Spells t deck.deck) (sym (read_is left left' deck.text holds.1.text deck.told holds.1.read)) deck.is))
 good_by words left left' taken taken' put put' DeckFault good holds = absurd (good.source holds.1)
 good_by words left left' taken taken' put put' NoMemory good holds = inr refl
 good_by words left left' taken taken' put put' (Complete pick whole) good holds = inl refl
 good_by words left left' taken taken' put put' (Checked checked) good holds = inl refl
+good_by words left left' taken taken' put put' (Demonstrated size whole) good holds = inl refl
 
 pub good_of : (words : List (List ℕ)) (left left' : Option (List ℕ)) (taken taken' : ℕ) (written written' : Option (List ℕ)) (put put' : ℕ) (status : ℕ) (history : List Entry) (marks : List ℕ)
     → Ends words left left' taken taken' written written' put put' status history marks → IsGood words left taken taken' put put' → (status ≡ 0) ⊎ (status ≡ 7)

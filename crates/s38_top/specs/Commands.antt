@@ -28,7 +28,7 @@ most_postings = 200
 -- a number of postings, 1 to 200
 abbrev pub demo_of : Option ℕ → Option Command
 demo_of None = None
-demo_of (Some n) = if nat_le 1 n && nat_le n most_postings then Some (Demo n) else None
+demo_of (Some n) = if nat_le n most_postings && nat_le 1 n then Some (Demo n) else None
 
 abbrev pub sized_by : List ℕ → List ℕ → Option Command
 sized_by word number = if bytes_eq word (codes "demo") then demo_of (natural_of number) else None

@@ -62,7 +62,7 @@ fn demo_of(number: &[u8]) -> Option<Command>
     match natural(number) {
         None => None,
         Some(size) => {
-            if 1 <= size && size <= 200 {
+            if size <= 200 && 1 <= size {
                 Some(Command::Demo { size: size as u32 })
             } else {
                 None

@@ -1,100 +1,34 @@
--- Who holds an entry, what a change that is logged has met, how many units are open, and how units are taken back one
+-- What a change that is logged leaves, how many units are open, and how units are taken back one
 -- after another.
-use Rattle.std.proofs.Common.{◌≡◌, ℕ, zero, suc, ◌==◌, ◌<◌, ◌≤◌, ◌&&◌, ◌||◌, Bool, true, false, cond, List, [], ◌∷◌, refl, sym, ◌∙◌, ap, arith, get_or, length}
-use Rattle.std.proofs.lemmas.Bool.Decides.{nat_tests}
+use Rattle.std.proofs.Common.{◌≡◌, ℕ, zero, suc, ◌==◌, ◌<◌, ◌≤◌, true, false, cond, List, [], ◌∷◌, refl, sym, ◌∙◌, ap, arith, get_or, length}
 use Rattle.std.specs.Prelude.{Option, Some, None, Result, Ok, Err, OnOk, filter, if◌then◌else◌, take}
-use Rattle.std.specs.Option.{option_map}
 use Rattle.std.specs.Ordering.{nat_cmp}
 use Rattle.std.specs.Map.{keys_of}
 use Rattle.std.specs.BTreeMap.{is_at}
-use Rattle.s38_base.specs.Exceptions as exceptions
 use Rattle.s38_commits.specs.declared.change.UnitChange.{UnitChange}
 use Rattle.s38_base.specs.declared.fault.NoMemory.{NoMemory}
-use Rattle.s38_commits.specs.Changes.{journal_bytes}
 use Rattle.s38_commits.specs.Unit.{CommitUnit}
 use Rattle.s38_commits.specs.Units.{IsRising, UnitMap, above, ended, next_block, unit_of}
 use Rattle.s38_commits.proofs.WalkLaws.{ended_above, next_none, next_some}
 use Rattle.s38_commits.proofs.MapLaws.{at_key}
 use Rattle.s38_commits.proofs.FirstLaws.{first_none, first_some}
-use Rattle.s38_rules.specs.declared.port.Port.{Port}
-use Rattle.s38_rules.specs.Changing.{change_entry, holding_rule, is_journal_full, journal_rule, logged, next_sequence, number_for, of_unit, reading_rule, units_behind, with_change_logged}
+use Rattle.s38_rules.specs.Changing.{logged}
 use Rattle.s38_rules.specs.Held.{Held}
-use Rattle.s38_rules.specs.Journaling.{goes_to, is_journal, journal_for, journal_named, open_behind, open_units}
-use Rattle.s38_rules.specs.Parts.{journal_at, on_journal}
+use Rattle.s38_rules.specs.Journaling.{goes_to, journal_for, open_units}
 use Rattle.s38_rules.specs.State.{State}
 use Rattle.s38_rules.specs.Units.{all_decommitted, all_undone, decommitted, decommitted_of, undone}
-use Rattle.s38_rules.proofs.RuleLaws.{fails_none}
 use Rattle.s38_units.specs.Blocks.{leads_to}
+use Rattle.s38_units.specs.Logging.{objects_logged, units_logged}
 use Rattle.s38_units.specs.Ends.{is_unit_of, taken_back}
 
 some_none : {A : Type 0} (x : A) → Some x ≡ None → ⊥
 some_none x h = cc
 
-nat_same : (a b : ℕ) → (a == b) ≡ true → a ≡ b
-nat_same a b h = grind (arith, nat_tests)
-
-or_false : (a b : Bool) → (a || b) ≡ false → a ≡ false
-or_false true b h = h
-or_false false b h = refl
-
-and_true : (a b : Bool) → (a && b) ≡ true → a ≡ true
-and_true true b h = refl
-and_true false b h = h
-
--- ---- who holds an entry
-
--- by the process of the unit alone
-pub read_by : (p holder : ℕ) (o : Option (ℕ × CommitUnit)) → option_map (λ e. e.1.process) o ≡ Some holder
-    → reading_rule p o ≡ (if holder == p then None else of_unit exceptions.entry_held 1 holder)
-read_by p holder None is = absurd (cc)
-read_by p holder (Some e) is = let same : e.1.process ≡ holder = cc in rw same refl
-
-pub read_free : (p : ℕ) (o : Option (ℕ × CommitUnit)) → option_map (λ e. e.1.process) o ≡ None → reading_rule p o ≡ None
-read_free p None is = refl
-read_free p (Some e) is = absurd (some_none e.1.process is)
-
--- by its block and its process
-pub held_by : (p block other holder : ℕ) (o : Option (ℕ × CommitUnit)) → option_map (λ e. e.0) o ≡ Some other → option_map (λ e. e.1.process) o ≡ Some holder
-    → holding_rule p block o ≡ (if (other == block) && (holder == p) then None else of_unit exceptions.entry_held 1 holder)
-held_by p block other holder None at is = absurd (cc)
-held_by p block other holder (Some e) at is =
-    let here : e.0 ≡ other = cc in
-    let same : e.1.process ≡ holder = cc in
-    rw (here, same) refl
-
-pub held_free : (p block : ℕ) (o : Option (ℕ × CommitUnit)) → option_map (λ e. e.0) o ≡ None → holding_rule p block o ≡ None
-held_free p block None is = refl
-held_free p block (Some e) is = absurd (some_none e.0 is)
-
--- no unit of another block holds it
-pub free_by : (p block other : ℕ) (o : Option (ℕ × CommitUnit)) → holding_rule p block o ≡ None → option_map (λ e. e.0) o ≡ Some other → other ≡ block
-free_by p block other None none at = absurd (cc)
-free_by p block other (Some e) none at =
-    let here : e.0 ≡ other = cc in
-    elim ((e.0 == block) && (e.1.process == p)) as (λ b. ((e.0 == block) && (e.1.process == p)) ≡ b
-    → (if b then None else of_unit exceptions.entry_held 1 e.1.process) ≡ None → other ≡ block) [
-      | true ↦ λ is q. sym here ∙ nat_same e.0 block (and_true _ _ is)
-      | false ↦ λ is q. absurd (cc)
-    ] refl none
-
--- ---- what a change that is logged has met
-
-pub named_there : (h : Held) (port : Option Port) (n : ℕ) → journal_named h port ≡ Some n → is_journal h n ≡ true
-named_there h None n is = absurd (cc)
-named_there h (Some port) n is =
-    elim (is_journal h port.journal.0) as (λ b. is_journal h port.journal.0 ≡ b → (if b then Some port.journal.0 else None) ≡ Some n → is_journal h n ≡ true) [
-      | true ↦ λ there q. let same : port.journal.0 ≡ n = cc in rw (← same) there
-      | false ↦ λ there q. absurd (cc)
-    ] refl is
-
--- the journal space has room
-pub room_met : (s : State) (block bytes journal : ℕ) → journal_rule s block bytes (Some journal) ≡ None → is_journal_full s.held s.units journal block bytes ≡ false
-room_met s block bytes journal none = or_false _ _ (fails_none _ _ _ none)
+-- ---- changes logged
 
 -- a change that is logged, or refused for want of memory
 pub logged_ok : (s : State) (p block journal : ℕ) (change : UnitChange) (r : Result (Unit {0}) NoMemory) (h : Held) (units : UnitMap) → journal_for s.held change.space.0 ≡ Some journal
-    → OnOk r (h ≡ on_journal s.held journal (with_change_logged (journal_bytes change) (open_behind s.held s.units journal block) (change_entry (number_for s.units block (next_sequence (journal_at s.held journal))) p change)))
-    → OnOk r (units ≡ units_behind s.units p block (number_for s.units block (next_sequence (journal_at s.held journal))) change)
+    → OnOk r (h ≡ objects_logged s.held s.units p block change journal) → OnOk r (units ≡ units_logged s.held s.units p block change journal)
     → OnOk r (record s { held = h; units = units } ≡ logged s p block change)
 unfolding logged
 logged_ok s p block journal change (Ok x) h units there objects behind = rw (there, objects, behind) refl

@@ -5,9 +5,9 @@ ghost use Rattle.s38_commits.specs.Changes.{journal_bytes};
 ghost use Rattle.s38_commits.specs.Units.{block_of};
 ghost use Rattle.s38_journals.specs.Entries.{entered};
 ghost use Rattle.s38_journals.specs.Journals.{room_refusal};
-ghost use Rattle.s38_rules.specs.Changing.{bytes_or_none, change_entry, held_rule, is_journal_full, journal_rule, kind_between, logged, next_sequence, number_for, units_behind, with_change_logged};
-ghost use Rattle.s38_rules.specs.Journaling.{is_journal, journal_for, open_behind};
-ghost use Rattle.s38_rules.specs.Parts.{journal_at, on_journal};
+ghost use Rattle.s38_rules.specs.Changing.{bytes_or_none, change_entry, held_rule, is_journal_full, journal_rule, kind_between, logged, number_for, units_behind, with_change_logged};
+ghost use Rattle.s38_rules.specs.Journaling.{is_journal, journal_for};
+ghost use Rattle.s38_units.specs.Logging.{objects_logged, units_logged};
 
 use crate::journaling::{journal_for, open_behind};
 use s38_base::{Bytes, NoMemory, ObjNum};
@@ -134,8 +134,8 @@ pub fn log_in(
     requires there { is_journal objects.old journal.0 ≡ true }
     requires room { is_journal_full objects.old units.old journal.0 block.0 (journal_bytes change.now) ≡ false }
     requires free { held_rule units.old process block.0 change.now.space.0 change.now.at ≡ None }
-    ensures objects { OnOk result (objects.new ≡ on_journal objects.old journal.0 (with_change_logged (journal_bytes change.now) (open_behind objects.old units.old journal.0 block.0) (change_entry (number_for units.old block.0 (next_sequence (journal_at objects.old journal.0))) process change.now))) }
-    ensures units { OnOk result (units.new ≡ units_behind units.old process block.0 (number_for units.old block.0 (next_sequence (journal_at objects.old journal.0))) change.now) }
+    ensures objects { OnOk result (objects.new ≡ objects_logged objects.old units.old process block.0 change.now journal.0) }
+    ensures units { OnOk result (units.new ≡ units_logged objects.old units.old process block.0 change.now journal.0) }
     ensures objects_left { OnErr result (objects.new ≡ objects.old) }
     ensures units_left { OnErr result (units.new ≡ units.old) }
 {

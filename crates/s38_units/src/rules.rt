@@ -41,7 +41,6 @@ fn of_unit(id: u16, operand: u8, process: u32) -> Option<Exception>
 }
 
 /// An entry that a unit of another process changed is not read.
-#[tactic(auto, using(crate::proofs::UnitLaws::read_by))]
 pub fn read_rule(units: &Units, process: u32, space: ObjNum, at: u32) -> Option<Exception>
     ensures { result ≡ read_rule units.now process space.0 at }
 {
@@ -58,7 +57,6 @@ pub fn read_rule(units: &Units, process: u32, space: ObjNum, at: u32) -> Option<
 }
 
 /// An entry that a unit changed is changed in that unit alone, and by its process.
-#[tactic(auto, using(crate::proofs::UnitLaws::held_by))]
 pub fn held_rule(
     units: &Units,
     process: u32,

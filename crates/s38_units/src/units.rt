@@ -80,10 +80,9 @@ fn undo(objects: &mut Objects, change: &UnitChange)
 fn undo_all(objects: &mut Objects, changes: &[UnitChange])
     ensures { objects.new ≡ all_undone objects.old changes.now }
 {
-    let mut left = changes.len();
-    while left > 0 {
-        left -= 1;
-        undo(objects, &changes[left]);
+    for taken in 0..changes.len() {
+        let newest = changes.len() - 1 - taken;
+        undo(objects, &changes[newest]);
     }
 }
 

@@ -2,10 +2,8 @@ use Rattle.std.proofs.Common.{◌≡◌, sym, ap, ◌∙◌}
 use Rattle.std.specs.Prelude.{Option, Some}
 use Rattle.std.specs.Option.{option_map}
 use Rattle.s38_base.specs.declared.id.ObjNum.{ObjNum}
-use Rattle.s38_commits.specs.Changes.{journal_bytes}
-use Rattle.s38_rules.specs.Changing.{change_entry, next_sequence, number_for, with_change_logged}
-use Rattle.s38_rules.specs.Journaling.{journal_for, open_behind}
-use Rattle.s38_rules.specs.Parts.{journal_at}
+use Rattle.s38_rules.specs.Journaling.{journal_for}
+use Rattle.s38_units.specs.Logging.{journal_logged}
 use Rattle.s38_units.proofs.KeptLaws.{journal_left}
 use Rattle.s38_units.proofs.UnitLaws.{logged_ok}
 use Rattle.s38_units.proofs.logging.log_change.Goals as goal
@@ -14,8 +12,7 @@ pub invariant_of-world : goal.invariant_of-world
 invariant_of-world c = (
   c.world.invariant.0,
   journal_left c.world.inside.profiles c.world.inside.objects c.log_in.new.objects c.in-Some.journal.0
-      (with_change_logged (journal_bytes c.args.change.now) (open_behind c.world.inside.objects c.world.inside.units c.in-Some.journal.0 c.args.block.0)
-      (change_entry (number_for c.world.inside.units c.args.block.0 (next_sequence (journal_at c.world.inside.objects c.in-Some.journal.0))) c.args.process c.args.change.now))
+      (journal_logged c.world.inside.objects c.world.inside.units c.args.process c.args.block.0 c.args.change.now c.in-Some.journal.0)
       c.log_in.result c.log_in.ensures.objects c.log_in.ensures.objects_left c.world.invariant.1,
 )
 

@@ -9,6 +9,7 @@ use Rattle.s38_rules.specs.Changing.{change_entry, next_sequence, number_for, wi
 use Rattle.s38_rules.specs.Journaling.{open_behind}
 use Rattle.s38_rules.specs.Parts.{journal_at, journal_lawful, journal_part, no_journal, over_part, part_at}
 use Rattle.s38_rules.proofs.PartLaws.{part_same, part_written}
+use Rattle.s38_units.specs.Logging.{entry_in, journal_logged, number_in}
 use Rattle.s38_units.proofs.logging.log_in.Goals as goal
 
 pub returns-clause-objects : goal.returns-clause-objects
@@ -22,17 +23,16 @@ returns-clause-objects c =
     let told : part_at journal_part h n ≡ Some held = sym c.in-Some.ensures.value in
     let here : journal_at h n ≡ held = ap (λ (o : Option JournalList). unwrap_or o no_journal) told in
     let next : c.last.result + 1 ≡ next_sequence (journal_at h n) = ap (λ (k : ℕ). k + 1) c.last.ensures.last ∙ ap next_sequence (sym here) in
-    let number : c.number_for-number.result ≡ number_for units block (next_sequence (journal_at h n)) = c.number_for-number.ensures ∙ ap (number_for units block) next in
-    let entry : entered c.change_entry-entry.result ≡ change_entry (number_for units block (next_sequence (journal_at h n))) c.args.process change =
+    let number : c.number_for-number.result ≡ number_in h units block n = c.number_for-number.ensures ∙ ap (number_for units block) next in
+    let entry : entered c.change_entry-entry.result ≡ entry_in h units c.args.process block change n =
     c.change_entry-entry.ensures ∙ ap (λ (k : ℕ). change_entry k c.args.process change) number in
     let same : with_change_logged (journal_bytes change) c.open_behind-behind.result (entered c.change_entry-entry.result) held
-    ≡ with_change_logged (journal_bytes change) (open_behind h units n block) (change_entry (number_for units block (next_sequence (journal_at h n))) c.args.process change) held =
+    ≡ journal_logged h units c.args.process block change n held =
     ap (λ (k : ℕ). with_change_logged (journal_bytes change) k (entered c.change_entry-entry.result) held) c.open_behind-behind.ensures
     ∙ ap (λ (e : Entry). with_change_logged (journal_bytes change) (open_behind h units n block) e held) entry in
     on_ok_weaker c.log_entry.result
     (λ e. ap (λ (x : JournalList). over_part journal_part h n (λ _. x)) (e ∙ same)
-    ∙ part_written journal_part h n
-    (with_change_logged (journal_bytes change) (open_behind h units n block) (change_entry (number_for units block (next_sequence (journal_at h n))) c.args.process change)) held told)
+    ∙ part_written journal_part h n (journal_logged h units c.args.process block change n) held told)
     c.log_entry.ensures.journal
 
 pub returns-clause-objects_left : goal.returns-clause-objects_left
