@@ -1,34 +1,32 @@
 -- Units stay right where an entry of a data space is changed: the change is logged, and joins the unit of its block.
-use Rattle.std.proofs.Common.{◌*◌, ◌+◌, ◌++◌, ◌-◌, ◌<◌, ◌==◌, ◌∙◌, ◌∷◌, ◌≡◌, ◌≤◌, Bool, List, [], ap, arith, cond, false, length, max, refl, subst, suc, sym, true, zero, ℕ}
+use Rattle.std.proofs.Common.{◌*◌, ◌+◌, ◌==◌, ◌∙◌, ◌∷◌, ◌≡◌, ◌≤◌, Bool, List, [], ap, arith, cond, false, length, max, refl, subst, sym, true, ℕ}
 use Rattle.std.proofs.lemmas.Bool.Decides.{nat_tests}
-use Rattle.std.proofs.lemmas.Bool.{and_parts, cond_both, false≢true, true≢false}
-use Rattle.std.proofs.lemmas.List.Elements.{All-append, All-cons, All-head, All-nil, All-set, All-tail}
-use Rattle.std.proofs.lemmas.List.{length-append, length-set}
+use Rattle.std.proofs.lemmas.Bool.{and_parts}
+use Rattle.std.proofs.lemmas.List.Elements.{All-append, All-cons, All-nil}
+use Rattle.std.proofs.lemmas.List.{length-append}
 use Rattle.std.specs.List.{list_all}
-use Rattle.std.specs.Option.{option_flatten, option_map, unwrap_or}
-use Rattle.std.specs.Prelude.{◌&&◌, ◌||◌, All, None, Option, Some, is_none, is_some, nat_le, not, slice_get}
+use Rattle.std.specs.Option.{option_map, unwrap_or}
+use Rattle.std.specs.Prelude.{◌&&◌, ◌||◌, All, None, Option, Some, is_none, is_some, nat_le, not}
 use Rattle.s38_base.specs.declared.attr.Attr.{Attr}
 use Rattle.s38_base.specs.declared.exception.Exception.{Exception}
 use Rattle.s38_base.specs.declared.id.ObjNum.{ObjNum}
-use Rattle.s38_code.specs.declared.operand.Operand.{Operand}
 use Rattle.s38_commits.proofs.MapLaws.{nat_itself, nat_same}
 use Rattle.s38_commits.specs.Changes.{entry_bytes, journal_bytes}
 use Rattle.s38_commits.specs.Unit.{CommitUnit, noted}
 use Rattle.s38_commits.specs.Units.{AreApart, IsRising, UnitMap, changed_at, changes_of, joined, owner, unit_of}
 use Rattle.s38_commits.specs.declared.change.UnitChange.{UnitChange}
 use Rattle.s38_dataspaces.specs.Entries as spaces
-use Rattle.s38_dataspaces.specs.Table.{DataTable, are_fields, entry_len, is_entry_of, is_field}
+use Rattle.s38_dataspaces.specs.Table.{DataTable, are_fields, entry_len, is_field}
 use Rattle.s38_dataspaces.specs.Values.{have_values}
 use Rattle.s38_journals.specs.Entries as journal_entries
 use Rattle.s38_journals.specs.Entries.{Entry, is_end}
-use Rattle.s38_journals.specs.Journals.{JournalList, appended, can_write, wanted, with_room, written}
+use Rattle.s38_journals.specs.Journals.{JournalList, appended, can_write, wanted, with_room}
 use Rattle.s38_rules.proofs.RuleLaws.{fails_none, first_none, not_false}
-use Rattle.s38_rules.specs.Changing.{block_rule, block_rules, bytes_or_none, change_entry, held_rule, holding_rule, kind_between, logged, logged_in, next_sequence, number_for, number_in, unit_rule, units_behind, with_change_logged}
+use Rattle.s38_rules.specs.Changing.{block_rule, block_rules, bytes_or_none, change_entry, holding_rule, kind_between, next_sequence, number_for, number_in, unit_rule, units_behind, with_change_logged}
 use Rattle.s38_rules.specs.Held.{Held, kind_of, object}
 use Rattle.s38_rules.specs.Journaling.{begins_unit, block_port, block_port_in, data_port, data_port_in, goes_to, is_journal, is_journaled_to, is_number, journal_behind, journal_for, journal_for_block, journal_named, open_behind, open_units}
-use Rattle.s38_rules.specs.Parts.{block_of, block_part, data_lawful, data_part, journal_at, journal_lawful, journal_part, no_journal, on_data, on_journal, on_table, over_table, part_at, part_in, port_part, table_at, table_in}
+use Rattle.s38_rules.specs.Parts.{block_of, block_part, data_lawful, data_part, journal_at, journal_lawful, journal_part, no_journal, on_data, on_journal, over_table, part_at, part_in, port_part}
 use Rattle.s38_rules.specs.State.{State}
-use Rattle.s38_rules.specs.declared.block.Block.{Block}
 use Rattle.s38_rules.specs.declared.data_body.DataBody.{DataBody}
 use Rattle.s38_rules.specs.declared.object.Object.{Object}
 use Rattle.s38_rules.specs.declared.object.Body.{Body}
@@ -40,12 +38,12 @@ use Rattle.s38_base.specs.Signals.{fails, first}
 use Rattle.s38_base.specs.declared.id.Kind.TheVariants as kinds
 use Rattle.s38_commits.proofs.JoinLaws.{empty_unit}
 use Rattle.std.proofs.lemmas.Option.{none-some}
-use Rattle.s38_commitment_laws.proofs.EndLaws.{le_holds, block_by_data, block_by_journal, data_by_journal, data_lasts, data_spares, data_tables, journal_by_data, journal_spares, port_by_data, port_by_journal, right_data}
+use Rattle.s38_commitment_laws.proofs.EndLaws.{le_holds, block_by_data, block_by_journal, data_by_journal, data_spares, data_tables, journal_by_data, journal_spares, port_by_data, port_by_journal}
 use Rattle.s38_commitment_laws.proofs.HeldLaws.{over_unused, part_over}
 use Rattle.s38_commitment_laws.proofs.JoinLaws.{IsFree, apart_more, free_none, free_own, joined_more, joined_new, more_has, new_has, with_first}
 use Rattle.s38_commitment_laws.proofs.KeptLaws.{IsLater, Spares, all_by, both_hold, open_kept, units_kept}
 use Rattle.s38_commitment_laws.proofs.UnitLaws.{Both, all_changed, all_found, all_put_in, count_changed, count_put_in, one_if, put_in, rising_changed, rising_put_in}
-use Rattle.s38_commitment_laws.specs.Right.{AreRight, IsChangeOf, IsData, IsEntryOf, IsLogged, IsRight, IsTable, IsUnit, IsUnused, journal_of}
+use Rattle.s38_commitment_laws.specs.Right.{AreRight, IsChangeOf, IsData, IsEntryOf, IsLogged, IsRight, IsUnit, IsUnused, journal_of}
 
 -- ---- what the rules of a change say
 

@@ -1,12 +1,12 @@
 -- Units stay right where an object is destroyed: what they name is not, since other objects that say so are there, or the
 -- units themselves.
-use Rattle.std.proofs.Common.{◌*◌, ◌+◌, ◌==◌, ◌∙◌, ◌∷◌, ◌≡◌, ◌≤◌, Bool, List, [], ap, arith, cond, false, length, refl, subst, sym, true, ℕ}
+use Rattle.std.proofs.Common.{◌*◌, ◌==◌, ◌∙◌, ◌∷◌, ◌≡◌, ◌≤◌, Bool, List, [], ap, arith, cond, false, length, refl, subst, sym, true, ℕ}
 use Rattle.std.proofs.lemmas.Bool.Decides.{nat_tests}
 use Rattle.std.proofs.lemmas.Bool.{and_parts, cond_both, false≢true, true≢false}
-use Rattle.std.proofs.lemmas.List.Elements.{All-cons, All-head, All-nil, All-tail}
+use Rattle.std.proofs.lemmas.List.Elements.{All-cons, All-head, All-nil}
 use Rattle.std.specs.List.{list_any}
 use Rattle.std.specs.Option.{unwrap_or}
-use Rattle.std.specs.Prelude.{◌||◌, All, None, Option, Some, find, is_some, not}
+use Rattle.std.specs.Prelude.{◌||◌, All, None, Option, Some, is_some}
 use Rattle.s38_base.specs.Ids.{same_kind}
 use Rattle.s38_base.specs.Pointers.{object_of, target_of}
 use Rattle.s38_base.specs.RightNames as rights
@@ -27,7 +27,7 @@ use Rattle.s38_rules.specs.Authority.{lacks_special}
 use Rattle.s38_rules.specs.Creation.{destruction_changes, destruction_needs}
 use Rattle.s38_rules.specs.Held.{Held, kind_of, object, object_in, without}
 use Rattle.s38_rules.specs.Instruction.{Instruction}
-use Rattle.s38_rules.specs.Journaling.{block_port, data_port, data_port_in, goes_to, is_journal, is_number, journal_behind, journal_for, journal_for_block, journal_named, open_units}
+use Rattle.s38_rules.specs.Journaling.{block_port, data_port, data_port_in, goes_to, is_journal, is_number, journal_for, journal_for_block, journal_named, open_units}
 use Rattle.s38_rules.specs.Journals.{is_attached, is_data_of, is_port_to, is_used, leads_to, names_port}
 use Rattle.s38_rules.specs.Operands.{pointer_at, target}
 use Rattle.s38_rules.specs.Parts.{Part, block_of, block_part, data_of, data_part, journal_at, journal_of, journal_part, no_journal, part_at, part_in, port_of, port_part}
@@ -42,8 +42,8 @@ use Rattle.s38_rules.specs.declared.need.Sought.TheVariants.{Of}
 use Rattle.s38_rules.specs.declared.object.Body.TheVariants as bodies
 use Rattle.s38_rules.specs.declared.object.Body.{Body}
 use Rattle.s38_rules.specs.declared.object.Object.{Object}
-use Rattle.s38_commitment_laws.proofs.HeldLaws.{Follows, IsOther, Stays, destroyed_carries, other_gone, part_without, without_unused}
-use Rattle.s38_commitment_laws.proofs.KeptLaws.{Lasts, LastsAt, Spares, all_by, all_then, grows_by, lasts_by, stays_by, journal_number, lasts_same, right_carried, right_kept}
+use Rattle.s38_commitment_laws.proofs.HeldLaws.{Follows, IsOther, destroyed_carries, other_gone, part_without, without_unused}
+use Rattle.s38_commitment_laws.proofs.KeptLaws.{LastsAt, Spares, all_by, all_then, grows_by, lasts_by, stays_by, journal_number, right_carried, right_kept}
 use Rattle.s38_commitment_laws.proofs.UnitLaws.{Both, StandsIn, all_stand, count_first, one_if}
 use Rattle.s38_commitment_laws.specs.Right.{AreRight, IsChangeOf, IsData, IsLogged, IsUnit, IsUnused}
 

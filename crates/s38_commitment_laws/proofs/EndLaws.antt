@@ -1,17 +1,16 @@
 -- Units stay right where one of them ends: the end is written, and what is taken back is put back.
-use Rattle.std.proofs.Common.{◌*◌, ◌+◌, ◌-◌, ◌<◌, ◌==◌, ◌∙◌, ◌∷◌, ◌≡◌, ◌≤◌, Bool, List, [], ap, arith, cond, false, length, refl, subst, sym, true, ℕ}
+use Rattle.std.proofs.Common.{◌*◌, ◌+◌, ◌-◌, ◌==◌, ◌∙◌, ◌∷◌, ◌≡◌, ◌≤◌, Bool, List, [], ap, arith, cond, false, length, refl, subst, sym, true, ℕ}
 use Rattle.std.proofs.lemmas.Bool.Decides.{nat_tests}
-use Rattle.std.proofs.lemmas.Bool.{cond_both, false≢true, true≢false}
+use Rattle.std.proofs.lemmas.Bool.{cond_both, false≢true}
 use Rattle.std.proofs.lemmas.List.Elements.{All-head, All-set, All-tail}
 use Rattle.std.proofs.lemmas.List.{length-append, length-set}
 use Rattle.std.specs.Option.{option_map, unwrap_or}
 use Rattle.std.specs.Prelude.{◌&&◌, ◌||◌, All, None, Option, Some, is_some, nat_le, not}
-use Rattle.s38_base.specs.declared.attr.Attr.{Attr}
 use Rattle.s38_commits.proofs.MapLaws.{nat_itself, nat_same}
 use Rattle.s38_commits.specs.Unit.{CommitUnit}
 use Rattle.s38_commits.specs.Units.{IsRising, UnitMap, ended, unit_of}
 use Rattle.s38_commits.specs.declared.change.UnitChange.{UnitChange}
-use Rattle.s38_dataspaces.specs.Table.{DataTable, changed, is_entry_of, may_restore, restored}
+use Rattle.s38_dataspaces.specs.Table.{changed, may_restore}
 use Rattle.s38_journals.specs.Entries.{Entry, entry_len, is_end}
 use Rattle.s38_journals.specs.Journals.{JournalList, appended, can_write, written}
 use Rattle.s38_journals.specs.declared.entry.EntryKind.TheVariants as entry_kinds
@@ -19,16 +18,16 @@ use Rattle.s38_journals.specs.declared.entry.EntryKind.{EntryKind}
 use Rattle.s38_rules.proofs.PartLaws.{part_apart}
 use Rattle.s38_rules.specs.Held.{Held}
 use Rattle.s38_rules.specs.Journaling.{goes_to, is_number, journal_for_block, open_units}
-use Rattle.s38_rules.specs.Parts.{block_of, block_part, data_lawful, data_of, data_part, journal_at, journal_lawful, journal_of, journal_part, no_journal, on_data, on_journal, over_body, over_table, part_at, port_of, port_part, table_at, table_in}
+use Rattle.s38_rules.specs.Parts.{block_of, block_part, data_lawful, data_of, data_part, journal_at, journal_lawful, journal_of, journal_part, no_journal, on_data, on_journal, over_body, over_table, part_at, port_of, port_part, table_in}
 use Rattle.s38_rules.specs.State.{State}
-use Rattle.s38_rules.specs.Units.{all_decommitted, all_undone, committed, decommitted, decommitted_of, end_entry, end_written, put_back, undone, unit_closed, with_entry}
+use Rattle.s38_rules.specs.Units.{all_decommitted, all_undone, committed, decommitted, end_entry, end_written, put_back, with_entry}
 use Rattle.s38_rules.specs.declared.data_body.DataBody.{DataBody}
 use Rattle.s38_rules.specs.declared.object.Body.TheVariants as bodies
 use Rattle.s38_rules.specs.declared.object.Body.{Body}
-use Rattle.s38_commitment_laws.proofs.HeldLaws.{Stays, over_unused, part_over}
+use Rattle.s38_commitment_laws.proofs.HeldLaws.{over_unused, part_over}
 use Rattle.s38_commitment_laws.proofs.JoinLaws.{apart_ended}
-use Rattle.s38_commitment_laws.proofs.KeptLaws.{Grows, IsLater, Lasts, LastsAt, Spares, all_by, lasts_by, grows_by, stays_by, block_leads, both_hold, change_lasts, grows_same, journal_number, lasts_same, open_kept, right_kept, units_kept}
-use Rattle.s38_commitment_laws.proofs.UnitLaws.{Both, StandsIn, all_ended, all_found, all_stand, count_ended, one_if, rising_ended, stand_ended, tail_of}
+use Rattle.s38_commitment_laws.proofs.KeptLaws.{Grows, IsLater, Lasts, LastsAt, Spares, all_by, lasts_by, grows_by, stays_by, block_leads, both_hold, change_lasts, grows_same, journal_number, lasts_same, right_kept}
+use Rattle.s38_commitment_laws.proofs.UnitLaws.{Both, StandsIn, all_ended, all_found, count_ended, one_if, rising_ended, stand_ended, tail_of}
 use Rattle.s38_commitment_laws.specs.Right as right_spec
 use Rattle.s38_commitment_laws.specs.Right.{AllPutBack, AreRight, IsChangeOf, IsData, IsEntryOf, IsLogged, IsRight, IsTable, IsUnit, IsUnused}
 

@@ -1,30 +1,28 @@
 -- Units stay right where INSDSEN, UPDSEN and DELDSEN are permitted, and where a data space is journaled.
-use Rattle.std.proofs.Common.{◌*◌, ◌+◌, ◌++◌, ◌-◌, ◌<◌, ◌==◌, ◌∙◌, ◌∷◌, ◌≡◌, ◌≤◌, Bool, List, [], ap, arith, cond, false, length, refl, subst, suc, sym, true, zero, ℕ}
-use Rattle.std.proofs.lemmas.Bool.Decides.{nat_tests}
-use Rattle.std.proofs.lemmas.Bool.{and_parts, cond_both, false≢true, true≢false}
+use Rattle.std.proofs.Common.{◌*◌, ◌-◌, ◌==◌, ◌∙◌, ◌∷◌, ◌≡◌, ◌≤◌, List, [], ap, arith, false, length, refl, subst, suc, sym, true, zero, ℕ}
+use Rattle.std.proofs.lemmas.Bool.{and_parts, cond_both, true≢false}
 use Rattle.std.proofs.lemmas.List.Elements.{All-append, All-cons, All-head, All-nil, All-set, All-tail}
 use Rattle.std.proofs.lemmas.List.{length-append, length-set}
 use Rattle.std.specs.Option.{option_flatten, option_map, unwrap_or}
-use Rattle.std.specs.Prelude.{◌&&◌, All, None, Option, Some, is_none, is_some, nat_le, not, slice_get}
+use Rattle.std.specs.Prelude.{All, None, Option, Some, is_none, is_some, slice_get}
 use Rattle.s38_base.specs.declared.attr.Attr.{Attr}
 use Rattle.s38_code.specs.declared.event.Request.{Request}
 use Rattle.s38_code.specs.declared.operand.Operand.{Operand}
-use Rattle.s38_commits.proofs.MapLaws.{nat_itself, nat_same}
-use Rattle.s38_commits.specs.Units.{UnitMap, owner, unit_of}
+use Rattle.s38_commits.proofs.MapLaws.{nat_same}
+use Rattle.s38_commits.specs.Units.{UnitMap, owner}
 use Rattle.s38_commits.specs.declared.change.UnitChange.{UnitChange}
 use Rattle.s38_dataspaces.specs.Entries as spaces
 use Rattle.s38_dataspaces.specs.Entries.{entry_at}
-use Rattle.s38_dataspaces.specs.Table.{DataTable, entry_len, is_entry_of}
-use Rattle.s38_dataspaces.specs.Values.{have_values}
+use Rattle.s38_dataspaces.specs.Table.{DataTable}
 use Rattle.s38_journals.specs.Journals.{JournalList}
 use Rattle.s38_rules.proofs.RuleLaws.{fails_none, first_none, not_false}
-use Rattle.s38_rules.specs.Changing.{block_rules, change_of, held_rule, logged, logged_in}
-use Rattle.s38_rules.specs.DataSpaces.{at_position, change_at, change_rules, current, current_changes, current_fails, cursor_of, deldsen, entry_rule, insdsen, insdsen_changes, insdsen_fails, insertion, insertion_limits, journal_room, next_ordinal, position_rule, table_of, updsen, updsen_fails, with_changed, with_inserted}
+use Rattle.s38_rules.specs.Changing.{change_of, held_rule, logged, logged_in}
+use Rattle.s38_rules.specs.DataSpaces.{at_position, change_at, change_rules, current_changes, current_fails, cursor_of, deldsen, entry_rule, insdsen, insdsen_changes, insdsen_fails, insertion, insertion_limits, journal_room, next_ordinal, position_rule, table_of, updsen, updsen_fails, with_changed, with_inserted}
 use Rattle.s38_rules.specs.Held.{Held}
-use Rattle.s38_rules.specs.Journaling.{data_port, data_port_in, is_journaled_to, journal_for, open_units}
+use Rattle.s38_rules.specs.Journaling.{data_port, journal_for, open_units}
 use Rattle.s38_rules.specs.Journals.{through_port}
-use Rattle.s38_rules.specs.Operands.{bytes_at, size_at, target}
-use Rattle.s38_rules.specs.Parts.{cursor_lawful, cursor_part, data_lawful, data_part, no_journal, on_cursor, on_data, on_table, over_table, part_at, table_at, table_in}
+use Rattle.s38_rules.specs.Operands.{bytes_at, target}
+use Rattle.s38_rules.specs.Parts.{cursor_lawful, cursor_part, data_lawful, data_part, no_journal, on_cursor, on_data, on_table, over_table, part_at, table_in}
 use Rattle.s38_rules.specs.State.{State}
 use Rattle.s38_rules.specs.Verdict.{refused_by}
 use Rattle.s38_rules.specs.declared.data_body.DataBody.{DataBody}
@@ -35,7 +33,7 @@ use Rattle.s38_commitment_laws.proofs.HeldLaws.{cursor_other, other_carries, ove
 use Rattle.s38_commitment_laws.proofs.JoinLaws.{IsFree}
 use Rattle.s38_commitment_laws.proofs.KeptLaws.{IsLater, Lasts, LastsAt, Spares, all_then, both_hold, grows_by, stays_by, journal_number, lasts_same, right_carried, right_kept}
 use Rattle.s38_commitment_laws.proofs.UnitLaws.{Both}
-use Rattle.s38_commitment_laws.specs.Right.{AreRight, IsChangeOf, IsData, IsEntryOf, IsLogged, IsRight, IsTable, IsUnit}
+use Rattle.s38_commitment_laws.specs.Right.{AreRight, IsChangeOf, IsData, IsEntryOf, IsLogged, IsRight, IsUnit}
 
 -- ---- an entry is changed, journaled or not
 

@@ -1,22 +1,17 @@
 -- What stays of commit blocks, ports, journal spaces and data spaces where an object is changed, made or destroyed.
-use Rattle.std.proofs.Common.{◌+◌, ◌==◌, ◌∙◌, ◌∷◌, ◌≡◌, ◌≤◌, Bool, List, [], ap, arith, cond, false, length, refl, subst, sym, true, ℕ}
+use Rattle.std.proofs.Common.{◌==◌, ◌∙◌, ◌∷◌, ◌≡◌, ◌≤◌, Bool, List, [], ap, arith, cond, false, refl, subst, sym, true, ℕ}
 use Rattle.std.proofs.lemmas.Bool.Decides.{nat_tests}
 use Rattle.std.proofs.lemmas.Bool.{cond_both}
 use Rattle.std.proofs.lemmas.List.Folds.{find-append}
 use Rattle.std.specs.Option.{option_map, option_or}
-use Rattle.std.specs.Prelude.{◌++◌, None, Option, Some}
+use Rattle.std.specs.Prelude.{None, Option, Some}
 use Rattle.s38_base.specs.declared.id.Id.{Id}
-use Rattle.s38_base.specs.declared.id.ObjNum.{ObjNum}
-use Rattle.s38_code.specs.declared.operand.Operand.{Operand}
-use Rattle.s38_journals.specs.Journals.{JournalList}
 use Rattle.s38_commits.proofs.MapLaws.{nat_same}
 use Rattle.s38_rules.proofs.ChargeLaws.{KeepsNumber, object_changed, object_without}
-use Rattle.s38_rules.specs.Creation.{created, creation_changes, destruction_changes, new_object}
-use Rattle.s38_rules.specs.Held.{Held, change, has_number, object, object_in, with_object, without}
-use Rattle.s38_rules.specs.Operands.{target}
-use Rattle.s38_rules.specs.Parts.{IsPart, Part, block_of, block_part, data_of, data_part, journal_of, journal_part, over, over_body, over_object, over_part, part_at, part_in, port_of, port_part}
+use Rattle.s38_rules.specs.Creation.{created, creation_changes, new_object}
+use Rattle.s38_rules.specs.Held.{Held, change, has_number, object, with_object, without}
+use Rattle.s38_rules.specs.Parts.{IsPart, Part, block_of, block_part, data_of, data_part, journal_of, journal_part, over, over_object, over_part, part_at, part_in, port_of, port_part}
 use Rattle.s38_rules.specs.declared.creating.Creating.{Creating}
-use Rattle.s38_rules.specs.declared.data_body.DataBody.{DataBody}
 use Rattle.s38_base.specs.declared.rights.Special.{Special}
 use Rattle.s38_indexes.specs.Entries.{EntryIndex}
 use Rattle.s38_memory.specs.declared.cell.Cell.{Cell}

@@ -1,6 +1,6 @@
 -- Units stay right where what they name stays: their commit blocks and ports as they are, their journal spaces with all
 -- entries, and their data spaces with their fields, ports and ordinals.
-use Rattle.std.proofs.Common.{◌*◌, ◌+◌, ◌==◌, ◌∙◌, ◌∷◌, ◌≡◌, ◌≤◌, Bool, List, [], ap, arith, cond, false, length, refl, subst, sym, true, ℕ}
+use Rattle.std.proofs.Common.{◌*◌, ◌==◌, ◌∙◌, ◌∷◌, ◌≡◌, ◌≤◌, Bool, List, [], ap, arith, cond, false, length, refl, subst, sym, true, ℕ}
 use Rattle.std.proofs.lemmas.Bool.{and_parts}
 use Rattle.std.proofs.lemmas.List.Elements.{All-cons, All-head, All-nil, All-tail}
 use Rattle.std.specs.Option.{unwrap_or}
@@ -10,15 +10,15 @@ use Rattle.s38_commits.proofs.MapLaws.{nat_itself, nat_same}
 use Rattle.s38_commits.specs.Units.{UnitMap}
 use Rattle.s38_commits.specs.declared.change.UnitChange.{UnitChange}
 use Rattle.s38_journals.specs.Journals.{JournalList}
-use Rattle.s38_rules.specs.Held.{Held, object}
-use Rattle.s38_rules.specs.Journaling.{block_port, block_port_in, data_port, data_port_in, goes_to, is_journal, is_journaled_to, is_number, journal_behind, journal_for, journal_for_block, journal_named, open_units}
+use Rattle.s38_rules.specs.Held.{Held}
+use Rattle.s38_rules.specs.Journaling.{block_port, block_port_in, data_port, data_port_in, goes_to, is_journal, is_number, journal_behind, journal_for, journal_for_block, journal_named, open_units}
 use Rattle.s38_rules.specs.Parts.{block_part, data_part, journal_at, journal_part, no_journal, part_at, port_part}
 use Rattle.s38_rules.specs.declared.block.Block.{Block}
 use Rattle.s38_rules.specs.declared.data_body.DataBody.{DataBody}
 use Rattle.s38_rules.specs.declared.port.Port.{Port}
 use Rattle.s38_commitment_laws.proofs.HeldLaws.{Carries, Stays}
 use Rattle.s38_commitment_laws.proofs.UnitLaws.{Both, count_first, one_if}
-use Rattle.s38_commitment_laws.specs.Right.{AreRight, IsChange, IsChangeOf, IsData, IsEntryOf, IsLogged, IsUnit, IsUnused, journal_of}
+use Rattle.s38_commitment_laws.specs.Right.{AreRight, IsChangeOf, IsData, IsEntryOf, IsLogged, IsUnit, IsUnused, journal_of}
 
 pub both_hold : (a b : Bool) → a ≡ true → b ≡ true → (a && b) ≡ true
 both_hold true true p q = refl

@@ -1,7 +1,7 @@
 -- Units stay right whatever a permitted instruction changes: each row.
-use Rattle.std.proofs.Common.{◌∙◌, ◌∷◌, ◌≡◌, Bool, List, [], ap, cond, false, refl, sym, true, ℕ}
+use Rattle.std.proofs.Common.{◌∷◌, ◌≡◌, Bool, List, [], ap, cond, false, refl, true, ℕ}
 use Rattle.std.proofs.lemmas.List.Elements.{All-nil}
-use Rattle.std.specs.Prelude.{◌-◌, ◌^◌, None, Option, Some, bit_and, bit_or, is_some}
+use Rattle.std.specs.Prelude.{◌-◌, ◌^◌, None, Option, Some, bit_and, bit_or}
 use Rattle.s38_base.specs.Pointers.{start_of, target_of}
 use Rattle.s38_base.specs.RightNames as rights
 use Rattle.s38_base.specs.declared.attr.Attr.TheVariants as attrs
@@ -21,21 +21,19 @@ use Rattle.s38_code.specs.declared.operand.Operand.{Operand}
 use Rattle.s38_code.specs.declared.program.Program.{Program}
 use Rattle.s38_code.specs.declared.reply.Val.TheVariants as vals
 use Rattle.s38_code.specs.declared.reply.Val.{Val}
-use Rattle.s38_commits.specs.Units.{unit_of}
 use Rattle.s38_dataspaces.specs.Table.{are_fields}
 use Rattle.s38_memory.specs.declared.cell.Cell.{Cell}
 use Rattle.s38_rules.proofs.RuleLaws.{fails_none, first_none}
 use Rattle.s38_rules.specs.Cells.{with_bytes, with_cells, with_pointer}
 use Rattle.s38_rules.specs.Computing.{receiver_at, shift_at}
 use Rattle.s38_rules.specs.Contexts.{contexts_row, crtctx_changes, desctx, modadr_changes, rename_changes, renamed_by}
-use Rattle.s38_rules.specs.DataSpaces.{attributes_of, crtcr_changes, crtds_changes, data_spaces_row, deldsen, descr, desds, desds_fails, insdsen, new_data_space, proper_fields, setcr_changes, updsen}
+use Rattle.s38_rules.specs.DataSpaces.{attributes_of, crtcr_changes, crtds_changes, data_spaces_row, descr, desds, desds_fails, new_data_space, proper_fields, setcr_changes}
 use Rattle.s38_rules.specs.Effect.{effect}
 use Rattle.s38_rules.specs.Grants.{grant_changes, grants_row, retract_changes, rights_of, user_at, with_rights, xfro_changes}
 use Rattle.s38_rules.specs.Held.{Held, ensured, kept_on_disk, moved}
 use Rattle.s38_rules.specs.Indexes.{crtinx_changes, desinx, indexes_row, insinxen_changes, rmvinxen_changes}
 use Rattle.s38_rules.specs.Instruction.{Instruction}
 use Rattle.s38_rules.specs.Invocations.{restack_at}
-use Rattle.s38_rules.specs.Journaling.{journal_for}
 use Rattle.s38_rules.specs.Journals.{commit_changes, crtcb_changes, crtjp_changes, crtjs_changes, decommit_changes, descb, descb_fails, desjp, desjp_fails, desjs, desjs_fails, ensobj_changes, journals_row, jrnlobj, jrnlobj_changes, jrnlobj_fails, through_port}
 use Rattle.s38_rules.specs.Locking.{lock_changes, locks_row, unlock_changes, xfrlock_changes}
 use Rattle.s38_rules.specs.Operands.{deliver, delivered, id_at, is_given, place, put_value, rights_at, source_cells, target}
@@ -57,7 +55,7 @@ use Rattle.s38_commitment_laws.proofs.EndLaws.{commit_right, decommit_right}
 use Rattle.s38_commitment_laws.proofs.EntryLaws.{deldsen_right, insdsen_right, journaling_right, updsen_right}
 use Rattle.s38_commitment_laws.proofs.HeldLaws.{Carries, carries_same, cursor_other, index_other, profile_other, queue_other, space_other, creation_carries, header_carries, other_carries}
 use Rattle.s38_commitment_laws.proofs.KeptLaws.{right_carried}
-use Rattle.s38_commitment_laws.specs.Right.{AreRight, IsData, IsEntryOf, IsRight}
+use Rattle.s38_commitment_laws.specs.Right.{IsData, IsEntryOf, IsRight}
 
 -- ---- the words by which most rows change the objects
 

@@ -1,5 +1,5 @@
 -- Step by step the units stay right, from the machine's beginning on.
-use Rattle.std.proofs.Common.{◌++◌, ◌+◌, ◌∷◌, ◌≡◌, ◌≤◌, Bool, List, [], arith, cond, false, refl, subst, sym, true, ℕ}
+use Rattle.std.proofs.Common.{◌++◌, ◌∷◌, ◌≡◌, ◌≤◌, Bool, List, [], arith, false, refl, subst, sym, true, ℕ}
 use Rattle.std.proofs.lemmas.Bool.{cond_both}
 use Rattle.std.proofs.lemmas.List.Elements.{All-nil}
 use Rattle.std.specs.List.{AllByRecursion}
@@ -22,7 +22,7 @@ use Rattle.s38_rules.specs.Opening.{held_first, held_installed, installed, openi
 use Rattle.s38_rules.specs.Parts.{data_of, data_part, part_at, part_in}
 use Rattle.s38_rules.specs.Rows.{row}
 use Rattle.s38_rules.specs.State.{State, process_entry, waits}
-use Rattle.s38_rules.specs.Step.{Stepped, by_verdict, by_waiting, step}
+use Rattle.s38_rules.specs.Step.{by_verdict, by_waiting, step}
 use Rattle.s38_rules.specs.Verdict.{awake_verdict, refused_by}
 use Rattle.s38_rules.specs.declared.object.Object.{Object}
 use Rattle.s38_rules.specs.declared.process.ProcessEntry.{ProcessEntry}
