@@ -2,7 +2,8 @@
 -- none; room that is given back was never taken.
 use Rattle.std.proofs.Common.{◌≡◌, ℕ, ◌+◌, ◌<◌, ◌==◌, Bool, true, false, cond, List, [], ◌∷◌, ap, arith, length, refl, subst, sym, ◌∙◌}
 use Rattle.std.proofs.lemmas.Bool.Decides.{nat_tests}
-use Rattle.std.specs.Prelude.{Err, IfSome, Ok, OnErr, OnOk, Option, Result, Some, None, filter, is_some}
+use Rattle.std.proofs.lemmas.Option.{same_Some}
+use Rattle.std.specs.Prelude.{◌||◌, Err, IfSome, Ok, OnErr, OnOk, Option, Result, Some, None, filter, is_some}
 use Rattle.std.specs.Option.{option_map, unwrap_or}
 use Rattle.s38_base.specs.declared.fault.NoMemory.{NoMemory}
 use Rattle.s38_commits.specs.declared.change.UnitChange.{UnitChange}
@@ -20,7 +21,7 @@ use Rattle.s38_rules.specs.declared.object.Body.{Body}
 use Rattle.s38_rules.specs.declared.object.Body.TheVariants as bodies
 use Rattle.s38_rules.specs.declared.object.Object.{Object}
 use Rattle.s38_rules.specs.declared.port.Port.{Port}
-use Rattle.s38_rules.specs.Changing.{change_entry, is_journal_full, logged, logged_in, next_sequence, number_for, units_behind, with_change_logged}
+use Rattle.s38_rules.specs.Changing.{are_units_full, change_entry, is_journal_full, is_unit_full, journal_rule, logged, logged_in, next_sequence, number_for, units_behind, with_change_logged}
 use Rattle.s38_rules.specs.DataSpaces.{with_inserted}
 use Rattle.s38_rules.specs.Held.{Held, object}
 use Rattle.s38_rules.specs.Journaling.{begins_unit, block_port_in, data_port, goes_to, is_journal, is_number, journal_behind, journal_for, journal_for_block, journal_named, open_behind, open_units}
@@ -28,10 +29,10 @@ use Rattle.s38_rules.specs.Kept.{Mirrors}
 use Rattle.s38_rules.specs.State.{State}
 use Rattle.s38_profiles.specs.ProfileMaps.{ProfileMaps}
 use Rattle.s38_units.proofs.KeptLaws.{journal_kept}
-use Rattle.s38_units.proofs.UnitLaws.{named_there}
 use Rattle.s38_cursors.proofs.CursorLaws.{table_kept}
 use Rattle.s38_rules.specs.Parts.{block_part, data_lawful, data_part, journal_at, journal_part, no_journal, on_data, on_journal, on_table, over_body, over_object, over_table, part_at, part_in, port_part, table_at, table_in}
 use Rattle.s38_rules.proofs.ChargeLaws.{object_changed}
+use Rattle.s38_rules.proofs.RuleLaws.{fails_none}
 use Rattle.s38_rules.proofs.PartLaws.{part_apart, part_left, part_twice, parts_commute}
 
 -- ---- what a data space holds is nothing to ports, journal spaces and commit blocks
@@ -245,9 +246,26 @@ unfolding logged
 insertion_ok s p block journal change entry (Ok x) h units there objects behind = rw (there, objects, behind) refl
 insertion_ok s p block journal change entry (Err e) h units there objects behind = tt
 
+named_there : (h : Held) (port : Option Port) (n : ℕ) → journal_named h port ≡ Some n → is_journal h n ≡ true
+named_there h None n e = cc
+named_there h (Some port) n e = by (is_journal h port.journal.0) refl e
+  where
+    by : (b : Bool) → is_journal h port.journal.0 ≡ b → cond b (Some port.journal.0) None ≡ Some n → is_journal h n ≡ true
+    by true there same = subst (λ (k : ℕ). is_journal h k ≡ true) (same_Some port.journal.0 n same) there
+    by false there same = cc
+
 -- the journal space of a data space that is journaled is there
 pub journal_there : (h : Held) (space journal : ℕ) → journal_for h space ≡ Some journal → is_journal h journal ≡ true
 journal_there h space journal there = named_there h (part_at port_part h (data_port h space)) journal there
+
+or_false : (a b : Bool) → (a || b) ≡ false → a ≡ false
+or_false true b e = cc
+or_false false b e = refl
+
+-- and has room, where no rule fails
+pub room_met : (s : State) (block bytes journal : ℕ) → journal_rule s block bytes (Some journal) ≡ None → is_journal_full s.held s.units journal block bytes ≡ false
+room_met s block bytes journal none =
+    or_false (is_journal_full s.held s.units journal block bytes) (are_units_full s.held s.units journal block || is_unit_full s.units block bytes) (fails_none _ _ _ none)
 
 logged_in_table : (s : State) (p block : ℕ) (change : UnitChange) (journal : Option ℕ) (n : ℕ) → table_at (logged_in s p block change journal).held n ≡ table_at s.held n
 logged_in_table s p block change None n = refl

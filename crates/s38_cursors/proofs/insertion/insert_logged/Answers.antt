@@ -3,9 +3,8 @@ use Rattle.s38_base.specs.Limits.{furthest}
 use Rattle.s38_cursors.specs.Insertion.{logged_by}
 use Rattle.s38_rules.specs.Parts.{table_at}
 use Rattle.s38_rules.specs.State.{State}
-use Rattle.s38_units.proofs.UnitLaws.{room_met}
 use Rattle.s38_cursors.proofs.CursorLaws.{taken_by}
-use Rattle.s38_cursors.proofs.InsertLaws.{inserted_left, insertion_ok, journal_there}
+use Rattle.s38_cursors.proofs.InsertLaws.{inserted_left, insertion_ok, journal_there, room_met}
 use Rattle.s38_cursors.proofs.insertion.insert_logged.Goals as goal
 
 pub insert_both-requires-clause-there : goal.insert_both-requires-clause-there
