@@ -18,7 +18,7 @@ use Rattle.s38_process.specs.Process.{is_finish}
 use Rattle.s38_code.specs.Operations.{family_of}
 use Rattle.s38_rules.specs.Rows.{row}
 use Rattle.s38_rules.specs.Instruction.{AreKept}
-use Rattle.s38_rules.proofs.Laws.{act_keeps, keeps_row, kept_count}
+use Rattle.s38_rules.proofs.Laws.{act_keeps, all_decommitted_keeps, keeps_row, kept_count}
 use Rattle.s38_run.specs.Running.{HasEnded, OthersStay}
 use Rattle.s38_run.proofs.WaitLaws.{waits_beside}
 use Rattle.s38_run.proofs.ReadyLaws.{OtherReady, kept_outline, outline, start_outline, with_waiting}
@@ -50,7 +50,9 @@ start_stays s p (Some x) = set_stays s.processes (p - 1) _
 
 end_stays : (s : State) (p : ℕ) (o : Option ProcessEntry) → OthersStay s.processes (end_at s p o).processes (p - 1)
 end_stays s p None = same_stays s.processes (p - 1)
-end_stays s p (Some x) = set_stays s.processes (p - 1) _
+end_stays s p (Some x) =
+    subst (λ (ys : List ProcessEntry). OthersStay s.processes (slice_set ys (p - 1) (record x { ended = true })) (p - 1))
+    (sym (all_decommitted_keeps s.units s p)) (set_stays s.processes (p - 1) (record x { ended = true }))
 
 kept_stays : (p : ℕ) (xs ys : List ProcessEntry) → AreKept p xs ys → OthersStay xs ys (p - 1)
 kept_stays p xs ys kept = record { count = kept_count p xs ys kept; same = kept.others }
@@ -75,7 +77,9 @@ end_ends s p None h within = elim (slice_get_cases s.processes (p - 1)).1 as (λ
   where
     none_some : (x : ProcessEntry) → None ≡ Some x → ⊥
     none_some x g = cc
-end_ends s p (Some x) h within = record { is = λ d. rw get_or-set_same refl }
+end_ends s p (Some x) h within =
+    subst (λ (ys : List ProcessEntry). HasEnded (slice_set ys (p - 1) (record x { ended = true })) (p - 1))
+    (sym (all_decommitted_keeps s.units s p)) (record { is = λ d. rw get_or-set_same refl })
 
 effect_ends : (s : State) (p : ℕ) (e : Event) → is_finish e ≡ true → p - 1 < length s.processes → HasEnded (effect_of s p e).state.processes (p - 1)
 unfolding effect_of
