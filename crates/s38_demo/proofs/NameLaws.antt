@@ -29,8 +29,8 @@ not_same : (i j : ℕ) → i < j → j ≤ 200 → bytes_eq (post_name i) (post_
 not_same i j less last =
     elim (cases_Bool (bytes_eq (post_name i) (post_name j))) [
       | inl e ↦ absurd (
-        let same : decimal i ≡ decimal j = ap (drop 4) ((bytes_eq-Decides (post_name i) (post_name j)).0 e) in
-        omega (arith, less, decimal_injective i j (omega (arith, less, last)) (omega (arith, last)) same))
+          let same : decimal i ≡ decimal j = ap (drop 4) ((bytes_eq-Decides (post_name i) (post_name j)).0 e) in
+          omega (arith, less, decimal_injective i j (omega (arith, less, last)) (omega (arith, last)) same))
       | inr e ↦ e
     ]
 
@@ -66,9 +66,9 @@ has_post a zero j low high = absurd (omega (arith, low, high))
 has_post a (suc k) j low high =
     elim (cases_Bool (nat_le j a)) [
       | inl e ↦ let same : a ≡ j = omega (arith, low, leb-true j a e) in
-        or_left (bytes_eq (post_name a) (post_name j)) (has (names_from (a + 1) k) (post_name j)) (subst (λ x. bytes_eq (post_name a) (post_name x) ≡ true) same (same_text (post_name a)))
+          or_left (bytes_eq (post_name a) (post_name j)) (has (names_from (a + 1) k) (post_name j)) (subst (λ x. bytes_eq (post_name a) (post_name x) ≡ true) same (same_text (post_name a)))
       | inr e ↦ let more : a + 1 ≤ j = grind (arith, nat_tests, e) in
-        or_right (bytes_eq (post_name a) (post_name j)) (has (names_from (a + 1) k) (post_name j)) (has_post (a + 1) k j more (omega (arith, high)))
+          or_right (bytes_eq (post_name a) (post_name j)) (has (names_from (a + 1) k) (post_name j)) (has_post (a + 1) k j more (omega (arith, high)))
     ]
 
 -- jobs of postings from a on, and that of the total

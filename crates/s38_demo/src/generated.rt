@@ -46,13 +46,7 @@ const POST_FRONT: &[&[u8]] = &[
 ];
 
 /// What stands behind it.
-const POST_BACK: &[&[u8]] = &[
-    b"UPDSEN K,V",
-    b"COMMIT B",
-    b"UNLOCK D,LENR",
-    b"RTX",
-    b"END",
-];
+const POST_BACK: &[&[u8]] = &[b"UPDSEN K,V", b"COMMIT B", b"UNLOCK D,LENR", b"RTX", b"END"];
 
 const TOTAL: &[&[u8]] = &[
     b"PROGRAM TOTAL",
@@ -181,7 +175,10 @@ pub fn deck_of(alloc: Global, size: u32) -> Result<Vec<u8>, NoMemory>
     add_setup(&mut text)?;
     add_posts(&mut text, size)?;
     add_total(&mut text)?;
-    add(&mut text, b"STAGE\nJOB SETUP USER QSECOFR RUN SETUP\nSTAGE\n")?;
+    add(
+        &mut text,
+        b"STAGE\nJOB SETUP USER QSECOFR RUN SETUP\nSTAGE\n",
+    )?;
     add_post_jobs(&mut text, size)?;
     add(&mut text, b"STAGE\nJOB TOTAL USER QSECOFR RUN TOTAL\n")?;
     Ok(text)

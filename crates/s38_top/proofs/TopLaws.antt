@@ -209,7 +209,6 @@ serves_by words left left' taken taken' written written' (Checked checked) histo
       still = h;
     } in
     subst (λ (c : Option Command). Serves c left left' written written' history) (sym holds.0) checked_is
-
 serves_by words left left' taken taken' written written' (Demonstrated size whole) history holds told s h =
     let demonstrated : IsDemonstrated size left left' written written' history =
     subst (λ (es : List Entry). IsDemonstrated size left left' written written' es) (sym h) (record {

@@ -95,11 +95,7 @@ fn tell_demo<O: Sink>(alloc: Global, size: u32, whole: Whole, out: &mut O) -> To
 {
     match demo_text(alloc, size, whole.history.as_slice()) {
         Err(_) => tell_text(Outcome::NoMemory, b"NO MEMORY\n", out),
-        Ok(text) => tell_text(
-            Outcome::Demonstrated { size, whole },
-            text.as_slice(),
-            out,
-        ),
+        Ok(text) => tell_text(Outcome::Demonstrated { size, whole }, text.as_slice(), out),
     }
 }
 
