@@ -1,5 +1,5 @@
 /* The peer of queues, indexes and data spaces: an in-memory database of SQLite, by prepared statements on one connection, in one
-   transaction. It prints seconds and the library's version.
+   transaction but where it says otherwise. It prints seconds and the library's version.
    peer_sqlite traffic PAIRS        so many puts, each followed by a take. A put inserts a message; a take selects the
                                     oldest message and deletes it.
    peer_sqlite keyed COUNT PAIRS    the same by keys, where COUNT messages stay in the queue: a put inserts a message
@@ -7,7 +7,10 @@
    peer_sqlite pairs COUNT PAIRS    inserts a new entry into a table of COUNT entries, and deletes it again, so often.
    peer_sqlite find COUNT FINDS     selects an entry of a table of COUNT entries, so often.
    peer_sqlite insert COUNT         inserts so many rows of 32 bytes into a table by row number; `update` and `read` update
-                                    each of them by its number, or select all in their order. */
+                                    each of them by its number, or select all in their order.
+   peer_sqlite commit COUNT         updates a row in so many transactions, each of which is committed; `decommit` rolls
+                                    each of them back.
+   peer_sqlite demo COUNT           reads a total, adds to it, and updates it, in so many transactions, each committed. */
 #include <sqlite3.h>
 #include <stdio.h>
 #include <stdlib.h>
@@ -204,6 +207,46 @@ static double read_rows(long count)
     return now() - begun;
 }
 
+/* A row that is updated in so many transactions, each of which ends so. */
+static double transactions(long count, const char *end)
+{
+    inserted_rows(1);
+    once("commit");
+    sqlite3_stmt *beginning = prepared("begin");
+    sqlite3_stmt *ending = prepared(end);
+    sqlite3_stmt *update = prepared("update records set entry = ? where id = 1");
+    double begun = now();
+    for (long k = 0; k < count; k++) {
+        done(beginning);
+        need(sqlite3_bind_blob(update, 1, record, sizeof record, SQLITE_STATIC) == SQLITE_OK, "bind");
+        done(update);
+        done(ending);
+    }
+    return now() - begun;
+}
+
+/* A total to which so many transactions add, each what the job of its number adds. */
+static double totals(long count)
+{
+    once("create table totals (id integer primary key, total integer)");
+    once("insert into totals (total) values (0)");
+    sqlite3_stmt *beginning = prepared("begin");
+    sqlite3_stmt *ending = prepared("commit");
+    sqlite3_stmt *reading = prepared("select total from totals where id = 1");
+    sqlite3_stmt *update = prepared("update totals set total = ? where id = 1");
+    double begun = now();
+    for (long k = 1; k <= count; k++) {
+        done(beginning);
+        need(sqlite3_step(reading) == SQLITE_ROW, "a total");
+        sqlite3_int64 total = sqlite3_column_int64(reading, 0) + 7 * k % 100 + 1;
+        sqlite3_reset(reading);
+        need(sqlite3_bind_int64(update, 1, total) == SQLITE_OK, "bind");
+        done(update);
+        done(ending);
+    }
+    return now() - begun;
+}
+
 int main(int argc, char **argv)
 {
     const char *what = argc > 2 ? argv[1] : "";
@@ -225,6 +268,12 @@ int main(int argc, char **argv)
         taken = updated_rows(first);
     else if (strcmp(what, "read") == 0)
         taken = read_rows(first);
+    else if (strcmp(what, "commit") == 0)
+        taken = transactions(first, "commit");
+    else if (strcmp(what, "decommit") == 0)
+        taken = transactions(first, "rollback");
+    else if (strcmp(what, "demo") == 0)
+        taken = totals(first);
     else
         need(0, "no such part");
     printf("%.6f %s\n", taken, sqlite3_libversion());

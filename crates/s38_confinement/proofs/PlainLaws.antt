@@ -1,5 +1,5 @@
 -- What most instructions do is plain: the words by which they change the objects, and each of their rows.
-use Rattle.std.proofs.Common.{◌+◌, ◌==◌, ◌∙◌, ◌≡◌, Bool, List, [], ap, cond, false, refl, subst, sym, true, ℕ}
+use Rattle.std.proofs.Common.{◌+◌, ◌==◌, ◌∙◌, ◌∷◌, ◌≡◌, Bool, List, [], ap, cond, false, refl, subst, sym, true, ℕ}
 use Rattle.std.proofs.lemmas.Bool.{cond_both}
 use Rattle.std.proofs.lemmas.List.Elements.{All-cons, All-filter, All-nil}
 use Rattle.std.specs.Option.{option_map}

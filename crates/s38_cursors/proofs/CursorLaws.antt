@@ -1,14 +1,20 @@
 -- Seeks that find nothing, what a change of entries has met, and what it leaves of what is kept of users.
-use Rattle.std.proofs.Common.{◌≡◌, ℕ, zero, suc, ◌+◌, ◌*◌, ◌-◌, ◌<◌, ◌≤◌, ◌==◌, true, false, List, [], ◌∷◌, arith, length, refl, sym, subst}
-use Rattle.std.specs.Prelude.{min, Option, Some, None, Result, Ok, Err, OnOk, OnErr, is_none, is_some}
+use Rattle.std.proofs.Common.{◌≡◌, ℕ, zero, suc, ◌+◌, ◌*◌, ◌-◌, ◌<◌, ◌≤◌, ◌==◌, ◌∙◌, true, false, List, [], ◌∷◌, ap, arith, length, refl, sym, subst}
+use Rattle.std.proofs.lemmas.Bool.Decides.{nat_tests}
+use Rattle.std.specs.Prelude.{min, Option, Some, None, Result, Ok, Err, OnOk, OnErr, is_none, is_some, nat_lt}
 use Rattle.s38_base.specs.declared.attr.Attr.{Attr}
 use Rattle.s38_base.specs.declared.exception.Exception.{Exception}
 use Rattle.s38_base.specs.declared.fault.NoMemory.{NoMemory}
 use Rattle.s38_base.specs.declared.words.Seek.{Seek}
 use Rattle.s38_base.specs.declared.words.Seek.TheVariants.{First, Last, Next, Prev, At}
+use Rattle.s38_base.specs.Signals.{first}
+use Rattle.s38_base.specs.Exceptions as exceptions
+use Rattle.s38_base.specs.Limits.{furthest}
 use Rattle.s38_code.specs.declared.operand.Operand.{Operand}
+use Rattle.s38_commits.specs.declared.change.UnitChange.{UnitChange}
+use Rattle.s38_commits.specs.Changes.{journal_bytes}
 use Rattle.s38_dataspaces.specs.Entries.{Entry, entry_at}
-use Rattle.s38_dataspaces.specs.Refusals.{delete_refusal, update_refusal}
+use Rattle.s38_dataspaces.specs.Refusals.{delete_refusal, insert_refusal, update_refusal}
 use Rattle.s38_dataspaces.specs.Seeks.{last_up_to, next_above, sought, stands_at}
 use Rattle.s38_dataspaces.specs.Table.{DataTable, entry_len, image_size}
 use Rattle.s38_dataspaces.specs.Values.{have_values}
@@ -16,9 +22,11 @@ use Rattle.s38_profiles.specs.ProfileMaps.{ProfileMaps}
 use Rattle.s38_changes.proofs.KeptLaws.{IsUnkept, part_unkept}
 use Rattle.s38_rules.specs.declared.cursor.Cursor.{Cursor}
 use Rattle.s38_rules.specs.declared.data_body.DataBody.{DataBody}
+use Rattle.s38_rules.specs.Changing.{block_rules, held_rule, journal_rule, logged}
 use Rattle.s38_rules.specs.Creation.{creation_fails}
-use Rattle.s38_rules.specs.DataSpaces.{created_cursor, created_data_space, crtcr_fails, crtds_fails, current_fails, cursor_of, entry_rule, insdsen_fails, standing, table_of, updsen_fails}
+use Rattle.s38_rules.specs.DataSpaces.{change_at, change_rules, created_cursor, created_data_space, crtcr_fails, crtds_fails, current_fails, cursor_of, entry_rule, insdsen_fails, insertion, insertion_limits, journal_room, next_ordinal, position_rule, room_rule, standing, table_of, updsen_fails}
 use Rattle.s38_rules.specs.Held.{Held}
+use Rattle.s38_rules.specs.Journaling.{journal_for}
 use Rattle.s38_rules.specs.Kept.{Mirrors}
 use Rattle.s38_rules.specs.Operands.{bytes_at}
 use Rattle.s38_rules.specs.Parts.{cursor_lawful, cursor_part, data_lawful, data_part, on_cursor, on_table, over_table}
@@ -97,9 +105,86 @@ entry_met fields h ops none =
     let parts = first_none _ _ none in
     (not_false _ (fails_none _ _ _ parts.0), not_false _ (fails_none _ _ _ parts.1))
 
+-- the first of two rules that fails, and the second where the first holds
+pub first_some : (a b : Option Exception) (x : Exception) → a ≡ Some x → Some x ≡ first a b
+first_some a b x e = sym (ap (λ (o : Option Exception). first o b) e)
+
+pub first_rest : (a b c : Option Exception) → a ≡ None → c ≡ b → c ≡ first a b
+first_rest a b c e same = same ∙ sym (ap (λ (o : Option Exception). first o b) e)
+
+nat_same : (a b : ℕ) → (a == b) ≡ true → a ≡ b
+nat_same a b h = grind (arith, nat_tests)
+
+nat_at_itself : (n : ℕ) → (n == n) ≡ true
+nat_at_itself n = grind (arith, nat_tests)
+
+-- an entry that is taken has the length of the fields
+pub entry_sized : (fields : List Attr) (h : Held) (ops : List Operand) → entry_rule fields h ops ≡ None → length (bytes_at h ops 2) ≡ entry_len fields
+entry_sized fields h ops none = nat_same _ _ (entry_met fields h ops none).0
+
 pub insdsen_met : (s : State) (p : ℕ) (ops : List Operand) → insdsen_fails s p ops ≡ None → have_values (table_of s.held ops 1).fields (bytes_at s.held ops 2) ≡ true
 unfolding insdsen_fails
 insdsen_met s p ops none = (entry_met (table_of s.held ops 1).fields s.held ops (first_none _ _ none).0).1
+
+-- the change may be made, and there is room for it
+insdsen_changes_limits : (s : State) (p : ℕ) (ops : List Operand) → insdsen_fails s p ops ≡ None
+    → (change_rules s p (cursor_of s.held ops 1) (next_ordinal (table_of s.held ops 1)) ≡ None) × (insertion_limits s ops ≡ None)
+unfolding insdsen_fails
+insdsen_changes_limits s p ops none =
+    let change = change_rules s p (cursor_of s.held ops 1) (next_ordinal (table_of s.held ops 1)) in
+    let limits = insertion_limits s ops in
+    first_none change limits (first_none (entry_rule (table_of s.held ops 1).fields s.held ops) (first change limits) none).1
+
+pub insdsen_limits : (s : State) (p : ℕ) (ops : List Operand) → insdsen_fails s p ops ≡ None
+    → (room_rule s.limit (table_of s.held ops 1) ≡ None)
+    × (journal_rule s (cursor_of s.held ops 1).block.0 (journal_bytes (insertion s.held ops)) (journal_for s.held (cursor_of s.held ops 1).space.0) ≡ None)
+insdsen_limits s p ops none =
+    first_none (room_rule s.limit (table_of s.held ops 1)) (journal_room s (cursor_of s.held ops 1) (insertion s.held ops)) (insdsen_changes_limits s p ops none).1
+
+pub insdsen_sized : (s : State) (p : ℕ) (ops : List Operand) → insdsen_fails s p ops ≡ None → length (bytes_at s.held ops 2) ≡ entry_len (table_of s.held ops 1).fields
+unfolding insdsen_fails
+insdsen_sized s p ops none = entry_sized (table_of s.held ops 1).fields s.held ops (first_none _ _ none).0
+
+not_more : (limit size : ℕ) → nat_lt limit size ≡ false → limit ≤ 16777216 → nat_lt 16777216 size ≡ false
+not_more limit size h few = grind (arith, nat_tests)
+
+-- a data space takes an entry of its length, where its image stays within a limit
+pub taken_by : (limit : ℕ) (table : DataTable) (entry : List ℕ) → limit ≤ furthest → length entry ≡ entry_len table.fields → room_rule limit table ≡ None → insert_refusal table entry ≡ None
+taken_by limit table entry few long room =
+    let same : (length entry == entry_len table.fields) ≡ true = rw long (nat_at_itself (entry_len table.fields)) in
+    let small : nat_lt 16777216 (image_size table.fields (length table.entries + 1)) ≡ false =
+    not_more limit (image_size table.fields (length table.entries + 1)) (fails_none (nat_lt limit (image_size table.fields (length table.entries + 1))) exceptions.limit_exceeded 0 room) few in
+    rw (same, small) refl
+
+current_changes_limits : (s : State) (p : ℕ) (ops : List Operand) (entry : Entry) → current_fails s p ops entry ≡ None
+    → (change_rules s p (cursor_of s.held ops 1) (cursor_of s.held ops 1).position ≡ None)
+    × (journal_rule s (cursor_of s.held ops 1).block.0 (journal_bytes (change_at s.held ops entry)) (journal_for s.held (cursor_of s.held ops 1).space.0) ≡ None)
+unfolding current_fails
+current_changes_limits s p ops entry none =
+    let change = change_rules s p (cursor_of s.held ops 1) (cursor_of s.held ops 1).position in
+    let room = journal_room s (cursor_of s.held ops 1) (change_at s.held ops entry) in
+    first_none change room (first_none (position_rule s.held ops 1) (first change room) none).1
+
+pub current_room : (s : State) (p : ℕ) (ops : List Operand) (entry : Entry) → current_fails s p ops entry ≡ None
+    → journal_rule s (cursor_of s.held ops 1).block.0 (journal_bytes (change_at s.held ops entry)) (journal_for s.held (cursor_of s.held ops 1).space.0) ≡ None
+current_room s p ops entry none = (current_changes_limits s p ops entry none).1
+
+pub current_free : (s : State) (p : ℕ) (ops : List Operand) (entry : Entry) → current_fails s p ops entry ≡ None
+    → held_rule s.units p (cursor_of s.held ops 1).block.0 (cursor_of s.held ops 1).space.0 (cursor_of s.held ops 1).position ≡ None
+current_free s p ops entry none =
+    (first_none (held_rule s.units p (cursor_of s.held ops 1).block.0 (cursor_of s.held ops 1).space.0 (cursor_of s.held ops 1).position)
+    (block_rules s p (cursor_of s.held ops 1).block.0 (cursor_of s.held ops 1).space.0) (current_changes_limits s p ops entry none).0).0
+
+pub insdsen_free : (s : State) (p : ℕ) (ops : List Operand) → insdsen_fails s p ops ≡ None
+    → held_rule s.units p (cursor_of s.held ops 1).block.0 (cursor_of s.held ops 1).space.0 (next_ordinal (table_of s.held ops 1)) ≡ None
+insdsen_free s p ops none =
+    (first_none (held_rule s.units p (cursor_of s.held ops 1).block.0 (cursor_of s.held ops 1).space.0 (next_ordinal (table_of s.held ops 1)))
+    (block_rules s p (cursor_of s.held ops 1).block.0 (cursor_of s.held ops 1).space.0) (insdsen_changes_limits s p ops none).0).0
+
+-- of a data space that is not journaled nothing is logged
+pub unlogged : (s : State) (p block : ℕ) (change : UnitChange) → journal_for s.held change.space.0 ≡ None → s ≡ logged s p block change
+unfolding logged
+unlogged s p block change none = rw none refl
 
 pub updsen_valued : (s : State) (p : ℕ) (ops : List Operand) → updsen_fails s p ops ≡ None → have_values (table_of s.held ops 1).fields (bytes_at s.held ops 2) ≡ true
 unfolding updsen_fails

@@ -1,9 +1,17 @@
 -- Room for an entry that is to be inserted: taken before anything changes, and given back where something is refused.
-use Rattle.std.specs.Prelude.{ℕ, ◌==◌, Bool, false, Option, Some, None, if◌then◌else◌}
+use Rattle.std.specs.Prelude.{ℕ, ◌==◌, Bool, false, List, Option, Some, None, if◌then◌else◌}
+use Rattle.s38_commits.specs.declared.change.UnitChange.{UnitChange}
+use Rattle.s38_commits.specs.Changes.{journal_bytes}
+use Rattle.s38_commits.specs.Units.{UnitMap}
 use Rattle.s38_dataspaces.specs.Table.{DataTable}
+use Rattle.s38_journals.specs.Journals.{JournalList}
 use Rattle.s38_rules.specs.declared.data_body.DataBody.{DataBody}
+use Rattle.s38_rules.specs.Changing.{change_entry, logged, next_sequence, number_for, with_change_logged}
+use Rattle.s38_rules.specs.DataSpaces.{with_inserted}
 use Rattle.s38_rules.specs.Held.{Held}
-use Rattle.s38_rules.specs.Parts.{data_part, on_table, part_at}
+use Rattle.s38_rules.specs.Journaling.{open_behind}
+use Rattle.s38_rules.specs.Parts.{data_part, journal_at, on_table, part_at}
+use Rattle.s38_rules.specs.State.{State}
 
 -- a data space has no room yet
 abbrev pub needs_room : Option DataBody → Bool
@@ -25,3 +33,14 @@ with_room h n = on_table h n roomy
 -- room that was taken is given back
 abbrev pub given_back : Held → ℕ → Bool → Held
 given_back h n taken = if taken then on_table h n roomless else h
+
+-- a journal behind a change, which is its next entry
+abbrev pub logged_by : Held → UnitMap → ℕ → ℕ → ℕ → UnitChange → JournalList → JournalList
+logged_by h units p block journal change =
+    with_change_logged (journal_bytes change) (open_behind h units journal block)
+    (change_entry (number_for units block (next_sequence (journal_at h journal))) p change)
+
+-- a change that inserts an entry is logged, and the entry stands
+abbrev pub insertion_logged : State → ℕ → ℕ → UnitChange → List ℕ → State
+insertion_logged s p block change entry =
+    record (logged s p block change) { held = on_table (logged s p block change).held change.space.0 (with_inserted entry) }

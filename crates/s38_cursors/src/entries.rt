@@ -1,25 +1,25 @@
 //! Entries inserted, read, updated and deleted where a cursor stands.
 ghost use Rattle.std.specs.Prelude.{◌≡◌, None, Some, IfOk, OnErr, OnOk};
 ghost use Rattle.std.specs.Option.{option_copied};
-ghost use Rattle.s38_dataspaces.specs.Entries.{entry_at};
-ghost use Rattle.s38_rules.specs.Changing.{change_of, logged};
-ghost use Rattle.s38_rules.specs.DataSpaces.{change_at, current_changes, current_fails, cursor_of, entry_or_none, insdsen_changes, insdsen_fails, insertion, next_ordinal, retdsen_gives, table_of, updsen_fails, with_inserted};
+ghost use Rattle.s38_compute.specs.Piece.{piece_bytes};
+ghost use Rattle.s38_cursors.specs.Insertion.{insertion_logged};
+ghost use Rattle.s38_rules.specs.Changing.{logged};
+ghost use Rattle.s38_rules.specs.DataSpaces.{change_at, current_changes, current_fails, cursor_of, entry_or_none, insdsen_changes, insdsen_fails, insertion, next_ordinal, retdsen_gives, table_of, updsen_fails};
 ghost use Rattle.s38_rules.specs.Journaling.{journal_for};
-ghost use Rattle.s38_rules.specs.Operands.{bytes_at};
-ghost use Rattle.s38_rules.specs.Parts.{on_table, table_at};
+ghost use Rattle.s38_rules.specs.Operands.{bytes_at, target};
 
 use crate::changes::{delete_at, insert_at, stand_at, update_at};
 use crate::entry_rules::current;
 use crate::insertion::insert_logged;
-use crate::reads::{cursor_of, next_ordinal_in, standing_in, table_of};
+use crate::reads::{cursor_in, cursor_of, journal_in, next_ordinal_at};
 use s38_base::{Bytes, NoMemory, ObjNum};
 use s38_code::{Operand, Val};
 use s38_commits::UnitChange;
+use s38_compute::Piece;
 use s38_invoke::World;
 use s38_objects::Objects;
 use s38_operands::{fitted, piece_at, room_at, target};
-use s38_rules::Cursor;
-use s38_units::{journal_for, log_change};
+use s38_units::log_change;
 use std::alloc::Global;
 
 /// The bytes of an entry, if there is one, as a change keeps them.
@@ -35,21 +35,39 @@ fn kept(alloc: Global, entry: Option<&[u8]>) -> Result<Option<Bytes>, NoMemory>
     }
 }
 
+/// The number of the cursor that operand 1 names.
+fn target_in(world: &World<Objects>, operands: &[Operand]) -> ObjNum
+    ensures { result.0 ≡ target world.now.held operands.now 1 }
+{
+    target(&world.objects, operands, 1)
+}
+
+/// The bytes of operand 2.
+fn piece_in<'a>(
+    alloc: Global,
+    world: &World<Objects>,
+    operands: &'a [Operand],
+) -> Result<Piece<'a>, NoMemory>
+    ensures { IfOk result (λ piece. piece_bytes piece ≡ bytes_at world.now.held operands.now 2) }
+{
+    piece_at(alloc, &world.objects, operands, 2)
+}
+
 // ---- INSDSEN
 
 /// The change that an insertion makes.
 fn insertion(
     alloc: Global,
-    objects: &Objects,
+    world: &World<Objects>,
     operands: &[Operand],
     entry: &[u8],
 ) -> Result<UnitChange, NoMemory>
-    requires { entry.now ≡ bytes_at objects.now operands.now 2 }
-    ensures { IfOk result (λ change. change ≡ insertion objects.now operands.now) }
+    requires { entry.now ≡ bytes_at world.now.held operands.now 2 }
+    ensures { IfOk result (λ change. change ≡ insertion world.now.held operands.now) }
 {
     Ok(UnitChange {
-        space: cursor_of(objects, operands, 1).space,
-        at: next_ordinal_in(table_of(objects, operands, 1)),
+        space: cursor_in(world, operands, 1).space,
+        at: next_ordinal_at(world, operands),
         before: None,
         after: kept(alloc, Some(entry))?,
     })
@@ -57,7 +75,6 @@ fn insertion(
 
 /// The entry stands under the next ordinal of a journaled data space, and the change is logged; where memory is refused
 /// nothing changes.
-#[tactic(auto, unfolding(s38_rules::specs::DataSpaces::insdsen_fails, s38_rules::specs::Changing::logged))]
 fn insert_journaled(
     alloc: Global,
     world: &mut World<Objects>,
@@ -70,13 +87,11 @@ fn insert_journaled(
     requires entry { entry.now ≡ bytes_at world.old.held operands.now 2 }
     requires journal { journal_for world.old.held (cursor_of world.old.held operands.now 1).space.0 ≡ Some journal.0 }
     ensures ordinal { IfOk result (λ at. at ≡ next_ordinal (table_of world.old.held operands.now 1)) }
-    ensures ok { OnOk result (world.new ≡ record (logged world.old process (cursor_of world.old.held operands.now 1).block.0 (insertion world.old.held operands.now)) {
-      held = on_table (logged world.old process (cursor_of world.old.held operands.now 1).block.0 (insertion world.old.held operands.now)).held (cursor_of world.old.held operands.now 1).space.0 (with_inserted entry.now);
-    }) }
+    ensures ok { OnOk result (world.new ≡ insertion_logged world.old process (cursor_of world.old.held operands.now 1).block.0 (insertion world.old.held operands.now) entry.now) }
     ensures err { OnErr result (world.new ≡ world.old) }
 {
-    let cursor = cursor_of(&world.objects, operands, 1);
-    let change = match insertion(alloc, &world.objects, operands, entry) {
+    let cursor = cursor_in(world, operands, 1);
+    let change = match insertion(alloc, world, operands, entry) {
         Ok(change) => change,
         Err(fault) => return Err(fault),
     };
@@ -86,8 +101,30 @@ fn insert_journaled(
     }
 }
 
+/// The entry stands under the next ordinal, and the change is logged where the data space is journaled; where memory is
+/// refused nothing changes.
+fn insert_entry(
+    alloc: Global,
+    world: &mut World<Objects>,
+    process: u32,
+    operands: &[Operand],
+    entry: &[u8],
+) -> Result<u32, NoMemory>
+    requires fails { insdsen_fails world.old process operands.now ≡ None }
+    requires entry { entry.now ≡ bytes_at world.old.held operands.now 2 }
+    ensures ordinal { IfOk result (λ at. at ≡ next_ordinal (table_of world.old.held operands.now 1)) }
+    ensures ok { OnOk result (world.new ≡ insertion_logged world.old process (cursor_of world.old.held operands.now 1).block.0 (insertion world.old.held operands.now) entry.now) }
+    ensures err { OnErr result (world.new ≡ world.old) }
+{
+    let space = cursor_in(world, operands, 1).space;
+    match journal_in(world, space) {
+        None => insert_at(world, space, entry),
+        Some(journal) => insert_journaled(alloc, world, process, operands, journal, entry),
+    }
+}
+
 /// The entry stands under the next ordinal, and so does the cursor; where memory is refused nothing changes.
-#[tactic(auto, using(crate::proofs::CursorLaws::insdsen_met), unfolding(s38_rules::specs::DataSpaces::insdsen_changes))]
+#[tactic(auto, unfolding(s38_rules::specs::DataSpaces::insdsen_changes))]
 pub fn insdsen(
     alloc: Global,
     world: &mut World<Objects>,
@@ -98,24 +135,12 @@ pub fn insdsen(
     ensures ok { OnOk result (world.new ≡ insdsen_changes world.old process operands.now) }
     ensures err { OnErr result (world.new ≡ world.old) }
 {
-    let number = target(&world.objects, operands, 1);
-    let space = cursor_of(&world.objects, operands, 1).space;
-    let entry = match piece_at(alloc, &world.objects, operands, 2) {
+    let number = target_in(world, operands);
+    let entry = match piece_in(alloc, world, operands) {
         Ok(entry) => entry,
         Err(fault) => return Err(fault),
     };
-    let inserted = match journal_for(&world.objects, space) {
-        None => insert_at(world, space, entry.as_slice()),
-        Some(journal) => insert_journaled(
-            alloc,
-            world,
-            process,
-            operands,
-            journal,
-            entry.as_slice(),
-        ),
-    };
-    match inserted {
+    match insert_entry(alloc, world, process, operands, entry.as_slice()) {
         Ok(ordinal) => {
             stand_at(world, number, Some(ordinal));
             Ok(())
@@ -151,26 +176,57 @@ pub fn retdsen_gives(
 
 // ---- a change of the entry at which a cursor stands
 
-/// The change of an entry, which is there, to another one, or to none.
+/// The change of an entry to another one, or to none.
 fn change_of(
     alloc: Global,
     objects: &Objects,
-    cursor: &Cursor,
+    operands: &[Operand],
     entry: Option<&[u8]>,
 ) -> Result<UnitChange, NoMemory>
-    ensures { IfOk result (λ change. change ≡ change_of cursor.now.space.0 cursor.now.position (entry_at (table_at objects.now cursor.now.space.0).entries cursor.now.position) (option_copied entry.entry)) }
+    ensures { IfOk result (λ change. change ≡ change_at objects.now operands.now (option_copied entry.entry)) }
 {
+    let cursor = cursor_of(objects, operands, 1);
     Ok(UnitChange {
         space: cursor.space,
         at: cursor.position,
-        before: kept(alloc, standing_in(objects, cursor.space, cursor.position))?,
+        before: kept(alloc, current(objects, operands, 1))?,
         after: kept(alloc, entry)?,
     })
 }
 
-/// The change of the entry at which a cursor stands is logged where its data space is journaled; where memory is refused
-/// nothing changes.
-#[tactic(auto, unfolding(s38_rules::specs::DataSpaces::current_fails, s38_rules::specs::Changing::logged))]
+/// The same, in a world.
+fn change_in(
+    alloc: Global,
+    world: &World<Objects>,
+    operands: &[Operand],
+    entry: Option<&[u8]>,
+) -> Result<UnitChange, NoMemory>
+    ensures { IfOk result (λ change. change ≡ change_at world.now.held operands.now (option_copied entry.entry)) }
+{
+    change_of(alloc, &world.objects, operands, entry)
+}
+
+/// The change of the entry at which a cursor stands is logged; where memory is refused nothing changes.
+fn log_journaled(
+    alloc: Global,
+    world: &mut World<Objects>,
+    process: u32,
+    operands: &[Operand],
+    entry: Option<&[u8]>,
+) -> Result<(), NoMemory>
+    requires { current_fails world.old process operands.now (option_copied entry) ≡ None }
+    ensures ok { OnOk result (world.new ≡ logged world.old process (cursor_of world.old.held operands.now 1).block.0 (change_at world.old.held operands.now (option_copied entry.entry))) }
+    ensures err { OnErr result (world.new ≡ world.old) }
+{
+    let cursor = cursor_in(world, operands, 1);
+    let change = match change_in(alloc, world, operands, entry) {
+        Ok(change) => change,
+        Err(fault) => return Err(fault),
+    };
+    log_change(world, process, cursor.block, &change)
+}
+
+/// The same where the data space is journaled; of another nothing is logged, and no memory taken.
 fn log_current(
     alloc: Global,
     world: &mut World<Objects>,
@@ -182,21 +238,40 @@ fn log_current(
     ensures ok { OnOk result (world.new ≡ logged world.old process (cursor_of world.old.held operands.now 1).block.0 (change_at world.old.held operands.now (option_copied entry.entry))) }
     ensures err { OnErr result (world.new ≡ world.old) }
 {
-    let cursor = cursor_of(&world.objects, operands, 1);
-    if journal_for(&world.objects, cursor.space).is_none() {
-        return Ok(());
+    let space = cursor_in(world, operands, 1).space;
+    match journal_in(world, space) {
+        None => Ok(()),
+        Some(_) => log_journaled(alloc, world, process, operands, entry),
     }
-    let change = match change_of(alloc, &world.objects, &cursor, entry) {
-        Ok(change) => change,
-        Err(fault) => return Err(fault),
-    };
-    log_change(world, process, cursor.block, &change)
 }
 
 // ---- UPDSEN
 
+/// The change is logged, and another entry stands where the cursor does; where memory is refused nothing changes.
+#[tactic(auto, unfolding(s38_rules::specs::DataSpaces::current_changes))]
+fn update_entry(
+    alloc: Global,
+    world: &mut World<Objects>,
+    process: u32,
+    operands: &[Operand],
+    entry: &[u8],
+) -> Result<(), NoMemory>
+    requires fails { updsen_fails world.old process operands.now ≡ None }
+    requires entry { entry.now ≡ bytes_at world.old.held operands.now 2 }
+    ensures ok { OnOk result (world.new ≡ current_changes world.old process operands.now (Some entry.now)) }
+    ensures err { OnErr result (world.new ≡ world.old) }
+{
+    let cursor = cursor_in(world, operands, 1);
+    match log_current(alloc, world, process, operands, Some(entry)) {
+        Ok(()) => {
+            update_at(world, cursor.space, cursor.position, entry);
+            Ok(())
+        }
+        Err(fault) => Err(fault),
+    }
+}
+
 /// Another entry stands where the cursor does; where memory is refused nothing changes.
-#[tactic(auto, using(crate::proofs::CursorLaws::updsen_met, crate::proofs::CursorLaws::updsen_valued), unfolding(s38_rules::specs::DataSpaces::current_changes))]
 pub fn updsen(
     alloc: Global,
     world: &mut World<Objects>,
@@ -207,24 +282,17 @@ pub fn updsen(
     ensures ok { OnOk result (world.new ≡ current_changes world.old process operands.now (Some (bytes_at world.old.held operands.now 2))) }
     ensures err { OnErr result (world.new ≡ world.old) }
 {
-    let cursor = cursor_of(&world.objects, operands, 1);
-    let entry = match piece_at(alloc, &world.objects, operands, 2) {
+    let entry = match piece_in(alloc, world, operands) {
         Ok(entry) => entry,
         Err(fault) => return Err(fault),
     };
-    match log_current(alloc, world, process, operands, Some(entry.as_slice())) {
-        Ok(()) => {
-            update_at(world, cursor.space, cursor.position, entry.as_slice());
-            Ok(())
-        }
-        Err(fault) => Err(fault),
-    }
+    update_entry(alloc, world, process, operands, entry.as_slice())
 }
 
 // ---- DELDSEN
 
 /// The entry at which the cursor stands is there no more; where memory is refused nothing changes.
-#[tactic(auto, using(crate::proofs::CursorLaws::deldsen_met), unfolding(s38_rules::specs::DataSpaces::current_changes))]
+#[tactic(auto, unfolding(s38_rules::specs::DataSpaces::current_changes))]
 pub fn deldsen(
     alloc: Global,
     world: &mut World<Objects>,
@@ -235,7 +303,7 @@ pub fn deldsen(
     ensures ok { OnOk result (world.new ≡ current_changes world.old process operands.now None) }
     ensures err { OnErr result (world.new ≡ world.old) }
 {
-    let cursor = cursor_of(&world.objects, operands, 1);
+    let cursor = cursor_in(world, operands, 1);
     match log_current(alloc, world, process, operands, None) {
         Ok(()) => {
             delete_at(world, cursor.space, cursor.position);

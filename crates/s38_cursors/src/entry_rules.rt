@@ -1,18 +1,17 @@
 //! What is asked where entries are inserted, read, updated and deleted through a cursor.
-ghost use Rattle.std.specs.Prelude.{◌≡◌, ◌+◌, ◌≤◌, length};
+ghost use Rattle.std.specs.Prelude.{◌≡◌, ◌+◌, ◌≤◌, None, length};
 ghost use Rattle.std.specs.Option.{option_copied, unwrap_or};
 ghost use Rattle.s38_base.specs.Signals.{first};
 ghost use Rattle.s38_commits.specs.Changes.{entry_bytes};
 ghost use Rattle.s38_dataspaces.specs.Entries.{Entry};
-ghost use Rattle.s38_dataspaces.specs.Table.{entry_len};
 ghost use Rattle.s38_rules.specs.Changing.{journal_rule};
-ghost use Rattle.s38_rules.specs.DataSpaces.{change_rules, current, current_fails, cursor_of, desds_fails, entry_rule, insdsen_fails, position_rule, retdsen_fails, room_rule, table_of, updsen_fails};
+ghost use Rattle.s38_rules.specs.DataSpaces.{change_rules, current, current_fails, desds_fails, entry_rule, insdsen_fails, insertion_limits, position_rule, retdsen_fails, room_rule, table_of, updsen_fails};
 ghost use Rattle.s38_rules.specs.Journaling.{journal_for};
 ghost use Rattle.s38_rules.specs.Parts.{no_table};
 
 use crate::reads::{
-    cursor_of, entry_in, entry_len_in, fields_in, grown_image_in, next_ordinal_in, standing_len_in,
-    table_of,
+    current_len_at, cursor_in, cursor_of, entry_in, entry_len_at, entry_len_in, fields_in,
+    grown_image_in, next_ordinal_at, table_of,
 };
 use s38_base::Exception;
 use s38_base::exceptions::{
@@ -112,24 +111,47 @@ fn journal_room(
     journal_rule(world, cursor.block, bytes, journal)
 }
 
+// ---- the same, in a world
+
+/// Operand 2 is an entry of the data space of the cursor of operand 1.
+fn entry_failure(world: &World<Objects>, operands: &[Operand]) -> Option<Exception>
+    ensures { result ≡ entry_rule (table_of world.now.held operands.now 1).fields world.now.held operands.now }
+{
+    let objects = &world.objects;
+    entry_rule(table_of(objects, operands, 1), objects, operands)
+}
+
+/// One entry more stays within the limit of a body.
+fn room_failure(world: &World<Objects>, operands: &[Operand]) -> Option<Exception>
+    ensures { result ≡ room_rule world.now.limit (table_of world.now.held operands.now 1) }
+{
+    room_rule(world.limit, table_of(&world.objects, operands, 1))
+}
+
+/// The cursor of operand 1 stands at an entry.
+fn position_failure(world: &World<Objects>, operands: &[Operand]) -> Option<Exception>
+    ensures { result ≡ position_rule world.now.held operands.now 1 }
+{
+    position_rule(&world.objects, operands, 1)
+}
+
 // ---- INSDSEN
 
 /// The image of the data space, and the journal, have room for one entry more.
+#[tactic(auto, using(crate::proofs::CursorLaws::entry_sized))]
 fn insertion_limits(world: &World<Objects>, operands: &[Operand]) -> Option<Exception>
-    ensures { result ≡ first (room_rule world.now.limit (table_of world.now.held operands.now 1))
-        (journal_rule world.now (cursor_of world.now.held operands.now 1).block.0 (41 + entry_len (table_of world.now.held operands.now 1).fields) (journal_for world.now.held (cursor_of world.now.held operands.now 1).space.0)) }
+    requires { entry_rule (table_of world.now.held operands.now 1).fields world.now.held operands.now ≡ None }
+    ensures { result ≡ insertion_limits world.now operands.now }
 {
-    let objects = &world.objects;
-    let table = table_of(objects, operands, 1);
-    if let Some(failure) = room_rule(world.limit, table) {
+    if let Some(failure) = room_failure(world, operands) {
         return Some(failure);
     }
-    let cursor = cursor_of(objects, operands, 1);
-    journal_room(world, &cursor, 0, entry_len_in(table))
+    let cursor = cursor_in(world, operands, 1);
+    journal_room(world, &cursor, 0, entry_len_at(world, operands))
 }
 
 /// It is an entry of the data space, the change may be made, and there is room.
-#[tactic(auto, using(crate::proofs::CursorLaws::insertion_limited), unfolding(s38_rules::specs::DataSpaces::insdsen_fails))]
+#[tactic(auto, unfolding(s38_rules::specs::DataSpaces::insdsen_fails))]
 pub fn insdsen_fails(
     world: &World<Objects>,
     process: u32,
@@ -137,13 +159,12 @@ pub fn insdsen_fails(
 ) -> Option<Exception>
     ensures { result ≡ insdsen_fails world.now process operands.now }
 {
-    let objects = &world.objects;
-    let table = table_of(objects, operands, 1);
-    if let Some(failure) = entry_rule(table, objects, operands) {
+    if let Some(failure) = entry_failure(world, operands) {
         return Some(failure);
     }
-    let cursor = cursor_of(objects, operands, 1);
-    if let Some(failure) = change_rules(world, process, &cursor, next_ordinal_in(table)) {
+    let cursor = cursor_in(world, operands, 1);
+    let at = next_ordinal_at(world, operands);
+    if let Some(failure) = change_rules(world, process, &cursor, at) {
         return Some(failure);
     }
     insertion_limits(world, operands)
@@ -180,16 +201,14 @@ pub fn current_fails(
     requires { after ≤ 4096 }
     ensures { (entry : Entry) → entry_bytes entry ≡ after → result ≡ current_fails world.now process operands.now entry }
 {
-    let objects = &world.objects;
-    if let Some(failure) = position_rule(objects, operands, 1) {
+    if let Some(failure) = position_failure(world, operands) {
         return Some(failure);
     }
-    let cursor = cursor_of(objects, operands, 1);
+    let cursor = cursor_in(world, operands, 1);
     if let Some(failure) = change_rules(world, process, &cursor, cursor.position) {
         return Some(failure);
     }
-    let before = standing_len_in(table_of(objects, operands, 1), cursor.position);
-    journal_room(world, &cursor, before, after)
+    journal_room(world, &cursor, current_len_at(world, operands), after)
 }
 
 /// It is an entry of the data space, and the one at which the cursor stands may be changed.
@@ -197,10 +216,8 @@ pub fn current_fails(
 pub fn updsen_fails(world: &World<Objects>, process: u32, operands: &[Operand]) -> Option<Exception>
     ensures { result ≡ updsen_fails world.now process operands.now }
 {
-    let objects = &world.objects;
-    let table = table_of(objects, operands, 1);
-    if let Some(failure) = entry_rule(table, objects, operands) {
+    if let Some(failure) = entry_failure(world, operands) {
         return Some(failure);
     }
-    current_fails(world, process, operands, entry_len_in(table))
+    current_fails(world, process, operands, entry_len_at(world, operands))
 }

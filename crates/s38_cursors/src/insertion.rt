@@ -1,17 +1,18 @@
 //! An entry is inserted into a journaled data space, and the change is logged. The room of both is taken before anything
 //! changes.
-ghost use Rattle.std.specs.Prelude.{◌≡◌, ◌<◌, None, Some, IfOk, IfSome, IsTrue, OnErr, OnOk, true};
+ghost use Rattle.std.specs.Prelude.{◌≡◌, ◌<◌, None, Some, false, IfOk, IfSome, IsTrue, OnErr, OnOk, length, true};
 ghost use Rattle.s38_commits.specs.Changes.{journal_bytes};
-ghost use Rattle.s38_cursors.specs.Insertion.{given_back, needs_room, roomless, roomy, with_room};
+ghost use Rattle.s38_cursors.specs.Insertion.{given_back, insertion_logged, logged_by, needs_room, roomless, roomy, with_room};
 ghost use Rattle.s38_dataspaces.specs.Refusals.{insert_refusal};
+ghost use Rattle.s38_dataspaces.specs.Table.{entry_len};
 ghost use Rattle.s38_dataspaces.specs.Values.{have_values};
-ghost use Rattle.s38_rules.specs.Changing.{held_rule, journal_rule, logged_in};
-ghost use Rattle.s38_rules.specs.DataSpaces.{with_inserted};
-ghost use Rattle.s38_rules.specs.Journaling.{is_journal};
-ghost use Rattle.s38_rules.specs.Parts.{data_part, on_table, over_table, part_at, table_at};
+ghost use Rattle.s38_rules.specs.Changing.{held_rule, is_journal_full, journal_rule, next_sequence, number_for, units_behind};
+ghost use Rattle.s38_rules.specs.DataSpaces.{room_rule, with_inserted};
+ghost use Rattle.s38_rules.specs.Journaling.{is_journal, journal_for};
+ghost use Rattle.s38_rules.specs.Parts.{data_part, journal_at, on_journal, on_table, over_table, part_at, table_at};
 
 use s38_base::{NoMemory, ObjNum};
-use s38_commits::UnitChange;
+use s38_commits::{UnitChange, Units};
 use s38_invoke::World;
 use s38_objects::Objects;
 use s38_rules::DataBody;
@@ -99,6 +100,44 @@ fn insert_in(objects: &mut Objects, number: ObjNum, entry: &[u8])
 
 /// An entry stands under the next ordinal of its data space, and the change goes to a journal space and into the unit of
 /// its commit block; where memory is refused nothing changes.
+fn insert_both(
+    objects: &mut Objects,
+    units: &mut Units,
+    process: u32,
+    block: ObjNum,
+    journal: ObjNum,
+    change: &UnitChange,
+    entry: &[u8],
+) -> Result<(), NoMemory>
+    requires there { is_journal objects.old journal.0 ≡ true }
+    requires room { is_journal_full objects.old units.old journal.0 block.0 (journal_bytes change.now) ≡ false }
+    requires free { held_rule units.old process block.0 change.now.space.0 change.now.at ≡ None }
+    requires fits { insert_refusal (table_at objects.old change.now.space.0) entry.now ≡ None }
+    requires values { have_values (table_at objects.old change.now.space.0).fields entry.now ≡ true }
+    ensures objects { OnOk result (objects.new ≡ on_table (on_journal objects.old journal.0 (logged_by objects.old units.old process block.0 journal.0 change.now))
+        change.now.space.0 (with_inserted entry.now)) }
+    ensures units { OnOk result (units.new ≡ units_behind units.old process block.0 (number_for units.old block.0 (next_sequence (journal_at objects.old journal.0))) change.now) }
+    ensures objects_left { OnErr result (objects.new ≡ objects.old) }
+    ensures units_left { OnErr result (units.new ≡ units.old) }
+{
+    let space = change.space;
+    let taken = match make_room_in(objects, space) {
+        Ok(taken) => taken,
+        Err(fault) => return Err(fault),
+    };
+    match log_in(objects, units, journal, process, block, change) {
+        Ok(()) => {
+            insert_in(objects, space, entry);
+            Ok(())
+        }
+        Err(fault) => {
+            give_back(objects, space, taken);
+            Err(fault)
+        }
+    }
+}
+
+/// The same, in a world.
 pub fn insert_logged(
     world: &mut World<Objects>,
     process: u32,
@@ -107,30 +146,22 @@ pub fn insert_logged(
     change: &UnitChange,
     entry: &[u8],
 ) -> Result<(), NoMemory>
-    requires there { is_journal world.old.held journal.0 ≡ true }
+    requires there { journal_for world.old.held change.now.space.0 ≡ Some journal.0 }
     requires free { held_rule world.old.units process block.0 change.now.space.0 change.now.at ≡ None }
     requires limits { journal_rule world.old block.0 (journal_bytes change.now) (Some journal.0) ≡ None }
-    requires fits { insert_refusal (table_at world.old.held change.now.space.0) entry.now ≡ None }
-    requires values { IsTrue (have_values (table_at world.old.held change.now.space.0).fields entry.now) }
-    ensures ok { OnOk result (world.new ≡ record (logged_in world.old process block.0 change.now (Some journal.0)) {
-      held = on_table (logged_in world.old process block.0 change.now (Some journal.0)).held change.now.space.0 (with_inserted entry.now);
-    }) }
+    requires len { length entry.now ≡ entry_len (table_at world.old.held change.now.space.0).fields }
+    requires image { room_rule world.old.limit (table_at world.old.held change.now.space.0) ≡ None }
+    requires values { have_values (table_at world.old.held change.now.space.0).fields entry.now ≡ true }
+    ensures ok { OnOk result (world.new ≡ insertion_logged world.old process block.0 change.now entry.now) }
     ensures err { OnErr result (world.new ≡ world.old) }
 {
-    let space = change.space;
-    let taken = match make_room_in(&mut world.objects, space) {
-        Ok(taken) => taken,
-        Err(fault) => return Err(fault),
-    };
-    let units = &mut world.units;
-    match log_in(&mut world.objects, units, journal, process, block, change) {
-        Ok(()) => {
-            insert_in(&mut world.objects, space, entry);
-            Ok(())
-        }
-        Err(fault) => {
-            give_back(&mut world.objects, space, taken);
-            Err(fault)
-        }
-    }
+    insert_both(
+        &mut world.objects,
+        &mut world.units,
+        process,
+        block,
+        journal,
+        change,
+        entry,
+    )
 }

@@ -1,20 +1,23 @@
 //! What is read of cursors and of data spaces. What is no cursor reads as one of no data space, and what is no data
 //! space as one without fields and entries.
 ghost use Rattle.std.specs.Prelude.{◌≡◌, ◌+◌, ◌≤◌, length};
-ghost use Rattle.std.specs.Option.{option_copied, unwrap_or};
+ghost use Rattle.std.specs.Option.{option_copied, option_map, unwrap_or};
 ghost use Rattle.s38_commits.specs.Changes.{entry_bytes};
 ghost use Rattle.s38_dataspaces.specs.Entries.{entry_at};
 ghost use Rattle.s38_dataspaces.specs.Seeks.{sought};
 ghost use Rattle.s38_dataspaces.specs.Table.{entry_len, image_size};
-ghost use Rattle.s38_rules.specs.DataSpaces.{cursor_of, next_ordinal, standing, table_of};
+ghost use Rattle.s38_rules.specs.DataSpaces.{current, cursor_of, next_ordinal, standing, table_of};
+ghost use Rattle.s38_rules.specs.Journaling.{journal_for};
 ghost use Rattle.s38_rules.specs.Parts.{cursor_at, no_table, table_at};
 
 use s38_base::{Attr, ObjNum, Seek};
 use s38_code::Operand;
 use s38_dataspaces::DataSpace;
+use s38_invoke::World;
 use s38_objects::Objects;
 use s38_operands::target;
 use s38_rules::Cursor;
+use s38_units::journal_for;
 
 /// The image of a data space without fields, in bytes.
 const SMALLEST_IMAGE: u32 = 22;
@@ -137,13 +140,6 @@ pub fn standing_len_in(table: Option<&DataSpace>, at: u32) -> usize
     }
 }
 
-/// The entry of an ordinal of the data space of a number.
-pub fn standing_in(objects: &Objects, space: ObjNum, at: u32) -> Option<&[u8]>
-    ensures { option_copied result ≡ entry_at (table_at objects.now space.0).entries at }
-{
-    entry_in(table_at(objects, space), at)
-}
-
 /// The ordinal of the entry that is sought.
 #[tactic(auto, using(crate::proofs::CursorLaws::nowhere))]
 pub fn sought_in(table: Option<&DataSpace>, how: Seek, from: u32) -> Option<u32>
@@ -169,4 +165,44 @@ pub fn ordinal_in(table: Option<&DataSpace>, ordinal: u128) -> Option<u32>
         }
         None => None,
     }
+}
+
+// ---- in a world
+
+/// The cursor that an operand names.
+pub fn cursor_in(world: &World<Objects>, operands: &[Operand], k: usize) -> Cursor
+    ensures { result ≡ cursor_of world.now.held operands.now k }
+{
+    cursor_of(&world.objects, operands, k)
+}
+
+/// The ordinal of the next entry of the data space of the cursor of operand 1.
+pub fn next_ordinal_at(world: &World<Objects>, operands: &[Operand]) -> u32
+    ensures { result ≡ next_ordinal (table_of world.now.held operands.now 1) }
+{
+    next_ordinal_in(table_of(&world.objects, operands, 1))
+}
+
+/// How many bytes an entry of that data space has.
+pub fn entry_len_at(world: &World<Objects>, operands: &[Operand]) -> usize
+    ensures len { result ≡ entry_len (table_of world.now.held operands.now 1).fields }
+    ensures bound { result ≤ 4096 }
+{
+    entry_len_in(table_of(&world.objects, operands, 1))
+}
+
+/// How many bytes the entry at which the cursor stands has; 0 where there is none.
+pub fn current_len_at(world: &World<Objects>, operands: &[Operand]) -> usize
+    ensures len { result ≡ entry_bytes (current world.now.held operands.now 1) }
+    ensures bound { result ≤ 4096 }
+{
+    let position = cursor_of(&world.objects, operands, 1).position;
+    standing_len_in(table_of(&world.objects, operands, 1), position)
+}
+
+/// The journal space of the data space of a number; None exactly where it is not journaled.
+pub fn journal_in(world: &World<Objects>, space: ObjNum) -> Option<ObjNum>
+    ensures { option_map (λ journal. journal.0) result ≡ journal_for world.now.held space.0 }
+{
+    journal_for(&world.objects, space)
 }

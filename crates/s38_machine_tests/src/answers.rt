@@ -7,7 +7,7 @@ use crate::given::{Asked, Given, event, jobs, templates};
 use Outcome::{Done, Signal, Wait};
 use s38_base::{Attr, Kind, Op};
 use s38_code::{Reply, Stepper};
-use s38_machine::Machine;
+use s38_machine::{Machine, general_opening};
 use std::alloc::Global;
 use std::test::Fail;
 
@@ -131,7 +131,8 @@ fn answer(alloc: Global, machine: &mut Machine, process: u32, asked: Asked) -> R
 #[tactic(auto, using(s38_rules::proofs::Laws::sound_begun))]
 fn answered(alloc: Global) -> Result<usize, Fail> {
     let jobs = jobs(alloc, &USERS)?;
-    let mut machine = Machine::start(alloc, templates(alloc)?, jobs.as_slice())?;
+    let objects = general_opening(alloc)?;
+    let mut machine = Machine::start(alloc, objects, templates(alloc)?, jobs.as_slice())?;
     let mut good = 0;
     for (process, asked, want) in CASES {
         if process == 0 || process as usize > jobs.len() {

@@ -128,7 +128,7 @@ pub static ADDRESSES: Table = Table {
         ("DESDS H", "DESDS 2202 1"),
         ("DESDS K", "DESDS 2403 1"),
         ("DESDS D", "DESDS OK"),
-        // A cursor is one of a data space, and without a commit block; there is none yet.
+        // A cursor is one of a data space; what is behind that is a commit block, or none.
         ("CRTCR W,C,CURSOR/00/M,NONE,D,*NONE", "CRTCR OK S17/00"),
         ("CRTCR W,*NONE,CURSOR/00/W,NONE,N,*NONE", "CRTCR 2401 5"),
         ("CRTCR W,*NONE,CURSOR/00/W,NONE,S,*NONE", "CRTCR 2402 5"),
@@ -154,114 +154,44 @@ pub static ADDRESSES: Table = Table {
 };
 
 /// Fields, an entry of them, and what INSDSEN answers.
-pub static FIELDS: Table = Table {
-    calls: SERIAL,
+pub static FIELDS: Between = Between {
     deck: (
         "PROGRAM P;DCL D PTR;DCL K PTR;DCL E EXCM * LAST;CRTDS D,*NONE,DATASPACE/00/D,NONE,",
+        ";CRTCR K,*NONE,CURSOR/00/K,NONE,D,*NONE;INSDSEN K,",
         ";LABEL LAST;END;STAGE;JOB A USER QSECOFR RUN P;",
     ),
     text: (
         "JOB 1 A USER QSECOFR;1 START OK;2 CRTDS OK S6/00;3 CRTCR OK S7/00;4 INSDSEN ",
         ";5 FINISH RETURN;DONE 5;",
     ),
-    status: 0,
     rows: &[
         // Packed: digits, then a sign; of an even number of digits the first half byte is 0.
-        (
-            "PKD:1:0;CRTCR K,*NONE,CURSOR/00/K,NONE,D,*NONE;INSDSEN K,X'5F'",
-            "OK",
-        ),
-        (
-            "PKD:1:1;CRTCR K,*NONE,CURSOR/00/K,NONE,D,*NONE;INSDSEN K,X'5C'",
-            "OK",
-        ),
-        (
-            "PKD:1:0;CRTCR K,*NONE,CURSOR/00/K,NONE,D,*NONE;INSDSEN K,X'59'",
-            "0C02 2",
-        ),
-        (
-            "PKD:1:0;CRTCR K,*NONE,CURSOR/00/K,NONE,D,*NONE;INSDSEN K,X'AF'",
-            "0C02 2",
-        ),
-        (
-            "PKD:4:2;CRTCR K,*NONE,CURSOR/00/K,NONE,D,*NONE;INSDSEN K,X'01234F'",
-            "OK",
-        ),
-        (
-            "PKD:4:2;CRTCR K,*NONE,CURSOR/00/K,NONE,D,*NONE;INSDSEN K,X'11234F'",
-            "0C02 2",
-        ),
-        (
-            "PKD:4:2;CRTCR K,*NONE,CURSOR/00/K,NONE,D,*NONE;INSDSEN K,X'1234'",
-            "2405 2",
-        ),
-        (
-            "PKD:4:2;CRTCR K,*NONE,CURSOR/00/K,NONE,D,*NONE;INSDSEN K,X'01234F40'",
-            "2405 2",
-        ),
+        ("PKD:1:0", "X'5F'", "OK"),
+        ("PKD:1:1", "X'5C'", "OK"),
+        ("PKD:1:0", "X'59'", "0C02 2"),
+        ("PKD:1:0", "X'AF'", "0C02 2"),
+        ("PKD:4:2", "X'01234F'", "OK"),
+        ("PKD:4:2", "X'11234F'", "0C02 2"),
+        ("PKD:4:2", "X'1234'", "2405 2"),
+        ("PKD:4:2", "X'01234F40'", "2405 2"),
         // Zoned: the zone of the last byte is the sign, and the other zones are not looked at.
-        (
-            "ZND:3:0;CRTCR K,*NONE,CURSOR/00/K,NONE,D,*NONE;INSDSEN K,'123'",
-            "OK",
-        ),
-        (
-            "ZND:3:0;CRTCR K,*NONE,CURSOR/00/K,NONE,D,*NONE;INSDSEN K,X'0102D3'",
-            "OK",
-        ),
-        (
-            "ZND:3:0;CRTCR K,*NONE,CURSOR/00/K,NONE,D,*NONE;INSDSEN K,X'F1F203'",
-            "0C02 2",
-        ),
-        (
-            "ZND:3:0;CRTCR K,*NONE,CURSOR/00/K,NONE,D,*NONE;INSDSEN K,X'F1FAF3'",
-            "0C02 2",
-        ),
-        (
-            "ZND:3:0;CRTCR K,*NONE,CURSOR/00/K,NONE,D,*NONE;INSDSEN K,'12 '",
-            "0C02 2",
-        ),
+        ("ZND:3:0", "'123'", "OK"),
+        ("ZND:3:0", "X'0102D3'", "OK"),
+        ("ZND:3:0", "X'F1F203'", "0C02 2"),
+        ("ZND:3:0", "X'F1FAF3'", "0C02 2"),
+        ("ZND:3:0", "'12 '", "0C02 2"),
         // Binary numbers and texts have any bytes.
-        (
-            "BIN:2;CRTCR K,*NONE,CURSOR/00/K,NONE,D,*NONE;INSDSEN K,X'FFFF'",
-            "OK",
-        ),
-        (
-            "BIN:4;CRTCR K,*NONE,CURSOR/00/K,NONE,D,*NONE;INSDSEN K,'ABCD'",
-            "OK",
-        ),
-        (
-            "BIN:4;CRTCR K,*NONE,CURSOR/00/K,NONE,D,*NONE;INSDSEN K,'AB'",
-            "2405 2",
-        ),
-        (
-            "CHAR:2;CRTCR K,*NONE,CURSOR/00/K,NONE,D,*NONE;INSDSEN K,X'0040'",
-            "OK",
-        ),
+        ("BIN:2", "X'FFFF'", "OK"),
+        ("BIN:4", "'ABCD'", "OK"),
+        ("BIN:4", "'AB'", "2405 2"),
+        ("CHAR:2", "X'0040'", "OK"),
         // Several fields stand one behind the other, in their order.
-        (
-            "CHAR:1+ZND:2:0+PKD:1:0+BIN:2;CRTCR K,*NONE,CURSOR/00/K,NONE,D,*NONE;INSDSEN K,X'00F1F27FFFFF'",
-            "OK",
-        ),
-        (
-            "CHAR:1+ZND:2:0+PKD:1:0+BIN:2;CRTCR K,*NONE,CURSOR/00/K,NONE,D,*NONE;INSDSEN K,X'00F1F2FFFFFF'",
-            "0C02 2",
-        ),
-        (
-            "CHAR:1+ZND:2:0+PKD:1:0+BIN:2;CRTCR K,*NONE,CURSOR/00/K,NONE,D,*NONE;INSDSEN K,X'00F112FFFFFF'",
-            "0C02 2",
-        ),
-        (
-            "CHAR:1+ZND:2:0+PKD:1:0+BIN:2;CRTCR K,*NONE,CURSOR/00/K,NONE,D,*NONE;INSDSEN K,X'00F1F27FFF'",
-            "2405 2",
-        ),
-        (
-            "BIN:2+PKD:1:0+ZND:2:0+CHAR:1;CRTCR K,*NONE,CURSOR/00/K,NONE,D,*NONE;INSDSEN K,X'FFFF7FF1F200'",
-            "OK",
-        ),
-        (
-            "BIN:2+PKD:1:0+ZND:2:0+CHAR:1;CRTCR K,*NONE,CURSOR/00/K,NONE,D,*NONE;INSDSEN K,X'00F1F27FFFFF'",
-            "0C02 2",
-        ),
+        ("CHAR:1+ZND:2:0+PKD:1:0+BIN:2", "X'00F1F27FFFFF'", "OK"),
+        ("CHAR:1+ZND:2:0+PKD:1:0+BIN:2", "X'00F1F2FFFFFF'", "0C02 2"),
+        ("CHAR:1+ZND:2:0+PKD:1:0+BIN:2", "X'00F112FFFFFF'", "0C02 2"),
+        ("CHAR:1+ZND:2:0+PKD:1:0+BIN:2", "X'00F1F27FFF'", "2405 2"),
+        ("BIN:2+PKD:1:0+ZND:2:0+CHAR:1", "X'FFFF7FF1F200'", "OK"),
+        ("BIN:2+PKD:1:0+ZND:2:0+CHAR:1", "X'00F1F27FFFFF'", "0C02 2"),
     ],
 };
 

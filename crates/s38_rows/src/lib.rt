@@ -6,6 +6,8 @@ mod answers;
 #[cfg(test)]
 mod commands;
 #[cfg(test)]
+mod commitment;
+#[cfg(test)]
 mod computed;
 #[cfg(test)]
 mod confinement;
@@ -18,6 +20,8 @@ mod cursors;
 #[cfg(test)]
 mod decks;
 #[cfg(test)]
+mod demo;
+#[cfg(test)]
 mod entries;
 #[cfg(test)]
 mod exceptions;
@@ -29,6 +33,8 @@ mod grants;
 mod indexes;
 #[cfg(test)]
 mod invocations;
+#[cfg(test)]
+mod journals;
 #[cfg(test)]
 mod keyed;
 #[cfg(test)]

@@ -4,6 +4,7 @@ ghost use Rattle.s38_template.specs.Grammar.{Spells};
 use s38_base::NoMemory;
 use s38_code::Deck;
 use s38_joblog::log_text;
+use s38_machine::general_opening;
 use s38_run::ListPicker;
 use s38_template::{each_job_has_its_template, read_deck};
 use s38_top::{checked_templates, run_deck};
@@ -22,7 +23,7 @@ fn log_of(alloc: Global, text: &[u8], deck: Deck, picks: &[u32]) -> Result<Vec<u
     let templates = checked_templates(alloc, deck.templates.as_slice())?;
     each_job_has_its_template();
     let mut picker = ListPicker::new(Vec::from_slice(alloc, picks)?);
-    let whole = run_deck(alloc, deck, templates, &mut picker)?;
+    let whole = run_deck(alloc, general_opening(alloc)?, deck, templates, &mut picker)?;
     log_text(alloc, whole.history.as_slice(), whole.deck.jobs.as_slice())
 }
 

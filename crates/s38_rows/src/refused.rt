@@ -34,13 +34,11 @@ const REFUSED: &[(&str, &str)] = &[
     ("DCL A PARM 1 CHAR:16;DCL B BASED A 0 PTR;", "2A03 2"),
     ("DCL A PTR;DCL A EXCM * BACK;LABEL BACK;", "2A03 2"),
     (
-        "DCL Q PTR;RTX;LABEL L;B L;LABEL M;B NOWHERE;COMMIT Q;",
+        "DCL Q PTR;RTX;LABEL L;B L;LABEL M;B NOWHERE;COMMIT;",
         "2A08 3",
     ),
     ("DCL P PTR;CRTQ P,*NONE,SPACE/00/Q,NONE,FIFO,0,8;", "2A05 1"),
     ("DCL P PTR;CRTQ P,*NONE,QUEUE/00/Q,NONE,LIFO,1,8;", "2A05 1"),
-    ("DCL P PTR;CRTJS P,*NONE,JSPACE/00/J,NONE;", "2A04 1"),
-    ("DCL P PTR;COMMIT P;", "2A04 1"),
     ("RTX;ENQ Q,*NONE,'A';", "2A07 2"),
 ];
 

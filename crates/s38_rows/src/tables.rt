@@ -2,6 +2,7 @@
 
 use crate::answers::answers;
 use crate::commands::{BAD_DECKS, BAD_LINES, BAD_WORDS, CHECKED, RUN};
+use crate::commitment::{CHANGES, ENDED, HELD_ENTRY, UNITS};
 use crate::computed::COMPUTED;
 use crate::confinement::WAYS;
 use crate::contexts::{CONTEXTS, SHOPS};
@@ -13,6 +14,7 @@ use crate::exceptions::EXCEPTIONS;
 use crate::grants::{CARRIED, GRANTED, LENT, OWNED, SEEN};
 use crate::indexes::{ENTERED, FOUND, HELD, INDEXES, RIGHTS};
 use crate::invocations::{ADOPTED, CALLED, MISMATCHED, OFFERED, PASSED};
+use crate::journals::{JOURNALED, JOURNALS, KEPT, SEQUENCES};
 use crate::keyed::{ASKED, ORDERED, TAKEN};
 use crate::locks::{BLOCKED, LOCKING, PAIRS};
 use crate::profiles::{PAID, PROFILES, USERS};
@@ -45,7 +47,7 @@ pub struct Acts {
     pub rows: &'static [(&'static str, &'static str, &'static str)],
 }
 
-/// Rows of a lock of one job, and of what another job asks beside it.
+/// Rows of a lock of one job, and of what another job asks beside it; or of other two pieces of a deck.
 pub struct Between {
     /// The deck up to the lock, from there to what is asked, and the rest.
     pub deck: (&'static str, &'static str, &'static str),
@@ -231,7 +233,23 @@ fn queues_and_indexes_are_answered(rt: HostRuntime) -> Result<(), Fail> {
 
 #[test]
 fn data_spaces_are_answered(rt: HostRuntime) -> Result<(), Fail> {
-    for table in [&CURSORS, &ENTRIES, &ADDRESSES, &FIELDS, &PAYING, &SHARED] {
+    for table in [&CURSORS, &ENTRIES, &ADDRESSES, &PAYING, &SHARED] {
+        assert_eq!(rt; wrong_call(rt.alloc(), table)?, None);
+    }
+    Ok(())
+}
+
+#[test]
+fn journals_are_answered(rt: HostRuntime) -> Result<(), Fail> {
+    for table in [&JOURNALS, &SEQUENCES] {
+        assert_eq!(rt; wrong_call(rt.alloc(), table)?, None);
+    }
+    Ok(())
+}
+
+#[test]
+fn units_are_answered(rt: HostRuntime) -> Result<(), Fail> {
+    for table in [&HELD_ENTRY, &ENDED, &UNITS] {
         assert_eq!(rt; wrong_call(rt.alloc(), table)?, None);
     }
     Ok(())
@@ -247,7 +265,7 @@ fn acts_of_users_are_answered(rt: HostRuntime) -> Result<(), Fail> {
 
 #[test]
 fn acts_on_data_are_answered(rt: HostRuntime) -> Result<(), Fail> {
-    for acts in [&RIGHTS, &ALLOWED] {
+    for acts in [&RIGHTS, &ALLOWED, &JOURNALED] {
         assert_eq!(rt; wrong_act(rt.alloc(), acts)?, None);
     }
     Ok(())
@@ -256,6 +274,14 @@ fn acts_on_data_are_answered(rt: HostRuntime) -> Result<(), Fail> {
 #[test]
 fn every_pair_is_answered(rt: HostRuntime) -> Result<(), Fail> {
     for between in [&PAIRS, &BLOCKED, &HELD, &BESIDE] {
+        assert_eq!(rt; wrong_pair(rt.alloc(), between)?, None);
+    }
+    Ok(())
+}
+
+#[test]
+fn pairs_of_entries_are_answered(rt: HostRuntime) -> Result<(), Fail> {
+    for between in [&KEPT, &CHANGES, &FIELDS] {
         assert_eq!(rt; wrong_pair(rt.alloc(), between)?, None);
     }
     Ok(())

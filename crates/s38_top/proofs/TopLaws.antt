@@ -29,7 +29,8 @@ use Rattle.s38_top.specs.declared.command.Command.TheVariants.{Serial, Check, De
 use Rattle.s38_top.specs.declared.outcome.Outcome.{Outcome}
 use Rattle.s38_top.specs.declared.outcome.Outcome.TheVariants.{BadWords, BadDeck, DeckFault, NoMemory, Complete, Checked, Demonstrated}
 use Rattle.s38_top.specs.Commands.{command_of, demo_size}
-use Rattle.s38_top.specs.Decks.{AreMarks, IsRunOf, checked_of, made_for}
+use Rattle.s38_top.specs.Decks.{AreMarks, IsRunOf, checked_of, made_for, opened}
+use Rattle.s38_commitment_laws.proofs.StepLaws.{first_right, history_right, installed_right}
 use Rattle.s38_top.proofs.ConfinedLaws.{installed_in_order, opening_in_order, run_confined}
 use Rattle.s38_top.specs.Outcome.{Ends, HasDeck, Holds, IsChecked, IsComplete, IsDemonstrated, IsGood, IsGoodDeck, IsGoodFor, OfText, Serves, Tells, checked_text, faulted, history_of, marks_of, most, reads_deck, status_of, text_of}
 
@@ -196,6 +197,7 @@ serves_by words left left' taken taken' written written' (Complete pick whole) h
       deck = whole.deck;
       ran = holds.1.0;
       confined = run_confined held_first _ whole.deck whole.history.items opening_in_order holds.1.0.run;
+      right = (history_right (opened held_first whole.deck) [] whole.history.items holds.1.0.run.state (first_right (checked_of whole.deck) whole.deck.jobs) holds.1.0.run.legal).0;
       told = told;
       finished = λ xs e. read_out left left' whole.deck xs holds.1.0.taken e;
     }) in
@@ -215,6 +217,7 @@ serves_by words left left' taken taken' written written' (Demonstrated size whol
       deck = whole.deck;
       ran = holds.1.1.0;
       confined = run_confined held_installed _ whole.deck whole.history.items installed_in_order holds.1.1.0.run;
+      right = (history_right (opened held_installed whole.deck) [] whole.history.items holds.1.1.0.run.state (installed_right (checked_of whole.deck) whole.deck.jobs) holds.1.1.0.run.legal).0;
       told = told;
       unread = holds.1.0;
     }) in

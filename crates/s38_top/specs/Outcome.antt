@@ -7,6 +7,7 @@ use Rattle.s38_io.specs.Sink.{AppendsFront}
 use Rattle.s38_code.specs.declared.deck.Deck.{Deck}
 use Rattle.s38_code.specs.declared.entry.Entry.{Entry}
 use Rattle.s38_code.specs.declared.made.CheckedTemplate.{CheckedTemplate}
+use Rattle.s38_commitment_laws.specs.Right.{AllRight}
 use Rattle.s38_demo.specs.GeneratedDeck.{deck_of}
 use Rattle.s38_demo.specs.Total.{demo_text}
 use Rattle.s38_joblog.specs.Check.{check_text}
@@ -20,7 +21,7 @@ use Rattle.s38_top.specs.declared.command.Command.TheVariants.{Serial, Check, De
 use Rattle.s38_top.specs.declared.outcome.Outcome.{Outcome}
 use Rattle.s38_top.specs.declared.outcome.Outcome.TheVariants.{BadWords, BadDeck, DeckFault, NoMemory, Complete, Checked, Demonstrated}
 use Rattle.s38_top.specs.Commands.{command_of}
-use Rattle.s38_top.specs.Decks.{AreMarks, IsConfined, IsRunOf, checked_of, picks_by}
+use Rattle.s38_top.specs.Decks.{AreMarks, IsConfined, IsRunOf, checked_of, opened, picks_by}
 
 -- how many bytes of a deck are taken at most
 abbrev pub most : ℕ
@@ -166,6 +167,8 @@ pub record IsComplete (pick : ℕ) (left left' written written' : Option (List �
   pub deck : Deck
   pub ran : RanDeck pick left left' deck history
   pub confined : IsConfined held_first deck history ran.run.state
+  -- in each state on the way the units of changes are right
+  pub right : AllRight (opened held_first deck) history
   pub told : Appends written written' (run_text deck history)
   pub finished : (bytes : List ℕ) → left ≡ Some bytes → left' ≡ Some []
 
@@ -184,6 +187,7 @@ pub record IsDemonstrated (size : ℕ) (left left' written written' : Option (Li
   pub deck : Deck
   pub ran : RanGenerated size deck history
   pub confined : IsConfined held_installed deck history ran.run.state
+  pub right : AllRight (opened held_installed deck) history
   pub told : Appends written written' (demo_text size history)
   pub unread : Keeps left left'
 

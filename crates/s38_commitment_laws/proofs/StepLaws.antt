@@ -1,0 +1,108 @@
+-- Step by step the units stay right, from the machine's beginning on.
+use Rattle.std.proofs.Common.{◌++◌, ◌∷◌, ◌≡◌, ◌≤◌, Bool, List, [], arith, false, refl, subst, sym, true, ℕ}
+use Rattle.std.proofs.lemmas.Bool.{cond_both}
+use Rattle.std.proofs.lemmas.List.Elements.{All-nil}
+use Rattle.std.specs.List.{AllByRecursion}
+use Rattle.std.specs.Prelude.{IsTrue, None, Option, Some}
+use Rattle.s38_code.specs.declared.deck.Job.{Job}
+use Rattle.s38_code.specs.declared.entry.Entry.{Entry}
+use Rattle.s38_code.specs.declared.event.Event.TheVariants.{Act, Finish, Start}
+use Rattle.s38_code.specs.declared.event.Event.{Event}
+use Rattle.s38_code.specs.declared.made.CheckedTemplate.{CheckedTemplate}
+use Rattle.s38_commits.specs.Unit.{CommitUnit}
+use Rattle.s38_commits.specs.Units.{unit_of}
+use Rattle.s38_journals.specs.Journals.{can_write}
+use Rattle.s38_journals.specs.declared.entry.EntryKind.{EntryKind}
+use Rattle.s38_rules.specs.Units.{all_undone, end_entry}
+use Rattle.s38_rules.proofs.VerdictLaws.{permitted_none}
+use Rattle.s38_rules.specs.Effect.{effect_of, end_at, start_at}
+use Rattle.s38_rules.specs.Held.{Held, has_number, object, object_in}
+use Rattle.s38_rules.specs.Legal.{Leads}
+use Rattle.s38_rules.specs.Opening.{held_first, held_installed, installed, opening, state_of}
+use Rattle.s38_rules.specs.Parts.{data_of, data_part, part_at, part_in}
+use Rattle.s38_rules.specs.Rows.{row}
+use Rattle.s38_rules.specs.State.{State, process_entry, waits}
+use Rattle.s38_rules.specs.Step.{by_verdict, by_waiting, step}
+use Rattle.s38_rules.specs.Verdict.{awake_verdict, refused_by}
+use Rattle.s38_rules.specs.declared.object.Object.{Object}
+use Rattle.s38_rules.specs.declared.process.ProcessEntry.{ProcessEntry}
+use Rattle.s38_rules.specs.declared.verdict.Verdict.TheVariants.{Permit}
+use Rattle.s38_rules.specs.declared.verdict.Verdict.{Verdict}
+use Rattle.s38_commitment_laws.proofs.EndLaws.{all_decommitted_right, can_end, undone_right, unit_put_back}
+use Rattle.s38_commitment_laws.proofs.RowLaws.{effect_right}
+use Rattle.s38_commitment_laws.proofs.UnitLaws.{all_stand, rising_none}
+use Rattle.s38_commitment_laws.specs.Right.{AllPutBack, AllRight, AreRight, IsData, IsRight, IsUnit, journal_of}
+
+-- ---- the beginning
+
+-- without a unit, and where no object is a data space
+no_units : (h : Held) → object h 0 ≡ None → 1 ≤ h.next → ((n : ℕ) → IsData (part_at data_part h n)) → AreRight h []
+no_units h none next tables = record {
+  rising = rising_none;
+  apart = λ one other space at first second. cc;
+  each = All-nil (IsUnit h);
+  room = λ journal. omega arith;
+  tables = tables;
+  unused = record { none = none; next = next };
+}
+
+no_data : (os : List Object) (n : ℕ) → AllByRecursion (λ x. data_of x.body ≡ None) os → IsData (part_in data_part (object_in os n))
+no_data [] n none = tt
+no_data (x ∷ xs) n none =
+    cond_both (has_number n x) (Some x) (object_in xs n) (λ r. IsData (part_in data_part r)) (λ q. subst IsData (sym none.0) tt) (λ q. no_data xs n none.1)
+
+pub first_right : (templates : List CheckedTemplate) (jobs : List Job) → IsRight (state_of held_first templates jobs)
+unfolding opening
+first_right templates jobs = no_units held_first refl (omega arith) (λ n. no_data opening n (refl, (refl, (refl, (refl, (refl, tt))))))
+
+pub installed_right : (templates : List CheckedTemplate) (jobs : List Job) → IsRight (state_of held_installed templates jobs)
+unfolding installed
+installed_right templates jobs = no_units held_installed refl (omega arith) (λ n. no_data installed n (refl, (refl, tt)))
+
+-- ---- a step
+
+start_right : (s : State) (p : ℕ) (x : Option ProcessEntry) → IsRight s → IsRight (start_at s p x)
+start_right s p None right = right
+start_right s p (Some x) right = right
+
+finish_right : (s : State) (p : ℕ) (x : Option ProcessEntry) → IsRight s → IsRight (end_at s p x)
+finish_right s p None right = right
+finish_right s p (Some x) right = all_decommitted_right s.units s p right right.rising (all_stand s.units right.rising)
+
+event_right : (s : State) (p : ℕ) (e : Event) → IsRight s → awake_verdict s p e ≡ Permit → IsRight (effect_of s p e).state
+unfolding effect_of awake_verdict
+event_right s p Start right may = start_right s p (process_entry s p) right
+event_right s p (Act d t) right may = effect_right s p d t right (permitted_none s p t (refused_by (row t.op) s p d t) may)
+event_right s p (Finish cause) right may = finish_right s p (process_entry s p) right
+
+verdict_right : (s : State) (p : ℕ) (e : Event) (v : Verdict) → IsRight s → awake_verdict s p e ≡ v → IsRight (by_verdict s p e v).state
+verdict_right s p e Permit right is = event_right s p e right is
+verdict_right s p e _ right is = right
+
+pub step_right : (s : State) (p : ℕ) (e : Event) → IsRight s → IsRight (step s p e).state
+unfolding step
+step_right s p e right = by (waits s p)
+  where
+    by : (b : Bool) → IsRight (by_waiting b s p e).state
+    by true = right
+    by false = verdict_right s p e (awake_verdict s p e) right refl
+
+-- ---- a history
+
+pub history_right : (s : State) (before history : List Entry) (end : State) → IsRight s → Leads s before history end → AllRight s history × IsRight end
+history_right s before [] end right leads = (right, subst IsRight leads right)
+history_right s before (e ∷ es) end right leads =
+    let rest = history_right (step s e.process e.event).state (before ++ e ∷ []) es end (step_right s e.process e.event right) leads.1 in
+    ((right, rest.0), rest.1)
+
+-- ---- how a unit ends
+
+pub end_here : (s : State) (block : ℕ) (unit : CommitUnit) (kind : EntryKind) (p : ℕ) → IsRight s → unit_of s.units block ≡ Some unit → IsTrue (can_write (journal_of s.held block) (end_entry kind p unit))
+end_here s block unit kind p right found = can_end s.held s.units block unit kind p right found
+
+pub end_after : (s : State) (block : ℕ) (unit : CommitUnit) (kind : EntryKind) (p : ℕ) → IsRight s → unit_of s.units block ≡ Some unit
+    → IsTrue (can_write (journal_of (all_undone s.held unit.changes) block) (end_entry kind p unit))
+end_after s block unit kind p right found = can_end (all_undone s.held unit.changes) s.units block unit kind p (undone_right unit.changes s.held s.units right).right found
+
+pub all_back : (s : State) (block : ℕ) (unit : CommitUnit) → IsRight s → unit_of s.units block ≡ Some unit → AllPutBack s.held unit.changes
+all_back s block unit right found = unit_put_back s.held s.units block unit right found

@@ -1,0 +1,44 @@
+//! What is true of the units of changes in every state of the machine.
+ghost use Rattle.s38_code.specs.declared.deck.Job.{Job};
+ghost use Rattle.s38_code.specs.declared.entry.Entry.{Entry};
+ghost use Rattle.s38_code.specs.declared.event.Event.{Event};
+ghost use Rattle.s38_code.specs.declared.made.CheckedTemplate.{CheckedTemplate};
+ghost use Rattle.s38_commits.specs.Unit.{CommitUnit};
+ghost use Rattle.s38_commits.specs.Units.{unit_of};
+ghost use Rattle.s38_commitment_laws.specs.Right.{AllPutBack, AllRight, IsRight, journal_of};
+ghost use Rattle.s38_journals.specs.Journals.{can_write};
+ghost use Rattle.s38_journals.specs.declared.entry.EntryKind.{EntryKind};
+ghost use Rattle.s38_rules.specs.Legal.{Leads};
+ghost use Rattle.s38_rules.specs.Opening.{held_first, held_installed, state_of};
+ghost use Rattle.s38_rules.specs.State.{State};
+ghost use Rattle.s38_rules.specs.Step.{step};
+ghost use Rattle.s38_rules.specs.Units.{all_undone, end_entry};
+ghost use Rattle.std.specs.Prelude.{◌≡◌, ℕ, IsTrue, List, Some};
+
+/// The machine begins with units that are right: it has none, as it is opened first and as it is installed.
+pub fn units_begin_right()
+    ensures first { (templates : List CheckedTemplate) (jobs : List Job) → IsRight (state_of held_first templates jobs) }
+    ensures installed { (templates : List CheckedTemplate) (jobs : List Job) → IsRight (state_of held_installed templates jobs) }
+{}
+
+/// Where the units are right, they are right behind each step; so they are in every state of a history, and at its end.
+pub fn units_stay_right()
+    ensures steps { (s : State) (p : ℕ) (e : Event) → IsRight s → IsRight (step s p e).state }
+    ensures histories { (s : State) (before : List Entry) (history : List Entry) (end : State) → IsRight s → Leads s before history end
+        → AllRight s history × IsRight end }
+{}
+
+/// Where the units are right, the end of each may be written in its journal space and has room there, as the unit is
+/// committed and behind all that is taken back of it.
+pub fn ends_are_written()
+    ensures committed { (s : State) (block : ℕ) (unit : CommitUnit) (kind : EntryKind) (p : ℕ) → IsRight s → unit_of s.units block ≡ Some unit
+        → IsTrue (can_write (journal_of s.held block) (end_entry kind p unit)) }
+    ensures decommitted { (s : State) (block : ℕ) (unit : CommitUnit) (kind : EntryKind) (p : ℕ) → IsRight s → unit_of s.units block ≡ Some unit
+        → IsTrue (can_write (journal_of (all_undone s.held unit.changes) block) (end_entry kind p unit)) }
+{}
+
+/// Where the units are right, each change of a unit is put back as the unit is taken back: its data space has the
+/// ordinal, and what stood there before is an entry of its fields, or none.
+pub fn changes_are_put_back()
+    ensures back { (s : State) (block : ℕ) (unit : CommitUnit) → IsRight s → unit_of s.units block ≡ Some unit → AllPutBack s.held unit.changes }
+{}
