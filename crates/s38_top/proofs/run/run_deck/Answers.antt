@@ -7,8 +7,8 @@ use Rattle.s38_top.proofs.run.run_deck.Goals as goal
 
 pub returns-clause-run : goal.returns-clause-run
 returns-clause-run g c =
-    subst (λ (es : List Entry). IsRunOf (picks_of g.P.Picker.answer g.P.Picker.after (length es) c.args.picker.now) c.args.deck es) (sym c.end-history.ensures.0)
-    (run_of _ c.args.deck c.in_ok-made.made.items c.args.templates c.in_ok-machine.machine c.in_ok-machine-2.machine c.in_ok-made.ensures.len c.in_ok-made.ensures.each
+    subst (λ (es : List Entry). IsRunOf c.args.objects (picks_of g.P.Picker.answer g.P.Picker.after (length es) c.args.picker.now) c.args.deck es) (sym c.end-history.ensures.0)
+    (run_of c.args.objects _ c.args.deck c.in_ok-made.made.items c.args.templates c.in_ok-machine.machine c.in_ok-machine-2.machine c.in_ok-made.ensures.len c.in_ok-made.ensures.each
     c.requires.checked
     (rw c.as_slice-2.ensures.items at c.in_ok-machine.ensures)
     c.in_ok-machine-2.ensures.sound
