@@ -94,7 +94,7 @@ no_size size h = cc
 same_size : (size number : ℕ) → Demo size ≡ Demo number → size ≡ number
 same_size size number h = cc
 
-size_is : (command : Command) (size : ℕ) → demo_size command ≡ Some size → command ≡ Demo size
+pub size_is : (command : Command) (size : ℕ) → demo_size command ≡ Some size → command ≡ Demo size
 size_is (Serial pick) size h = cc
 size_is Check size h = cc
 size_is (Demo number) size h = ap Demo (same_Some number size h)
