@@ -371,9 +371,15 @@ fn fills(
     bytes: &str,
     answer: &str,
 ) -> Result<bool, NoMemory> {
-    let deck = [limit.deck.0, bytes, limit.deck.1, bytes, limit.deck.2];
-    let text = [limit.text.0, changes, limit.text.1, answer, limit.text.2];
-    answers(alloc, &["serial"], &deck, &text, 0)
+    let deck = format!(in alloc;
+        "{}{}{}{}{}",
+        limit.deck.0, bytes, limit.deck.1, bytes, limit.deck.2
+    )?;
+    let text = format!(in alloc;
+        "{}{}{}{}{}",
+        limit.text.0, changes, limit.text.1, answer, limit.text.2
+    )?;
+    answers(alloc, &["serial"], &[deck.as_str()], &[text.as_str()], 0)
 }
 
 #[test]
