@@ -8,7 +8,7 @@ use crate::parsed::ParsedOperand;
 use crate::scope::Scope;
 use s38_base::NoMemory;
 use s38_code::Class;
-use s38_words::{before, behind};
+use s38_words::parted;
 use std::alloc::Global;
 
 pub fn is_argument(class: Class) -> bool
@@ -27,7 +27,7 @@ pub fn parsed_operands(
 ) -> Result<Option<Vec<ParsedOperand>>, NoMemory>
     ensures { IfOk result (λ parsed. option_map (λ v. v.items) parsed ≡ parsed_from scope.now.table scope.now.code [] classes.now (option_map (λ t. t.now) text.entry)) }
 {
-    let mut parsed = Vec::new(alloc);
+    let mut parsed = Vec::with_capacity(alloc, classes.len())?;
     let mut rest = text;
     for class in classes {
         let Some(text) = rest else {
@@ -37,11 +37,12 @@ pub fn parsed_operands(
                 Ok(None)
             };
         };
-        let Some(operand) = parsed_operand(alloc, scope, *class, before(b',', text))? else {
+        let (word, more) = parted(b',', text);
+        let Some(operand) = parsed_operand(alloc, scope, *class, word)? else {
             return Ok(None);
         };
         parsed.push(operand)?;
-        rest = behind(b',', text);
+        rest = more;
     }
     if rest.is_some() {
         return Ok(None);

@@ -1,20 +1,11 @@
--- Each mnemonic is read as its operation, and a search in the order of mnemonics finds what stands there.
-use native.Mathlib.Numerals.{unary_clauses}
-use Rattle.std.proofs.Common.{◌≡◌, ◌<◌, ℕ, zero, suc, Bool, true, false, not, ◌&&◌, List, [], ◌∷◌, length, get_or, Some, None, Err, refl, sym, ap, subst, ◌∙◌, inl, inr, arith}
-use Rattle.std.specs.Cmp.Lexicographic.{nat_list_cmp_total, slice_cmp}
-use Rattle.std.specs.List.Sorted.{IsBinarySearchResult, IsSortedBy}
-use Rattle.std.specs.Ordering.{is_lt, nat_cmp}
-use Rattle.std.specs.declared.cmp.Ordering.{Ordering}
-use Rattle.std.specs.declared.cmp.Ordering.TheVariants.{Less, Equal, Greater}
-use Rattle.std.proofs.lemmas.Bool.{cases_Bool, cases_lt}
-use Rattle.std.proofs.lemmas.Cmp.{tied_itself}
-use Rattle.std.proofs.lemmas.List.Sorted.{searchable_from_sorted}
-use Rattle.std.proofs.lemmas.Map.Lookups.{exact_bytes}
+-- Each mnemonic is read as its operation, also among those that begin with its letter.
+use Rattle.std.proofs.Common.{◌≡◌, ℕ, Bool, true, false, List, [], ◌∷◌, Option, Some, None, length, slice_index, ◌<◌, arith, refl, sym, ap, ◌∙◌, inl, inr}
+use Rattle.std.proofs.lemmas.Bool.{cases_Bool}
 use Rattle.std.proofs.lemmas.Slice.Eq.{bytes_eq-Decides}
 use Rattle.s38_base.specs.declared.op.Op.{Op}
 use Rattle.s38_base.specs.declared.op.Op.TheVariants.{Addn, Subn, Mult, Div, Rem, Neg, Cpynv, Scale, Cmpnvb, Cpybla, Cpybra, Cpyblap, Cat, Xlate, Cvthc, Cvtch, And, Or, Xor, Not, Cmpblab, B, Calli, Rtx, Sigexcp, Retexcpd, Modexcpd, Cmpptrt, Addspp, Subspp, Rslvsp, Setsppfp, Setspfp, Setdp, Cpybwp, Crtctx, Modadr, Rename, Matctx, Crtup, Modup, Grant, Retract, Xfro, Testau, Matau, Matauobj, Crtpg, Callx, Xctl, Lock, Unlock, Xfrlock, Matobjlk, Crts, Mods, Crtq, Enq, Deq, Crtinx, Insinxen, Fndinxen, Rmvinxen, Crtds, Crtcr, Setcr, Insdsen, Retdsen, Updsen, Deldsen, Crtjs, Crtjp, Jrnlobj, Retjent, Crtcb, Commit, Decommit, Ensobj, Desctx, Desup, Despg, Dess, Desq, Desinx, Desds, Descr, Desjs, Desjp, Descb}
 use Rattle.s38_code.specs.Operations.{mnemonic}
-use Rattle.s38_words.specs.Operation.{first_op, op_of, operations, to_word}
+use Rattle.s38_words.specs.Operation.{beginning_with, first_op, op_of, operations}
 use Rattle.s38_words.specs.Text.{is_word}
 
 pub each_is_read : (op : Op) → op_of (mnemonic op) ≡ Some op
@@ -109,68 +100,128 @@ each_is_read Desjs = refl
 each_is_read Desjp = refl
 each_is_read Descb = refl
 
--- ---- the order of mnemonics
+-- ---- among the operations that begin with a letter
 
-abbrev by_mnemonic : Op → Op → Ordering
-by_mnemonic one other = slice_cmp nat_cmp (mnemonic one) (mnemonic other)
+each_begins : (op : Op) → first_op (beginning_with (slice_index (mnemonic op) 0)) (mnemonic op) ≡ Some op
+unfolding mnemonic beginning_with
+each_begins Addn = refl
+each_begins Subn = refl
+each_begins Mult = refl
+each_begins Div = refl
+each_begins Rem = refl
+each_begins Neg = refl
+each_begins Cpynv = refl
+each_begins Scale = refl
+each_begins Cmpnvb = refl
+each_begins Cpybla = refl
+each_begins Cpybra = refl
+each_begins Cpyblap = refl
+each_begins Cat = refl
+each_begins Xlate = refl
+each_begins Cvthc = refl
+each_begins Cvtch = refl
+each_begins And = refl
+each_begins Or = refl
+each_begins Xor = refl
+each_begins Not = refl
+each_begins Cmpblab = refl
+each_begins B = refl
+each_begins Calli = refl
+each_begins Rtx = refl
+each_begins Sigexcp = refl
+each_begins Retexcpd = refl
+each_begins Modexcpd = refl
+each_begins Cmpptrt = refl
+each_begins Addspp = refl
+each_begins Subspp = refl
+each_begins Rslvsp = refl
+each_begins Setsppfp = refl
+each_begins Setspfp = refl
+each_begins Setdp = refl
+each_begins Cpybwp = refl
+each_begins Crtctx = refl
+each_begins Modadr = refl
+each_begins Rename = refl
+each_begins Matctx = refl
+each_begins Crtup = refl
+each_begins Modup = refl
+each_begins Grant = refl
+each_begins Retract = refl
+each_begins Xfro = refl
+each_begins Testau = refl
+each_begins Matau = refl
+each_begins Matauobj = refl
+each_begins Crtpg = refl
+each_begins Callx = refl
+each_begins Xctl = refl
+each_begins Lock = refl
+each_begins Unlock = refl
+each_begins Xfrlock = refl
+each_begins Matobjlk = refl
+each_begins Crts = refl
+each_begins Mods = refl
+each_begins Crtq = refl
+each_begins Enq = refl
+each_begins Deq = refl
+each_begins Crtinx = refl
+each_begins Insinxen = refl
+each_begins Fndinxen = refl
+each_begins Rmvinxen = refl
+each_begins Crtds = refl
+each_begins Crtcr = refl
+each_begins Setcr = refl
+each_begins Insdsen = refl
+each_begins Retdsen = refl
+each_begins Updsen = refl
+each_begins Deldsen = refl
+each_begins Crtjs = refl
+each_begins Crtjp = refl
+each_begins Jrnlobj = refl
+each_begins Retjent = refl
+each_begins Crtcb = refl
+each_begins Commit = refl
+each_begins Decommit = refl
+each_begins Ensobj = refl
+each_begins Desctx = refl
+each_begins Desup = refl
+each_begins Despg = refl
+each_begins Dess = refl
+each_begins Desq = refl
+each_begins Desinx = refl
+each_begins Desds = refl
+each_begins Descr = refl
+each_begins Desjs = refl
+each_begins Desjp = refl
+each_begins Descb = refl
 
-abbrev is_first : Op → List Op → Bool
-is_first op [] = true
-is_first op (next ∷ ops) = not (is_lt (by_mnemonic next op))
-
-abbrev rise : List Op → Bool
-rise [] = true
-rise (op ∷ ops) = is_first op ops && rise ops
-
-not_true : (b : Bool) → not b ≡ true → b ≡ false
-not_true false h = refl
-not_true true h = absurd (let x : false ≡ true = h in cc)
-
-both : (a b : Bool) → a && b ≡ true → (a ≡ true) × (b ≡ true)
-both true true h = (refl, refl)
-both true false h = absurd (let x : false ≡ true = h in cc)
-both false b h = absurd (let x : false ≡ true = h in cc)
-
-rise-sorted : (ops : List Op) → rise ops ≡ true → IsSortedBy (λ a b. is_lt (by_mnemonic a b)) ops
-rise-sorted [] h k d low high = absurd (omega (arith, high))
-rise-sorted (op ∷ []) h k d low high = absurd (omega (arith, high))
-rise-sorted (op ∷ next ∷ ops) h zero d low high = not_true (is_lt (by_mnemonic next op)) (both (not (is_lt (by_mnemonic next op))) (rise (next ∷ ops)) h).0
-rise-sorted (op ∷ next ∷ ops) h (suc k) d low high =
-    let rest = rise-sorted (next ∷ ops) (both (not (is_lt (by_mnemonic next op))) (rise (next ∷ ops)) h).1 k d (omega arith) (omega (arith, high)) in
-    simp unary_clauses (simp unary_clauses at rest)
-
-operations-rise : rise operations ≡ true
-unfolding mnemonic operations
-operations-rise = refl
-
--- ---- what a search has found
-
--- no mnemonic of these is the word
-abbrev Misses : List Op → List ℕ → Type 0
-Misses ops word = (k : ℕ) (d : Op) → k < length ops → is_word (mnemonic (get_or ops k d)) word ≡ false
-
-first_op-misses : (ops : List Op) (word : List ℕ) → Misses ops word → first_op ops word ≡ None
-first_op-misses [] word h = refl
-first_op-misses (op ∷ ops) word h = rw (h zero op (omega arith)) (first_op-misses ops word (λ k d l. h (suc k) d (omega (arith, l))))
-
-other_word : (op : Op) (word : List ℕ) (o : Ordering) → slice_cmp nat_cmp (mnemonic op) word ≡ o → (o ≡ Equal → ⊥) → is_word (mnemonic op) word ≡ false
-other_word op word o e other = elim (cases_Bool (is_word (mnemonic op) word)) [
-  | inl y ↦ absurd (other (sym e ∙ (ap (slice_cmp nat_cmp (mnemonic op)) ((bytes_eq-Decides word (mnemonic op)).0 y) ∙ tied_itself nat_list_cmp_total (mnemonic op))))
-  | inr n ↦ n
+-- what is found among some operations has the word as its mnemonic
+found_spells : (ops : List Op) (word : List ℕ) (op : Op) → first_op ops word ≡ Some op → word ≡ mnemonic op
+found_spells [] word op h = absurd (let x : None ≡ Some op = h in cc)
+found_spells (next ∷ ops) word op h = elim (cases_Bool (is_word (mnemonic next) word)) [
+  | inl y ↦
+      let same : Some next ≡ Some op = simp y at h in
+      ((bytes_eq-Decides word (mnemonic next)).0 y) ∙ ap mnemonic (let e : next ≡ op = cc in e)
+  | inr n ↦ found_spells ops word op (simp n at h)
 ]
 
-pub op_of-found : (ops : List Op) (word : List ℕ) (at : ℕ) (d : Op) → ops ≡ operations → to_word word (get_or ops at d) ≡ Equal → Some (get_or ops at d) ≡ op_of word
-op_of-found ops word at d same e =
-    let op = get_or ops at d in
-    sym (ap op_of (sym (exact_bytes (mnemonic op) word e)) ∙ each_is_read op)
+missed : (word : List ℕ) (o : Option Op) → first_op (beginning_with (slice_index word 0)) word ≡ None → op_of word ≡ o → None ≡ op_of word
+missed word None h e = sym e
+missed word (Some op) h e =
+    let spelled = found_spells operations word op e in
+    absurd (let x : Some op ≡ None = sym (each_begins op) ∙ (ap (λ w. first_op (beginning_with (slice_index w 0)) w) (sym spelled) ∙ h) in cc)
 
-missed : (word : List ℕ) (at : ℕ) → IsBinarySearchResult (to_word word) operations (Err at) → op_of word ≡ None
-missed word at found =
-    let parted = found (searchable_from_sorted nat_list_cmp_total mnemonic operations word (rise-sorted operations operations-rise)) in
-    first_op-misses operations word (λ k d l. elim (cases_lt k at) [
-      | inl below ↦ other_word (get_or operations k d) word Less (parted.0 k d (omega arith) below) (λ e. cc)
-      | inr behind ↦ other_word (get_or operations k d) word Greater (parted.1 k d (omega (arith, behind)) l) (λ e. cc)
-    ])
+found_by : (word : List ℕ) (o : Option Op) → first_op (beginning_with (slice_index word 0)) word ≡ o → o ≡ op_of word
+found_by word None h = missed word (op_of word) h refl
+found_by word (Some op) h =
+    let spelled = found_spells (beginning_with (slice_index word 0)) word op h in
+    sym (each_is_read op) ∙ ap op_of (sym spelled)
 
-pub op_of-missed : (ops : List Op) (word : List ℕ) (at : ℕ) → ops ≡ operations → IsBinarySearchResult (to_word word) ops (Err at) → None ≡ op_of word
-op_of-missed ops word at same found = sym (missed word at (subst (λ xs. IsBinarySearchResult (to_word word) xs (Err at)) same found))
+-- a search among those that begin with the letter of the word finds what the word is
+pub found : (word : List ℕ) (ops : List Op) (o : Option Op) → ops ≡ beginning_with (slice_index word 0) → o ≡ first_op ops word → o ≡ op_of word
+found word ops o same h = found_by word o (sym (h ∙ ap (λ xs. first_op xs word) same))
+
+-- no mnemonic is empty
+pub none_empty : (word : List ℕ) → length word < 1 → None ≡ op_of word
+unfolding mnemonic operations
+none_empty [] h = refl
+none_empty (byte ∷ word) h = absurd (omega (arith, h))

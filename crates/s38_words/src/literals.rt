@@ -55,7 +55,7 @@ fn translated(alloc: Global, text: &[u8]) -> Result<Vec<u8>, NoMemory>
     requires { IsTrue (list_all is_text_byte text.now) }
     ensures { IfOk result (λ bytes. bytes.items ≡ map ebcdic text.now) }
 {
-    let mut bytes = Vec::new(alloc);
+    let mut bytes = Vec::with_capacity(alloc, text.len())?;
     for byte in text {
         bytes.push(ebcdic(*byte))?;
     }

@@ -1,124 +1,63 @@
 ghost use Rattle.std.specs.Prelude.{◌≡◌, Some};
 ghost use Rattle.s38_code.specs.Operations.{mnemonic};
-ghost use Rattle.s38_words.specs.Operation.{op_of, operations, to_word};
+ghost use Rattle.s38_words.specs.Operation.{beginning_with, first_op, op_of};
 
 use s38_base::Op;
+use crate::texts::is_word;
 use s38_code::mnemonic;
-use std::cmp::Ordering;
 
-/// All operations, in the order of their mnemonics.
-#[tactic(auto, unfolding(crate::specs::Operation::operations))]
-fn operations() -> &'static [Op]
-    ensures { result.now ≡ operations }
+/// The operations whose mnemonics begin with a letter.
+#[tactic(auto, unfolding(crate::specs::Operation::beginning_with))]
+fn beginning_with(letter: u8) -> &'static [Op]
+    ensures { result.now ≡ beginning_with letter }
 {
-    &[
-        Op::Addn,
-        Op::Addspp,
-        Op::And,
-        Op::B,
-        Op::Calli,
-        Op::Callx,
-        Op::Cat,
-        Op::Cmpblab,
-        Op::Cmpnvb,
-        Op::Cmpptrt,
-        Op::Commit,
-        Op::Cpybla,
-        Op::Cpyblap,
-        Op::Cpybra,
-        Op::Cpybwp,
-        Op::Cpynv,
-        Op::Crtcb,
-        Op::Crtcr,
-        Op::Crtctx,
-        Op::Crtds,
-        Op::Crtinx,
-        Op::Crtjp,
-        Op::Crtjs,
-        Op::Crtpg,
-        Op::Crtq,
-        Op::Crts,
-        Op::Crtup,
-        Op::Cvtch,
-        Op::Cvthc,
-        Op::Decommit,
-        Op::Deldsen,
-        Op::Deq,
-        Op::Descb,
-        Op::Descr,
-        Op::Desctx,
-        Op::Desds,
-        Op::Desinx,
-        Op::Desjp,
-        Op::Desjs,
-        Op::Despg,
-        Op::Desq,
-        Op::Dess,
-        Op::Desup,
-        Op::Div,
-        Op::Enq,
-        Op::Ensobj,
-        Op::Fndinxen,
-        Op::Grant,
-        Op::Insdsen,
-        Op::Insinxen,
-        Op::Jrnlobj,
-        Op::Lock,
-        Op::Matau,
-        Op::Matauobj,
-        Op::Matctx,
-        Op::Matobjlk,
-        Op::Modadr,
-        Op::Modexcpd,
-        Op::Mods,
-        Op::Modup,
-        Op::Mult,
-        Op::Neg,
-        Op::Not,
-        Op::Or,
-        Op::Rem,
-        Op::Rename,
-        Op::Retdsen,
-        Op::Retexcpd,
-        Op::Retjent,
-        Op::Retract,
-        Op::Rmvinxen,
-        Op::Rslvsp,
-        Op::Rtx,
-        Op::Scale,
-        Op::Setcr,
-        Op::Setdp,
-        Op::Setspfp,
-        Op::Setsppfp,
-        Op::Sigexcp,
-        Op::Subn,
-        Op::Subspp,
-        Op::Testau,
-        Op::Unlock,
-        Op::Updsen,
-        Op::Xctl,
-        Op::Xfrlock,
-        Op::Xfro,
-        Op::Xlate,
-        Op::Xor,
-    ]
+    match letter {
+        b'A' => &[Op::Addn, Op::And, Op::Addspp],
+        b'B' => &[Op::B],
+        b'C' => &[Op::Cmpnvb, Op::Cpybla, Op::Cpynv, Op::Callx, Op::Cpybra, Op::Cpyblap, Op::Cat, Op::Cvthc, Op::Cvtch, Op::Cmpblab, Op::Calli, Op::Cmpptrt, Op::Cpybwp, Op::Crtctx, Op::Crtup, Op::Crtpg, Op::Crts, Op::Crtq, Op::Crtinx, Op::Crtds, Op::Crtcr, Op::Crtjs, Op::Crtjp, Op::Crtcb, Op::Commit],
+        b'D' => &[Op::Deq, Op::Div, Op::Deldsen, Op::Decommit, Op::Desctx, Op::Desup, Op::Despg, Op::Dess, Op::Desq, Op::Desinx, Op::Desds, Op::Descr, Op::Desjs, Op::Desjp, Op::Descb],
+        b'E' => &[Op::Enq, Op::Ensobj],
+        b'F' => &[Op::Fndinxen],
+        b'G' => &[Op::Grant],
+        b'I' => &[Op::Insinxen, Op::Insdsen],
+        b'J' => &[Op::Jrnlobj],
+        b'L' => &[Op::Lock],
+        b'M' => &[Op::Mult, Op::Modexcpd, Op::Modadr, Op::Matctx, Op::Modup, Op::Matau, Op::Matauobj, Op::Matobjlk, Op::Mods],
+        b'N' => &[Op::Neg, Op::Not],
+        b'O' => &[Op::Or],
+        b'R' => &[Op::Rtx, Op::Rslvsp, Op::Rem, Op::Retexcpd, Op::Rename, Op::Retract, Op::Rmvinxen, Op::Retdsen, Op::Retjent],
+        b'S' => &[Op::Subn, Op::Scale, Op::Sigexcp, Op::Subspp, Op::Setsppfp, Op::Setspfp, Op::Setdp, Op::Setcr],
+        b'T' => &[Op::Testau],
+        b'U' => &[Op::Unlock, Op::Updsen],
+        b'X' => &[Op::Xlate, Op::Xor, Op::Xfro, Op::Xctl, Op::Xfrlock],
+        _ => &[],
+    }
 }
 
-/// How a mnemonic stands to a word.
-fn to_word(word: &[u8], op: Op) -> Ordering
-    ensures { result ≡ to_word word.now op }
+/// The first of these that a word is the mnemonic of.
+fn first_op(ops: &[Op], word: &[u8]) -> Option<Op>
+    ensures { result ≡ first_op ops.now word.now }
 {
-    mnemonic(op).cmp(word)
+    match ops {
+        [] => None,
+        [op, ops @ ..] => {
+            if is_word(mnemonic(*op), word) {
+                Some(*op)
+            } else {
+                first_op(ops, word)
+            }
+        }
+    }
 }
 
 /// The operation that a word is the mnemonic of.
+#[tactic(auto, using(crate::proofs::MnemonicLaws::found, crate::proofs::MnemonicLaws::none_empty))]
 pub fn operation(word: &[u8]) -> Option<Op>
     ensures { result ≡ op_of word.now }
 {
-    let ops = operations();
-    match ops.binary_search_by(|op| to_word(word, *op)) {
-        Ok(at) => Some(ops[at]),
-        Err(_) => None,
+    match word {
+        [] => None,
+        [letter, ..] => first_op(beginning_with(*letter), word),
     }
 }
 

@@ -5,7 +5,7 @@ ghost use Rattle.s38_words.specs.Views.{act_in};
 
 use crate::names::declared_name;
 use crate::operations::operation;
-use crate::texts::{before, behind, is_word, rest_after};
+use crate::texts::{before, behind, is_word, parted, rest_after};
 use s38_base::{Name, Op};
 use s38_code::may_round;
 
@@ -116,8 +116,9 @@ fn act_from(op: Op, text: Option<&[u8]>) -> InstructionLine<'_>
 pub fn instruction(line: &[u8]) -> Option<InstructionLine<'_>>
     ensures { option_map act_in result ≡ act_of line.now }
 {
-    match operation(before(b' ', line)) {
-        Some(op) => Some(act_from(op, behind(b' ', line))),
+    let (word, rest) = parted(b' ', line);
+    match operation(word) {
+        Some(op) => Some(act_from(op, rest)),
         None => None,
     }
 }

@@ -1,12 +1,24 @@
-ghost use Rattle.std.specs.Prelude.{◌≡◌, ◌≤◌, ◌<◌, length, IsTrue, IfSome};
+ghost use Rattle.std.specs.Prelude.{◌≡◌, ◌≤◌, ◌<◌, length, IsTrue, IfSome, nat_eq};
+ghost use Rattle.std.specs.List.{starts_with};
 ghost use Rattle.std.specs.Option.{option_map};
 ghost use Rattle.s38_words.specs.Text.{are_hex_digits, before, behind, hex_byte, hex_value, is_digit, is_hex_digit, is_letter, is_word, place_of, rest_after};
+
+/// Whether two texts that both have a first byte begin with the same one.
+fn begin_alike(one: &[u8], other: &[u8]) -> bool
+    ensures word { IsTrue (is_word one.now other.now) → IsTrue result }
+    ensures front { IsTrue (starts_with nat_eq other.now one.now) → IsTrue result }
+{
+    match (one, other) {
+        ([first, ..], [byte, ..]) => first == byte,
+        _ => true,
+    }
+}
 
 /// The text is this word.
 pub fn is_word(word: &[u8], text: &[u8]) -> bool
     ensures { result ≡ is_word word.now text.now }
 {
-    text == word
+    begin_alike(word, text) && text == word
 }
 
 /// Where the first such byte stands; None where there is none.
@@ -37,11 +49,26 @@ pub fn behind(byte: u8, text: &[u8]) -> Option<&[u8]>
     }
 }
 
+/// What stands before the first such byte, or all where there is none, and what stands behind it.
+pub fn parted(byte: u8, text: &[u8]) -> (&[u8], Option<&[u8]>)
+    ensures front { result.0.now ≡ before byte text.now }
+    ensures back { option_map (λ rest. rest.now) result.1 ≡ behind byte text.now }
+{
+    match place_of(byte, text) {
+        Some(at) => (&text[..at], Some(&text[at + 1..])),
+        None => (text, None),
+    }
+}
+
 /// What stands behind these bytes; None where the text does not begin with them.
 pub fn rest_after<'a>(front: &[u8], text: &'a [u8]) -> Option<&'a [u8]>
     ensures { option_map (λ rest. rest.now) result ≡ rest_after front.now text.now }
 {
-    text.strip_prefix(front)
+    if begin_alike(front, text) {
+        text.strip_prefix(front)
+    } else {
+        None
+    }
 }
 
 pub fn is_letter(byte: u8) -> bool
