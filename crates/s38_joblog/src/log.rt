@@ -69,11 +69,11 @@ fn add_entry_line(
     ensures { OnOk result (text.new ≡ text.old ++ entry_line position entry.now) }
 {
     text.add_number(position)?;
-    text.add(b" ")?;
+    text.add_byte(b' ')?;
     add_event_name(text, &entry.event)?;
-    text.add(b" ")?;
+    text.add_byte(b' ')?;
     add_result(alloc, text, &entry.event, &entry.reply)?;
-    text.add(b"\n")
+    text.add_byte(b'\n')
 }
 
 /// Adds a job's line: its number, its name and its user.

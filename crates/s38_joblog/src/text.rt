@@ -1,4 +1,4 @@
-ghost use Rattle.std.specs.Prelude.{◌≡◌, ◌<◌, ◌++◌, [], decimal, OnOk};
+ghost use Rattle.std.specs.Prelude.{◌≡◌, ◌<◌, ◌++◌, ◌∷◌, [], decimal, OnOk};
 ghost use Rattle.s38_joblog.specs.Words.{hex_byte, hex_code, hex_digit, hex_text};
 
 use itoa::Buffer;
@@ -66,6 +66,16 @@ impl Text {
         }
     }
 
+    /// Adds a byte.
+    pub fn add_byte(&mut self, byte: u8) -> Result<(), NoMemory>
+        ensures { OnOk result (self.new ≡ self.old ++ byte ∷ []) }
+    {
+        match self.bytes.push(byte) {
+            Ok(()) => Ok(()),
+            Err(_) => Err(NoMemory),
+        }
+    }
+
     /// Adds a number in decimal digits.
     pub fn add_number(&mut self, number: u64) -> Result<(), NoMemory>
         ensures { OnOk result (self.new ≡ self.old ++ decimal number) }
@@ -78,7 +88,8 @@ impl Text {
     pub fn add_hex_byte(&mut self, byte: u8) -> Result<(), NoMemory>
         ensures { OnOk result (self.new ≡ self.old ++ hex_byte byte) }
     {
-        self.add(&[hex_digit(byte / 16), hex_digit(byte % 16)])
+        self.add_byte(hex_digit(byte / 16))?;
+        self.add_byte(hex_digit(byte % 16))
     }
 
     /// Adds four hexadecimal digits.

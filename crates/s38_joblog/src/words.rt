@@ -91,9 +91,9 @@ fn add_place(text: &mut Text, letter: &[u8], object: u64, offset: u32) -> Result
 fn add_system(text: &mut Text, object: u64, rights: u8) -> Result<(), NoMemory>
     ensures { OnOk result (text.new ≡ text.old ++ (codes "S" ++ (decimal object ++ (codes "/" ++ hex_byte rights)))) }
 {
-    text.add(b"S")?;
+    text.add_byte(b'S')?;
     text.add_number(object)?;
-    text.add(b"/")?;
+    text.add_byte(b'/')?;
     text.add_hex_byte(rights)
 }
 
@@ -126,11 +126,11 @@ pub fn add_value(text: &mut Text, value: &Val) -> Result<(), NoMemory>
 {
     match value {
         Val::Bytes(bytes) => {
-            text.add(b" ")?;
+            text.add_byte(b' ')?;
             text.add_hex_bytes(bytes.as_slice())
         }
         Val::Ptr(pointer) => {
-            text.add(b" ")?;
+            text.add_byte(b' ')?;
             add_pointer(text, *pointer)
         }
         Val::Branch(taken) => add_answer(text, *taken),
