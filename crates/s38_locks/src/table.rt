@@ -1,4 +1,4 @@
-ghost use Rattle.std.specs.Prelude.{◌≡◌, [], None, Some, IfErr, IfOk, IfSome, OnOk, OnErr};
+ghost use Rattle.std.specs.Prelude.{◌≡◌, ◌==◌, [], length, None, Some, IfErr, IfOk, IfSome, OnOk, OnErr};
 ghost use Rattle.std.specs.Option.{unwrap_or};
 ghost use Rattle.s38_locks.specs.Locks.{IsLeast, IsOrderly, blocker, hinders, hindrance, is_blocker, with_lock, without_lock};
 ghost use Rattle.s38_locks.specs.Refusals.{lock_refusal, transfer_refusal, unlock_refusal};
@@ -38,6 +38,13 @@ impl LockTable {
             alloc,
             objects: BTreeMap::new(alloc),
         }
+    }
+
+    /// Whether nothing is locked.
+    pub fn is_empty(&self) -> bool
+        ensures { result ≡ (length self.now == 0) }
+    {
+        self.objects.is_empty()
     }
 
     /// Whether a process would be granted a lock: what `lock` answers, want of memory aside.
