@@ -150,8 +150,9 @@ impl<'a> OperandRules for Uses<'a> {
     }
 }
 
-/// The first use of an object, operand by operand, that a lock of another process blocks.
-#[tactic(auto, unfolding(s38_rules::specs::Verdict::lock_rules))]
+/// The first use of an object, operand by operand, that a lock of another process blocks. Where nothing is locked no
+/// operand is looked at.
+#[tactic(auto, using(s38_rules::proofs::LockLaws::unlocked), unfolding(s38_rules::specs::Verdict::lock_rules))]
 pub fn lock_rules(
     world: &World<Objects>,
     process: u32,
@@ -160,6 +161,9 @@ pub fn lock_rules(
 ) -> Option<Exception>
     ensures { result ≡ lock_rules world.now process request.now needs.now }
 {
+    if world.locks.is_empty() {
+        return None;
+    }
     let uses = Uses {
         world,
         process,
