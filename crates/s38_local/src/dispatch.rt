@@ -43,7 +43,13 @@ fn number_read(
 
 /// A computation that gives a number.
 #[tactic(auto, using(crate::proofs::ReceivedLaws::received_number))]
-fn number(rows: &[Row], homes: &[usize], values: &mut [Val], instruction: &Instruction) -> LocalEnd
+fn number(
+    alloc: Global,
+    rows: &[Row],
+    homes: &[usize],
+    values: &mut [Val],
+    instruction: &Instruction,
+) -> LocalEnd
     requires { IsTrue (computes_number instruction.now.op) }
     ensures end { result ≡ (number_run rows.now homes.now values.old instruction.now).end }
     ensures values { values.new ≡ (number_run rows.now homes.now values.old instruction.now).values }
@@ -51,7 +57,7 @@ fn number(rows: &[Row], homes: &[usize], values: &mut [Val], instruction: &Instr
     let given = number_read(rows, homes, values, instruction);
     let receiver = operand(instruction.args.as_slice(), 1);
     let to = place_of(homes, receiver);
-    receive_number(values, to, attr_of(rows, receiver), given)
+    receive_number(alloc, values, to, attr_of(rows, receiver), given)
 }
 
 /// A branch by a comparison.
@@ -191,7 +197,7 @@ fn computation(
 {
     let op = instruction.op;
     if computes_number(op) {
-        return Ok(number(rows, homes, values, instruction));
+        return Ok(number(alloc, rows, homes, values, instruction));
     }
     if is_branch(op) {
         return branch(alloc, rows, homes, values, instruction);
