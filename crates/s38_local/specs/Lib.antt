@@ -5,3 +5,4 @@ pub mod Local
 pub mod Overlap
 pub mod Received
 pub mod Variables
+pub mod Ways

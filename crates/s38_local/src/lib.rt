@@ -11,6 +11,7 @@ mod operands;
 mod overlap;
 mod receivers;
 mod variables;
+mod way;
 mod written;
 
 pub use control::return_from;

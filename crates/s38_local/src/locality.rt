@@ -4,17 +4,16 @@ ghost use Rattle.std.specs.Option.{option_copied};
 ghost use Rattle.s38_local.specs.Local.{is_local, is_local_op, lies_in_space};
 ghost use Rattle.s38_local.specs.Variables.{form_in, is_based};
 
-use crate::control::is_control;
+use crate::way::{Way, way_of};
 use s38_base::Op;
 use s38_code::{Arg, Form, Instruction, Row};
-use s38_compute::is_computation;
 
 /// A computation, or what goes on elsewhere or looks at the descriptions of exceptions.
-#[tactic(auto, unfolding(crate::specs::Local::is_local_op))]
+#[inline(always)]
 fn is_local_op(op: Op) -> bool
     ensures { result ≡ is_local_op op }
 {
-    is_computation(op) || is_control(op)
+    !matches!(way_of(op), Way::Shared)
 }
 
 fn form_in(row: Option<&Row>) -> Option<&Form>

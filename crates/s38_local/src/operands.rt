@@ -143,6 +143,22 @@ pub fn number_of(rows: &[Row], homes: &[usize], values: &[Val], arg: Option<&Arg
     read_scalar(attr, bytes).ok()
 }
 
+/// The attribute of an item or a literal, and the place of an item.
+#[inline(always)]
+pub fn target_of(rows: &[Row], homes: &[usize], arg: Option<&Arg>) -> (Attr, Option<usize>)
+    ensures attr { result.0 ≡ attr_of rows.now (option_copied arg.entry) }
+    ensures place { result.1 ≡ place_of homes.now (option_copied arg.entry) }
+{
+    match arg {
+        Some(Arg::Item(item)) => {
+            let k = *item as usize;
+            (attr_in(rows.get(k)), homes.get(k).copied())
+        }
+        Some(Arg::Literal { attr, .. }) => (*attr, None),
+        _ => (Attr::Pointer, None),
+    }
+}
+
 /// The place of the receiver, which is operand 1.
 pub fn receiver_of(homes: &[usize], args: &[Arg]) -> Option<usize>
     ensures { result ≡ receiver_of homes.now args.now }
