@@ -11,11 +11,10 @@ ghost use Rattle.s38_process.specs.Requests.{request_of};
 
 use crate::homes::{argument_places, first_frame, own_places};
 use crate::invocation::Invocation;
-use crate::local_run::is_return;
 use crate::made::{code_of, rows_of};
 use crate::request::request_of;
 use crate::variables::{blank_values, first_values, next_instruction, receive};
-use s38_base::{NoMemory, Pile};
+use s38_base::{NoMemory, Op, Pile};
 use s38_code::{Arg, Code, CreateResult, Instruction, Request, Val, classes};
 use s38_local::{Frame, LocalEnd, is_local, return_from, run_local};
 use std::alloc::Global;
@@ -330,7 +329,7 @@ fn return_alone(is_first: bool, frame: &mut Frame) -> Option<LocalEnd>
 fn ends_by(is_first: bool, frame: &Frame, instruction: &Instruction) -> bool
     ensures { result ≡ (is_return instruction.now.op && (is_none frame.now.returns && is_first)) }
 {
-    is_return(instruction.op) && frame.returns.len() == 0 && is_first
+    matches!(instruction.op, Op::Rtx) && frame.returns.len() == 0 && is_first
 }
 
 #[inline(always)]
