@@ -21,6 +21,7 @@ use std::mem;
 const SWITCH_ON: u32 = 0;
 
 /// Whether an instruction goes on elsewhere, or looks at the descriptions of exceptions.
+#[inline(always)]
 pub fn is_control(op: Op) -> bool
     ensures { result ≡ is_control op }
 {

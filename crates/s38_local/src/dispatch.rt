@@ -10,15 +10,14 @@ ghost use Rattle.s38_odt.specs.Suited.{IsSuited};
 use crate::control::{call, is_control, return_from, signal, switch, tell_latest};
 use crate::frame::Frame;
 use crate::local_end::LocalEnd;
-use crate::operands::{attr_of, operand, place_of, receiver_of, word_of};
+use crate::operands::{operand, place_of, receiver_of, target_of, word_of};
 use crate::overlap::string_run;
 use crate::receivers::{branch_end, jump_to, receive_number, receive_pointer};
 use crate::variables::Variables;
+use crate::way::{Way, way_of};
 use s38_base::{Exception, NoMemory, Op, Pointer};
 use s38_code::{Instruction, Row, Val};
-use s38_compute::{
-    computes_number, computes_string, is_branch, number_given, pointer_given, test_given,
-};
+use s38_compute::{number_given, pointer_given, test_given};
 use std::alloc::Global;
 
 fn number_read(
@@ -43,15 +42,20 @@ fn number_read(
 
 /// A computation that gives a number.
 #[tactic(auto, using(crate::proofs::ReceivedLaws::received_number))]
-fn number(rows: &[Row], homes: &[usize], values: &mut [Val], instruction: &Instruction) -> LocalEnd
+fn number(
+    alloc: Global,
+    rows: &[Row],
+    homes: &[usize],
+    values: &mut [Val],
+    instruction: &Instruction,
+) -> LocalEnd
     requires { IsTrue (computes_number instruction.now.op) }
     ensures end { result ≡ (number_run rows.now homes.now values.old instruction.now).end }
     ensures values { values.new ≡ (number_run rows.now homes.now values.old instruction.now).values }
 {
     let given = number_read(rows, homes, values, instruction);
-    let receiver = operand(instruction.args.as_slice(), 1);
-    let to = place_of(homes, receiver);
-    receive_number(values, to, attr_of(rows, receiver), given)
+    let (attr, to) = target_of(rows, homes, operand(instruction.args.as_slice(), 1));
+    receive_number(alloc, values, to, attr, given)
 }
 
 /// A branch by a comparison.
@@ -189,20 +193,13 @@ fn computation(
     ensures values { OnOk result (values.new ≡ (computed_run rows.now homes.now values.old instruction.now).values) }
     ensures err { OnErr result (values.new ≡ values.old) }
 {
-    let op = instruction.op;
-    if computes_number(op) {
-        return Ok(number(rows, homes, values, instruction));
+    match way_of(instruction.op) {
+        Way::Number => Ok(number(alloc, rows, homes, values, instruction)),
+        Way::Branch => branch(alloc, rows, homes, values, instruction),
+        Way::Text => string(alloc, rows, homes, values, instruction),
+        Way::Pointer => Ok(pointer(rows, homes, values, instruction)),
+        Way::Control | Way::Shared => Ok(LocalEnd::Next),
     }
-    if is_branch(op) {
-        return branch(alloc, rows, homes, values, instruction);
-    }
-    if computes_string(op) {
-        return string(alloc, rows, homes, values, instruction);
-    }
-    Ok(match op {
-        Op::Addspp | Op::Subspp => pointer(rows, homes, values, instruction),
-        _ => LocalEnd::Next,
-    })
 }
 
 /// Does a local instruction: reads its sources, then writes its receiver. A signal leaves all variables as they

@@ -11,13 +11,14 @@ mod operands;
 mod overlap;
 mod receivers;
 mod variables;
+mod way;
 mod written;
 
 pub use control::return_from;
 pub use dispatch::run_local;
 pub use frame::Frame;
 pub use local_end::LocalEnd;
-pub use locality::is_local;
+pub use locality::{declares_space, is_local, is_local_among};
 pub use operands::{place_of, value_at};
 
 /// What is sent between threads.

@@ -112,12 +112,51 @@ pub fn pointer_of(homes: &[usize], values: &[Val], arg: Option<&Arg>) -> Option<
     }
 }
 
+/// The attribute and the bytes of an item or a literal.
+#[inline(always)]
+fn scalar_of<'a>(
+    rows: &[Row],
+    homes: &[usize],
+    values: &'a [Val],
+    arg: Option<&'a Arg>,
+) -> (Attr, &'a [u8])
+    ensures attr { result.0 ≡ attr_of rows.now (option_copied arg.entry) }
+    ensures bytes { result.1.now ≡ bytes_of homes.now values.now (option_copied arg.entry) }
+{
+    match arg {
+        Some(Arg::Item(item)) => (
+            attr_in(rows.get(*item as usize)),
+            value_bytes(value_of_item(homes, values, *item)),
+        ),
+        Some(Arg::Literal { attr, bytes }) => (*attr, bytes.as_slice()),
+        _ => (Attr::Pointer, &[]),
+    }
+}
+
 /// The number of an item or a literal; None where its bytes have no value.
+#[inline(always)]
 pub fn number_of(rows: &[Row], homes: &[usize], values: &[Val], arg: Option<&Arg>) -> Option<Dec>
     ensures units { option_map (λ d. d.units) result ≡ number_of rows.now homes.now values.now (option_copied arg.entry) }
     ensures attr { IfSome result (λ d. d.attr ≡ attr_of rows.now (option_copied arg.entry)) }
 {
-    read_scalar(attr_of(rows, arg), bytes_of(homes, values, arg)).ok()
+    let (attr, bytes) = scalar_of(rows, homes, values, arg);
+    read_scalar(attr, bytes).ok()
+}
+
+/// The attribute of an item or a literal, and the place of an item.
+#[inline(always)]
+pub fn target_of(rows: &[Row], homes: &[usize], arg: Option<&Arg>) -> (Attr, Option<usize>)
+    ensures attr { result.0 ≡ attr_of rows.now (option_copied arg.entry) }
+    ensures place { result.1 ≡ place_of homes.now (option_copied arg.entry) }
+{
+    match arg {
+        Some(Arg::Item(item)) => {
+            let k = *item as usize;
+            (attr_in(rows.get(k)), homes.get(k).copied())
+        }
+        Some(Arg::Literal { attr, .. }) => (*attr, None),
+        _ => (Attr::Pointer, None),
+    }
 }
 
 /// The place of the receiver, which is operand 1.

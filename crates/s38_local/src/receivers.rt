@@ -1,8 +1,8 @@
-ghost use Rattle.std.specs.Prelude.{◌≡◌, ◌<◌, Some, IsTrue, length};
+ghost use Rattle.std.specs.Prelude.{◌≡◌, ◌<◌, ◌==◌, Some, IsTrue, if◌then◌else◌, length};
 ghost use Rattle.std.specs.Option.{option_copied};
 ghost use Rattle.std.specs.Result.{ForOk};
-ghost use Rattle.s38_base.specs.Scalar.{fits};
-ghost use Rattle.s38_local.specs.Received.{branch_end, bytes_put, jump_to, jumps, number_put, number_received, pointer_received, with_bytes, with_number};
+ghost use Rattle.s38_base.specs.Scalar.{fits, image_of, length_of};
+ghost use Rattle.s38_local.specs.Received.{branch_end, bytes_put, jump_to, jumps, number_put, number_received, pointer_received, with_bytes};
 ghost use Rattle.s38_local.specs.Variables.{put_at};
 ghost use Rattle.s38_code.specs.declared.reply.Val.{Val};
 
@@ -10,42 +10,41 @@ use crate::local_end::LocalEnd;
 use s38_base::{Attr, Bytes, Exception, Pointer, Seq};
 use s38_code::{Arg, Val};
 use s38_decimal::write_scalar;
+use std::alloc::Global;
 use std::mem;
 
-/// The value, with a number written in its bytes.
-fn with_number(value: Val, attr: Attr, units: i128) -> Val
+/// Writes a number in bytes of its attribute's length.
+fn write_held(alloc: Global, bytes: &mut Bytes, attr: Attr, units: i128)
     requires { IsTrue (fits attr units) }
-    ensures { result ≡ with_number attr units value }
+    ensures { bytes.new ≡ (if length bytes.old == length_of attr then image_of attr units else bytes.old) }
 {
-    match value {
-        Val::Bytes(bytes) => {
-            let mut held = bytes.into_vec();
-            if held.len() == attr.length() as usize {
-                let _ = write_scalar(attr, units, held.as_mut_slice());
-            }
-            Val::Bytes(Seq::from_vec(held))
-        }
-        other => other,
+    if bytes.len() != attr.length() as usize {
+        return;
     }
+    let mut held = mem::replace(bytes, Seq::new(alloc)).into_vec();
+    let _ = write_scalar(attr, units, held.as_mut_slice());
+    *bytes = Seq::from_vec(held);
 }
 
-fn write_number(values: &mut [Val], at: usize, attr: Attr, units: i128)
+fn write_number(alloc: Global, values: &mut [Val], at: usize, attr: Attr, units: i128)
     requires fits { IsTrue (fits attr units) }
     requires within { at < length values.old }
     ensures { values.new ≡ number_put values.old (Some at) attr units }
 {
-    let value = mem::replace(&mut values[at], Val::Branch(false));
-    values[at] = with_number(value, attr, units);
+    match &mut values[at] {
+        Val::Bytes(bytes) => write_held(alloc, bytes, attr, units),
+        _ => {}
+    }
 }
 
-fn number_put(values: &mut [Val], to: Option<usize>, attr: Attr, units: i128)
+fn number_put(alloc: Global, values: &mut [Val], to: Option<usize>, attr: Attr, units: i128)
     requires { IsTrue (fits attr units) }
     ensures { values.new ≡ number_put values.old to attr units }
 {
     match to {
         Some(at) => {
             if at < values.len() {
-                write_number(values, at, attr, units);
+                write_number(alloc, values, at, attr, units);
             }
         }
         None => {}
@@ -54,6 +53,7 @@ fn number_put(values: &mut [Val], to: Option<usize>, attr: Attr, units: i128)
 
 /// The receiver gets a number, or the exception is signalled and all variables stay.
 pub fn receive_number(
+    alloc: Global,
     values: &mut [Val],
     to: Option<usize>,
     attr: Attr,
@@ -66,7 +66,7 @@ pub fn receive_number(
     match given {
         Err(refusal) => LocalEnd::Signal(refusal),
         Ok(units) => {
-            number_put(values, to, attr, units);
+            number_put(alloc, values, to, attr, units);
             LocalEnd::Next
         }
     }

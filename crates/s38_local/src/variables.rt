@@ -23,6 +23,7 @@ impl<'a> Sources for Variables<'a> {
 
     ghost readings = { λ v. of_variables v.rows.now v.homes.now v.values.now v.args.now };
 
+    #[inline(always)]
     fn number(&self, k: usize) -> Option<Dec> {
         number_of(self.rows, self.homes, self.values, operand(self.args, k))
     }

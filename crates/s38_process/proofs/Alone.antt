@@ -13,7 +13,7 @@ use Rattle.s38_local.specs.declared.local_end.LocalEnd.TheVariants.{Next, Jump, 
 use Rattle.s38_process.specs.declared.status.Status.{Status}
 use Rattle.s38_process.specs.declared.status.Status.TheVariants.{Fresh, Running, Ending, Ended}
 use Rattle.s38_local.specs.Frames.{Went}
-use Rattle.s38_process.specs.Exceptions.{Offered, offered}
+use Rattle.s38_process.specs.Exceptions.{offered}
 use Rattle.s38_process.specs.Invocations.{Stack, instruction_of}
 use Rattle.s38_process.specs.Process.{ProcessState, absorbed, after_asked, after_local, after_offer, alone, alone_by, alone_there, event_of, fresh, local_step, local_steps, ran, settled, with_frame}
 

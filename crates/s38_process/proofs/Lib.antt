@@ -4,6 +4,7 @@ pub mod LawfulLawsOfCalls
 pub mod LawfulLawsOfLists
 pub mod LawfulLawsOfSignals
 mod OfferLaws
+mod OperandLaws
 mod ParameterLaws
 mod PlaceLaws
 mod SettleLaws

@@ -1,8 +1,8 @@
 -- Who takes an exception, by what the newest invocation says.
-use Rattle.std.proofs.Common.{◌≡◌, ℕ, Bool, true, false, List, [], ◌∷◌, refl, ap}
-use Rattle.std.specs.Prelude.{Option, Some, None}
+use Rattle.std.proofs.Common.{◌≡◌, ℕ, true, false, List, [], ◌∷◌, refl, ap}
+use Rattle.std.specs.Prelude.{Some, None}
 use Rattle.s38_process.specs.declared.invocation.Invocation.{Invocation}
-use Rattle.s38_process.specs.Exceptions.{Offered, label_by, offered, offered_from, or_else, takes}
+use Rattle.s38_process.specs.Exceptions.{label_by, offered, offered_from, takes}
 use Rattle.s38_process.specs.Invocations.{Stack, popped, popped_to}
 use Rattle.s38_process.specs.Process.{is_none}
 

@@ -1,19 +1,17 @@
 -- A parameter is the item that the caller passes.
-use Rattle.std.proofs.Common.{◌≡◌, ◌<◌, ℕ, zero, suc, ◌+◌, ◌-◌, Bool, true, false, List, [], ◌∷◌, ◌++◌, map, length, take, refl, sym, ◌∙◌, ap, arith, nat_lt}
+use Rattle.std.proofs.Common.{◌≡◌, ◌<◌, ℕ, zero, suc, ◌+◌, ◌-◌, true, List, [], ◌∷◌, ◌++◌, length, take, refl, sym, ◌∙◌, ap, arith, nat_lt}
 use Rattle.std.proofs.lemmas.Bool.Decides.{nat_tests}
 use Rattle.std.proofs.lemmas.Option.{slice_get-map}
 use Rattle.std.proofs.Math.Seq.{take-append_seam}
-use Rattle.std.specs.Prelude.{Option, Some, None, unwrap_or, slice_get, slice_set}
+use Rattle.std.specs.Prelude.{Option, Some, unwrap_or, slice_get, slice_set}
 use Rattle.std.specs.Option.{option_map}
 use Rattle.s38_code.specs.declared.program.Arg.{Arg}
 use Rattle.s38_code.specs.declared.program.Arg.TheVariants as args
 use Rattle.s38_code.specs.declared.program.Form.{Form}
-use Rattle.s38_code.specs.declared.program.Form.TheVariants as forms
 use Rattle.s38_code.specs.declared.program.Program.{Program}
 use Rattle.s38_code.specs.declared.program.Row.{Row}
 use Rattle.s38_code.specs.declared.reply.Val.{Val}
-use Rattle.s38_local.specs.Variables.{place_of, put_at, value_at, value_of_item}
-use Rattle.s38_process.specs.declared.invocation.Invocation.{Invocation}
+use Rattle.s38_local.specs.Variables.{place_of, put_at, value_at}
 use Rattle.s38_process.specs.Invocations.{IsPassedFor, Stack, argument_places, arguments_in, behind_call, entered, first_values, home_for, homes_from, instruction_of, lent, places_for, popped, read_at, written_at}
 
 home_at : (base : ℕ) (places : List ℕ) (own : ℕ) (rows : List Row) (k : ℕ) (row : Row) → slice_get rows k ≡ Some row → slice_get (homes_from base places own rows) k ≡ Some (home_for base places (own + k) row.form)

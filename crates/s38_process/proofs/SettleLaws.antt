@@ -1,8 +1,7 @@
 -- One turn of the loop in which a process does local instructions.
 use Rattle.std.proofs.Common.{◌≡◌, Bool, true, false, sym, ◌∙◌, ap}
 use Rattle.s38_local.specs.declared.local_end.LocalEnd.{LocalEnd}
-use Rattle.s38_local.specs.Frames.{Went}
-use Rattle.s38_process.specs.Process.{ProcessState, after_local, after_run, alone, local_step, ran, settled}
+use Rattle.s38_process.specs.Process.{ProcessState, after_local, alone, local_step, ran, settled}
 use Rattle.s38_process.proofs.Alone.{IsNext, settled_step, settled_still, step_next, step_still}
 
 -- where there was a local instruction, it was done

@@ -1,11 +1,13 @@
 //! The invocations of a process, and the variables of all of them.
-ghost use Rattle.std.specs.Prelude.{◌≡◌, ◌<◌, ◌+◌, ◌^◌, IfOk, IsSome, IsTrue, OnErr, OnOk, drop, length, not, slice_get};
+ghost use Rattle.std.specs.Prelude.{◌≡◌, ◌<◌, ◌+◌, ◌^◌, ◌&&◌, IfOk, IfSome, IsNone, IsSome, IsTrue, OnErr, OnOk, drop, is_some, length, not, slice_get};
+ghost use Rattle.s38_local.specs.Frames.{returned};
 ghost use Rattle.std.specs.Option.{option_copied};
 ghost use Rattle.s38_local.specs.declared.local_end.LocalEnd.{LocalEnd};
 ghost use Rattle.s38_process.specs.Exceptions.{takes};
 ghost use Rattle.s38_local.specs.Local.{run};
+ghost use Rattle.s38_local.specs.Spaces.{declares_space};
 ghost use Rattle.s38_process.specs.Invocations.{argument_places, arguments_in, code_in, deepest, depth_of, entered, exchanged, first_stack, first_values, instruction_of, invoked, places_for, popped, rows_in};
-ghost use Rattle.s38_process.specs.Process.{is_none, ran, went_on, with_frame};
+ghost use Rattle.s38_process.specs.Process.{alone_there, is_local_there, is_none, is_return, ran, returns_there, went_on, with_frame};
 ghost use Rattle.s38_process.specs.Requests.{request_of};
 
 use crate::homes::{argument_places, first_frame, own_places};
@@ -13,9 +15,9 @@ use crate::invocation::Invocation;
 use crate::made::{code_of, rows_of};
 use crate::request::request_of;
 use crate::variables::{blank_values, first_values, next_instruction, receive};
-use s38_base::{NoMemory, Pile};
+use s38_base::{NoMemory, Op, Pile};
 use s38_code::{Arg, Code, CreateResult, Instruction, Request, Val, classes};
-use s38_local::{Frame, LocalEnd, return_from, run_local};
+use s38_local::{Frame, LocalEnd, declares_space, is_local_among, return_from, run_local};
 use std::alloc::Global;
 use std::marker::Model;
 use std::mem;
@@ -30,17 +32,20 @@ pub struct Invocations {
     top: Invocation,
     /// Those that called it, the oldest first.
     callers: Vec<Invocation>,
+    /// Whether the newest invocation's program declares an item in a space.
+    has_space: bool,
 }
 
 impl Model for Invocations {
-    ghost use Rattle.std.specs.Prelude.{◌<◌, length, reverse};
-    ghost use Rattle.s38_process.specs.Invocations.{Stack, deepest};
+    ghost use Rattle.std.specs.Prelude.{◌≡◌, ◌<◌, length, reverse};
+    ghost use Rattle.s38_local.specs.Spaces.{declares_space};
+    ghost use Rattle.s38_process.specs.Invocations.{Stack, deepest, rows_in};
 
     ghost Value = { Stack };
 
     ghost view = { λ s. record { values = s.values.items; top = s.top; callers = reverse s.callers.items } };
 
-    ghost invariant = { λ s. length s.callers.items < deepest };
+    ghost invariant = { λ s. (length s.callers.items < deepest) × (s.has_space ≡ declares_space (rows_in s.top.made)) };
 }
 
 /// A program that is to begin, and what its variables begin with.
@@ -115,10 +120,12 @@ impl Invocations {
         let frame = first_frame(alloc, rows_of(&made), base, places.as_slice())?;
         let mut own = first_values(alloc, rows_of(&made))?;
         values.append(&mut own)?;
+        let has_space = declares_space(rows_of(&made));
         Ok(Invocations {
             values,
             top: Invocation { made, frame },
             callers: Vec::new(alloc),
+            has_space,
         })
     }
 
@@ -128,6 +135,13 @@ impl Invocations {
         ensures most { result < deepest + 1 }
     {
         self.callers.len() + 1
+    }
+
+    /// Whether the newest invocation is the first.
+    fn is_first(&self) -> bool
+        ensures { result ≡ is_none self.now.callers }
+    {
+        self.callers.len() == 0
     }
 
     /// What creation made of the newest invocation's template.
@@ -191,6 +205,7 @@ impl Invocations {
             Some(caller) => {
                 self.values.truncate(self.top.frame.base);
                 self.top = caller;
+                self.has_space = declares_space(rows_of(&self.top.made));
                 true
             }
         }
@@ -228,6 +243,7 @@ impl Invocations {
         let mut caller = mem::replace(&mut self.top, entrant.invocation);
         caller.frame.at = behind;
         self.callers.push_reserved(caller);
+        self.has_space = declares_space(rows_of(&self.top.made));
         Ok(())
     }
 
@@ -248,6 +264,7 @@ impl Invocations {
         self.values.truncate(base);
         self.values.append(&mut entrant.values).unwrap();
         self.top = entrant.invocation;
+        self.has_space = declares_space(rows_of(&self.top.made));
         Ok(())
     }
 
@@ -271,14 +288,25 @@ impl Invocations {
         self.top.frame.at = next;
     }
 
-    /// Does the next instruction; the end of the code is a return. An error changes nothing.
-    pub fn run_next(&mut self, alloc: Global) -> Result<LocalEnd, NoMemory>
-        ensures end { IfOk result (λ end. end ≡ (ran self.old).end) }
-        ensures stack { OnOk result (self.new ≡ with_frame self.old (ran self.old).values (ran self.old).frame) }
-        ensures place { IfOk result (λ end. end ≡ LocalEnd.Next → self.old.top.frame.at + 1 < 2 ^ 64) }
+    /// Does the next instruction where the process does it by itself; the end of the code is a return. None where it
+    /// does not: then nothing changes, and by an error neither.
+    #[inline(always)]
+    pub fn run_alone(&mut self, alloc: Global) -> Result<Option<LocalEnd>, NoMemory>
+        ensures alone { IfOk result (λ end. is_some end ≡ alone_there self.old (instruction_of self.old.top)) }
+        ensures end { IfOk result (λ end. IfSome end (λ end. end ≡ (ran self.old).end)) }
+        ensures stack { IfOk result (λ end. IfSome end (λ _. self.new ≡ with_frame self.old (ran self.old).values (ran self.old).frame)) }
+        ensures place { IfOk result (λ end. IfSome end (λ end. end ≡ LocalEnd.Next → self.old.top.frame.at + 1 < 2 ^ 64)) }
+        ensures stays { IfOk result (λ end. IsNone end → self.new ≡ self.old) }
         ensures err { OnErr result (self.new ≡ self.old) }
     {
-        run_next(alloc, &self.top.made, &mut self.top.frame, &mut self.values)
+        run_alone(
+            alloc,
+            self.is_first(),
+            self.has_space,
+            &self.top.made,
+            &mut self.top.frame,
+            &mut self.values,
+        )
     }
 }
 
@@ -292,27 +320,60 @@ fn instruction_at(code: &[Instruction], at: usize) -> Option<&Instruction>
     Some(&code[at])
 }
 
+/// The end of the code is a return; that of the first invocation outside of internal calls is none of its own.
+fn return_alone(is_first: bool, frame: &mut Frame) -> Option<LocalEnd>
+    ensures alone { is_some result ≡ not (is_none frame.old.returns && is_first) }
+    ensures end { IfSome result (λ end. end ≡ (returned frame.old).end) }
+    ensures frame { IfSome result (λ _. frame.new ≡ (returned frame.old).frame) }
+    ensures leaves { IfSome result (λ end. end ≡ LocalEnd.Next → ⊥) }
+    ensures stays { IsNone result → frame.new ≡ frame.old }
+{
+    if frame.returns.len() == 0 && is_first {
+        return None;
+    }
+    Some(return_from(frame))
+}
+
+/// Whether an instruction ends the process: the first invocation returns, and is in no internal call.
+#[inline(always)]
+fn ends_by(is_first: bool, frame: &Frame, instruction: &Instruction) -> bool
+    ensures { result ≡ (is_return instruction.now.op && (is_none frame.now.returns && is_first)) }
+{
+    matches!(instruction.op, Op::Rtx) && frame.returns.len() == 0 && is_first
+}
+
+#[inline(always)]
 #[tactic(auto, unfolding(s38_local::specs::Local::run))]
-fn run_next(
+fn run_alone(
     alloc: Global,
+    is_first: bool,
+    has_space: bool,
     made: &CreateResult,
     frame: &mut Frame,
     values: &mut Vec<Val>,
-) -> Result<LocalEnd, NoMemory>
-    ensures end { IfOk result (λ end. end ≡ (run (rows_in made.now) frame.old values.old.items (slice_get (code_in made.now) frame.old.at)).end) }
-    ensures frame { OnOk result (frame.new ≡ (run (rows_in made.now) frame.old values.old.items (slice_get (code_in made.now) frame.old.at)).frame) }
-    ensures values { OnOk result (values.new.items ≡ (run (rows_in made.now) frame.old values.old.items (slice_get (code_in made.now) frame.old.at)).values) }
-    ensures place { IfOk result (λ end. end ≡ LocalEnd.Next → frame.old.at + 1 < 2 ^ 64) }
+) -> Result<Option<LocalEnd>, NoMemory>
+    requires { has_space ≡ declares_space (rows_in made.now) }
+    ensures alone { IfOk result (λ end. is_some end ≡ (is_local_there (rows_in made.now) (slice_get (code_in made.now) frame.old.at) && not (returns_there (slice_get (code_in made.now) frame.old.at) && (is_none frame.old.returns && is_first)))) }
+    ensures end { IfOk result (λ end. IfSome end (λ end. end ≡ (run (rows_in made.now) frame.old values.old.items (slice_get (code_in made.now) frame.old.at)).end)) }
+    ensures frame { IfOk result (λ end. IfSome end (λ _. frame.new ≡ (run (rows_in made.now) frame.old values.old.items (slice_get (code_in made.now) frame.old.at)).frame)) }
+    ensures values { IfOk result (λ end. IfSome end (λ _. values.new.items ≡ (run (rows_in made.now) frame.old values.old.items (slice_get (code_in made.now) frame.old.at)).values)) }
+    ensures place { IfOk result (λ end. IfSome end (λ end. end ≡ LocalEnd.Next → frame.old.at + 1 < 2 ^ 64)) }
+    ensures stays { IfOk result (λ end. IsNone end → (frame.new ≡ frame.old) × (values.new.items ≡ values.old.items)) }
     ensures err { OnErr result ((frame.new ≡ frame.old) × (values.new.items ≡ values.old.items)) }
 {
     match instruction_at(code_of(made), frame.at) {
-        None => Ok(return_from(frame)),
-        Some(instruction) => run_local(
-            alloc,
-            instruction,
-            rows_of(made),
-            frame,
-            values.as_mut_slice(),
-        ),
+        None => Ok(return_alone(is_first, frame)),
+        Some(instruction) => {
+            let rows = rows_of(made);
+            if ends_by(is_first, frame, instruction)
+                || !is_local_among(has_space, rows, instruction)
+            {
+                return Ok(None);
+            }
+            match run_local(alloc, instruction, rows, frame, values.as_mut_slice()) {
+                Ok(end) => Ok(Some(end)),
+                Err(fault) => Err(fault),
+            }
+        }
     }
 }

@@ -45,18 +45,19 @@ fn item_by(
 ) -> Result<Operand, NoMemory>
     ensures { IfOk result (λ operand. operand ≡ item_by homes.now values.now receiver item (option_copied form.entry)) }
 {
-    let value = value_of_item(homes, values, item);
-    match form {
-        Some(Form::Based { base, offset, attr }) => Ok(Operand::InSpace {
-            base: value_pointer(value_of_item(homes, values, *base as usize)),
-            offset: *offset,
-            attr: *attr,
-        }),
-        Some(Form::Local { attr, .. }) => item_operand(alloc, receiver, *attr, value),
-        Some(Form::Parm { attr, .. }) => item_operand(alloc, receiver, *attr, value),
-        Some(Form::Handler { .. }) => item_operand(alloc, receiver, Attr::Pointer, value),
-        None => item_operand(alloc, receiver, Attr::Pointer, value),
-    }
+    let attr = match form {
+        Some(Form::Based { base, offset, attr }) => {
+            return Ok(Operand::InSpace {
+                base: value_pointer(value_of_item(homes, values, *base as usize)),
+                offset: *offset,
+                attr: *attr,
+            });
+        }
+        Some(Form::Local { attr, .. }) => *attr,
+        Some(Form::Parm { attr, .. }) => *attr,
+        _ => Attr::Pointer,
+    };
+    item_operand(alloc, receiver, attr, value_of_item(homes, values, item))
 }
 
 fn operand_of(
@@ -105,20 +106,21 @@ fn add_operands(
 ) -> Result<(), NoMemory>
     ensures { OnOk result (made.new.items ≡ made.old.items ++ operands_of rows.now homes.now values.now classes.now args.now) }
 {
-    match classes {
-        [] => Ok(()),
-        [class, more @ ..] => match args {
-            [] => Ok(()),
-            [arg, rest @ ..] => {
+    let mut more = classes;
+    for arg in args {
+        match more {
+            [] => return Ok(()),
+            [class, rest @ ..] => {
                 let operand = operand_of(alloc, rows, homes, values, *class, arg)?;
                 match made.push(operand) {
                     Ok(()) => {}
                     Err(_) => return Err(NoMemory),
                 }
-                add_operands(alloc, made, rows, homes, values, more, rest)
+                more = rest;
             }
-        },
+        }
     }
+    Ok(())
 }
 
 /// What an instruction asks, with the values of the variables put in.
