@@ -43,6 +43,9 @@ pub fn compare(a: Dec, b: Dec) -> Ordering
 {
     let f = a.attr.fraction();
     let g = b.attr.fraction();
+    if f == g {
+        return a.units.cmp(&b.units);
+    }
     let x = a.units.unsigned_abs();
     let y = b.units.unsigned_abs();
     if a.units < 0 {

@@ -3,7 +3,7 @@ use Rattle.std.specs.Prelude.{int_lt}
 use Rattle.std.proofs.Math.Nat.{one-le-pow}
 use Rattle.s38_base.specs.Scalar.{fraction_of}
 use Rattle.s38_decimal.proofs.Attributes.{fits_fraction, fits_magnitude, fits_same}
-use Rattle.s38_decimal.proofs.OrderLaws.{order_down, order_greater, order_less, order_up}
+use Rattle.s38_decimal.proofs.OrderLaws.{order_down, order_greater, order_less, order_same, order_up}
 use Rattle.s38_decimal.proofs.order.compare.Goals as goal
 
 pub magnitudes-requires : goal.magnitudes-requires
@@ -66,4 +66,14 @@ returns-else-b-lt0-2 c =
     let e = order_up a.units b.units (10 ^ fraction_of b.attr) (10 ^ fraction_of a.attr)
     (ap (λ z. int_lt z (pos 0)) (sym p) ∙ c.if-a-lt0.false)
     (ap (λ z. int_lt z (pos 0)) (sym q) ∙ c.if-b-lt0-2.false) in
+    cc
+
+pub returns-then-f-g : goal.returns-then-f-g
+returns-then-f-g c =
+    let a = c.args.a in
+    let b = c.args.b in
+    let p = fits_same a.attr a.units a.fits in
+    let q = fits_same b.attr b.units b.fits in
+    let one : fraction_of a.attr ≡ fraction_of b.attr = sym c.fraction-f.ensures ∙ c.if-f-g.true ∙ c.fraction-g.ensures in
+    let e = order_same a.units b.units (10 ^ fraction_of b.attr) (one-le-pow (fraction_of b.attr) 10 (omega arith)) in
     cc
