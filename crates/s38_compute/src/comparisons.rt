@@ -38,6 +38,7 @@ fn word_holds(relation: Option<Relation>, order: Ordering) -> bool
 }
 
 /// Whether the relation holds between two numbers.
+#[inline(always)]
 fn numbers_compared<S: Sources>(sources: &S) -> Result<bool, Exception>
     ensures { result ≡ numbers_compared (relation_of ((S.readings sources.now).word 3)) ((S.readings sources.now).attr 1) ((S.readings sources.now).number 1) ((S.readings sources.now).attr 2) ((S.readings sources.now).number 2) }
 {
