@@ -14,6 +14,7 @@ use std::alloc::Global;
 use std::cmp::Ordering;
 
 /// A comparison tells whether it branches, and has no receiver.
+#[inline(always)]
 pub fn is_branch(op: Op) -> bool
     ensures { result ≡ is_branch op }
 {
@@ -28,6 +29,7 @@ fn compares(relation: Relation) -> bool
 }
 
 /// Whether the relation of a word holds; another word holds never.
+#[inline(always)]
 fn word_holds(relation: Option<Relation>, order: Ordering) -> bool
     ensures { result ≡ word_holds relation order }
 {

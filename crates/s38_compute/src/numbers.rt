@@ -59,13 +59,14 @@ fn two_computed(op: Op, to: Target, a: &Dec, b: &Dec) -> Result<i128, DecimalFau
     ensures exact { result ≡ two_computed op to a.now.attr a.now.units b.now.attr b.now.units }
     ensures fits { IfOk result (λ units. IsTrue (fits to.attr units)) }
 {
+    let target = to;
     if !is_plain(a.attr, b.attr, to.attr) {
-        return any_computed(op, to, a, b);
+        return any_computed(op, target, a, b);
     }
     match op {
         Op::Addn => add(*a, *b, to),
         Op::Subn => sub(*a, *b, to),
-        _ => any_computed(op, to, a, b),
+        _ => any_computed(op, target, a, b),
     }
 }
 
@@ -146,11 +147,11 @@ fn of_two<S: Sources>(sources: &S, op: Op, round: bool) -> Result<i128, Exceptio
     ensures exact { result ≡ two_numbers op (target_of round (S.readings sources.now)) ((S.readings sources.now).attr 2) ((S.readings sources.now).number 2) ((S.readings sources.now).attr 3) ((S.readings sources.now).number 3) }
     ensures fits { IfOk result (λ units. IsTrue (fits (S.readings sources.now).receiver units)) }
 {
-    match &sources.number(2) {
+    match sources.number(2) {
         None => Err(Exception::plain(DECIMAL_DATA, 2)),
-        Some(a) => match &sources.number(3) {
+        Some(a) => match sources.number(3) {
             None => Err(Exception::plain(DECIMAL_DATA, 3)),
-            Some(b) => signalled(two_computed(op, target_of(sources, round), a, b)),
+            Some(b) => signalled(two_computed(op, target_of(sources, round), &a, &b)),
         },
     }
 }
