@@ -14,6 +14,7 @@ use std::alloc::Global;
 use std::cmp::Ordering;
 
 /// A comparison tells whether it branches, and has no receiver.
+#[inline(always)]
 pub fn is_branch(op: Op) -> bool
     ensures { result ≡ is_branch op }
 {
@@ -28,6 +29,7 @@ fn compares(relation: Relation) -> bool
 }
 
 /// Whether the relation of a word holds; another word holds never.
+#[inline(always)]
 fn word_holds(relation: Option<Relation>, order: Ordering) -> bool
     ensures { result ≡ word_holds relation order }
 {
@@ -38,6 +40,7 @@ fn word_holds(relation: Option<Relation>, order: Ordering) -> bool
 }
 
 /// Whether the relation holds between two numbers.
+#[inline(always)]
 fn numbers_compared<S: Sources>(sources: &S) -> Result<bool, Exception>
     ensures { result ≡ numbers_compared (relation_of ((S.readings sources.now).word 3)) ((S.readings sources.now).attr 1) ((S.readings sources.now).number 1) ((S.readings sources.now).attr 2) ((S.readings sources.now).number 2) }
 {

@@ -14,6 +14,7 @@ use s38_code::Val;
 use std::alloc::Global;
 
 /// Whether an instruction computes a number, of two numbers or of one.
+#[inline(always)]
 pub fn computes_number(op: Op) -> bool
     ensures { result ≡ computes_number op }
 {

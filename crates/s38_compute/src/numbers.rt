@@ -1,6 +1,6 @@
-ghost use Rattle.std.specs.Prelude.{◌≡◌, ◌≤◌, ◌≤ℤ◌, IfOk, IsTrue, pos, negsuc};
+ghost use Rattle.std.specs.Prelude.{◌≡◌, ◌≤◌, ◌≤ℤ◌, ◌&&◌, IfOk, IsTrue, pos, negsuc};
 ghost use Rattle.s38_base.specs.Scalar.{fits, is_numeric};
-ghost use Rattle.s38_decimal.specs.Need.{copy_need, has_one, has_second};
+ghost use Rattle.s38_decimal.specs.Need.{copy_need, has_one, has_one_fraction, has_second};
 ghost use Rattle.s38_decimal.specs.Values.{answer, exact_of};
 ghost use Rattle.s38_compute.specs.Compute.{fault_signal, has_room, one_computed, one_number, signalled, two_computed, two_numbers};
 ghost use Rattle.s38_compute.specs.Computed.{computes_number, number_given, target_of};
@@ -8,7 +8,9 @@ ghost use Rattle.s38_compute.specs.Computed.{computes_number, number_given, targ
 use crate::sources::Sources;
 use s38_base::exceptions::{DECIMAL_DATA, SIZE, ZERO_DIVIDE};
 use s38_base::{Attr, Exception, Op};
-use s38_decimal::{Dec, DecimalFault, Target, add, div, mult, need, neg, rem, scale, sub};
+use s38_decimal::{
+    Dec, DecimalFault, Target, add, div, has_one_fraction, mult, need, neg, rem, scale, sub,
+};
 
 /// The receiver holds numbers, and the instruction on two sources needs at most 38 digits.
 fn has_room(op: Op, a: Attr, b: Attr, to: Attr) -> bool
@@ -20,23 +22,51 @@ fn has_room(op: Op, a: Attr, b: Attr, to: Attr) -> bool
     to.is_numeric() && need(op, a, b, to, 0) <= 38
 }
 
-/// What an instruction with two numeric sources gives.
+/// The receiver holds numbers, and its fraction is that of both sources.
+#[inline(always)]
+fn is_plain(a: Attr, b: Attr, to: Attr) -> bool
+    ensures { result ≡ (is_numeric to && has_one_fraction a b to) }
+{
+    to.is_numeric() && has_one_fraction(a, b, to)
+}
+
+/// What an instruction with two numeric sources gives, whatever their fractions.
+#[inline(never)]
 #[tactic(auto, unfolding(crate::specs::Compute::two_computed))]
-fn two_computed(op: Op, to: Target, a: Dec, b: Dec) -> Result<i128, DecimalFault>
+fn any_computed(op: Op, to: Target, a: &Dec, b: &Dec) -> Result<i128, DecimalFault>
     requires { IsTrue (has_second op) }
-    ensures exact { result ≡ two_computed op to a.attr a.units b.attr b.units }
+    ensures exact { result ≡ two_computed op to a.now.attr a.now.units b.now.attr b.now.units }
     ensures fits { IfOk result (λ units. IsTrue (fits to.attr units)) }
 {
     if !has_room(op, a.attr, b.attr, to.attr) {
         return Err(DecimalFault::Size);
     }
     match op {
-        Op::Addn => add(a, b, to),
-        Op::Subn => sub(a, b, to),
-        Op::Mult => mult(a, b, to),
-        Op::Div => div(a, b, to),
-        Op::Rem => rem(a, b, to),
+        Op::Addn => add(*a, *b, to),
+        Op::Subn => sub(*a, *b, to),
+        Op::Mult => mult(*a, *b, to),
+        Op::Div => div(*a, *b, to),
+        Op::Rem => rem(*a, *b, to),
         _ => Err(DecimalFault::Size),
+    }
+}
+
+/// What an instruction with two numeric sources gives. A sum at the fraction of both needs no more than 32 digits.
+#[inline(always)]
+#[tactic(auto, unfolding(crate::specs::Compute::two_computed))]
+fn two_computed(op: Op, to: Target, a: &Dec, b: &Dec) -> Result<i128, DecimalFault>
+    requires { IsTrue (has_second op) }
+    ensures exact { result ≡ two_computed op to a.now.attr a.now.units b.now.attr b.now.units }
+    ensures fits { IfOk result (λ units. IsTrue (fits to.attr units)) }
+{
+    let target = to;
+    if !is_plain(a.attr, b.attr, to.attr) {
+        return any_computed(op, target, a, b);
+    }
+    match op {
+        Op::Addn => add(*a, *b, to),
+        Op::Subn => sub(*a, *b, to),
+        _ => any_computed(op, target, a, b),
     }
 }
 
@@ -121,7 +151,7 @@ fn of_two<S: Sources>(sources: &S, op: Op, round: bool) -> Result<i128, Exceptio
         None => Err(Exception::plain(DECIMAL_DATA, 2)),
         Some(a) => match sources.number(3) {
             None => Err(Exception::plain(DECIMAL_DATA, 3)),
-            Some(b) => signalled(two_computed(op, target_of(sources, round), a, b)),
+            Some(b) => signalled(two_computed(op, target_of(sources, round), &a, &b)),
         },
     }
 }

@@ -1,5 +1,5 @@
 -- What the bounds of a numeric attribute give.
-use Rattle.std.proofs.Common.{◌≡◌, ℕ, ◌^◌, ◌<◌, ◌≤◌, ℤ, pos, negsuc, neg_ℤ, zero, suc, refl, ap, ◌∙◌, ◌⊎◌, inl, inr, ⊎_elim, subst, sym, rules, arith, tests}
+use Rattle.std.proofs.Common.{◌≡◌, ℕ, ◌^◌, ◌<◌, ◌≤◌, ℤ, pos, negsuc, neg_ℤ, true, zero, suc, refl, ap, ◌∙◌, ◌⊎◌, inl, inr, ⊎_elim, subst, sym, rules, arith, tests}
 use Rattle.std.specs.Prelude.{IsTrue, unsigned_abs}
 use Rattle.std.proofs.lemmas.Bool.Decides.{nat_tests}
 use Rattle.std.proofs.lemmas.Bool.{cases_eq}
@@ -7,6 +7,7 @@ use Rattle.s38_base.specs.declared.attr.Attr.{Attr}
 use Rattle.s38_base.specs.declared.attr.Attr.TheVariants.{Packed, Zoned, Binary, Chars, Pointer}
 use Rattle.s38_base.specs.Scalar.{digits_of, fraction_of, fits, fits_bytes, is_numeric}
 use Rattle.s38_decimal.specs.Forms.{IsOf, is_decimal}
+use Rattle.s38_decimal.specs.Need.{has_one_fraction}
 use Rattle.s38_decimal.proofs.Powers.{tens_le}
 use Rattle.s38_decimal.proofs.Rooms.{same}
 use Rattle.std.specs.Int.{w128, cast_signed, cast_unsigned}
@@ -95,3 +96,13 @@ fits_magnitude attr z n h is =
 
 pub fits_fraction : (attr : Attr) (z : ℤ) (n : ℕ) → IsTrue (fits attr z) → n ≡ fraction_of attr → n ≤ 31
 fits_fraction attr z n h is = omega (arith, is, fraction_le attr (fits_numeric attr z h), digits_few attr (fits_numeric attr z h))
+
+pub IsOf-few : (attr : Attr) (z : ℤ) → IsOf attr z → unsigned_abs z < 10 ^ 31
+IsOf-few attr z h = omega (arith, h.digits, tens_le (digits_of attr) 31 (digits_few attr h.numeric))
+
+-- what the test of the fractions says
+pub first_fraction : (a b to : Attr) → has_one_fraction a b to ≡ true → fraction_of a ≡ fraction_of to
+first_fraction a b to h = grind (arith, nat_tests)
+
+pub second_fraction : (a b to : Attr) → has_one_fraction a b to ≡ true → fraction_of b ≡ fraction_of to
+second_fraction a b to h = grind (arith, nat_tests)

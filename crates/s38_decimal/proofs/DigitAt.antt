@@ -1,13 +1,15 @@
 -- The digit of a number that has so many digits behind it.
-use Rattle.std.proofs.Common.{◌≡◌, ℕ, ◌+◌, ◌-◌, ◌*◌, ◌/◌, ◌%◌, ◌^◌, ◌<◌, List, ◌++◌, length, get_or, map, ap, sym, ◌∙◌, ⊎_elim, arith}
+use Rattle.std.proofs.Common.{◌≡◌, ℕ, ◌+◌, ◌-◌, ◌*◌, ◌/◌, ◌%◌, ◌^◌, ◌<◌, List, ◌++◌, length, get_or, map, true, false, ◌==◌, ap, sym, ◌∙◌, ⊎_elim, arith}
 use Rattle.std.specs.List.{range_with_len}
-use Rattle.std.proofs.Math.Nat.{div-div-eq-div-mul, mul-add-div, mul-add-mod_self_right, div-add-mod', one-le-pow}
+use Rattle.std.proofs.Math.Nat.{div-div-eq-div-mul, mul-add-div, mul-add-mod_self_right, div-add-mod', div-one, one-le-pow, pow-zero}
 use Rattle.std.proofs.lemmas.Nat.{pow-add}
 use Rattle.std.proofs.lemmas.Grind.{pow_more}
 use Rattle.std.proofs.lemmas.List.{get_or_append_left, get_or-append_right, length-append}
 use Rattle.std.proofs.lemmas.Bool.{cases_lt}
 use Rattle.std.proofs.lemmas.List.FromFn.{fill_by_all, get_or-map-range_with_len, length-map-range_with_len}
+use Rattle.std.proofs.lemmas.Bool.Decides.{nat_tests}
 use Rattle.s38_base.specs.Scalar.{digit_at}
+use Rattle.s38_decimal.specs.Images.{packed_with}
 
 -- one digit less
 pub rest_more : (n rest k : ℕ) → rest ≡ n / 10 ^ k → rest / 10 ≡ n / 10 ^ (k + 1)
@@ -56,3 +58,29 @@ both_digits xs ys n m len low high is =
 -- what is a digit is below ten
 pub digit_below : (x n k : ℕ) → x ≡ digit_at 10 n k → x < 10
 digit_below x n k is = omega arith
+
+-- ---- two digits at a time
+
+pub rest_more_two : (n rest k : ℕ) → rest ≡ n / 10 ^ (2 * k + 1) → rest / 100 ≡ n / 10 ^ (2 * (k + 1) + 1)
+rest_more_two n rest k is =
+    let two : rest / 100 ≡ rest / 10 / 10 = omega arith in
+    let e : 2 * k + 1 + 1 + 1 ≡ 2 * (k + 1) + 1 = omega arith in
+    two ∙ rest_more n (rest / 10) (2 * k + 1 + 1) (rest_more n rest (2 * k + 1) is) ∙ ap (λ j. n / 10 ^ j) e
+
+-- the byte of two digits
+pub pair_byte : (n rest k h sign j : ℕ) → rest ≡ n / 10 ^ (2 * k + 1) → j + (k + 1) ≡ h → rest % 100 / 10 * 16 + rest % 100 % 10 ≡ packed_with h n sign j
+pair_byte n rest k h sign j is at =
+    let apart : (j == h) ≡ false = grind (arith, nat_tests) in
+    let high : 2 * (h - j) ≡ 2 * k + 1 + 1 = omega arith in
+    let low : 2 * (h - j) - 1 ≡ 2 * k + 1 = omega arith in
+    let one : digit_at 10 n (2 * (h - j)) ≡ rest / 10 % 10 = ap (digit_at 10 n) high ∙ ap (λ q. q % 10) (sym (rest_more n rest (2 * k + 1) is)) in
+    let other : digit_at 10 n (2 * (h - j) - 1) ≡ rest % 10 = ap (digit_at 10 n) low ∙ ap (λ q. q % 10) (sym is) in
+    rw apart (omega (arith, one, other))
+
+-- and of the last digit with the sign
+pub last_byte : (n h sign j : ℕ) → j ≡ h → n % 10 * 16 + sign ≡ packed_with h n sign j
+last_byte n h sign j at =
+    let same : (j == h) ≡ true = grind (arith, nat_tests) in
+    let none : 2 * (h - j) ≡ 0 = omega arith in
+    let one : digit_at 10 n (2 * (h - j)) ≡ n % 10 = ap (digit_at 10 n) none ∙ ap (λ q. q % 10) (ap (λ p. n / p) (pow-zero 10) ∙ div-one n) in
+    rw same (omega (arith, one))

@@ -1,5 +1,5 @@
 -- The order of numbers with a scale.
-use Rattle.std.proofs.Common.{◌≡◌, ℕ, zero, suc, ◌+◌, ◌-◌, ◌*◌, ◌/◌, ◌%◌, ◌^◌, ◌<◌, ◌≤◌, ◌≢◌, max, min, true, false, ℤ, pos, negsuc, ◌*ℤ◌, neg_ℤ, ⊎_elim, ap, sym, ◌∙◌, arith}
+use Rattle.std.proofs.Common.{◌≡◌, ℕ, zero, suc, ◌+◌, ◌-◌, ◌*◌, ◌/◌, ◌%◌, ◌^◌, ◌<◌, ◌≤◌, ◌≢◌, max, min, true, false, ℤ, pos, negsuc, ◌*ℤ◌, neg_ℤ, ⊎_elim, ap, sym, refl, ◌∙◌, arith}
 use Rattle.std.specs.declared.cmp.Ordering.TheVariants.{Less, Equal, Greater}
 use Rattle.std.specs.Prelude.{unsigned_abs, int_lt}
 use Rattle.std.specs.Ordering.{int_cmp, nat_cmp}
@@ -129,3 +129,14 @@ order_greater (pos n) (negsuc m) p zero above h i = absurd (omega arith)
 order_greater (pos n) (negsuc m) p (suc q) above h i =
     let e : suc m * suc q ≡ suc (m * q + m + q) = omega arith in
     sym (ap (λ k. int_cmp (pos (n * p)) (neg_ℤ (pos k))) e)
+
+not_negative : (n : ℕ) → int_lt (pos n) (pos 0) ≡ false
+not_negative n = grind (arith, nat_tests)
+
+-- a common factor leaves the order of signed numbers
+pub order_same : (x y : ℤ) (p : ℕ) → 0 < p → int_cmp x y ≡ int_cmp (x *ℤ pos p) (y *ℤ pos p)
+order_same (pos n) (pos m) p above = sym (pos_cmp n m) ∙ sym (nat_cmp-common n m p above) ∙ pos_cmp (n * p) (m * p)
+order_same (pos n) (negsuc m) p above = order_greater (pos n) (negsuc m) p p above (not_negative n) refl
+order_same (negsuc n) (pos m) p above = order_less (negsuc n) (pos m) p p above refl (not_negative m)
+order_same (negsuc n) (negsuc m) p above =
+    sym (neg_cmp (suc n) (suc m)) ∙ sym (nat_cmp-common (suc m) (suc n) p above) ∙ neg_cmp (suc n * p) (suc m * p)

@@ -1,12 +1,11 @@
 -- Packed digits, two at a time.
-use Rattle.std.proofs.Common.{◌≡◌, ℕ, zero, suc, ◌+◌, ◌-◌, ◌*◌, ◌/◌, ◌%◌, ◌^◌, ◌<◌, ◌≤◌, ◌&&◌, ◌||◌, ◌==◌, Bool, true, false, cond, List, get_or, length, nat_lt, refl, sym, ◌∙◌, ap, rules, arith, tests}
+use Rattle.std.proofs.Common.{◌≡◌, ℕ, zero, suc, ◌+◌, ◌-◌, ◌*◌, ◌/◌, ◌%◌, ◌^◌, ◌<◌, ◌≤◌, ◌&&◌, ◌||◌, ◌==◌, Bool, true, false, List, length, nat_lt, refl, ◌∙◌, ap, ⊎_elim, arith}
+use Rattle.std.proofs.lemmas.Bool.{cases_lt}
 use Rattle.std.proofs.lemmas.Bool.Decides.{nat_tests}
 use Rattle.std.proofs.Math.Nat.{pow-suc}
 use Rattle.std.specs.Prelude.{IsTrue, IfSome, Option, Some, None, slice_index, if◌then◌else◌}
-use Rattle.s38_base.specs.declared.attr.Attr.{Attr}
 use Rattle.s38_base.specs.declared.attr.Attr.TheVariants.{Packed}
-use Rattle.s38_base.specs.Scalar.{are_decimal, begins_right, digit_in, half_byte, half_bytes_before, number_from}
-use Rattle.s38_decimal.proofs.Powers.{tens_le}
+use Rattle.s38_base.specs.Scalar.{are_decimal, begins_right, digit_in, half_byte, number_from}
 
 -- ---- the half bytes of byte k
 
@@ -61,6 +60,39 @@ pub next_bound : (k number high low : ℕ) → number < 10 ^ (2 * k) → high �
 next_bound k number high low small h l =
     let two : 10 ^ (2 * (k + 1)) ≡ 10 ^ (2 * k) * 10 * 10 = ap (λ n. 10 ^ n) (next_two k) ∙ pow-suc 10 (suc (2 * k)) ∙ ap (λ n. n * 10) (pow-suc 10 (2 * k)) in
     omega (arith, two)
+
+-- ---- what the list of bytes says
+
+abbrev Pair : ℕ → ℕ → ℕ → Type 0
+Pair h l pair = pair ≡ (if nat_lt h 10 && nat_lt l 10 then h * 10 + l else 255)
+
+pair_of_digits : (h l pair : ℕ) → Pair h l pair → h ≤ 9 → l ≤ 9 → pair ≡ h * 10 + l
+pair_of_digits h l pair is high low = is ∙ ap (λ (b : Bool). if b then h * 10 + l else 255) (and_test (nat_lt h 10) (nat_lt l 10) (is_digit h high) (is_digit l low))
+
+no_pair : (h l pair : ℕ) → Pair h l pair → (nat_lt h 10 && nat_lt l 10) ≡ false → pair ≡ 255
+no_pair h l pair is none = is ∙ ap (λ (b : Bool). if b then h * 10 + l else 255) none
+
+and_neither : (b : Bool) → (b && false) ≡ false
+and_neither true = refl
+and_neither false = refl
+
+pub pair_high : (h l pair : ℕ) → Pair h l pair → pair ≤ 99 → h ≤ 9
+pair_high h l pair is small = ⊎_elim (λ below. omega arith) (λ above. absurd (omega (arith, no_pair h l pair is (ap (λ b. b && nat_lt l 10) (no_digit h (omega arith)))))) (cases_lt h 10)
+
+pub pair_low : (h l pair : ℕ) → Pair h l pair → pair ≤ 99 → l ≤ 9
+pair_low h l pair is small = ⊎_elim (λ below. omega arith) (λ above. absurd (omega (arith, no_pair h l pair is (ap (λ b. nat_lt h 10 && b) (no_digit l (omega arith)) ∙ and_neither (nat_lt h 10))))) (cases_lt l 10)
+
+pub pair_is : (h l pair : ℕ) → Pair h l pair → pair ≤ 99 → pair ≡ h * 10 + l
+pair_is h l pair is small = pair_of_digits h l pair is (pair_high h l pair is small) (pair_low h l pair is small)
+
+pub bad_pair : (bytes : List ℕ) (k pairs pair : ℕ) → k < pairs → Pair (slice_index bytes k / 16) (slice_index bytes k % 16) pair → 99 < pair → are_decimal (half_byte bytes) (2 * pairs) ≡ false
+bad_pair bytes k pairs pair below is bad =
+    let h = slice_index bytes k / 16 in
+    let l = slice_index bytes k % 16 in
+    ⊎_elim
+    (λ high. ⊎_elim (λ low. absurd (omega (arith, pair_of_digits h l pair is (omega arith) (omega arith)))) (λ low. bad_low bytes k pairs below (omega arith)) (cases_lt l 10))
+    (λ high. bad_high bytes k pairs below (omega arith))
+    (cases_lt h 10)
 
 -- ---- digits that begin behind the first half byte
 

@@ -1,9 +1,9 @@
 -- Sums of numbers that are brought to the longer fraction.
-use Rattle.std.proofs.Common.{◌≡◌, ℕ, suc, ◌+◌, ◌-◌, ◌*◌, ◌^◌, ◌<◌, ◌≤◌, max, min, Bool, ℤ, pos, negsuc, ◌+ℤ◌, ◌*ℤ◌, neg_ℤ, true, false, ltb, cond, ap, sym, ◌∙◌, arith}
+use Rattle.std.proofs.Common.{◌≡◌, ℕ, suc, ◌+◌, ◌-◌, ◌*◌, ◌^◌, ◌<◌, ◌≤◌, max, min, Bool, ℤ, pos, negsuc, ◌+ℤ◌, ◌*ℤ◌, neg_ℤ, true, false, ltb, cond, refl, ap, sym, ◌∙◌, arith}
 use Rattle.std.specs.Prelude.{unsigned_abs}
 use Rattle.std.proofs.lemmas.Int.{unsigned_abs-mul}
 use Rattle.std.proofs.lemmas.Nat.{pow-add}
-use Rattle.std.proofs.Math.Nat.{one-le-pow, mul_assoc, mul-le-mul_right}
+use Rattle.std.proofs.Math.Nat.{div-one, one-le-pow, mul_assoc, mul-le-mul_right}
 use Rattle.s38_base.specs.declared.attr.Attr.{Attr}
 use Rattle.s38_base.specs.Scalar.{digits_of, fraction_of}
 use Rattle.std.proofs.Math.IntN.{sub_ℕ}
@@ -95,3 +95,24 @@ brought_small own other x t h room =
 pub raised_is : (r x : ℤ) (behind f most own : ℕ) → r ≡ cast_signed w128 (cast_unsigned w128 x) *ℤ pos (10 ^ (behind - f)) → unsigned_abs x ≤ 10 ^ 38 → behind ≡ most → f ≡ own → r ≡ x *ℤ pos (10 ^ (most - own))
 raised_is r x behind f most own is small behind_is f_is =
     is ∙ ap (λ z. z *ℤ pos (10 ^ (behind - f))) (same x small) ∙ ap (λ n. x *ℤ pos (10 ^ (n - f))) behind_is ∙ ap (λ n. x *ℤ pos (10 ^ (most - n))) f_is
+
+-- at one fraction the sum stands as it is
+same_sign : (z : ℤ) → with_sign z (unsigned_abs z) ≡ z
+same_sign (pos n) = refl
+same_sign (negsuc n) = refl
+
+whole_units : (round : Bool) (n : ℕ) → cut_or_rounded round n 1 ≡ n
+whole_units true n = omega arith
+whole_units false n = div-one n
+
+pub plain_sum : (round : Bool) (f : ℕ) (x y : ℤ) → x +ℤ y ≡ units_at round f (sum_of (exact x f) (exact y f))
+plain_sum round f x y =
+    let p = 10 ^ f in
+    let z = x +ℤ y in
+    let above : 0 < p = one-le-pow f 10 (omega arith) in
+    let one : 1 * p ≡ p = omega arith in
+    sym (ap (λ t. with_sign t (cut_or_rounded round (unsigned_abs t * p) (p * p))) (sym (sum_times x y p))
+    ∙ units_common round f z p p above
+    ∙ ap (λ m. with_sign z (cut_or_rounded round (unsigned_abs z * p) m)) (sym one)
+    ∙ ap (with_sign z) (cut_or_rounded-common round (unsigned_abs z) 1 p above ∙ whole_units round (unsigned_abs z))
+    ∙ same_sign z)

@@ -1,5 +1,5 @@
 -- How many digits a computation needs.
-use Rattle.std.specs.Prelude.{ℕ, ◌+◌, ◌-◌, max, Bool, true, false, ℤ, pos, negsuc}
+use Rattle.std.specs.Prelude.{ℕ, ◌+◌, ◌-◌, ◌==◌, ◌&&◌, max, Bool, true, false, ℤ, pos, negsuc}
 use Rattle.s38_base.specs.declared.attr.Attr.{Attr}
 use Rattle.s38_base.specs.declared.op.Op.{Op}
 use Rattle.s38_base.specs.declared.op.Op.TheVariants.{Addn, Subn, Mult, Div, Rem, Neg, Cpynv, Scale, Cmpnvb}
@@ -14,6 +14,10 @@ longer_fraction a b = max (fraction_of a) (fraction_of b)
 
 abbrev pub longer_whole : Attr → Attr → ℕ
 longer_whole a b = max (whole_digits a) (whole_digits b)
+
+-- both numbers and the receiver have as many digits behind the point
+abbrev pub has_one_fraction : Attr → Attr → Attr → Bool
+has_one_fraction a b to = (fraction_of a == fraction_of to) && (fraction_of b == fraction_of to)
 
 abbrev pub sum_need : Attr → Attr → Attr → ℕ
 sum_need a b to = longer_whole a b + 1 + max (longer_fraction a b) (fraction_of to)

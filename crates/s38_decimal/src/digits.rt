@@ -1,6 +1,6 @@
 ghost use Rattle.std.specs.Prelude.{◌≡◌, ◌||◌, IsTrue, pos, negsuc, ◌≤ℤ◌};
 ghost use Rattle.s38_base.specs.Scalar.{is_numeric};
-ghost use Rattle.s38_decimal.specs.Need.{has_one, has_receiver, has_second, longer_fraction, longer_whole, need_of, quotient_need, scale_need, whole_digits};
+ghost use Rattle.s38_decimal.specs.Need.{has_one, has_one_fraction, has_receiver, has_second, longer_fraction, longer_whole, need_of, quotient_need, scale_need, whole_digits};
 
 use s38_base::{Attr, Op};
 
@@ -24,6 +24,15 @@ pub fn longer_fraction(a: Attr, b: Attr) -> u8
     ensures { result ≡ longer_fraction a b }
 {
     a.fraction().max(b.fraction())
+}
+
+/// Both numbers and the receiver have as many digits behind the point.
+#[inline(always)]
+pub fn has_one_fraction(a: Attr, b: Attr, to: Attr) -> bool
+    ensures { result ≡ has_one_fraction a b to }
+{
+    let behind = to.fraction();
+    a.fraction() == behind && b.fraction() == behind
 }
 
 fn quotient_need(a: Attr, b: Attr, to: Attr) -> u8

@@ -22,7 +22,7 @@ mod whole;
 mod write;
 
 pub use dec::{Dec, DecimalFault, Target};
-pub use digits::need;
+pub use digits::{has_one_fraction, need};
 pub use laws::written_is_read;
 pub use order::compare;
 pub use products::{mult, neg, scale};

@@ -37,8 +37,9 @@ fn magnitudes(n: u128, f: u8, m: u128, g: u8) -> Ordering
     by_parts(n, f, m, g)
 }
 
-/// Compares two numbers; any two have an order.
-pub fn compare(a: Dec, b: Dec) -> Ordering
+/// Compares two numbers, whatever their fractions.
+#[inline(never)]
+fn compare_any(a: Dec, b: Dec) -> Ordering
     ensures { result ≡ order_of (exact_of a) (exact_of b) }
 {
     let f = a.attr.fraction();
@@ -56,4 +57,16 @@ pub fn compare(a: Dec, b: Dec) -> Ordering
     } else {
         magnitudes(x, f, y, g)
     }
+}
+
+/// Compares two numbers; any two have an order.
+#[inline(always)]
+pub fn compare(a: Dec, b: Dec) -> Ordering
+    ensures { result ≡ order_of (exact_of a) (exact_of b) }
+{
+    if a.attr.fraction() == b.attr.fraction() {
+        return a.units.cmp(&b.units);
+    }
+    let (first, second) = (a, b);
+    compare_any(first, second)
 }

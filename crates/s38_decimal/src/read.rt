@@ -90,6 +90,7 @@ fn spaced_number(attr: Attr, bytes: &[u8], n: u8) -> Option<u128>
 }
 
 /// The number that all digits spell.
+#[inline(always)]
 fn number(attr: Attr, bytes: &[u8]) -> Option<u128>
     requires long { length bytes.now ≡ length_of attr }
     requires begins { IsTrue (begins_right attr bytes.now) }
@@ -108,6 +109,7 @@ fn number(attr: Attr, bytes: &[u8]) -> Option<u128>
 }
 
 /// The sign: the last half byte, or the zone of the last byte.
+#[inline(always)]
 fn sign_in(attr: Attr, bytes: &[u8]) -> u8
     requires long { length bytes.now ≡ length_of attr }
     requires numeric { IsTrue (is_numeric attr) }
@@ -122,6 +124,7 @@ fn sign_in(attr: Attr, bytes: &[u8]) -> u8
 }
 
 /// Where a packed number has an even count of digits, its first half byte is 0.
+#[inline(always)]
 fn begins_right(attr: Attr, bytes: &[u8]) -> bool
     requires { length bytes.now ≡ length_of attr }
     ensures { result ≡ begins_right attr bytes.now }
@@ -133,6 +136,7 @@ fn begins_right(attr: Attr, bytes: &[u8]) -> bool
 }
 
 /// A packed or zoned number.
+#[inline(always)]
 fn spelled(attr: Attr, bytes: &[u8]) -> Option<i128>
     requires long { length bytes.now ≡ length_of attr }
     requires numeric { IsTrue (is_numeric attr) }
@@ -163,6 +167,7 @@ fn binary(bytes: &[u8], size: u8) -> i128
 }
 
 /// The number that stands in the bytes, if one does.
+#[inline(always)]
 #[tactic(auto, unfolding(s38_base::specs::Scalar::value_of, s38_base::specs::Scalar::fits))]
 fn value(attr: Attr, bytes: &[u8]) -> Option<i128>
     ensures value { result ≡ value_of attr bytes.now }
@@ -177,14 +182,38 @@ fn value(attr: Attr, bytes: &[u8]) -> Option<i128>
     }
 }
 
+/// The same out of line, for what is read less often than short packed numbers.
+#[inline(never)]
+fn other_value(attr: Attr, bytes: &[u8]) -> Option<i128>
+    ensures value { result ≡ value_of attr bytes.now }
+    ensures fits { IfSome result (λ units. IsTrue (fits attr units)) }
+{
+    value(attr, bytes)
+}
+
+/// The same, by the shortest way for each attribute.
+#[inline(always)]
+fn units_in(attr: Attr, bytes: &[u8]) -> Option<i128>
+    ensures value { result ≡ value_of attr bytes.now }
+    ensures fits { IfSome result (λ units. IsTrue (fits attr units)) }
+{
+    match attr {
+        Attr::Packed { digits, fraction } if digits <= 18 => {
+            value(Attr::Packed { digits, fraction }, bytes)
+        }
+        _ => other_value(attr, bytes),
+    }
+}
+
 /// The number that stands in the bytes. `DecimalData` exactly where they have no value.
+#[inline(always)]
 pub fn read_scalar(attr: Attr, bytes: &[u8]) -> Result<Dec, DecimalFault>
     ensures value { MatchResult result
         (λ number. value_of attr bytes.now ≡ Some number.units)
         (λ fault. (fault ≡ DecimalFault.DecimalData) × (value_of attr bytes.now ≡ None)) }
     ensures attr { IfOk result (λ number. number.attr ≡ attr) }
 {
-    match value(attr, bytes) {
+    match units_in(attr, bytes) {
         Some(units) => Ok(Dec { units, attr }),
         None => Err(DecimalFault::DecimalData),
     }

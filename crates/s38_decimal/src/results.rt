@@ -75,7 +75,8 @@ fn whole(round: bool, n: u128, m: u128, up: u8, down: u8) -> u128
 }
 
 /// The receiver takes the units, or they don't fit.
-fn held(to: Target, units: i128) -> Result<i128, DecimalFault>
+#[inline(always)]
+pub fn held(to: Target, units: i128) -> Result<i128, DecimalFault>
     ensures value { result ≡ held to units }
     ensures fits { IfOk result (λ units. IsTrue (fits to.attr units)) }
 {

@@ -7,8 +7,8 @@ ghost use Rattle.s38_decimal.specs.Values.{answer, difference_of, exact, exact_o
 
 use crate::common::brought;
 use crate::dec::{Dec, DecimalFault, Target};
-use crate::digits::longer_fraction;
-use crate::results::answer;
+use crate::digits::{has_one_fraction, longer_fraction};
+use crate::results::{answer, held};
 use crate::signed::{negative, sum};
 use s38_base::Attr;
 
@@ -24,7 +24,8 @@ fn common_sum(x: i128, first: Attr, y: i128, second: Attr) -> i128
     sum(one, other)
 }
 
-/// x + y.
+/// x + y, whatever the fractions.
+#[inline(never)]
 fn total(x: i128, first: Attr, y: i128, second: Attr, to: Target) -> Result<i128, DecimalFault>
     requires first { IsOf first x }
     requires second { IsOf second y }
@@ -39,20 +40,30 @@ fn total(x: i128, first: Attr, y: i128, second: Attr, to: Target) -> Result<i128
 }
 
 /// The sum, at the receiver's fraction. `Size` exactly where the receiver doesn't hold it.
+#[inline(always)]
 pub fn add(a: Dec, b: Dec, to: Target) -> Result<i128, DecimalFault>
     requires { sum_need a.attr b.attr to.attr ≤ 38 }
     ensures exact { result ≡ answer to (sum_of (exact_of a) (exact_of b)) }
     ensures fits { IfOk result (λ units. IsTrue (fits to.attr units)) }
 {
-    total(a.units, a.attr, b.units, b.attr, to)
+    if has_one_fraction(a.attr, b.attr, to.attr) {
+        held(to, sum(a.units, b.units))
+    } else {
+        total(a.units, a.attr, b.units, b.attr, to)
+    }
 }
 
 /// The difference, at the receiver's fraction. `Size` exactly where the receiver doesn't hold it.
+#[inline(always)]
 pub fn sub(a: Dec, b: Dec, to: Target) -> Result<i128, DecimalFault>
     requires { sum_need a.attr b.attr to.attr ≤ 38 }
     ensures exact { result ≡ answer to (difference_of (exact_of a) (exact_of b)) }
     ensures fits { IfOk result (λ units. IsTrue (fits to.attr units)) }
 {
     let negative = negative(b.units);
-    total(a.units, a.attr, negative, b.attr, to)
+    if has_one_fraction(a.attr, b.attr, to.attr) {
+        held(to, sum(a.units, negative))
+    } else {
+        total(a.units, a.attr, negative, b.attr, to)
+    }
 }

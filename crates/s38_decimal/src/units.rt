@@ -30,6 +30,7 @@ fn fits_bytes(size: u8, units: i128) -> bool
 
 /// The attribute is numeric and holds the number.
 #[tactic(auto, unfolding(s38_base::specs::Scalar::fits))]
+#[inline(always)]
 pub fn fits(attr: Attr, units: i128) -> bool
     ensures { result ≡ fits attr units }
 {

@@ -1,4 +1,4 @@
-ghost use Rattle.std.specs.Prelude.{◌≡◌, ◌<◌, ◌≤◌, ◌+◌, ◌-◌, ◌*◌, ◌^◌, ◌==◌, ◌||◌, ℕ, Ok, Err, IsTrue, length, map, slice_index, unsigned_abs, if◌then◌else◌};
+ghost use Rattle.std.specs.Prelude.{◌≡◌, ◌<◌, ◌≤◌, ◌+◌, ◌-◌, ◌*◌, ◌/◌, ◌%◌, ◌^◌, ◌==◌, ◌||◌, ℕ, Ok, Err, IsTrue, length, map, slice_index, unsigned_abs, if◌then◌else◌};
 ghost use Rattle.std.specs.List.{range_with_len};
 ghost use Rattle.s38_base.specs.Scalar.{bits_of, digit_at, fits, fits_bytes, image_of, is_numeric, length_of, sign_of};
 ghost use Rattle.s38_decimal.specs.Images.{packed_with, zoned_with};
@@ -53,8 +53,43 @@ fn sign_of(units: i128) -> u8
     if units < 0 { 13 } else { 15 }
 }
 
-/// Writes two digits a byte, and the sign in the last half byte.
-fn write_packed(number: u128, sign: u8, into: &mut [u8])
+/// Two digits in a byte.
+static PAIRS: [u8; 100] = [
+    0, 1, 2, 3, 4, 5, 6, 7, 8, 9, 16, 17, 18, 19, 20, 21, 22, 23, 24, 25, 32, 33, 34, 35, 36, 37,
+    38, 39, 40, 41, 48, 49, 50, 51, 52, 53, 54, 55, 56, 57, 64, 65, 66, 67, 68, 69, 70, 71, 72, 73,
+    80, 81, 82, 83, 84, 85, 86, 87, 88, 89, 96, 97, 98, 99, 100, 101, 102, 103, 104, 105, 112, 113,
+    114, 115, 116, 117, 118, 119, 120, 121, 128, 129, 130, 131, 132, 133, 134, 135, 136, 137, 144,
+    145, 146, 147, 148, 149, 150, 151, 152, 153,
+];
+
+/// The two digits of a number below 100, each in a half byte.
+#[inline(always)]
+fn pair_of(number: u8) -> u8
+    requires { number < 100 }
+    ensures { result ≡ number / 10 * 16 + number % 10 }
+{
+    PAIRS[number as usize]
+}
+
+/// Writes the digits of a number in 64 bits, two at a time from the last one on, and the sign in the last half byte.
+#[inline(always)]
+fn write_pairs(number: u64, sign: u8, into: &mut [u8])
+    requires some { 0 < length into.old }
+    requires sign { sign < 16 }
+    ensures { into.new ≡ map (packed_with (length into.old - 1) number sign) (range_with_len 0 (length into.old)) }
+{
+    let last = into.len() - 1;
+    into[last] = (number % 10) as u8 * 16 + sign;
+    let mut rest = number / 10;
+    for k in 0..last {
+        into[last - 1 - k] = pair_of((rest % 100) as u8);
+        rest /= 100;
+    }
+}
+
+/// The same for a number of up to 31 digits.
+#[inline(never)]
+fn write_long(number: u128, sign: u8, into: &mut [u8])
     requires some { 0 < length into.old }
     requires few { length into.old ≤ 16 }
     requires all { number < 10 ^ (2 * length into.old - 1) }
@@ -73,7 +108,23 @@ fn write_packed(number: u128, sign: u8, into: &mut [u8])
     }
 }
 
+/// Writes two digits a byte, and the sign in the last half byte.
+fn write_packed(number: u128, sign: u8, into: &mut [u8])
+    requires some { 0 < length into.old }
+    requires few { length into.old ≤ 16 }
+    requires all { number < 10 ^ (2 * length into.old - 1) }
+    requires sign { sign < 16 }
+    ensures { into.new ≡ map (packed_with (length into.old - 1) number sign) (range_with_len 0 (length into.old)) }
+{
+    if into.len() <= 10 {
+        write_pairs(number as u64, sign, into);
+    } else {
+        write_long(number, sign, into);
+    }
+}
+
 /// Writes a digit a byte, and the sign in the zone of the last byte; the other zones are F.
+#[inline(never)]
 fn write_zoned(number: u128, sign: u8, into: &mut [u8])
     requires few { length into.old ≤ 31 }
     requires all { number < 10 ^ length into.old }
@@ -89,6 +140,7 @@ fn write_zoned(number: u128, sign: u8, into: &mut [u8])
 }
 
 /// Writes two's complement, high byte first.
+#[inline(never)]
 fn write_binary(units: i128, into: &mut [u8])
     requires size { IsTrue ((length into.old == 2) || (length into.old == 4)) }
     requires fits { IsTrue (fits_bytes (length into.old) units) }

@@ -1,4 +1,4 @@
-use Rattle.std.proofs.Common.{◌≡◌, ◌^◌, neg_ℤ, ap, refl, ◌∙◌, arith}
+use Rattle.std.proofs.Common.{neg_ℤ, ap, ◌∙◌, arith}
 use Rattle.std.specs.Prelude.{unsigned_abs}
 use Rattle.s38_base.specs.Scalar.{fraction_of}
 use Rattle.s38_decimal.proofs.Attributes.{IsOf-fits, IsOf-small, digits_few, fits_numeric, fits_same, fraction_le}

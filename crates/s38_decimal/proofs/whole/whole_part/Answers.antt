@@ -1,7 +1,7 @@
-use Rattle.std.proofs.Common.{◌≡◌, ◌/◌, ◌^◌, ap, ◌∙◌, sym, arith}
+use Rattle.std.proofs.Common.{arith}
 use Rattle.std.proofs.Math.Nat.{one-le-pow}
 use Rattle.std.specs.Int.{w128, cast_signed, cast_unsigned}
-use Rattle.s38_decimal.proofs.Attributes.{fits_fraction, fits_magnitude, fits_same}
+use Rattle.s38_decimal.proofs.Attributes.{fits_fraction, fits_magnitude}
 use Rattle.s38_decimal.proofs.Fractions.{quotient_le}
 use Rattle.s38_decimal.proofs.Rooms.{signed_word}
 use Rattle.s38_decimal.proofs.whole.whole_part.Goals as goal

@@ -1,7 +1,6 @@
-use Rattle.std.proofs.Common.{◌-◌, length, rules}
-use Rattle.std.proofs.lemmas.List.FromFn.{fill_by_all}
-use Rattle.s38_decimal.specs.Images.{packed_with}
+use Rattle.std.proofs.Common.{◌-◌, ◌*◌, length, arith}
+use Rattle.s38_decimal.proofs.Powers.{tens_le}
 use Rattle.s38_decimal.proofs.write.write_packed.Goals as goal
 
-pub returns : goal.returns
-returns c = fill_by_all (packed_with (length c.args.into.now - 1) c.args.number c.args.sign) c.loop-k.into _ 0 (search rules) (search rules)
+pub overflow_cast-number : goal.overflow_cast-number
+overflow_cast-number c = omega (arith, tens_le (2 * length c.args.into.now - 1) 19 (omega arith))
