@@ -70,6 +70,12 @@ doing made budget states.Unbegun = fresh made budget
 doing made budget (states.Running process) = process
 doing made budget states.Over = record (fresh made budget) { status = Ended }
 
+-- the process of a job took a turn, and stands in its place
+pub record WentInPlace (number : ℕ) (m : Run) (d : ProcessState) (outcome : Outcome) (m' : Run) (new : JobState) : Type 0 where
+  pub process : ProcessState
+  pub turned : Turned number m d outcome m' process
+  pub state : new ≡ states.Running process
+
 -- how far a job has come behind a turn; its process is kept up to its end
 abbrev pub state_behind : Outcome → ProcessState → JobState
 state_behind outcomes.Finished process = states.Over

@@ -1,4 +1,4 @@
-ghost use Rattle.std.specs.Prelude.{◌≡◌, ◌≢◌, IfOk};
+ghost use Rattle.std.specs.Prelude.{◌≡◌, ◌≢◌, IfOk, OnOk};
 ghost use Rattle.s38_process.specs.declared.status.Status.{Status};
 ghost use Rattle.s38_run.specs.Running.{doing, unbegun};
 
@@ -26,22 +26,19 @@ pub fn unbegun(alloc: Global, jobs: &[Job]) -> Result<Vec<JobState>, NoMemory>
     Ok(states)
 }
 
-/// The process of a job that is not over: it begins where it has not begun.
-pub fn process_of(
+/// The process of a job that is not over begins, where it has not begun.
+pub fn begin(
     alloc: Global,
-    state: JobState,
+    state: &mut JobState,
     job: &Job,
     made: &CreateResult,
-) -> Result<Process, NoMemory>
-    requires { (doing made.now job.now.budget state).status ≢ Status.Ended }
-    ensures { IfOk result (λ process. process ≡ doing made.now job.now.budget state) }
+) -> Result<(), NoMemory>
+    requires { (doing made.now job.now.budget state.old).status ≢ Status.Ended }
+    ensures { OnOk result (state.new ≡ JobState.Running (doing made.now job.now.budget state.old)) }
 {
-    match state {
-        JobState::Unbegun => {
-            let own = made.try_clone(alloc)?;
-            Process::begin(alloc, job, own)
-        }
-        JobState::Running(process) => Ok(process),
-        JobState::Over => unreachable!(),
+    if matches!(state, JobState::Unbegun) {
+        let own = made.try_clone(alloc)?;
+        *state = JobState::Running(Process::begin(alloc, job, own)?);
     }
+    Ok(())
 }

@@ -1,16 +1,16 @@
 ghost use Rattle.std.specs.Prelude.{◌≡◌, ◌≢◌, IfOk};
 ghost use Rattle.s38_process.specs.declared.status.Status.{Status};
 ghost use Rattle.s38_rules.specs.Legal.{IsSound, IsProcess};
-ghost use Rattle.s38_run.specs.Running.{TookTurn, Turned, doing};
+ghost use Rattle.s38_run.specs.Running.{TookTurn, Turned, WentInPlace, doing};
+ghost use Rattle.s38_run.specs.declared.job_state.JobState.{JobState};
 
-use crate::job_state::{JobState, process_of};
+use crate::job_state::{JobState, begin};
 use crate::outcome::{Outcome, outcome_of};
 use s38_base::NoMemory;
 use s38_code::{CreateResult, Job};
 use s38_machine::Machine;
 use s38_process::{Next, Process};
 use std::alloc::Global;
-use std::mem;
 
 /// One event of a process that has not ended is asked and answered.
 #[tactic(auto, using(crate::proofs::Asking::none_asked))]
@@ -33,6 +33,28 @@ fn turn(machine: &mut Machine, process: &mut Process, number: u32) -> Result<Out
     }
 }
 
+/// The process of a job that has begun takes a turn where it stands.
+fn running_turn(
+    machine: &mut Machine,
+    state: &mut JobState,
+    job: &Job,
+    made: &CreateResult,
+    number: u32,
+) -> Result<Outcome, NoMemory>
+    requires sound { IsSound machine.old }
+    requires may { IsProcess machine.old.origin number }
+    requires running { state.old ≡ JobState.Running (doing made.now job.now.budget state.old) }
+    requires going { (doing made.now job.now.budget state.old).status ≢ Status.Ended }
+    ensures { IfOk result (λ outcome. WentInPlace number machine.old (doing made.now job.now.budget state.old) outcome machine.new state.new) }
+{
+    let _ = job;
+    let _ = made;
+    match state {
+        JobState::Running(process) => turn(machine, process, number),
+        _ => unreachable!(),
+    }
+}
+
 /// A job that is not over takes a turn. Its process begins at its first turn, and is dropped at its end.
 pub fn take_turn(
     alloc: Global,
@@ -47,11 +69,11 @@ pub fn take_turn(
     requires going { (doing made.now job.now.budget state.old).status ≢ Status.Ended }
     ensures { IfOk result (λ outcome. TookTurn number made.now job.now.budget machine.old state.old outcome machine.new state.new) }
 {
-    let mut process = process_of(alloc, mem::replace(state, JobState::Over), job, made)?;
-    let outcome = turn(machine, &mut process, number)?;
+    begin(alloc, state, job, made)?;
+    let outcome = running_turn(machine, state, job, made, number)?;
     match outcome {
-        Outcome::Finished => {}
-        _ => *state = JobState::Running(process),
+        Outcome::Finished => *state = JobState::Over,
+        _ => {}
     }
     Ok(outcome)
 }
