@@ -97,7 +97,7 @@ pub fn plain_top<D: Drop, I: Source, O: Sink>(
     disk: D,
     out: &mut O,
 ) -> Report<D>
-    // Each status has its cause, and its text is written.
+    // Each status but that of want of memory has its cause, and its text is written.
     ensures ends { Ends (map (λ w. w.now) words.now) (I.left deck.old) (I.left deck.new) (I.faults deck.old) (I.faults deck.new)
         (O.written out.old) (O.written out.new) (O.faults out.old) (O.faults out.new) result.status result.history.items result.marks.items }
 
