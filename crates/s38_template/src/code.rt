@@ -46,7 +46,7 @@ fn is_new(reader: &Reader, line: &Line) -> bool
     match line {
         Line::Program(name) => !reader.names.has(name),
         Line::Label(name) => !reader.labels.has(name),
-        Line::Job(said) => !reader.job_names.has(&said.name),
+        Line::Job(said) => !reader.job_names.has(&said.said().name),
         _ => true,
     }
 }
@@ -63,7 +63,7 @@ fn is_in_range(line: &Line) -> bool
 {
     match line {
         Line::Declare(in_range) => *in_range,
-        Line::Job(said) => is_budget(said.budget),
+        Line::Job(said) => is_budget(said.said().budget),
         _ => true,
     }
 }
@@ -93,7 +93,7 @@ fn has_template(reader: &Reader, line: &Line) -> bool
     ensures { result ≡ has_template (state_of reader.now) line.now }
 {
     match line {
-        Line::Job(said) => reader.names.has(&said.template),
+        Line::Job(said) => reader.names.has(&said.said().template),
         _ => true,
     }
 }

@@ -5,7 +5,7 @@ ghost use Rattle.s38_words.specs.Views.{act_in};
 ghost use Rattle.s38_template.specs.Lines.{are_formed, are_operands, declare, end_line, is_act, is_instruction, line_of, rest_said, said_by, stage_line};
 
 use crate::job_line::job_in;
-use crate::said::Line;
+use crate::said::{JobLine, Line};
 use s38_base::NoMemory;
 use s38_words::{
     InstructionLine, before, declaration, has_form, instruction, is_in_range, is_word, label,
@@ -97,5 +97,5 @@ pub fn line_of(alloc: Global, line: &[u8]) -> Result<Option<Line>, NoMemory>
     let Some(said) = job_in(alloc, line)? else {
         return Ok(None);
     };
-    Ok(Some(Line::Job(said)))
+    Ok(Some(Line::Job(JobLine::new(alloc, said)?)))
 }

@@ -1,5 +1,9 @@
-use s38_base::Name;
+ghost use Rattle.std.specs.Prelude.{◌≡◌, IfOk};
+
+use s38_base::{Name, NoMemory};
 use s38_code::Names;
+use std::alloc::Global;
+use std::marker::Model;
 
 /// A job as its line says it.
 #[derive(Drop, Debug)]
@@ -10,6 +14,47 @@ pub struct JobSaid {
     /// The number behind BUDGET; one that 64 bits do not hold stands here as the largest.
     pub budget: u64,
     pub contexts: Names,
+}
+
+/// A job as its line says it, in memory of its own, so that lines which say less are small values. Contracts see the
+/// job.
+#[derive(Drop, Debug)]
+pub struct JobLine {
+    held: Box<JobSaid>,
+}
+
+impl Model for JobLine {
+    ghost use Rattle.s38_template.specs.declared.said.JobSaid.{JobSaid};
+
+    ghost Value = { JobSaid };
+
+    ghost view = { λ j. j.held.value };
+}
+
+impl JobLine {
+    /// The line of this job; where memory is refused the job is dropped.
+    pub fn new(alloc: Global, said: JobSaid) -> Result<JobLine, NoMemory>
+        ensures { IfOk result (λ line. line ≡ said) }
+    {
+        match Box::new(alloc, said) {
+            Ok(held) => Ok(JobLine { held }),
+            Err(_) => Err(NoMemory),
+        }
+    }
+
+    /// What the line says of the job.
+    pub fn said(&self) -> &JobSaid
+        ensures { result.now ≡ self.now }
+    {
+        &self.held
+    }
+
+    /// The job, out of its memory.
+    pub fn into_said(self) -> JobSaid
+        ensures { result ≡ self }
+    {
+        Box::into_inner(self.held)
+    }
 }
 
 /// What a line says.
@@ -28,5 +73,5 @@ pub enum Line {
     /// A stage begins.
     Stage,
     /// A job.
-    Job(JobSaid),
+    Job(JobLine),
 }

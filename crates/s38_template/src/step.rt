@@ -154,6 +154,6 @@ pub fn take(alloc: Global, reader: &mut Reader, line: &[u8], said: Line) -> Resu
             begin_stage(reader);
             Ok(())
         }
-        Line::Job(said) => join(alloc, reader, said),
+        Line::Job(said) => join(alloc, reader, said.into_said()),
     }
 }
