@@ -25,6 +25,7 @@ fn star_or_item(scope: &Scope, star: &[u8], arg: Arg, word: &[u8]) -> Option<Par
     }
 }
 
+#[inline(never)]
 fn bytes_or_none(
     alloc: Global,
     scope: &Scope,
@@ -38,6 +39,7 @@ fn bytes_or_none(
     }
 }
 
+#[inline(never)]
 fn context_or_list(scope: &Scope, word: &[u8]) -> Option<ParsedOperand>
     ensures { result ≡ option_or (parsed_star (codes "*LIST") args.ContextList word.now) (option_or (parsed_star (codes "*MACHINE") args.MachineContext word.now) (parsed_item scope.now.table word.now)) }
 {
@@ -48,6 +50,7 @@ fn context_or_list(scope: &Scope, word: &[u8]) -> Option<ParsedOperand>
 }
 
 /// What a word says that is written out in the program; None where it says nothing there.
+#[inline(never)]
 #[tactic(auto, unfolding(crate::specs::Parsed::parsed_constant))]
 fn parsed_constant(
     alloc: Global,
@@ -70,6 +73,7 @@ fn parsed_constant(
 }
 
 /// What a word of a fixed list says; None where it is not on the list.
+#[inline(never)]
 #[tactic(auto, unfolding(crate::specs::Parsed::parsed_keyword))]
 fn parsed_keyword(keyword: Keyword, word: &[u8]) -> Option<ParsedOperand>
     ensures { result ≡ parsed_keyword keyword word.now }

@@ -46,15 +46,14 @@ fn power_of(number: i64) -> i8
     }
 }
 
-/// How many digits an instruction needs; none where it doesn't compute.
+/// How many digits a computation needs.
+#[inline(never)]
 #[tactic(auto, unfolding(s38_odt::specs::OperandRules::digits_needed))]
-pub fn digits_needed(rows: &[Row], op: Op, args: &[Arg]) -> u8
-    requires { IsTrue (fits rows.now op args.now) }
+fn computed_digits(rows: &[Row], op: Op, args: &[Arg]) -> u8
+    requires computes { IsTrue (has_one op || has_second op) }
+    requires fits { IsTrue (fits rows.now op args.now) }
     ensures { result ≡ digits_needed rows.now op args.now }
 {
-    if !computes(op) {
-        return 0;
-    }
     let power = power_of(whole_at(args, 2));
     let first = number_at(rows, args, 0);
     let second = number_at(rows, args, 1);
@@ -62,4 +61,17 @@ pub fn digits_needed(rows: &[Row], op: Op, args: &[Arg]) -> u8
         return need(op, first, second, Attr::Pointer, power);
     }
     need(op, second, number_at(rows, args, 2), first, power)
+}
+
+/// How many digits an instruction needs; none where it doesn't compute.
+#[tactic(auto, unfolding(s38_odt::specs::OperandRules::digits_needed))]
+pub fn digits_needed(rows: &[Row], op: Op, args: &[Arg]) -> u8
+    requires { IsTrue (fits rows.now op args.now) }
+    ensures { result ≡ digits_needed rows.now op args.now }
+{
+    if computes(op) {
+        computed_digits(rows, op, args)
+    } else {
+        0
+    }
 }

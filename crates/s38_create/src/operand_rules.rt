@@ -120,8 +120,10 @@ fn is_key_length(order: u32, number: i64) -> bool
     }
 }
 
+/// The operands are tied so.
+#[inline(never)]
 #[tactic(auto, unfolding(s38_odt::specs::OperandRules::keeps_rule))]
-fn keeps_rule(rows: &[Row], rule: OperandRule, args: &[Arg]) -> bool
+fn are_tied(rows: &[Row], rule: OperandRule, args: &[Arg]) -> bool
     ensures { result ≡ keeps_rule rows.now rule args.now }
 {
     match rule {
@@ -143,6 +145,17 @@ fn keeps_rule(rows: &[Row], rule: OperandRule, args: &[Arg]) -> bool
                 && is_from_one_to(LONGEST_MESSAGE, whole_at(args, 6))
         }
         OperandRule::EntryLength => is_from_one_to(LONGEST_KEY, whole_at(args, 4)),
+    }
+}
+
+/// The same, with no look at operands that are not tied.
+#[tactic(auto, unfolding(s38_odt::specs::OperandRules::keeps_rule))]
+fn keeps_rule(rows: &[Row], rule: OperandRule, args: &[Arg]) -> bool
+    ensures { result ≡ keeps_rule rows.now rule args.now }
+{
+    match rule {
+        OperandRule::Free => true,
+        tied => are_tied(rows, tied, args),
     }
 }
 

@@ -2,7 +2,8 @@ ghost use Rattle.std.specs.Prelude.{◌≡◌, IfOk};
 ghost use Rattle.std.specs.Option.{option_map};
 ghost use Rattle.s38_words.specs.DeclarationLine.{declaration_of};
 ghost use Rattle.s38_words.specs.Views.{act_in};
-ghost use Rattle.s38_template.specs.Lines.{are_formed, are_operands, declare, end_line, is_act, is_instruction, line_of, rest_said, said_by, stage_line};
+ghost use Rattle.s38_words.specs.ProgramLine.{head_of};
+ghost use Rattle.s38_template.specs.Lines.{begun_by, are_formed, are_operands, declare, end_line, is_act, is_instruction, line_of, rest_said, said_by, stage_line};
 
 use crate::job_line::job_in;
 use crate::said::{JobLine, Line};
@@ -62,6 +63,7 @@ fn rest_said(line: &[u8]) -> Option<Line>
     }
 }
 
+#[inline(never)]
 fn declared(line: &[u8]) -> Option<Line>
     ensures { result ≡ option_map declare (declaration_of line.now) }
 {
@@ -69,12 +71,20 @@ fn declared(line: &[u8]) -> Option<Line>
     Some(Line::Declare(is_in_range(&said.declares)))
 }
 
+/// The head of a template.
+#[inline(never)]
+fn headed(line: &[u8]) -> Option<Line>
+    ensures { result ≡ option_map begun_by (head_of line.now) }
+{
+    Some(Line::Program(program_head(line)?.name))
+}
+
 #[tactic(auto, unfolding(crate::specs::Lines::said_by))]
 fn said_by(word: &[u8], line: &[u8]) -> Option<Line>
     ensures { result ≡ said_by word.now line.now }
 {
     if is_word(b"PROGRAM", word) {
-        return Some(Line::Program(program_head(line)?.name));
+        return headed(line);
     }
     if is_word(b"DCL", word) {
         return declared(line);

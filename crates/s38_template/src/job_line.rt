@@ -149,6 +149,7 @@ fn head_in(line: &[u8]) -> Option<(&[u8], &[u8], &[u8])>
 }
 
 /// The job that a line says; None exactly where it has no form of one.
+#[inline(never)]
 #[tactic(auto, unfolding(crate::specs::Lines::job_in))]
 pub fn job_in(alloc: Global, line: &[u8]) -> Result<Option<JobSaid>, NoMemory>
     ensures { IfOk result (λ job. job ≡ job_in line.now) }

@@ -41,6 +41,7 @@ fn add_line(alloc: Global, lines: &mut Seq<Bytes>, line: &[u8]) -> Result<(), No
 }
 
 /// A template of this name begins with this line.
+#[inline(never)]
 fn begin(alloc: Global, reader: &mut Reader, line: &[u8], name: Name) -> Result<(), NoMemory>
     ensures { OnOk result (state_of reader.new ≡ taken (state_of reader.old) line.now (Line.Program name)) }
 {
@@ -55,6 +56,7 @@ fn begin(alloc: Global, reader: &mut Reader, line: &[u8], name: Name) -> Result<
 }
 
 /// The template declares a name.
+#[inline(never)]
 fn declare(alloc: Global, reader: &mut Reader, line: &[u8], in_range: bool) -> Result<(), NoMemory>
     requires { IsTrue (has_room (state_of reader.old) (Line.Declare in_range)) }
     ensures { OnOk result (state_of reader.new ≡ taken (state_of reader.old) line.now (Line.Declare in_range)) }
@@ -65,6 +67,7 @@ fn declare(alloc: Global, reader: &mut Reader, line: &[u8], in_range: bool) -> R
 }
 
 /// The template has a label.
+#[inline(never)]
 fn label(alloc: Global, reader: &mut Reader, line: &[u8], name: Name) -> Result<(), NoMemory>
     ensures { OnOk result (state_of reader.new ≡ taken (state_of reader.old) line.now (Line.Label name)) }
 {
@@ -86,6 +89,7 @@ fn act(alloc: Global, reader: &mut Reader, line: &[u8]) -> Result<(), NoMemory>
 }
 
 /// The template ends.
+#[inline(never)]
 fn end(alloc: Global, reader: &mut Reader, line: &[u8]) -> Result<(), NoMemory>
     ensures { OnOk result (state_of reader.new ≡ taken (state_of reader.old) line.now Line.End) }
 {
@@ -128,6 +132,7 @@ fn job_of(stage: u16, said: JobSaid) -> Job
 }
 
 /// A job joins the deck.
+#[inline(never)]
 fn join(alloc: Global, reader: &mut Reader, said: JobSaid) -> Result<(), NoMemory>
     requires { IsTrue (is_budget said.budget) }
     ensures { OnOk result (state_of reader.new ≡ taken (state_of reader.old) [] (Line.Job said)) }
