@@ -4,5 +4,4 @@ mod NumberLaws
 mod PlaceLaws
 mod ReceivedLaws
 pub mod ShapeLaws
-mod SpaceLaws
 pub mod StandLaws

@@ -4,6 +4,5 @@ pub mod Law
 pub mod Local
 pub mod Overlap
 pub mod Received
-pub mod Spaces
 pub mod Variables
 pub mod Ways

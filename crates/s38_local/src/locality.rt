@@ -2,7 +2,6 @@ ghost use Rattle.std.specs.Prelude.{◌≡◌};
 ghost use Rattle.std.specs.List.{list_any};
 ghost use Rattle.std.specs.Option.{option_copied};
 ghost use Rattle.s38_local.specs.Local.{is_local, is_local_op, lies_in_space};
-ghost use Rattle.s38_local.specs.Spaces.{declares_space};
 ghost use Rattle.s38_local.specs.Variables.{form_in, is_based};
 
 use crate::way::{Way, way_of};
@@ -53,33 +52,4 @@ pub fn is_local(rows: &[Row], instruction: &Instruction) -> bool
     ensures { result ≡ is_local rows.now instruction.now }
 {
     is_local_op(instruction.op) && !any_in_space(rows, instruction.args.as_slice())
-}
-
-/// Whether a program declares an item in a space.
-pub fn declares_space(rows: &[Row]) -> bool
-    ensures { result ≡ declares_space rows.now }
-{
-    rows.iter().any(|row| is_based(Some(&row.form)))
-}
-
-#[inline(always)]
-fn any_among(has_space: bool, rows: &[Row], args: &[Arg]) -> bool
-    requires { has_space ≡ declares_space rows.now }
-    ensures { result ≡ list_any (lies_in_space rows.now) args.now }
-{
-    if has_space {
-        any_in_space(rows, args)
-    } else {
-        false
-    }
-}
-
-/// The same as `is_local`, by whether the program declares an item in a space at all.
-#[inline(always)]
-#[tactic(auto, unfolding(crate::specs::Local::is_local))]
-pub fn is_local_among(has_space: bool, rows: &[Row], instruction: &Instruction) -> bool
-    requires { has_space ≡ declares_space rows.now }
-    ensures { result ≡ is_local rows.now instruction.now }
-{
-    is_local_op(instruction.op) && !any_among(has_space, rows, instruction.args.as_slice())
 }

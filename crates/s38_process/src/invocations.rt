@@ -5,7 +5,6 @@ ghost use Rattle.std.specs.Option.{option_copied};
 ghost use Rattle.s38_local.specs.declared.local_end.LocalEnd.{LocalEnd};
 ghost use Rattle.s38_process.specs.Exceptions.{takes};
 ghost use Rattle.s38_local.specs.Local.{run};
-ghost use Rattle.s38_local.specs.Spaces.{declares_space};
 ghost use Rattle.s38_process.specs.Invocations.{argument_places, arguments_in, code_in, deepest, depth_of, entered, exchanged, first_stack, first_values, instruction_of, invoked, places_for, popped, rows_in};
 ghost use Rattle.s38_process.specs.Process.{alone_there, is_local_there, is_none, is_return, ran, returns_there, went_on, with_frame};
 ghost use Rattle.s38_process.specs.Requests.{request_of};
@@ -17,7 +16,7 @@ use crate::request::request_of;
 use crate::variables::{blank_values, first_values, next_instruction, receive};
 use s38_base::{NoMemory, Op, Pile};
 use s38_code::{Arg, Code, CreateResult, Instruction, Request, Val, classes};
-use s38_local::{Frame, LocalEnd, declares_space, is_local_among, return_from, run_local};
+use s38_local::{Frame, LocalEnd, is_local, return_from, run_local};
 use std::alloc::Global;
 use std::marker::Model;
 use std::mem;
@@ -32,20 +31,17 @@ pub struct Invocations {
     top: Invocation,
     /// Those that called it, the oldest first.
     callers: Vec<Invocation>,
-    /// Whether the newest invocation's program declares an item in a space.
-    has_space: bool,
 }
 
 impl Model for Invocations {
-    ghost use Rattle.std.specs.Prelude.{◌≡◌, ◌<◌, length, reverse};
-    ghost use Rattle.s38_local.specs.Spaces.{declares_space};
-    ghost use Rattle.s38_process.specs.Invocations.{Stack, deepest, rows_in};
+    ghost use Rattle.std.specs.Prelude.{◌<◌, length, reverse};
+    ghost use Rattle.s38_process.specs.Invocations.{Stack, deepest};
 
     ghost Value = { Stack };
 
     ghost view = { λ s. record { values = s.values.items; top = s.top; callers = reverse s.callers.items } };
 
-    ghost invariant = { λ s. (length s.callers.items < deepest) × (s.has_space ≡ declares_space (rows_in s.top.made)) };
+    ghost invariant = { λ s. length s.callers.items < deepest };
 }
 
 /// A program that is to begin, and what its variables begin with.
@@ -120,12 +116,10 @@ impl Invocations {
         let frame = first_frame(alloc, rows_of(&made), base, places.as_slice())?;
         let mut own = first_values(alloc, rows_of(&made))?;
         values.append(&mut own)?;
-        let has_space = declares_space(rows_of(&made));
         Ok(Invocations {
             values,
             top: Invocation { made, frame },
             callers: Vec::new(alloc),
-            has_space,
         })
     }
 
@@ -205,7 +199,6 @@ impl Invocations {
             Some(caller) => {
                 self.values.truncate(self.top.frame.base);
                 self.top = caller;
-                self.has_space = declares_space(rows_of(&self.top.made));
                 true
             }
         }
@@ -243,7 +236,6 @@ impl Invocations {
         let mut caller = mem::replace(&mut self.top, entrant.invocation);
         caller.frame.at = behind;
         self.callers.push_reserved(caller);
-        self.has_space = declares_space(rows_of(&self.top.made));
         Ok(())
     }
 
@@ -264,7 +256,6 @@ impl Invocations {
         self.values.truncate(base);
         self.values.append(&mut entrant.values).unwrap();
         self.top = entrant.invocation;
-        self.has_space = declares_space(rows_of(&self.top.made));
         Ok(())
     }
 
@@ -302,7 +293,6 @@ impl Invocations {
         run_alone(
             alloc,
             self.is_first(),
-            self.has_space,
             &self.top.made,
             &mut self.top.frame,
             &mut self.values,
@@ -347,12 +337,10 @@ fn ends_by(is_first: bool, frame: &Frame, instruction: &Instruction) -> bool
 fn run_alone(
     alloc: Global,
     is_first: bool,
-    has_space: bool,
     made: &CreateResult,
     frame: &mut Frame,
     values: &mut Vec<Val>,
 ) -> Result<Option<LocalEnd>, NoMemory>
-    requires { has_space ≡ declares_space (rows_in made.now) }
     ensures alone { IfOk result (λ end. is_some end ≡ (is_local_there (rows_in made.now) (slice_get (code_in made.now) frame.old.at) && not (returns_there (slice_get (code_in made.now) frame.old.at) && (is_none frame.old.returns && is_first)))) }
     ensures end { IfOk result (λ end. IfSome end (λ end. end ≡ (run (rows_in made.now) frame.old values.old.items (slice_get (code_in made.now) frame.old.at)).end)) }
     ensures frame { IfOk result (λ end. IfSome end (λ _. frame.new ≡ (run (rows_in made.now) frame.old values.old.items (slice_get (code_in made.now) frame.old.at)).frame)) }
@@ -365,9 +353,7 @@ fn run_alone(
         None => Ok(return_alone(is_first, frame)),
         Some(instruction) => {
             let rows = rows_of(made);
-            if ends_by(is_first, frame, instruction)
-                || !is_local_among(has_space, rows, instruction)
-            {
+            if ends_by(is_first, frame, instruction) || !is_local(rows, instruction) {
                 return Ok(None);
             }
             match run_local(alloc, instruction, rows, frame, values.as_mut_slice()) {
