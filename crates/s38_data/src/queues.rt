@@ -16,8 +16,8 @@ use s38_code::{Operand, Request, Val};
 use s38_invoke::World;
 use s38_objects::Objects;
 use s38_operands::{
-    Needs, Question, QueueFacts, ask_at, bytes_at, fails, fitted, is_given, on_object, piece_at,
-    queue_facts, relation_at, room_at, size_at, target, whole_at, word_at,
+    Needs, Question, QueueFacts, ask_at, fails, fitted, is_given, on_object, piece_at, queue_facts,
+    relation_at, room_at, size_at, target, whole_at, word_at,
 };
 use s38_queues::{Message, Order, Queue};
 use s38_rules::{Body, Creating, Sought};
@@ -173,8 +173,8 @@ fn enq(alloc: Global, world: &mut World<Objects>, operands: &[Operand]) -> Resul
     ensures err { OnErr result (world.new ≡ world.old) }
 {
     let number = target(&world.objects, operands, 1);
-    match bytes_at(alloc, &world.objects, operands, 2) {
-        Ok(key) => match bytes_at(alloc, &world.objects, operands, 3) {
+    match piece_at(alloc, &world.objects, operands, 2) {
+        Ok(key) => match piece_at(alloc, &world.objects, operands, 3) {
             Ok(text) => put(world, number, key.as_slice(), text.as_slice()),
             Err(fault) => Err(fault),
         },

@@ -30,13 +30,14 @@ impl Model for Acting {
 }
 
 impl Acting {
-    /// One user alone.
-    fn one(user: UserNum) -> Acting
-        ensures { result ≡ user.0 ∷ [] }
+    /// Nobody.
+    pub fn nobody() -> Acting
+        ensures { result ≡ [] }
     {
-        let mut users = [ObjNum(0); MOST_ACTING];
-        users[0] = user;
-        Acting { users, count: 1 }
+        Acting {
+            users: [ObjNum(0); MOST_ACTING],
+            count: 0,
+        }
     }
 
     /// One user more.
@@ -123,20 +124,24 @@ impl<T: Table> World<T> {
         &frames[..frames.len().min(depth as usize)]
     }
 
-    /// The acting users of a process that has come to a depth of invocations: its user, and the owners of programs
-    /// that adopt.
+    /// The acting users of a process that has come to a depth of invocations join those that act, who are nobody
+    /// yet: its user, and the owners of programs that adopt.
     #[tactic(auto, unfolding(s38_rules::specs::Users::acting))]
+    pub fn act(&self, process: u32, depth: u16, users: &mut Acting)
+        requires { users.old ≡ [] }
+        ensures { users.new ≡ acting self.now process depth }
+    {
+        users.add(self.user_of(process));
+        let frames = self.frames_in_use(process, depth);
+        adopt(&self.objects, users, frames, ObjNum(0), None);
+    }
+
+    /// The acting users of a process that has come to a depth of invocations.
     pub fn acting(&self, process: u32, depth: u16) -> Acting
         ensures { result ≡ acting self.now process depth }
     {
-        let mut acting = Acting::one(self.user_of(process));
-        adopt(
-            &self.objects,
-            &mut acting,
-            self.frames_in_use(process, depth),
-            ObjNum(0),
-            None,
-        );
+        let mut acting = Acting::nobody();
+        self.act(process, depth, &mut acting);
         acting
     }
 }

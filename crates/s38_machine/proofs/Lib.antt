@@ -1,3 +1,4 @@
+mod AskingLaws
 mod EventLaws
 mod LogLaws
 mod VerdictLaws

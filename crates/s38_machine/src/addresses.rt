@@ -54,6 +54,7 @@ fn space_rule(k: u8, object_used: Option<&Object>, at: u64, attr: Attr) -> Optio
     }
 }
 
+#[inline(never)]
 fn base_rule(
     objects: &Objects,
     k: u8,
@@ -147,6 +148,7 @@ fn pointer_rule(objects: &Objects, need: &Need, pointer: Option<Pointer>) -> Opt
 }
 
 /// There is a pointer, of the kind that is used, to an object that is there, of the kind that is used.
+#[inline(never)]
 #[tactic(auto, unfolding(s38_rules::specs::Verdict::address_rule))]
 fn address_rule(objects: &Objects, operands: &[Operand], need: &Need) -> Option<Exception>
     ensures { result ≡ address_rule objects.now operands.now need.now }

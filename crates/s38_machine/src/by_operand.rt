@@ -31,18 +31,14 @@ pub trait OperandRules {
 fn needs_rule<R: OperandRules>(rules: &R, needs: &[Need], k: u8) -> Option<Exception>
     ensures { result ≡ needs_rule (R.of_need rules.now) needs.now k }
 {
-    match needs {
-        [] => None,
-        [need, more @ ..] => {
-            if need.place != k {
-                return needs_rule(rules, more, k);
-            }
-            match rules.need(need) {
-                None => needs_rule(rules, more, k),
-                Some(failure) => Some(failure),
+    for need in needs {
+        if need.place == k {
+            if let Some(failure) = rules.need(need) {
+                return Some(failure);
             }
         }
     }
+    None
 }
 
 /// The first rule that fails, from the operand of a number on.
@@ -55,17 +51,16 @@ pub fn by_operand<R: OperandRules>(
     requires { k + length rest.now < 2 ^ 64 }
     ensures { result ≡ by_operand (R.of_item rules.now) (R.of_need rules.now) needs.now k rest.now }
 {
-    match rest {
-        [] => needs_rule(rules, needs, 0),
-        [operand, more @ ..] => {
-            let place = k.min(255) as u8;
-            if let Some(failure) = rules.item(place, operand) {
-                return Some(failure);
-            }
-            if let Some(failure) = needs_rule(rules, needs, place) {
-                return Some(failure);
-            }
-            by_operand(rules, needs, k + 1, more)
+    let mut number = k;
+    for operand in rest {
+        let place = number.min(255) as u8;
+        if let Some(failure) = rules.item(place, operand) {
+            return Some(failure);
         }
+        if let Some(failure) = needs_rule(rules, needs, place) {
+            return Some(failure);
+        }
+        number += 1;
     }
+    needs_rule(rules, needs, 0)
 }

@@ -2,6 +2,7 @@
 #![tactic(auto)]
 
 mod addresses;
+mod asked;
 mod blocking;
 mod by_operand;
 mod deliveries;
@@ -13,6 +14,7 @@ mod rights;
 mod rows;
 mod verdicts;
 
+pub use asked::Asked;
 use log::Log;
 pub use machine::Machine;
 pub use opening::{general_opening, installed};

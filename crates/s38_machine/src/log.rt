@@ -1,5 +1,7 @@
 ghost use Rattle.std.specs.Prelude.{◌≡◌, ◌++◌, ◌∷◌, ◌+◌, ◌<◌, ◌≤◌, ◌^◌, [], ℕ, IfOk, OnOk, length, slice_index, slice_set, vec_capacity, vec_len};
+ghost use Rattle.std.specs.Option.{option_copied};
 ghost use Rattle.s38_code.specs.History.{entry_after};
+ghost use Rattle.s38_machine.specs.Asking.{last_reply};
 
 use s38_base::NoMemory;
 use s38_code::{Entry, Event, Reply};
@@ -75,6 +77,17 @@ impl Log {
         ensures { result.now ≡ self.now.marks }
     {
         self.marks.as_slice()
+    }
+
+    /// The reply of the last entry.
+    #[tactic(auto, unfolding(crate::specs::Asking::last_reply))]
+    pub fn last_reply(&self) -> Option<&Reply>
+        ensures { option_copied result ≡ last_reply self.now.history }
+    {
+        match self.entries.last() {
+            None => None,
+            Some(entry) => Some(&entry.reply),
+        }
     }
 
     /// The entries and the marks.

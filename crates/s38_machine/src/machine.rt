@@ -1,4 +1,6 @@
-ghost use Rattle.std.specs.Prelude.{◌≡◌, ◌-◌, ◌<◌, ◌≤◌, ◌==◌, ◌^◌, not, IfOk, IsErrOf, OnErr, OnOk, length};
+ghost use Rattle.std.specs.Prelude.{◌≡◌, ◌-◌, ◌<◌, ◌≤◌, ◌==◌, ◌^◌, not, IfOk, IsErrOf, OnErr, OnOk, Some, length};
+ghost use Rattle.std.specs.Option.{option_copied};
+ghost use Rattle.s38_machine.specs.Asking.{last_reply, reply_by};
 ghost use Rattle.s38_rules.specs.declared.verdict.Verdict.{Verdict};
 ghost use Rattle.s38_rules.specs.Kept.{CanBeKept};
 ghost use Rattle.s38_rules.specs.Legal.{IsProcess, IsSound, after, after_by, begun, no_moment};
@@ -7,6 +9,7 @@ ghost use Rattle.s38_rules.specs.State.{ready, ready_list};
 ghost use Rattle.s38_rules.specs.Step.{by_verdict, step};
 ghost use Rattle.s38_rules.specs.Verdict.{awake_verdict, verdict_of};
 
+use crate::asked::Asked;
 use crate::effects::{apply, parted_values};
 use crate::log::Log;
 use crate::opening::opened;
@@ -122,72 +125,84 @@ impl Machine {
         verdict_of(&self.world, process, event)
     }
 
+    /// The reply that an event gets.
+    #[tactic(auto, unfolding(s38_rules::specs::Step::step))]
+    fn reply_to(&self, process: u32, event: &Event) -> Result<Reply, NoMemory>
+        ensures { IfOk result (λ r. r ≡ (step self.now.state process event.now).reply) }
+    {
+        if self.world.waits(process) {
+            return Ok(Reply::MustWait);
+        }
+        match awake_verdict(&self.world, process, event) {
+            Verdict::Permit => {
+                let (values, _value) = parted_values(self.alloc, &self.world, process, event)?;
+                Ok(Reply::Done(values))
+            }
+            Verdict::Wait => Ok(Reply::MustWait),
+            Verdict::Refuse(exception) => Ok(Reply::Signal(exception)),
+        }
+    }
+
+    /// The reply of the last entry of the history.
+    pub fn last_reply(&self) -> Option<&Reply>
+        ensures { option_copied result ≡ last_reply self.now.history }
+    {
+        self.log.last_reply()
+    }
+
     /// A permitted event takes effect and is entered.
-    fn permit(&mut self, process: u32, event: &Event) -> Result<Reply, NoMemory>
+    fn permit(&mut self, process: u32, event: Event) -> Result<(), NoMemory>
         requires first { 0 < process }
         requires last { process ≤ length self.old.state.processes }
-        requires permit { awake_verdict self.old.state process event.now ≡ Verdict.Permit }
-        ensures ok { IfOk result (λ r. (r ≡ (by_verdict self.old.state process event.now Verdict.Permit).reply)
-            × (self.new ≡ after_by self.old no_moment process event.now (by_verdict self.old.state process event.now Verdict.Permit))) }
+        requires permit { awake_verdict self.old.state process event ≡ Verdict.Permit }
+        ensures ok { OnOk result (self.new ≡ after_by self.old no_moment process event (by_verdict self.old.state process event Verdict.Permit)) }
         ensures err { OnErr result (self.new ≡ self.old) }
     {
-        let (values, value) = parted_values(self.alloc, &self.world, process, event)?;
-        let reply = Reply::Done(values);
-        let entered = reply.try_clone(self.alloc)?;
-        let asked = event.try_clone(self.alloc)?;
+        let (values, value) = parted_values(self.alloc, &self.world, process, &event)?;
         self.log.reserve()?;
-        match apply(self.alloc, &mut self.world, process, event, value) {
+        match apply(self.alloc, &mut self.world, process, &event, value) {
             Ok(()) => {}
             Err(fault) => return Err(fault),
         }
-        self.log.push(process, asked, entered, NO_MOMENT);
-        Ok(reply)
+        self.log
+            .push(process, event, Reply::Done(values), NO_MOMENT);
+        Ok(())
     }
 
     /// An event that is not permitted is entered with its reply.
-    fn refuse(
-        &mut self,
-        process: u32,
-        event: &Event,
-        exception: Exception,
-    ) -> Result<Reply, NoMemory>
+    fn refuse(&mut self, process: u32, event: Event, exception: Exception) -> Result<(), NoMemory>
         requires first { 0 < process }
         requires last { process ≤ length self.old.state.processes }
-        ensures ok { IfOk result (λ r. (r ≡ (by_verdict self.old.state process event.now (Verdict.Refuse exception)).reply)
-            × (self.new ≡ after_by self.old no_moment process event.now (by_verdict self.old.state process event.now (Verdict.Refuse exception)))) }
+        ensures ok { OnOk result (self.new ≡ after_by self.old no_moment process event (by_verdict self.old.state process event (Verdict.Refuse exception))) }
         ensures err { OnErr result (self.new ≡ self.old) }
     {
-        let asked = event.try_clone(self.alloc)?;
         self.log.reserve()?;
         self.log
-            .push(process, asked, Reply::Signal(exception), NO_MOMENT);
-        Ok(Reply::Signal(exception))
+            .push(process, event, Reply::Signal(exception), NO_MOMENT);
+        Ok(())
     }
 
     /// A process joins those that wait, and that is entered.
-    fn wait(&mut self, process: u32, event: &Event) -> Result<Reply, NoMemory>
+    fn wait(&mut self, process: u32, event: Event) -> Result<(), NoMemory>
         requires first { 0 < process }
         requires last { process ≤ length self.old.state.processes }
-        ensures ok { IfOk result (λ r. (r ≡ (by_verdict self.old.state process event.now Verdict.Wait).reply)
-            × (self.new ≡ after_by self.old no_moment process event.now (by_verdict self.old.state process event.now Verdict.Wait))) }
+        ensures ok { OnOk result (self.new ≡ after_by self.old no_moment process event (by_verdict self.old.state process event Verdict.Wait)) }
         ensures err { OnErr result (self.new ≡ self.old) }
     {
-        let asked = event.try_clone(self.alloc)?;
         self.log.reserve()?;
         match self.world.waiting.insert(0, process) {
             Ok(()) => {}
             Err(_) => return Err(NoMemory),
         }
-        self.log.push(process, asked, Reply::MustWait, NO_MOMENT);
-        Ok(Reply::MustWait)
+        self.log.push(process, event, Reply::MustWait, NO_MOMENT);
+        Ok(())
     }
 
-    fn answer(&mut self, process: u32, event: &Event, verdict: Verdict) -> Result<Reply, NoMemory>
+    fn answer(&mut self, process: u32, event: Event, verdict: Verdict) -> Result<(), NoMemory>
         requires first { 0 < process }
         requires last { process ≤ length self.old.state.processes }
-        requires verdict { awake_verdict self.old.state process event.now ≡ verdict }
-        ensures ok { IfOk result (λ r. (r ≡ (by_verdict self.old.state process event.now verdict).reply)
-            × (self.new ≡ after_by self.old no_moment process event.now (by_verdict self.old.state process event.now verdict))) }
+        requires verdict { awake_verdict self.old.state process event ≡ verdict }
+        ensures ok { OnOk result (self.new ≡ after_by self.old no_moment process event (by_verdict self.old.state process event verdict)) }
         ensures err { OnErr result (self.new ≡ self.old) }
     {
         match verdict {
@@ -197,23 +212,58 @@ impl Machine {
         }
     }
 
-    #[tactic(auto, unfolding(s38_rules::specs::Step::step, s38_rules::specs::Legal::after))]
+    #[tactic(auto, using(crate::proofs::AskingLaws::entered_by), unfolding(s38_rules::specs::Step::step, s38_rules::specs::Legal::after))]
+    fn ask_or(&mut self, process: u32, event: Event) -> Result<Asked, NoMemory>
+        requires first { 0 < process }
+        requires last { process ≤ length self.old.state.processes }
+        ensures ok { OnOk result (self.new ≡ after self.old no_moment process event) }
+        ensures reply { IfOk result (λ asked. reply_by asked self.new.history ≡ Some (step self.old.state process event).reply) }
+        ensures err { OnErr result (self.new ≡ self.old) }
+    {
+        if self.world.waits(process) {
+            return Ok(Asked::WaitsStill);
+        }
+        let verdict = awake_verdict(&self.world, process, &event);
+        match self.answer(process, event, verdict) {
+            Ok(()) => Ok(Asked::Entered),
+            Err(fault) => Err(fault),
+        }
+    }
+
+    /// Answers one event of a job's process, which goes into the history with its reply: it takes effect, is refused
+    /// by the first rule that fails, or waits. Only what a process asks that waits already is not entered. Memory is
+    /// taken before anything changes; where it is refused, machine and history are as they were. This machine never
+    /// stops.
+    pub fn ask(&mut self, process: u32, event: Event) -> Result<Asked, StepFault>
+        requires sound { IsSound self.old }
+        requires may { IsProcess self.old.origin process }
+        ensures ok { OnOk result (self.new ≡ after self.old no_moment process event) }
+        ensures reply { IfOk result (λ asked. reply_by asked self.new.history ≡ Some (step self.old.state process event).reply) }
+        ensures err { OnErr result (self.new ≡ self.old) }
+        ensures sound { IsSound self.new }
+        ensures going { IsErrOf result StepFault.Stopped → ⊥ }
+    {
+        match self.ask_or(process, event) {
+            Ok(asked) => Ok(asked),
+            Err(_) => Err(StepFault::NoMemory),
+        }
+    }
+
     fn step_or(&mut self, process: u32, event: &Event) -> Result<Reply, NoMemory>
         requires first { 0 < process }
         requires last { process ≤ length self.old.state.processes }
         ensures ok { IfOk result (λ r. (r ≡ (step self.old.state process event.now).reply) × (self.new ≡ after self.old no_moment process event.now)) }
         ensures err { OnErr result (self.new ≡ self.old) }
     {
-        if self.world.waits(process) {
-            return Ok(Reply::MustWait);
+        let own = event.try_clone(self.alloc)?;
+        let reply = self.reply_to(process, event)?;
+        match self.ask_or(process, own) {
+            Ok(_) => Ok(reply),
+            Err(fault) => Err(fault),
         }
-        let verdict = awake_verdict(&self.world, process, event);
-        self.answer(process, event, verdict)
     }
 
-    /// Answers one event of a job's process: it takes effect, is refused by the first rule that fails, or waits. The
-    /// answer is entered in the history, but that to a process which waits already. Memory is taken before
-    /// anything changes; where it is refused, machine and history are as they were. This machine never stops.
+    /// Answers one event of a job's process, as `ask` does, and gives a copy of its reply.
     pub fn step(&mut self, process: u32, event: &Event) -> Result<Reply, StepFault>
         requires sound { IsSound self.old }
         requires may { IsProcess self.old.origin process }

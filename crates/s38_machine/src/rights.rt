@@ -1,7 +1,7 @@
 //! The rule of authority: what an instruction claims of each object is there.
 ghost use Rattle.std.specs.Prelude.{◌≡◌, map};
 ghost use Rattle.s38_rules.specs.Needs.{first_of};
-ghost use Rattle.s38_rules.specs.Verdict.{carried_for, claim_rule, granting_rule, names_owners, rights_rule, subject};
+ghost use Rattle.s38_rules.specs.Verdict.{claim_rule, granting_rule, names_owners, rights_rule, subject};
 
 use s38_authority::{available, is_governed, missing};
 use s38_base::exceptions::OWNERSHIP_REQUIRED;
@@ -19,16 +19,6 @@ pub fn subject(objects: &Objects, operands: &[Operand], need: &Need) -> ObjNum
     match need.named {
         Named::Written => target(objects, operands, need.place as usize),
         Named::Implied(number) => number,
-    }
-}
-
-/// The rights that the used pointer carries; none where no operand names the object.
-fn carried_for(objects: &Objects, operands: &[Operand], need: &Need) -> Rights
-    ensures { result.0 ≡ carried_for objects.now operands.now need.now.place need.now.named }
-{
-    match need.named {
-        Named::Written => Pointer::carried(pointer_at(objects, operands, need.place as usize)),
-        Named::Implied(_) => Rights(0),
     }
 }
 
@@ -91,9 +81,19 @@ fn rights_rule(
 ) -> Option<Exception>
     ensures { result ≡ rights_rule world.now.held (map (λ u. u.0) users.now) operands.now need.now }
 {
-    let number = subject(&world.objects, operands, need);
-    let carried = carried_for(&world.objects, operands, need);
-    claim_rule(world, users, number, carried, need)
+    match need.named {
+        Named::Written => {
+            let pointer = pointer_at(&world.objects, operands, need.place as usize);
+            claim_rule(
+                world,
+                users,
+                Pointer::target(pointer),
+                Pointer::carried(pointer),
+                need,
+            )
+        }
+        Named::Implied(number) => claim_rule(world, users, number, Rights(0), need),
+    }
 }
 
 /// The first claim that the acting users don't meet.
@@ -105,11 +105,10 @@ pub fn first_unmet(
 ) -> Option<Exception>
     ensures { result ≡ first_of (rights_rule world.now.held (map (λ u. u.0) users.now) operands.now) needs.now }
 {
-    match needs {
-        [] => None,
-        [need, more @ ..] => match rights_rule(world, users, operands, need) {
-            None => first_unmet(world, users, operands, more),
-            Some(failure) => Some(failure),
-        },
+    for need in needs {
+        if let Some(failure) = rights_rule(world, users, operands, need) {
+            return Some(failure);
+        }
     }
+    None
 }

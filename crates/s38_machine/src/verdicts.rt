@@ -15,7 +15,7 @@ use s38_authority::lacks_special;
 use s38_base::exceptions::{ALL_WAIT, LOCK_NOT_GRANTABLE, NO_MESSAGE};
 use s38_base::{Exception, Op};
 use s38_code::{Event, Operand, Request};
-use s38_invoke::{World, start_failure};
+use s38_invoke::{Acting, World, start_failure};
 use s38_objects::Objects;
 use s38_operands::word_at;
 use s38_rules::{Need, ProcessEntry, Verdict};
@@ -32,7 +32,8 @@ fn authority_rules(
     ensures { result ≡ first (lacks_special world.now.held (acting world.now process depth) ((row request.now.op).special world.now process depth request.now))
         (rights_rules world.now process depth request.now.operands needs.now) }
 {
-    let users = world.acting(process, depth);
+    let mut users = Acting::nobody();
+    world.act(process, depth, &mut users);
     let special = rows::special(world, process, depth, request);
     if let Some(failure) = lacks_special(world, users.as_slice(), special) {
         return Some(failure);

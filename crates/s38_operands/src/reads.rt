@@ -15,6 +15,7 @@ use s38_objects::Objects;
 use std::alloc::Global;
 
 /// A pointer in a space stands in a cell.
+#[inline(never)]
 fn pointer_in(space: Option<&Tagged>, at: u64, attr: Attr) -> Option<Pointer>
     ensures { result ≡ pointer_in (unwrap_or (option_copied space.entry) []) at attr }
 {

@@ -64,6 +64,7 @@ fn piece(alloc: Global, space: &Tagged, at: u64, len: u16) -> Result<Bytes, NoMe
 }
 
 /// A piece of the bytes.
+#[inline(never)]
 pub fn bytes_there(
     alloc: Global,
     space: Option<&Tagged>,

@@ -1,4 +1,6 @@
 ghost use Rattle.std.specs.Prelude.{◌≡◌};
+ghost use Rattle.s38_code.specs.declared.event.Event.{Event};
+ghost use Rattle.s38_process.specs.Process.{is_finish};
 ghost use Rattle.s38_run.specs.Running.{outcome_by, outcome_of};
 
 use s38_code::{Event, Reply};
@@ -26,12 +28,20 @@ fn outcome_by(reply: &Reply) -> Outcome
     }
 }
 
-/// What an event and its reply are for those that are ready.
-pub fn outcome_of(event: &Event, reply: &Reply) -> Outcome
-    ensures { result ≡ outcome_of event.now reply.now }
+/// Whether an event is the end of its process.
+pub fn is_finish(event: &Event) -> bool
+    ensures { result ≡ is_finish event.now }
 {
-    match event {
-        Event::Finish { .. } => Outcome::Finished,
-        _ => outcome_by(reply),
+    matches!(event, Event::Finish { .. })
+}
+
+/// What an event and its reply are for those that are ready; `ends` says whether the event is an end.
+pub fn outcome_of(ends: bool, reply: &Reply) -> Outcome
+    ensures { (event : Event) → ends ≡ is_finish event → result ≡ outcome_of event reply.now }
+{
+    if ends {
+        Outcome::Finished
+    } else {
+        outcome_by(reply)
     }
 }

@@ -1,16 +1,50 @@
-ghost use Rattle.std.specs.Prelude.{◌≡◌, ◌≢◌, IfOk};
+ghost use Rattle.std.specs.Prelude.{◌≡◌, ◌≢◌, IfOk, Some, is_some, true};
+ghost use Rattle.s38_code.specs.declared.event.Event.{Event};
+ghost use Rattle.s38_code.specs.declared.reply.Reply.{Reply};
+ghost use Rattle.s38_machine.specs.Asking.{reply_by};
+ghost use Rattle.s38_process.specs.Process.{absorbed, is_finish};
 ghost use Rattle.s38_process.specs.declared.status.Status.{Status};
 ghost use Rattle.s38_rules.specs.Legal.{IsSound, IsProcess};
-ghost use Rattle.s38_run.specs.Running.{TookTurn, Turned, WentInPlace, doing};
+ghost use Rattle.s38_run.specs.Running.{TookTurn, Turned, WentInPlace, doing, outcome_of};
 ghost use Rattle.s38_run.specs.declared.job_state.JobState.{JobState};
 
 use crate::job_state::{JobState, begin};
-use crate::outcome::{Outcome, outcome_of};
+use crate::outcome::{Outcome, is_finish, outcome_of};
 use s38_base::NoMemory;
-use s38_code::{CreateResult, Job};
-use s38_machine::Machine;
+use s38_code::{CreateResult, Job, Reply};
+use s38_machine::{Asked, Machine};
 use s38_process::{Next, Process};
 use std::alloc::Global;
+
+/// A process goes on by a reply; `ends` says whether it asked for its end.
+fn absorb(process: &mut Process, reply: &Reply, ends: bool) -> Result<Outcome, NoMemory>
+    ensures { IfOk result (λ outcome. (process.new ≡ absorbed process.old reply.now) × ((event : Event) → ends ≡ is_finish event → outcome ≡ outcome_of event reply.now)) }
+{
+    match process.absorb(reply) {
+        Err(fault) => Err(fault),
+        Ok(()) => Ok(outcome_of(ends, reply)),
+    }
+}
+
+/// A process goes on by the reply to what it has just asked.
+fn absorb_asked(
+    machine: &Machine,
+    process: &mut Process,
+    asked: Asked,
+    ends: bool,
+) -> Result<Outcome, NoMemory>
+    requires { is_some (reply_by asked machine.now.history) ≡ true }
+    ensures { IfOk result (λ outcome. (reply : Reply) → reply_by asked machine.now.history ≡ Some reply
+        → (process.new ≡ absorbed process.old reply) × ((event : Event) → ends ≡ is_finish event → outcome ≡ outcome_of event reply)) }
+{
+    match asked {
+        Asked::WaitsStill => absorb(process, &Reply::MustWait, ends),
+        Asked::Entered => match machine.last_reply() {
+            None => unreachable!(),
+            Some(reply) => absorb(process, reply, ends),
+        },
+    }
+}
 
 /// One event of a process that has not ended is asked and answered.
 #[tactic(auto, using(crate::proofs::Asking::none_asked))]
@@ -23,13 +57,13 @@ fn turn(machine: &mut Machine, process: &mut Process, number: u32) -> Result<Out
     match process.next() {
         Err(fault) => Err(fault),
         Ok(Next::Ended) => unreachable!(),
-        Ok(Next::Step(event)) => match machine.step(number, &event) {
-            Err(_) => Err(NoMemory),
-            Ok(reply) => match process.absorb(&reply) {
-                Err(fault) => Err(fault),
-                Ok(()) => Ok(outcome_of(&event, &reply)),
-            },
-        },
+        Ok(Next::Step(event)) => {
+            let ends = is_finish(&event);
+            match machine.ask(number, event) {
+                Err(_) => Err(NoMemory),
+                Ok(asked) => absorb_asked(machine, process, asked, ends),
+            }
+        }
     }
 }
 
