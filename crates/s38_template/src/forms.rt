@@ -1,9 +1,10 @@
-ghost use Rattle.std.specs.Prelude.{◌≡◌, IfOk};
+ghost use Rattle.std.specs.Prelude.{◌≡◌, IfOk, IsTrue, Some};
 ghost use Rattle.std.specs.Option.{option_map};
 ghost use Rattle.s38_words.specs.DeclarationLine.{declaration_of};
 ghost use Rattle.s38_words.specs.Views.{act_in};
 ghost use Rattle.s38_words.specs.ProgramLine.{head_of};
 ghost use Rattle.s38_template.specs.Lines.{begun_by, are_formed, are_operands, declare, end_line, is_act, is_instruction, line_of, rest_said, said_by, stage_line};
+ghost use Rattle.s38_template.specs.declared.said.Line.{Line};
 
 use crate::job_line::job_in;
 use crate::said::{JobLine, Line};
@@ -47,6 +48,25 @@ fn is_instruction(line: &[u8]) -> bool
         None => false,
         Some(act) => is_act(act),
     }
+}
+
+/// Whether a line is an instruction. Where it is, it says no more than that: most lines of a deck are looked at no
+/// further.
+#[tactic(auto, unfolding(crate::specs::Lines::line_of, crate::specs::Lines::said_by))]
+pub fn says_act(line: &[u8]) -> bool
+    ensures { IsTrue result → line_of line.now ≡ Some Line.Act }
+{
+    let word = before(b' ', line);
+    if is_word(b"JOB", word)
+        || is_word(b"PROGRAM", word)
+        || is_word(b"DCL", word)
+        || is_word(b"LABEL", word)
+        || is_word(b"END", line)
+        || is_word(b"STAGE", line)
+    {
+        return false;
+    }
+    is_instruction(line)
 }
 
 fn rest_said(line: &[u8]) -> Option<Line>
