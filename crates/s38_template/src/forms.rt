@@ -10,8 +10,8 @@ use crate::job_line::job_in;
 use crate::said::{JobLine, Line};
 use s38_base::NoMemory;
 use s38_words::{
-    InstructionLine, before, declaration, has_form, instruction, is_in_range, is_word, label,
-    program_head, rounds_right,
+    InstructionLine, before, declaration, has_form, instruction, is_declaration, is_in_range,
+    is_word, label, program_head, rounds_right,
 };
 use std::alloc::Global;
 
@@ -50,23 +50,13 @@ fn is_instruction(line: &[u8]) -> bool
     }
 }
 
-/// Whether a line is an instruction. Where it is, it says no more than that: most lines of a deck are looked at no
-/// further.
-#[tactic(auto, unfolding(crate::specs::Lines::line_of, crate::specs::Lines::said_by))]
+/// Whether a line is an instruction, which then says no more than that; declarations are told apart by their first
+/// word, so that it isn't sought among the mnemonics.
+#[tactic(auto, using(crate::proofs::Acts::act_said))]
 pub fn says_act(line: &[u8]) -> bool
     ensures { IsTrue result → line_of line.now ≡ Some Line.Act }
 {
-    let word = before(b' ', line);
-    if is_word(b"JOB", word)
-        || is_word(b"PROGRAM", word)
-        || is_word(b"DCL", word)
-        || is_word(b"LABEL", word)
-        || is_word(b"END", line)
-        || is_word(b"STAGE", line)
-    {
-        return false;
-    }
-    is_instruction(line)
+    !is_declaration(line) && is_instruction(line)
 }
 
 fn rest_said(line: &[u8]) -> Option<Line>
