@@ -11,7 +11,7 @@ use crate::forms::{
     parsed_power, parsed_size,
 };
 use crate::parsed::ParsedOperand;
-use crate::said::{Said, add, add_given, add_item};
+use crate::said::Said;
 use crate::scope::Scope;
 use s38_base::{Name, NoMemory};
 use s38_code::{Arg, Class, Constant, Keyword};
@@ -25,7 +25,7 @@ use std::alloc::Global;
 fn say_name(scope: &Scope, name: &Name, said: &mut Said) -> Result<bool, NoMemory>
     ensures { IfOk result (λ found. where_found found said.new ≡ Some (with_operand said.old (parsed_as.Item (place_in scope.now.table name.now)))) }
 {
-    add_item(said, scope.table.place(name))?;
+    said.add_item(scope.table.place(name))?;
     Ok(true)
 }
 
@@ -45,7 +45,7 @@ fn say_given(arg: Option<Arg>, said: &mut Said) -> Result<bool, NoMemory>
 {
     match arg {
         Some(arg) => {
-            add_given(said, arg)?;
+            said.add_given(arg)?;
             Ok(true)
         }
         None => Ok(false),
@@ -151,7 +151,7 @@ fn say_constant(
 {
     match parsed_constant(alloc, scope, constant, word)? {
         Some(operand) => {
-            add(said, operand)?;
+            said.add(operand)?;
             Ok(true)
         }
         None => Ok(false),
@@ -192,7 +192,7 @@ fn say_keyword(keyword: Keyword, word: &[u8], said: &mut Said) -> Result<bool, N
 {
     match keyword_number(keyword, word) {
         Some(number) => {
-            add_given(said, Arg::Word(number))?;
+            said.add_given(Arg::Word(number))?;
             Ok(true)
         }
         None => Ok(false),

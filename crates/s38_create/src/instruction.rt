@@ -42,13 +42,10 @@ fn checked(
 ) -> Result<Instruction, CreateFault>
     ensures { result ≡ checked_said scope.now.table number op round said }
 {
-    let Said {
-        args,
-        are_declared,
-        are_placed,
-    } = said;
-    let instruction = Instruction { op, round, args };
-    match cause(scope.table.rows(), &instruction, are_declared, are_placed) {
+    let declared = said.are_declared();
+    let placed = said.are_placed();
+    let instruction = said.instruction(op, round);
+    match cause(scope.table.rows(), &instruction, declared, placed) {
         Some(id) => Err(CreateFault::Bad { id, number }),
         None => Ok(instruction),
     }

@@ -5,7 +5,7 @@ ghost use Rattle.s38_create.specs.Said.{said_from, said_of};
 ghost use Rattle.s38_odt.specs.Suits.{is_argument};
 
 use crate::by_class::say;
-use crate::said::{Said, nothing_said};
+use crate::said::Said;
 use crate::scope::Scope;
 use s38_base::NoMemory;
 use s38_code::Class;
@@ -29,7 +29,7 @@ pub fn said_operands(
 ) -> Result<Option<Said>, NoMemory>
     ensures { IfOk result (λ said. said ≡ option_map said_of (parsed_from scope.now.table scope.now.code [] classes.now (option_map (λ t. t.now) text.entry))) }
 {
-    let mut said = nothing_said(alloc, classes.len())?;
+    let mut said = Said::nothing(alloc, classes.len())?;
     let mut rest = text;
     for class in classes {
         let Some(text) = rest else {
