@@ -3,3 +3,4 @@ pub mod NumberLemmas
 pub mod ParsedLemmas
 pub mod Parts
 pub mod RefusalLemmas
+pub mod SaidLemmas

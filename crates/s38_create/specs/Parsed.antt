@@ -1,5 +1,5 @@
 -- What a word says at an operand's place, by the class that stands there.
-use Rattle.std.specs.Prelude.{ℕ, ℤ, pos, min, Bool, true, false, List, [], ◌∷◌, ◌++◌, codes, unsigned_abs, nat_le, is_some, Option, Some, None, if◌then◌else◌}
+use Rattle.std.specs.Prelude.{ℕ, ℤ, pos, min, Bool, true, List, [], ◌∷◌, ◌++◌, codes, unsigned_abs, nat_le, is_some, Option, Some, None, if◌then◌else◌}
 use Rattle.std.specs.Option.{option_map, option_and_then, option_or}
 use Rattle.s38_words.specs.Attribute.{attr_of, attrs_of}
 use Rattle.s38_words.specs.Literal.{number_literal, text_literal}

@@ -1,98 +1,24 @@
 ghost use Rattle.std.specs.Prelude.{◌≡◌, unsigned_abs, nat_le, pos, if◌then◌else◌, IfOk};
 ghost use Rattle.s38_words.specs.Name.{code_of};
-ghost use Rattle.s38_create.specs.Parsed.{parsed_attribute, parsed_attributes, parsed_bytes, given, parsed_id, parsed_item, parsed_label, parsed_name, parsed_number, power_of, parsed_power, parsed_size, parsed_star, parsed_word};
+ghost use Rattle.s38_create.specs.Parsed.{parsed_attribute, parsed_attributes, parsed_id, parsed_label, parsed_name, parsed_power, parsed_size, parsed_word, power_of};
 
 use crate::parsed::ParsedOperand;
 use crate::scope::Scope;
 use s38_base::{NoMemory, Seq};
 use s38_code::Arg;
 use s38_words::{
-    attribute, attributes, declared_name, exception_code, identification, is_word, natural,
-    number_literal, text_literal, whole,
+    attribute, attributes, declared_name, exception_code, identification, natural, whole,
 };
 use std::alloc::Global;
 
 /// A number above every range of a whole literal.
 const TOO_LARGE: u64 = 4_294_967_296;
 
-pub fn parsed_item(scope: &Scope, word: &[u8]) -> Option<ParsedOperand>
-    ensures { result ≡ parsed_item scope.now.table word.now }
-{
-    match declared_name(word) {
-        Some(name) => Some(ParsedOperand::Item(scope.table.place(&name))),
-        None => None,
-    }
-}
-
 pub fn parsed_label(scope: &Scope, word: &[u8]) -> Option<ParsedOperand>
     ensures { result ≡ parsed_label scope.now.code word.now }
 {
     match declared_name(word) {
         Some(name) => Some(ParsedOperand::Label(scope.code.place(&name))),
-        None => None,
-    }
-}
-
-fn given(arg: Option<Arg>) -> Option<ParsedOperand>
-    ensures { result ≡ given arg }
-{
-    match arg {
-        Some(arg) => Some(ParsedOperand::Given(arg)),
-        None => None,
-    }
-}
-
-pub fn parsed_number(
-    alloc: Global,
-    scope: &Scope,
-    word: &[u8],
-) -> Result<Option<ParsedOperand>, NoMemory>
-    ensures { IfOk result (λ operand. operand ≡ parsed_number scope.now.table word.now) }
-{
-    match parsed_item(scope, word) {
-        Some(operand) => Ok(Some(operand)),
-        None => Ok(given(number_literal(alloc, word)?)),
-    }
-}
-
-pub fn parsed_bytes(
-    alloc: Global,
-    scope: &Scope,
-    word: &[u8],
-) -> Result<Option<ParsedOperand>, NoMemory>
-    ensures { IfOk result (λ operand. operand ≡ parsed_bytes scope.now.table word.now) }
-{
-    match parsed_item(scope, word) {
-        Some(operand) => Ok(Some(operand)),
-        None => Ok(given(text_literal(alloc, word)?)),
-    }
-}
-
-/// A word with a star stands for this.
-pub fn parsed_star(star: &[u8], arg: Arg, word: &[u8]) -> Option<ParsedOperand>
-    ensures { result ≡ parsed_star star.now arg word.now }
-{
-    if is_word(star, word) {
-        Some(ParsedOperand::Given(arg))
-    } else {
-        None
-    }
-}
-
-pub fn parsed_word(number: Option<u32>) -> Option<ParsedOperand>
-    ensures { result ≡ parsed_word number }
-{
-    match number {
-        Some(number) => Some(ParsedOperand::Given(Arg::Word(number))),
-        None => None,
-    }
-}
-
-pub fn parsed_byte(number: Option<u8>) -> Option<ParsedOperand>
-    ensures { result ≡ parsed_word number }
-{
-    match number {
-        Some(number) => Some(ParsedOperand::Given(Arg::Word(u32::from(number)))),
         None => None,
     }
 }

@@ -14,6 +14,7 @@ mod items;
 mod operand_rules;
 mod operands;
 mod parsed;
+mod said;
 mod scope;
 mod shapes;
 mod suits;

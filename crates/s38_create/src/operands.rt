@@ -1,10 +1,11 @@
 ghost use Rattle.std.specs.Prelude.{◌≡◌, [], IfOk};
 ghost use Rattle.std.specs.Option.{option_map};
 ghost use Rattle.s38_create.specs.Parsed.{parsed_from};
+ghost use Rattle.s38_create.specs.Said.{said_from, said_of};
 ghost use Rattle.s38_odt.specs.Suits.{is_argument};
 
-use crate::by_class::parsed_operand;
-use crate::parsed::ParsedOperand;
+use crate::by_class::say;
+use crate::said::Said;
 use crate::scope::Scope;
 use s38_base::NoMemory;
 use s38_code::Class;
@@ -19,33 +20,33 @@ pub fn is_argument(class: Class) -> bool
 
 /// What the words of a text say, parted by commas, one for each class; arguments at the end may be left out.
 /// None where a word says nothing at its place, or their number is another.
-pub fn parsed_operands(
+#[tactic(auto, using(crate::proofs::SaidLemmas::said_from_map))]
+pub fn said_operands(
     alloc: Global,
     scope: &Scope,
     classes: &[Class],
     text: Option<&[u8]>,
-) -> Result<Option<Vec<ParsedOperand>>, NoMemory>
-    ensures { IfOk result (λ parsed. option_map (λ v. v.items) parsed ≡ parsed_from scope.now.table scope.now.code [] classes.now (option_map (λ t. t.now) text.entry)) }
+) -> Result<Option<Said>, NoMemory>
+    ensures { IfOk result (λ said. said ≡ option_map said_of (parsed_from scope.now.table scope.now.code [] classes.now (option_map (λ t. t.now) text.entry))) }
 {
-    let mut parsed = Vec::with_capacity(alloc, classes.len())?;
+    let mut said = Said::nothing(alloc, classes.len())?;
     let mut rest = text;
     for class in classes {
         let Some(text) = rest else {
             return if is_argument(*class) {
-                Ok(Some(parsed))
+                Ok(Some(said))
             } else {
                 Ok(None)
             };
         };
         let (word, more) = parted(b',', text);
-        let Some(operand) = parsed_operand(alloc, scope, *class, word)? else {
+        if !say(alloc, scope, *class, word, &mut said)? {
             return Ok(None);
-        };
-        parsed.push(operand)?;
+        }
         rest = more;
     }
     if rest.is_some() {
         return Ok(None);
     }
-    Ok(Some(parsed))
+    Ok(Some(said))
 }

@@ -1,3 +1,4 @@
+pub mod Acts
 pub mod Complete
 pub mod Ends
 pub mod LineForms

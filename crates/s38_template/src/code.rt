@@ -2,6 +2,7 @@ ghost use Rattle.std.specs.Prelude.{◌≡◌};
 ghost use Rattle.s38_template.specs.Grammar.{is_budget};
 ghost use Rattle.s38_template.specs.Reading.{first_code, has_room, has_template, is_in_range, is_new, is_small, may_stand, tests};
 ghost use Rattle.s38_template.specs.Views.{state_of};
+ghost use Rattle.s38_template.specs.declared.said.Line.{Line};
 
 use crate::place::Place;
 use crate::reader::Reader;
@@ -114,6 +115,21 @@ pub fn line_code(reader: &Reader, size: usize, line: &Line) -> Option<u8>
         Some(7)
     } else if !has_template(reader, line) {
         Some(8)
+    } else {
+        None
+    }
+}
+
+/// The least code of an instruction's line, where the deck has so many bytes up to its end.
+pub fn act_code(reader: &Reader, size: usize) -> Option<u8>
+    ensures { result ≡ first_code (tests (state_of reader.now) size Line.Act) }
+{
+    if !may_stand(reader.place, &Line::Act) {
+        Some(2)
+    } else if !is_small(size) {
+        Some(6)
+    } else if reader.acts >= MOST_INSTRUCTIONS {
+        Some(7)
     } else {
         None
     }

@@ -1,16 +1,17 @@
-ghost use Rattle.std.specs.Prelude.{◌≡◌, IfOk};
+ghost use Rattle.std.specs.Prelude.{◌≡◌, IfOk, IsTrue, Some};
 ghost use Rattle.std.specs.Option.{option_map};
 ghost use Rattle.s38_words.specs.DeclarationLine.{declaration_of};
 ghost use Rattle.s38_words.specs.Views.{act_in};
 ghost use Rattle.s38_words.specs.ProgramLine.{head_of};
 ghost use Rattle.s38_template.specs.Lines.{begun_by, are_formed, are_operands, declare, end_line, is_act, is_instruction, line_of, rest_said, said_by, stage_line};
+ghost use Rattle.s38_template.specs.declared.said.Line.{Line};
 
 use crate::job_line::job_in;
 use crate::said::{JobLine, Line};
 use s38_base::NoMemory;
 use s38_words::{
-    InstructionLine, before, declaration, has_form, instruction, is_in_range, is_word, label,
-    program_head, rounds_right,
+    InstructionLine, before, declaration, has_form, instruction, is_declaration, is_in_range,
+    is_word, label, program_head, rounds_right,
 };
 use std::alloc::Global;
 
@@ -47,6 +48,15 @@ fn is_instruction(line: &[u8]) -> bool
         None => false,
         Some(act) => is_act(act),
     }
+}
+
+/// Whether a line is an instruction, which then says no more than that; declarations are told apart by their first
+/// word, so that it isn't sought among the mnemonics.
+#[tactic(auto, using(crate::proofs::Acts::act_said))]
+pub fn says_act(line: &[u8]) -> bool
+    ensures { IsTrue result → line_of line.now ≡ Some Line.Act }
+{
+    !is_declaration(line) && is_instruction(line)
 }
 
 fn rest_said(line: &[u8]) -> Option<Line>

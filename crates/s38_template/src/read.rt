@@ -1,25 +1,45 @@
-ghost use Rattle.std.specs.Prelude.{◌≡◌, ◌⊎◌, ℕ, List, Ok, Err, IfOk, IfErr, None};
+ghost use Rattle.std.specs.Prelude.{◌≡◌, ◌⊎◌, ℕ, List, Ok, Err, IfOk, IfErr, Some, None};
 ghost use Rattle.s38_code.specs.declared.deck.Deck.{Deck};
 ghost use Rattle.s38_template.specs.Grammar.{Spells};
 ghost use Rattle.s38_template.specs.Lines.{line_of};
 ghost use Rattle.s38_template.specs.Reading.{Answers, after_line, code_of, end_at, read_of, rest_at, said_code, taken_if};
 ghost use Rattle.s38_template.specs.Views.{state_of};
+ghost use Rattle.s38_template.specs.declared.said.Line.{Line};
 
-use crate::code::{is_small, line_code};
+use crate::code::{act_code, is_small, line_code};
 use crate::cut::cut;
 use crate::fault::DeckFault;
-use crate::forms::line_of;
+use crate::forms::{line_of, says_act};
 use crate::line::{is_kept, is_plain};
 use crate::place::Place;
 use crate::reader::Reader;
-use crate::step::{start, take};
+use crate::step::{act, start, take};
 use s38_base::NoMemory;
 use s38_code::Deck;
 use std::alloc::Global;
 
-/// A line that says something, where the deck has so many bytes up to its end: it is taken, or its code tells
-/// what is bad.
-fn keep(
+/// An instruction's line, where the deck has so many bytes up to its end: it is taken, or its code tells what is
+/// bad.
+fn keep_act(
+    alloc: Global,
+    reader: &mut Reader,
+    size: usize,
+    line: &[u8],
+) -> Result<Option<u8>, NoMemory>
+    ensures code { IfOk result (λ code. code ≡ said_code (state_of reader.old) size (Some Line.Act)) }
+    ensures after { IfOk result (λ code. code ≡ None → state_of reader.new ≡ taken_if (state_of reader.old) line.now (Some Line.Act)) }
+{
+    let code = act_code(reader, size);
+    if code.is_some() {
+        return Ok(code);
+    }
+    act(alloc, reader, line)?;
+    Ok(None)
+}
+
+/// The same for any line.
+#[inline(never)]
+fn keep_other(
     alloc: Global,
     reader: &mut Reader,
     size: usize,
@@ -37,6 +57,24 @@ fn keep(
     }
     take(alloc, reader, line, said)?;
     Ok(None)
+}
+
+/// A line that says something, where the deck has so many bytes up to its end: it is taken, or its code tells
+/// what is bad.
+fn keep(
+    alloc: Global,
+    reader: &mut Reader,
+    size: usize,
+    line: &[u8],
+) -> Result<Option<u8>, NoMemory>
+    ensures code { IfOk result (λ code. code ≡ said_code (state_of reader.old) size (line_of line.now)) }
+    ensures after { IfOk result (λ code. code ≡ None → state_of reader.new ≡ taken_if (state_of reader.old) line.now (line_of line.now)) }
+{
+    if says_act(line) {
+        keep_act(alloc, reader, size, line)
+    } else {
+        keep_other(alloc, reader, size, line)
+    }
 }
 
 /// Any line, without its line feed: it is taken, or its code tells what is bad.
