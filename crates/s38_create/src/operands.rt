@@ -12,6 +12,9 @@ use s38_code::Class;
 use s38_words::parted;
 use std::alloc::Global;
 
+/// For how many operands memory is taken at first where some may be left out.
+const FEW_ARGUMENTS: usize = 2;
+
 pub fn is_argument(class: Class) -> bool
     ensures { result ≡ is_argument class }
 {
@@ -29,7 +32,11 @@ pub fn said_operands(
 ) -> Result<Option<Said>, NoMemory>
     ensures { IfOk result (λ said. said ≡ option_map said_of (parsed_from scope.now.table scope.now.code [] classes.now (option_map (λ t. t.now) text.entry))) }
 {
-    let mut said = Said::nothing(alloc, classes.len())?;
+    let room = match classes.last() {
+        Some(Class::Argument) => FEW_ARGUMENTS,
+        _ => classes.len(),
+    };
+    let mut said = Said::nothing(alloc, room)?;
     let mut rest = text;
     for class in classes {
         let Some(text) = rest else {
