@@ -4,4 +4,5 @@ mod NumberLaws
 mod PlaceLaws
 mod ReceivedLaws
 pub mod ShapeLaws
+mod SpaceLaws
 pub mod StandLaws

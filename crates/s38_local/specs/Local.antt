@@ -116,6 +116,10 @@ abbrev pub lies_in_space : List Row → Arg → Bool
 lies_in_space rows (args.Item i) = is_based (form_in (slice_get rows i))
 lies_in_space rows _ = false
 
+-- whether some item is declared to lie in a space; where none is, no operand lies in one
+abbrev pub declares_space : List Row → Bool
+declares_space rows = list_any (λ row. is_based (Some row.form)) rows
+
 -- a local instruction has no operand in a space; with one it is asked of the machine
 unfoldable pub is_local : List Row → Instruction → Bool
 is_local rows i = is_local_op i.op && not (list_any (lies_in_space rows) i.args)

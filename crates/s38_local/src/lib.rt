@@ -18,7 +18,7 @@ pub use control::return_from;
 pub use dispatch::run_local;
 pub use frame::Frame;
 pub use local_end::LocalEnd;
-pub use locality::is_local;
+pub use locality::{declares_space, is_local, is_local_by};
 pub use operands::{place_of, value_at};
 
 /// What is sent between threads.

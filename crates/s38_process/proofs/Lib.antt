@@ -7,4 +7,5 @@ mod OfferLaws
 mod OperandLaws
 mod ParameterLaws
 mod PlaceLaws
+mod ReceiptLaws
 mod SettleLaws

@@ -38,6 +38,11 @@ received op rows homes (class ∷ more) (arg ∷ rest) (v ∷ vs) values =
     else received op rows homes more rest (v ∷ vs) values
 received op rows homes _ _ vs values = values
 
+-- where the value of a reply goes that brings one: to the first receiver
+abbrev pub place_for : List Row → List ℕ → List Class → List Arg → Option ℕ
+place_for rows homes (class ∷ more) (arg ∷ rest) = if takes_value rows class arg then place_of homes (Some arg) else place_for rows homes more rest
+place_for rows homes _ _ = None
+
 -- a comparison that was asked tells whether it branches
 abbrev pub is_taken : List Val → Bool
 is_taken (vals.Branch taken ∷ vs) = taken

@@ -31,13 +31,13 @@ fn operation(invocations: &Invocations) -> Op
     }
 }
 
-fn call(alloc: Global, invocations: &mut Invocations, given: Vec<Val>) -> Result<(), NoMemory>
+fn call(alloc: Global, invocations: &mut Invocations, given: &[Val]) -> Result<(), NoMemory>
     requires { invocations.old.top.frame.at < length (code_in invocations.old.top.made) }
     ensures ok { (i : Instruction) → instruction_of invocations.old.top ≡ Some i
-        → OnOk result (invocations.new ≡ went_into invocations.old given.items i Op.Callx (program_in given.items)) }
+        → OnOk result (invocations.new ≡ went_into invocations.old given.now i Op.Callx (program_in given.now)) }
     ensures err { OnErr result (invocations.new ≡ invocations.old) }
 {
-    match program_in(given.as_slice()) {
+    match program_in(given) {
         Some(code) => {
             if invocations.depth() < DEEPEST {
                 return match code.try_clone(alloc) {
@@ -48,17 +48,16 @@ fn call(alloc: Global, invocations: &mut Invocations, given: Vec<Val>) -> Result
         }
         None => {}
     }
-    invocations.receive(given);
-    Ok(())
+    invocations.receive(alloc, given)
 }
 
-fn transfer(alloc: Global, invocations: &mut Invocations, given: Vec<Val>) -> Result<(), NoMemory>
+fn transfer(alloc: Global, invocations: &mut Invocations, given: &[Val]) -> Result<(), NoMemory>
     requires { invocations.old.top.frame.at < length (code_in invocations.old.top.made) }
     ensures ok { (i : Instruction) → instruction_of invocations.old.top ≡ Some i
-        → OnOk result (invocations.new ≡ went_into invocations.old given.items i Op.Xctl (program_in given.items)) }
+        → OnOk result (invocations.new ≡ went_into invocations.old given.now i Op.Xctl (program_in given.now)) }
     ensures err { OnErr result (invocations.new ≡ invocations.old) }
 {
-    match program_in(given.as_slice()) {
+    match program_in(given) {
         Some(code) => {
             return match code.try_clone(alloc) {
                 Ok(code) => invocations.transfer(alloc, code),
@@ -67,26 +66,18 @@ fn transfer(alloc: Global, invocations: &mut Invocations, given: Vec<Val>) -> Re
         }
         None => {}
     }
-    invocations.receive(given);
-    Ok(())
+    invocations.receive(alloc, given)
 }
 
 /// Goes into a program that came, or on behind the instruction with the values that came. An error changes nothing.
-pub fn go_into(
-    alloc: Global,
-    invocations: &mut Invocations,
-    given: Vec<Val>,
-) -> Result<(), NoMemory>
+pub fn go_into(alloc: Global, invocations: &mut Invocations, given: &[Val]) -> Result<(), NoMemory>
     requires { invocations.old.top.frame.at < length (code_in invocations.old.top.made) }
-    ensures ok { OnOk result (invocations.new ≡ went_by invocations.old (instruction_of invocations.old.top) given.items) }
+    ensures ok { OnOk result (invocations.new ≡ went_by invocations.old (instruction_of invocations.old.top) given.now) }
     ensures err { OnErr result (invocations.new ≡ invocations.old) }
 {
     match operation(invocations) {
         Op::Callx => call(alloc, invocations, given),
         Op::Xctl => transfer(alloc, invocations, given),
-        _ => {
-            invocations.receive(given);
-            Ok(())
-        }
+        _ => invocations.receive(alloc, given),
     }
 }

@@ -1,22 +1,20 @@
 //! The invocations of a process, and the variables of all of them.
-ghost use Rattle.std.specs.Prelude.{◌≡◌, ◌<◌, ◌+◌, ◌^◌, ◌&&◌, IfOk, IfSome, IsNone, IsSome, IsTrue, OnErr, OnOk, drop, is_some, length, not, slice_get};
-ghost use Rattle.s38_local.specs.Frames.{returned};
+ghost use Rattle.std.specs.Prelude.{◌≡◌, ◌<◌, ◌+◌, ◌^◌, IfOk, IfSome, IsNone, IsTrue, OnErr, OnOk, drop, is_some, length, not};
 ghost use Rattle.std.specs.Option.{option_copied};
 ghost use Rattle.s38_local.specs.declared.local_end.LocalEnd.{LocalEnd};
 ghost use Rattle.s38_process.specs.Exceptions.{takes};
-ghost use Rattle.s38_local.specs.Local.{run};
 ghost use Rattle.s38_process.specs.Invocations.{argument_places, arguments_in, code_in, deepest, depth_of, entered, exchanged, first_stack, first_values, instruction_of, invoked, places_for, popped, rows_in};
-ghost use Rattle.s38_process.specs.Process.{alone_there, is_local_there, is_none, is_return, ran, returns_there, went_on, with_frame};
+ghost use Rattle.s38_process.specs.Process.{alone_there, is_none, ran, went_on, with_frame};
 ghost use Rattle.s38_process.specs.Requests.{request_of};
 
 use crate::homes::{argument_places, first_frame, own_places};
-use crate::invocation::Invocation;
 use crate::made::{code_of, rows_of};
 use crate::request::request_of;
+use crate::standing::Standing;
 use crate::variables::{blank_values, first_values, next_instruction, receive};
-use s38_base::{NoMemory, Op, Pile};
-use s38_code::{Arg, Code, CreateResult, Instruction, Request, Val, classes};
-use s38_local::{Frame, LocalEnd, is_local, return_from, run_local};
+use s38_base::NoMemory;
+use s38_code::{Arg, Code, CreateResult, Instruction, Request, Val};
+use s38_local::{Frame, LocalEnd};
 use std::alloc::Global;
 use std::marker::Model;
 use std::mem;
@@ -28,9 +26,9 @@ pub const DEEPEST: usize = 64;
 #[derive(Drop)]
 pub struct Invocations {
     values: Vec<Val>,
-    top: Invocation,
+    top: Standing,
     /// Those that called it, the oldest first.
-    callers: Vec<Invocation>,
+    callers: Vec<Standing>,
 }
 
 impl Model for Invocations {
@@ -47,7 +45,7 @@ impl Model for Invocations {
 /// A program that is to begin, and what its variables begin with.
 #[derive(Drop)]
 struct Entrant {
-    invocation: Invocation,
+    invocation: Standing,
     values: Vec<Val>,
 }
 
@@ -67,10 +65,7 @@ fn prepared(
     let places = argument_places(alloc, homes, base, arguments)?;
     let frame = first_frame(alloc, rows, base, places.as_slice())?;
     Ok(Entrant {
-        invocation: Invocation {
-            made: CreateResult::Created(code),
-            frame,
-        },
+        invocation: Standing::new(CreateResult::Created(code), frame),
         values,
     })
 }
@@ -96,12 +91,12 @@ fn arguments_in(instruction: Option<&Instruction>) -> &[Arg]
 }
 
 /// The place behind the next instruction.
-fn behind_next(top: &Invocation) -> usize
+fn behind_next(top: &Standing) -> usize
     requires { top.now.frame.at < length (code_in top.now.made) }
     ensures { result ≡ top.now.frame.at + 1 }
 {
-    let at = top.frame.at;
-    let _ = &code_of(&top.made)[at];
+    let at = top.frame().at;
+    let _ = &code_of(top.made())[at];
     at + 1
 }
 
@@ -118,7 +113,7 @@ impl Invocations {
         values.append(&mut own)?;
         Ok(Invocations {
             values,
-            top: Invocation { made, frame },
+            top: Standing::new(made, frame),
             callers: Vec::new(alloc),
         })
     }
@@ -142,21 +137,21 @@ impl Invocations {
     pub fn made(&self) -> &CreateResult
         ensures { result.now ≡ self.now.top.made }
     {
-        &self.top.made
+        self.top.made()
     }
 
     /// Where the newest invocation stands.
     pub fn frame(&self) -> &Frame
         ensures { result.now ≡ self.now.top.frame }
     {
-        &self.top.frame
+        self.top.frame()
     }
 
     /// The instruction that comes next.
     pub fn instruction(&self) -> Option<&Instruction>
         ensures { option_copied result ≡ instruction_of self.now.top }
     {
-        code_of(&self.top.made).get(self.top.frame.at)
+        code_of(self.top.made()).get(self.top.frame().at)
     }
 
     /// What an instruction of the newest invocation asks.
@@ -165,8 +160,8 @@ impl Invocations {
     {
         request_of(
             alloc,
-            rows_of(&self.top.made),
-            self.top.frame.homes.as_slice(),
+            rows_of(self.top.made()),
+            self.top.frame().homes.as_slice(),
             self.values.as_slice(),
             instruction,
         )
@@ -176,16 +171,14 @@ impl Invocations {
     pub fn go_to(&mut self, at: usize)
         ensures { self.new ≡ record self.old { top = record self.old.top { frame = record self.old.top.frame { at = at } } } }
     {
-        self.top.frame.at = at;
+        self.top.go_to(at);
     }
 
     /// The newest invocation takes an exception: it goes on at a label, and its internal calls end.
     pub fn take(&mut self, alloc: Global, code: u16, at: usize)
         ensures { self.new ≡ record self.old { top = takes self.old.top code at } }
     {
-        self.top.frame.at = at;
-        self.top.frame.returns = Pile::new(alloc);
-        self.top.frame.latest = code;
+        self.top.take(alloc, code, at);
     }
 
     /// The newest invocation ends, and its variables with it; false where it is the first, which stays.
@@ -197,7 +190,7 @@ impl Invocations {
         match self.callers.pop() {
             None => false,
             Some(caller) => {
-                self.values.truncate(self.top.frame.base);
+                self.values.truncate(self.top.frame().base);
                 self.top = caller;
                 true
             }
@@ -209,7 +202,7 @@ impl Invocations {
         ensures invocation { IfOk result (λ e. e.invocation ≡ invoked code base (places_for self.now.top base)) }
         ensures values { IfOk result (λ e. e.values.items ≡ first_values code.rows) }
     {
-        let homes = self.top.frame.homes.as_slice();
+        let homes = self.top.frame().homes.as_slice();
         prepared(alloc, code, homes, base, arguments_in(self.instruction()))
     }
 
@@ -234,7 +227,7 @@ impl Invocations {
             Err(_) => return Err(NoMemory),
         }
         let mut caller = mem::replace(&mut self.top, entrant.invocation);
-        caller.frame.at = behind;
+        caller.go_to(behind);
         self.callers.push_reserved(caller);
         Ok(())
     }
@@ -244,7 +237,7 @@ impl Invocations {
         ensures ok { OnOk result (self.new ≡ exchanged self.old code) }
         ensures err { OnErr result (self.new ≡ self.old) }
     {
-        let base = self.top.frame.base;
+        let base = self.top.frame().base;
         let mut entrant = match self.prepared(alloc, code, base) {
             Ok(entrant) => entrant,
             Err(fault) => return Err(fault),
@@ -259,24 +252,30 @@ impl Invocations {
         Ok(())
     }
 
-    /// The newest invocation goes on with what came to its receivers.
-    pub fn receive(&mut self, given: Vec<Val>)
+    /// The newest invocation goes on with what came to its receivers. An error changes nothing.
+    pub fn receive(&mut self, alloc: Global, given: &[Val]) -> Result<(), NoMemory>
         requires within { self.old.top.frame.at < length (code_in self.old.top.made) }
-        ensures { self.new ≡ went_on self.old (instruction_of self.old.top) given.items }
+        ensures ok { OnOk result (self.new ≡ went_on self.old (instruction_of self.old.top) given.now) }
+        ensures err { OnErr result (self.new ≡ self.old) }
     {
-        let at = self.top.frame.at;
-        let instruction = &code_of(&self.top.made)[at];
-        let next = next_instruction(instruction, given.as_slice(), at);
-        receive(
-            instruction.op,
+        let at = self.top.frame().at;
+        let instruction = &code_of(self.top.made())[at];
+        let next = next_instruction(instruction, given, at);
+        let rows = rows_of(self.top.made());
+        match receive(
+            alloc,
+            instruction,
             &mut self.values,
-            rows_of(&self.top.made),
-            self.top.frame.homes.as_slice(),
-            classes(instruction.op),
-            instruction.args.as_slice(),
+            rows,
+            self.top.frame().homes.as_slice(),
             given,
-        );
-        self.top.frame.at = next;
+        ) {
+            Ok(()) => {
+                self.top.go_to(next);
+                Ok(())
+            }
+            Err(fault) => Err(fault),
+        }
     }
 
     /// Does the next instruction where the process does it by itself; the end of the code is a return. None where it
@@ -290,76 +289,7 @@ impl Invocations {
         ensures stays { IfOk result (λ end. IsNone end → self.new ≡ self.old) }
         ensures err { OnErr result (self.new ≡ self.old) }
     {
-        run_alone(
-            alloc,
-            self.is_first(),
-            &self.top.made,
-            &mut self.top.frame,
-            &mut self.values,
-        )
-    }
-}
-
-fn instruction_at(code: &[Instruction], at: usize) -> Option<&Instruction>
-    ensures there { option_copied result ≡ slice_get code.now at }
-    ensures place { IsSome result → at + 1 < 2 ^ 64 }
-{
-    if code.len() <= at {
-        return None;
-    }
-    Some(&code[at])
-}
-
-/// The end of the code is a return; that of the first invocation outside of internal calls is none of its own.
-fn return_alone(is_first: bool, frame: &mut Frame) -> Option<LocalEnd>
-    ensures alone { is_some result ≡ not (is_none frame.old.returns && is_first) }
-    ensures end { IfSome result (λ end. end ≡ (returned frame.old).end) }
-    ensures frame { IfSome result (λ _. frame.new ≡ (returned frame.old).frame) }
-    ensures leaves { IfSome result (λ end. end ≡ LocalEnd.Next → ⊥) }
-    ensures stays { IsNone result → frame.new ≡ frame.old }
-{
-    if frame.returns.len() == 0 && is_first {
-        return None;
-    }
-    Some(return_from(frame))
-}
-
-/// Whether an instruction ends the process: the first invocation returns, and is in no internal call.
-#[inline(always)]
-fn ends_by(is_first: bool, frame: &Frame, instruction: &Instruction) -> bool
-    ensures { result ≡ (is_return instruction.now.op && (is_none frame.now.returns && is_first)) }
-{
-    matches!(instruction.op, Op::Rtx) && frame.returns.len() == 0 && is_first
-}
-
-#[inline(always)]
-#[tactic(auto, unfolding(s38_local::specs::Local::run))]
-fn run_alone(
-    alloc: Global,
-    is_first: bool,
-    made: &CreateResult,
-    frame: &mut Frame,
-    values: &mut Vec<Val>,
-) -> Result<Option<LocalEnd>, NoMemory>
-    ensures alone { IfOk result (λ end. is_some end ≡ (is_local_there (rows_in made.now) (slice_get (code_in made.now) frame.old.at) && not (returns_there (slice_get (code_in made.now) frame.old.at) && (is_none frame.old.returns && is_first)))) }
-    ensures end { IfOk result (λ end. IfSome end (λ end. end ≡ (run (rows_in made.now) frame.old values.old.items (slice_get (code_in made.now) frame.old.at)).end)) }
-    ensures frame { IfOk result (λ end. IfSome end (λ _. frame.new ≡ (run (rows_in made.now) frame.old values.old.items (slice_get (code_in made.now) frame.old.at)).frame)) }
-    ensures values { IfOk result (λ end. IfSome end (λ _. values.new.items ≡ (run (rows_in made.now) frame.old values.old.items (slice_get (code_in made.now) frame.old.at)).values)) }
-    ensures place { IfOk result (λ end. IfSome end (λ end. end ≡ LocalEnd.Next → frame.old.at + 1 < 2 ^ 64)) }
-    ensures stays { IfOk result (λ end. IsNone end → (frame.new ≡ frame.old) × (values.new.items ≡ values.old.items)) }
-    ensures err { OnErr result ((frame.new ≡ frame.old) × (values.new.items ≡ values.old.items)) }
-{
-    match instruction_at(code_of(made), frame.at) {
-        None => Ok(return_alone(is_first, frame)),
-        Some(instruction) => {
-            let rows = rows_of(made);
-            if ends_by(is_first, frame, instruction) || !is_local(rows, instruction) {
-                return Ok(None);
-            }
-            match run_local(alloc, instruction, rows, frame, values.as_mut_slice()) {
-                Ok(end) => Ok(Some(end)),
-                Err(fault) => Err(fault),
-            }
-        }
+        let is_first = self.is_first();
+        self.top.run_alone(alloc, is_first, &mut self.values)
     }
 }

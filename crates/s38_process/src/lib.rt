@@ -13,6 +13,7 @@ mod next;
 mod process;
 mod progress;
 mod request;
+mod standing;
 mod status;
 mod unsettled;
 mod variables;

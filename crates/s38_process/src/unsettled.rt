@@ -1,5 +1,4 @@
 ghost use Rattle.std.specs.Prelude.{◌≡◌, ◌<◌, ◌+◌, IfOk, OnOk, OnErr, Some, length};
-ghost use Rattle.std.specs.Option.{option_copied};
 ghost use Rattle.s38_process.specs.Asked.{asked, is_acting};
 ghost use Rattle.s38_process.specs.declared.status.Status.{Status};
 ghost use Rattle.s38_process.specs.Invocations.{code_in, instruction_of};
@@ -13,7 +12,7 @@ use crate::made::begun_by;
 use crate::next::Next;
 use crate::progress::Progress;
 use crate::status::Status;
-use s38_base::{NoMemory, try_clones};
+use s38_base::NoMemory;
 use s38_code::{CreateResult, EndCause, Event, Instruction, Job, Reply, Val};
 use std::alloc::Global;
 use std::marker::Model;
@@ -154,10 +153,10 @@ impl Unsettled {
     }
 
     /// Goes on in a program that came, or behind the instruction with the values that came.
-    fn take_values(&mut self, given: Vec<Val>) -> Result<(), NoMemory>
+    fn take_values(&mut self, given: &[Val]) -> Result<(), NoMemory>
         requires room { self.old.done < self.old.budget }
         requires within { self.old.stack.top.frame.at < length (code_in self.old.stack.top.made) }
-        ensures ok { OnOk result (self.new ≡ one_more self.old (went_by self.old.stack (instruction_of self.old.stack.top) given.items)) }
+        ensures ok { OnOk result (self.new ≡ one_more self.old (went_by self.old.stack (instruction_of self.old.stack.top) given.now)) }
         ensures err { OnErr result (self.new ≡ self.old) }
     {
         match go_into(self.alloc, &mut self.invocations, given) {
@@ -189,10 +188,7 @@ impl Unsettled {
         ensures err { OnErr result (self.new ≡ self.old) }
     {
         match reply {
-            Reply::Done(values) => {
-                let given = try_clones(self.alloc, values.as_slice())?;
-                self.take_values(given.into_vec())
-            }
+            Reply::Done(values) => self.take_values(values.as_slice()),
             Reply::Signal(exception) => {
                 self.take_signal(exception.id);
                 Ok(())

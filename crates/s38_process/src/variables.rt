@@ -1,15 +1,16 @@
-ghost use Rattle.std.specs.Prelude.{◌≡◌, ◌<◌, ◌+◌, ◌^◌, ◌||◌, IfOk, IsTrue, Some, length, slice_get, slice_set};
+ghost use Rattle.std.specs.Prelude.{◌≡◌, ◌<◌, ◌+◌, ◌^◌, ◌||◌, ◌∷◌, [], IfOk, IsTrue, OnErr, OnOk, Some, length, slice_get, slice_set};
 ghost use Rattle.std.specs.Option.{option_copied};
+ghost use Rattle.s38_code.specs.Operations.{classes};
 ghost use Rattle.s38_code.specs.declared.class.Class.{Class};
 ghost use Rattle.s38_compute.specs.Computed.{copies_left, copies_right};
 ghost use Rattle.s38_process.specs.Invocations.{blank_bytes, blank_values, first_by, first_value, first_values};
 ghost use Rattle.s38_process.specs.Process.{next_instruction};
-ghost use Rattle.s38_process.specs.Replies.{is_taken, label_in, label_of, merged, merged_bytes, put, received, takes_value};
+ghost use Rattle.s38_process.specs.Replies.{is_taken, label_in, label_of, merged, merged_bytes, place_for, put, received, takes_value};
 ghost use Rattle.s38_process.specs.Requests.{is_receiver};
 ghost use Rattle.s38_local.specs.Variables.{form_in, is_based, value_bytes, value_of_item, value_pointer};
 
-use s38_base::{Attr, Bytes, NoMemory, Op, Pointer, Seq, TryClone};
-use s38_code::{Arg, Class, Form, Instruction, Row, Val};
+use s38_base::{Attr, Bytes, NoMemory, Op, Pointer, Seq, TryClone, try_clones};
+use s38_code::{Arg, Class, Form, Instruction, Row, Val, classes};
 use s38_compute::{copies_left, copies_right};
 use s38_local::{place_of, value_at};
 use s38_odt::blank;
@@ -184,8 +185,8 @@ fn put_at(op: Op, values: &mut [Val], at: usize, value: Val)
     values[at] = merge(op, old, value);
 }
 
-fn put(op: Op, values: &mut Vec<Val>, place: Option<usize>, value: Val)
-    ensures { values.new.items ≡ put op values.old.items place value }
+fn put(op: Op, values: &mut [Val], place: Option<usize>, value: Val)
+    ensures { values.new ≡ put op values.old place value }
 {
     if let Some(at) = place {
         if at < values.len() {
@@ -195,16 +196,16 @@ fn put(op: Op, values: &mut Vec<Val>, place: Option<usize>, value: Val)
 }
 
 /// The values of a reply go to the receivers in order; it takes no memory.
-pub fn receive(
+fn receive_all(
     op: Op,
-    values: &mut Vec<Val>,
+    values: &mut [Val],
     rows: &[Row],
     homes: &[usize],
     classes: &[Class],
     args: &[Arg],
     mut given: Vec<Val>,
 )
-    ensures { values.new.items ≡ received op rows.now homes.now classes.now args.now given.items values.old.items }
+    ensures { values.new ≡ received op rows.now homes.now classes.now args.now given.items values.old }
 {
     match classes {
         [] => {}
@@ -218,9 +219,216 @@ pub fn receive(
                     let value = given.remove(0);
                     put(op, values, place_of(homes, Some(arg)), value);
                 }
-                receive(op, values, rows, homes, more, rest, given);
+                receive_all(op, values, rows, homes, more, rest, given);
             }
         },
+    }
+}
+
+/// Several values of a reply go to the receivers, once all of them are copied.
+#[inline(never)]
+fn receive_several(
+    alloc: Global,
+    instruction: &Instruction,
+    values: &mut Vec<Val>,
+    rows: &[Row],
+    homes: &[usize],
+    given: &[Val],
+) -> Result<(), NoMemory>
+    ensures ok { OnOk result (values.new.items ≡ received instruction.now.op rows.now homes.now (classes instruction.now.op) instruction.now.args given.now values.old.items) }
+    ensures err { OnErr result (values.new.items ≡ values.old.items) }
+{
+    match try_clones(alloc, given) {
+        Err(fault) => Err(fault),
+        Ok(copies) => {
+            let op = instruction.op;
+            let args = instruction.args.as_slice();
+            receive_all(
+                op,
+                values.as_mut_slice(),
+                rows,
+                homes,
+                classes(op),
+                args,
+                copies.into_vec(),
+            );
+            Ok(())
+        }
+    }
+}
+
+/// Where the value of a reply goes that brings one.
+fn place_for(rows: &[Row], homes: &[usize], classes: &[Class], args: &[Arg]) -> Option<usize>
+    ensures { result ≡ place_for rows.now homes.now classes.now args.now }
+{
+    let mut more = classes;
+    for arg in args {
+        match more {
+            [] => return None,
+            [class, rest @ ..] => {
+                if takes_value(rows, *class, arg) {
+                    return place_of(homes, Some(arg));
+                }
+                more = rest;
+            }
+        }
+    }
+    None
+}
+
+/// Writes the bytes that came into those that stand there.
+fn merge_over(alloc: Global, op: Op, held: &mut Bytes, given: &[u8])
+    requires { IsTrue (copies_left op || copies_right op) }
+    ensures { held.new ≡ merged_bytes op held.old given.now }
+{
+    let mut bytes = mem::replace(held, Seq::new(alloc)).into_vec();
+    merge_into(op, bytes.as_mut_slice(), given);
+    *held = Seq::from_vec(bytes);
+}
+
+/// Writes the bytes that came over as many others.
+fn overwrite(alloc: Global, held: &mut Bytes, given: &[u8])
+    requires { length held.old ≡ length given.now }
+    ensures { held.new ≡ given.now }
+{
+    let mut bytes = mem::replace(held, Seq::new(alloc)).into_vec();
+    bytes.as_mut_slice().copy_from_slice(given);
+    *held = Seq::from_vec(bytes);
+}
+
+/// Bytes of another number come in place of those that stand there.
+fn replace_bytes(alloc: Global, held: &mut Bytes, given: &[u8]) -> Result<(), NoMemory>
+    ensures ok { OnOk result (held.new ≡ given.now) }
+    ensures err { OnErr result (held.new ≡ held.old) }
+{
+    match Seq::from_slice(alloc, given) {
+        Err(fault) => Err(fault),
+        Ok(copy) => {
+            *held = copy;
+            Ok(())
+        }
+    }
+}
+
+/// A variable of bytes gets those that came, for which it takes memory only where they are more or fewer.
+fn put_bytes(alloc: Global, op: Op, held: &mut Bytes, given: &[u8]) -> Result<(), NoMemory>
+    ensures ok { OnOk result (held.new ≡ merged_bytes op held.old given.now) }
+    ensures err { OnErr result (held.new ≡ held.old) }
+{
+    if copies_left(op) || copies_right(op) {
+        merge_over(alloc, op, held, given);
+        Ok(())
+    } else if held.len() == given.len() {
+        overwrite(alloc, held, given);
+        Ok(())
+    } else {
+        replace_bytes(alloc, held, given)
+    }
+}
+
+fn replace_value(alloc: Global, held: &mut Val, given: &Val) -> Result<(), NoMemory>
+    ensures ok { OnOk result (held.new ≡ given.now) }
+    ensures err { OnErr result (held.new ≡ held.old) }
+{
+    match given.try_clone(alloc) {
+        Err(fault) => Err(fault),
+        Ok(copy) => {
+            *held = copy;
+            Ok(())
+        }
+    }
+}
+
+/// A variable gets a value that came.
+fn put_value(alloc: Global, op: Op, held: &mut Val, given: &Val) -> Result<(), NoMemory>
+    ensures ok { OnOk result (held.new ≡ merged op (Some held.old) given.now) }
+    ensures err { OnErr result (held.new ≡ held.old) }
+{
+    match given {
+        Val::Bytes(came) => match held {
+            Val::Bytes(bytes) => put_bytes(alloc, op, bytes, came.as_slice()),
+            _ => replace_value(alloc, held, given),
+        },
+        _ => replace_value(alloc, held, given),
+    }
+}
+
+fn put_copy(
+    alloc: Global,
+    op: Op,
+    values: &mut [Val],
+    place: Option<usize>,
+    given: &Val,
+) -> Result<(), NoMemory>
+    ensures ok { OnOk result (values.new ≡ put op values.old place given.now) }
+    ensures err { OnErr result (values.new ≡ values.old) }
+{
+    match place {
+        Some(at) if at < values.len() => put_value(alloc, op, &mut values[at], given),
+        _ => Ok(()),
+    }
+}
+
+/// A copy of the value of a reply goes to the first receiver. An error changes nothing.
+fn receive_one(
+    alloc: Global,
+    instruction: &Instruction,
+    values: &mut [Val],
+    rows: &[Row],
+    homes: &[usize],
+    value: &Val,
+) -> Result<(), NoMemory>
+    ensures ok { OnOk result (values.new ≡ received instruction.now.op rows.now homes.now (classes instruction.now.op) instruction.now.args (value.now ∷ []) values.old) }
+    ensures err { OnErr result (values.new ≡ values.old) }
+{
+    let op = instruction.op;
+    let place = place_for(rows, homes, classes(op), instruction.args.as_slice());
+    match put_copy(alloc, op, values, place, value) {
+        Ok(()) => Ok(()),
+        Err(fault) => Err(fault),
+    }
+}
+
+fn receive_value(
+    alloc: Global,
+    instruction: &Instruction,
+    values: &mut Vec<Val>,
+    rows: &[Row],
+    homes: &[usize],
+    value: &Val,
+) -> Result<(), NoMemory>
+    ensures ok { OnOk result (values.new.items ≡ received instruction.now.op rows.now homes.now (classes instruction.now.op) instruction.now.args (value.now ∷ []) values.old.items) }
+    ensures err { OnErr result (values.new.items ≡ values.old.items) }
+{
+    match receive_one(
+        alloc,
+        instruction,
+        values.as_mut_slice(),
+        rows,
+        homes,
+        value,
+    ) {
+        Ok(()) => Ok(()),
+        Err(fault) => Err(fault),
+    }
+}
+
+/// Copies of the values of a reply go to the receivers in order. An error changes nothing.
+pub fn receive(
+    alloc: Global,
+    instruction: &Instruction,
+    values: &mut Vec<Val>,
+    rows: &[Row],
+    homes: &[usize],
+    given: &[Val],
+) -> Result<(), NoMemory>
+    ensures ok { OnOk result (values.new.items ≡ received instruction.now.op rows.now homes.now (classes instruction.now.op) instruction.now.args given.now values.old.items) }
+    ensures err { OnErr result (values.new.items ≡ values.old.items) }
+{
+    match given {
+        [] => Ok(()),
+        [value] => receive_value(alloc, instruction, values, rows, homes, value),
+        _ => receive_several(alloc, instruction, values, rows, homes, given),
     }
 }
 
