@@ -53,8 +53,8 @@ fn number(
     ensures end { result ≡ (number_run rows.now homes.now values.old instruction.now).end }
     ensures values { values.new ≡ (number_run rows.now homes.now values.old instruction.now).values }
 {
-    let given = number_read(rows, homes, values, instruction);
     let (attr, to) = target_of(rows, homes, operand(instruction.args.as_slice(), 1));
+    let given = number_read(rows, homes, values, instruction);
     receive_number(alloc, values, to, attr, given)
 }
 

@@ -7,6 +7,7 @@ use s38_base::{Attr, Pointer};
 use s38_code::{Arg, Form, Row, Val};
 use s38_decimal::{Dec, read_scalar};
 
+#[inline(always)]
 fn attr_of_form(form: &Form) -> Attr
     ensures { result ≡ attr_of_form form.now }
 {
@@ -18,6 +19,7 @@ fn attr_of_form(form: &Form) -> Attr
     }
 }
 
+#[inline(always)]
 fn attr_in(row: Option<&Row>) -> Attr
     ensures { result ≡ attr_in (option_copied row.entry) }
 {
