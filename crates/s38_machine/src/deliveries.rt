@@ -15,9 +15,9 @@ use std::alloc::Global;
 fn one(alloc: Global, value: Val) -> Result<Vals, NoMemory>
     ensures { IfOk result (λ made. made ≡ value ∷ []) }
 {
-    let mut made = Seq::new(alloc);
+    let mut made = Vec::with_capacity(alloc, 1)?;
     made.push(value)?;
-    Ok(made)
+    Ok(Seq::from_vec(made))
 }
 
 /// The values of the reply, and what is left to be put into a space.
