@@ -13,7 +13,7 @@ use s38_authority::{available, has_rights};
 use s38_base::exceptions::LIMIT_EXCEEDED;
 use s38_base::limits::MOST_ROWS;
 use s38_base::{
-    Bytes, Category, Exception, Kind, NoMemory, ObjNum, Op, Pointer, Rights, Seq, Special, UserNum,
+    Bytes, Category, Exception, Kind, NoMemory, ObjNum, Op, Pointer, Rights, Special, UserNum,
 };
 use s38_changes::{give_to, set_public, set_row, taker_rule};
 use s38_code::{Operand, Request, Val};
@@ -182,7 +182,7 @@ fn xfro(world: &mut World<Objects>, operands: &[Operand]) -> Result<(), NoMemory
 fn truth(alloc: Global, holds: bool) -> Result<Bytes, NoMemory>
     ensures { IfOk result (λ bytes. bytes ≡ truth holds) }
 {
-    Seq::from_slice(alloc, &[0, u8::from(holds)])
+    Bytes::from_slice(alloc, &[0, u8::from(holds)])
 }
 
 /// 1 where all the rights are available.

@@ -6,7 +6,7 @@ ghost use Rattle.s38_rules.specs.Grants.{authority_image, concern_image, concern
 ghost use Rattle.s38_rules.specs.Headers.{public_in};
 ghost use Rattle.s38_rules.specs.Held.{owner_in};
 
-use s38_base::{Bytes, NoMemory, ObjNum, Rights, Seq, UserNum};
+use s38_base::{Bytes, NoMemory, ObjNum, Rights, UserNum};
 use s38_objects::Objects;
 use s38_operands::count_image;
 use s38_rules::Object;
@@ -43,7 +43,7 @@ pub fn authority_image(
     let mut made = Vec::from_slice(alloc, &owner)?;
     made.push(public_in(found).0)?;
     made.push(rights.0)?;
-    Ok(Seq::from_vec(made))
+    Ok(Bytes::from_vec(made))
 }
 
 /// Whether a user owns an object, or has a row on it.
@@ -84,5 +84,5 @@ pub fn concerns_image(alloc: Global, objects: &Objects, user: UserNum) -> Result
     for object in objects.all() {
         add_concern(&mut made, user, object)?;
     }
-    Ok(Seq::from_vec(made))
+    Ok(Bytes::from_vec(made))
 }

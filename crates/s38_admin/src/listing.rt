@@ -2,7 +2,7 @@
 ghost use Rattle.std.specs.Prelude.{◌≡◌, map, IfOk};
 ghost use Rattle.s38_rules.specs.Contexts.{character, name_image, names_image};
 
-use s38_base::{Bytes, Name, NoMemory, ObjNum, Seq};
+use s38_base::{Bytes, Name, NoMemory, ObjNum};
 use s38_operands::{count_image, fitted};
 use s38_rules::Listed;
 use s38_strings::ebcdic;
@@ -22,7 +22,7 @@ fn character(c: u8) -> u8
 fn characters(alloc: Global, name: &Name) -> Result<Bytes, NoMemory>
     ensures { IfOk result (λ made. made ≡ map character name.now) }
 {
-    let mut made = Seq::new(alloc);
+    let mut made = Bytes::new(alloc);
     for c in name.as_bytes() {
         made.push(character(*c))?;
     }
@@ -39,7 +39,7 @@ fn name_image(alloc: Global, listed: &Listed) -> Result<Bytes, NoMemory>
     made.push(listed.kind)?;
     made.push(listed.sub)?;
     made.extend_from_slice(filled.as_slice())?;
-    Ok(Seq::from_vec(made))
+    Ok(Bytes::from_vec(made))
 }
 
 /// How many names there are, and their images in order.
@@ -52,5 +52,5 @@ pub fn names_image(alloc: Global, names: &BTreeMap<Listed, ObjNum>) -> Result<By
         let image = name_image(alloc, listed)?;
         made.extend_from_slice(image.as_slice())?;
     }
-    Ok(Seq::from_vec(made))
+    Ok(Bytes::from_vec(made))
 }

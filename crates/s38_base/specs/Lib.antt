@@ -2,6 +2,7 @@ pub mod Exceptions
 pub mod Faults
 pub mod Fields
 pub mod Ids
+pub mod Lending
 pub mod Limits
 pub mod NameText
 pub mod Pointers

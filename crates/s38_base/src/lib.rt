@@ -3,6 +3,7 @@
 #![tactic(auto)]
 
 mod attr;
+mod bytes;
 mod exception;
 pub mod exceptions;
 mod fault;
@@ -19,6 +20,7 @@ mod seq;
 mod words;
 
 pub use attr::Attr;
+pub use bytes::Bytes;
 pub use exception::{Exception, Rule};
 pub use fault::{Failed, NoMemory};
 pub use fields::{read_u32_at, read_u64_at};
@@ -29,7 +31,7 @@ pub use page::{Change, Key, Page};
 pub use pile::Pile;
 pub use pointer::Pointer;
 pub use rights::{Rights, Special};
-pub use seq::{AttrList, Bytes, Seq, TryClone, try_clones};
+pub use seq::{AttrList, Seq, TryClone, try_clones};
 pub use words::{Category, LockState, Relation, Seek};
 
 /// What is sent between threads.

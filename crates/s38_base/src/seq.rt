@@ -26,9 +26,6 @@ impl<T> Model for Seq<T> {
     ghost view = { λ s. s.items.items };
 }
 
-/// Bytes of a value, of any number.
-pub type Bytes = Seq<u8>;
-
 /// Attributes in a row.
 pub type AttrList = Seq<Attr>;
 
@@ -93,12 +90,6 @@ impl<T: Copy> Seq<T> {
             Ok(items) => Ok(Seq { items }),
             Err(_) => Err(NoMemory),
         }
-    }
-}
-
-impl TryClone for Seq<u8> {
-    fn try_clone(&self, alloc: Global) -> Result<Self, NoMemory> {
-        Seq::from_slice(alloc, self.as_slice())
     }
 }
 

@@ -2,7 +2,7 @@ ghost use Rattle.std.specs.Prelude.{◌≡◌, IfOk, length, replicate};
 ghost use Rattle.s38_compute.specs.Computed.{copied_len, copies_left, copies_right, is_copy, shift_of, written_over};
 
 use crate::sources::Sources;
-use s38_base::{Bytes, NoMemory, Op, Seq};
+use s38_base::{Bytes, NoMemory, Op};
 use std::alloc::Global;
 
 /// Bytes are copied at the left, and a longer receiver keeps its others.
@@ -43,20 +43,12 @@ pub fn shift_of<S: Sources>(sources: &S, op: Op) -> usize
     }
 }
 
-pub fn zeros(alloc: Global, len: usize) -> Result<Vec<u8>, NoMemory>
-    ensures { IfOk result (λ made. made.items ≡ replicate len 0) }
-{
-    let mut made = Vec::new(alloc);
-    made.resize(len, 0)?;
-    Ok(made)
-}
-
 /// What a string is written over: a copy that keeps no rest gives the bytes alone that it copies.
-pub fn written_over<S: Sources>(alloc: Global, sources: &S, op: Op) -> Result<Vec<u8>, NoMemory>
-    ensures { IfOk result (λ made. made.items ≡ written_over op (S.readings sources.now)) }
+pub fn written_over<S: Sources>(alloc: Global, sources: &S, op: Op) -> Result<Bytes, NoMemory>
+    ensures { IfOk result (λ made. made ≡ written_over op (S.readings sources.now)) }
 {
     if !sources.keeps_rest() && is_copy(op) {
-        return zeros(alloc, copied_len(sources));
+        return Bytes::repeated(alloc, 0, copied_len(sources));
     }
-    Ok(sources.held(alloc)?.into_vec())
+    sources.held(alloc)
 }

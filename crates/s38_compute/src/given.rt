@@ -2,8 +2,7 @@ ghost use Rattle.std.specs.Prelude.{◌≡◌, IfOk, IsTrue};
 ghost use Rattle.s38_base.specs.Scalar.{fits, image_of};
 ghost use Rattle.s38_code.specs.declared.reply.Val.{Val};
 
-use crate::copies::zeros;
-use s38_base::{Attr, Bytes, NoMemory, Pointer, Seq};
+use s38_base::{Attr, Bytes, NoMemory, Pointer};
 use s38_code::Val;
 use s38_decimal::write_scalar;
 use std::alloc::Global;
@@ -25,9 +24,9 @@ fn number_value(alloc: Global, attr: Attr, units: i128) -> Result<Val, NoMemory>
     requires { IsTrue (fits attr units) }
     ensures { IfOk result (λ made. made ≡ Val.Bytes (image_of attr units)) }
 {
-    let mut made = zeros(alloc, attr.length() as usize)?;
+    let mut made = Bytes::repeated(alloc, 0, attr.length() as usize)?;
     let _ = write_scalar(attr, units, made.as_mut_slice());
-    Ok(Val::Bytes(Seq::from_vec(made)))
+    Ok(Val::Bytes(made))
 }
 
 impl Given {

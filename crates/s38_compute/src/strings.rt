@@ -11,7 +11,7 @@ ghost use Rattle.s38_compute.specs.Written.{bytes_behind, failed};
 use crate::copies::written_over;
 use crate::sources::Sources;
 use s38_base::exceptions::CONVERSION;
-use s38_base::{Bytes, Exception, NoMemory, Op, Seq};
+use s38_base::{Bytes, Exception, NoMemory, Op};
 use s38_strings::{bits, cat, copy_left, copy_left_pad, copy_right, from_hex, to_hex, xlate};
 use std::alloc::Global;
 
@@ -134,7 +134,7 @@ pub fn bytes_given<S: Sources>(
         c.as_slice(),
     ) {
         Some(exception) => Ok(Err(exception)),
-        None => Ok(Ok(Seq::from_vec(into))),
+        None => Ok(Ok(into)),
     }
 }
 

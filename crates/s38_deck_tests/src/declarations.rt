@@ -8,7 +8,7 @@ use std::test::Fail;
 #[test]
 fn a_declaration_makes_a_row(rt: HostRuntime) -> Result<(), Fail> {
     let mut lines = Seq::new(rt.alloc());
-    lines.push(Seq::from_slice(rt.alloc(), b"DCL A PARM 1 PTR")?)?;
+    lines.push(Bytes::from_slice(rt.alloc(), b"DCL A PARM 1 PTR")?)?;
     let code = CodeLines::new(rt.alloc(), &[])?;
     assert!(rt;
         matches!(

@@ -17,7 +17,7 @@ fn is_clone(alloc: Global, one: &Event) -> Result<bool, Fail> {
 fn values_are_made_again(rt: HostRuntime) -> Result<(), Fail> {
     let alloc = rt.alloc();
     let attrs: AttrList = Seq::from_slice(alloc, &[Attr::Pointer])?;
-    let bytes = Seq::from_slice(alloc, b"AB")?;
+    let bytes = Bytes::from_slice(alloc, b"AB")?;
     let attr = Attr::Chars { len: 2 };
     let operands = vec![in alloc; Operand::Attrs(attrs), Operand::Value { attr, bytes }]?;
     let request = Request {
@@ -42,7 +42,7 @@ fn values_are_made_again(rt: HostRuntime) -> Result<(), Fail> {
 fn a_program_is_shared(rt: HostRuntime) -> Result<(), Fail> {
     let alloc = rt.alloc();
     let mut lines = Seq::new(alloc);
-    lines.push(Seq::from_slice(alloc, b"PROGRAM P")?)?;
+    lines.push(Bytes::from_slice(alloc, b"PROGRAM P")?)?;
     let program = Program {
         template: Template::new(alloc, lines)?.try_clone(alloc)?,
         rows: Seq::new(alloc),

@@ -7,7 +7,7 @@ ghost use Rattle.s38_indexes.specs.Refusals.{insert_refusal, remove_refusal};
 use crate::fault::IndexFault;
 use crate::leaf::Leaf;
 use crate::leaves;
-use s38_base::{Relation, Seq};
+use s38_base::{Bytes, Relation};
 use std::alloc::Global;
 use std::marker::Model;
 
@@ -143,7 +143,7 @@ impl Index {
         ensures err { OnErr result (self.new ≡ self.old) }
     {
         let first = leaf_for(self.leaves.as_slice(), self.longest, self.size, entry)?;
-        let Ok(copy) = Seq::from_slice(self.alloc, entry) else {
+        let Ok(copy) = Bytes::from_slice(self.alloc, entry) else {
             return Err(IndexFault::NoMemory);
         };
         match leaves::add(&mut self.leaves, self.alloc, first, copy) {

@@ -264,9 +264,9 @@ fn add_values(alloc: Global, history: &mut Vec<Entry>) -> Result<(), NoMemory> {
     for taken in [true, false] {
         history.push(with_value(alloc, Op::Cmpptrt, Val::Branch(taken))?)?;
     }
-    let bytes = Seq::from_slice(alloc, b"\xC1\xC2\x0F")?;
+    let bytes = Bytes::from_slice(alloc, b"\xC1\xC2\x0F")?;
     history.push(with_value(alloc, Op::Deq, Val::Bytes(bytes))?)?;
-    history.push(with_value(alloc, Op::Deq, Val::Bytes(Seq::new(alloc)))?)?;
+    history.push(with_value(alloc, Op::Deq, Val::Bytes(Bytes::new(alloc)))?)?;
     history.push(with_value(alloc, Op::Callx, Val::Code(program(alloc)?))?)?;
     Ok(())
 }

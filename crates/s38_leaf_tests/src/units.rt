@@ -67,7 +67,7 @@ fn deletion(alloc: Global, space: u64, at: u32, len: usize) -> Result<UnitChange
     Ok(UnitChange {
         space: ObjNum(space),
         at,
-        before: Some(Seq::from_vec(vec![in alloc; 0; len]?)),
+        before: Some(Bytes::repeated(alloc, 0, len)?),
         after: None,
     })
 }

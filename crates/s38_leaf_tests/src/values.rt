@@ -42,15 +42,15 @@ fn numbers_are_read_high_byte_first(rt: HostRuntime) {
 fn lists_are_made_again(rt: HostRuntime) -> Result<(), Fail> {
     let alloc = rt.alloc();
     let mut list = Seq::new(alloc);
-    list.push(Seq::from_slice(alloc, b"AB")?)?;
-    list.push(Seq::new(alloc))?;
+    list.push(Bytes::from_slice(alloc, b"AB")?)?;
+    list.push(Bytes::new(alloc))?;
     let again = try_clones(alloc, list.as_slice())?;
     assert_eq!(rt;
         format!(in alloc; "{again:?}")?.as_str(),
         "Seq { items: [Seq { items: [65, 66] }, Seq { items: [] }] }"
     );
     assert_eq!(rt;
-        Seq::from_slice(alloc, b"AB")?.try_clone(alloc)?.as_slice(),
+        Bytes::from_slice(alloc, b"AB")?.try_clone(alloc)?.as_slice(),
         b"AB".as_slice()
     );
     Ok(())

@@ -82,7 +82,7 @@ pub fn signal(word: u32) -> Exception
 fn code_bytes(alloc: Global, code: u16) -> Result<Bytes, NoMemory>
     ensures { IfOk result (λ bytes. bytes ≡ code_bytes code) }
 {
-    Seq::from_slice(alloc, &[(code / 256) as u8, (code % 256) as u8])
+    Bytes::from_slice(alloc, &[(code / 256) as u8, (code % 256) as u8])
 }
 
 /// A variable gets the code of the exception that was taken last.

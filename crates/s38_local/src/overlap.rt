@@ -5,7 +5,7 @@ ghost use Rattle.s38_local.specs.Overlap.{bytes_past, is_place, own_bytes, reads
 use crate::local_end::LocalEnd;
 use crate::operands::{bytes_of, operand, place_of, receiver_of, value_bytes};
 use crate::written::written;
-use s38_base::{Bytes, NoMemory, Op, Seq};
+use s38_base::{Bytes, NoMemory, Op};
 use s38_code::{Arg, Val};
 use std::alloc::Global;
 use std::mem;
@@ -39,9 +39,9 @@ fn own_bytes(
     ensures { IfOk result (λ own. own ≡ own_bytes homes.now values.now at args.now) }
 {
     if reads(homes, at, args) {
-        Seq::from_slice(alloc, value_bytes(values.get(at)))
+        Bytes::from_slice(alloc, value_bytes(values.get(at)))
     } else {
-        Ok(Seq::new(alloc))
+        Ok(Bytes::new(alloc))
     }
 }
 

@@ -7,7 +7,7 @@ ghost use Rattle.s38_local.specs.Variables.{put_at};
 ghost use Rattle.s38_code.specs.declared.reply.Val.{Val};
 
 use crate::local_end::LocalEnd;
-use s38_base::{Attr, Bytes, Exception, Pointer, Seq};
+use s38_base::{Attr, Bytes, Exception, Pointer};
 use s38_code::{Arg, Val};
 use s38_decimal::write_scalar;
 use std::alloc::Global;
@@ -21,9 +21,7 @@ fn write_held(alloc: Global, bytes: &mut Bytes, attr: Attr, units: i128)
     if bytes.len() != attr.length() as usize {
         return;
     }
-    let mut held = mem::replace(bytes, Seq::new(alloc)).into_vec();
-    let _ = write_scalar(attr, units, held.as_mut_slice());
-    *bytes = Seq::from_vec(held);
+    let _ = write_scalar(attr, units, bytes.as_mut_slice());
 }
 
 fn write_number(alloc: Global, values: &mut [Val], at: usize, attr: Attr, units: i128)

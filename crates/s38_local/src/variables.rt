@@ -3,7 +3,7 @@ ghost use Rattle.std.specs.Prelude.{◌≡◌};
 use crate::operands::{
     attr_of, bytes_of, held_at, number_of, operand, pointer_of, receiver_of, whole_of, word_of,
 };
-use s38_base::{Attr, Bytes, NoMemory, Pointer, Seq};
+use s38_base::{Attr, Bytes, NoMemory, Pointer};
 use s38_code::{Arg, Row, Val};
 use s38_compute::{Piece, Sources, are_hex};
 use s38_decimal::Dec;
@@ -61,7 +61,7 @@ impl<'a> Sources for Variables<'a> {
     }
 
     fn held(&self, alloc: Global) -> Result<Bytes, NoMemory> {
-        Seq::from_slice(
+        Bytes::from_slice(
             alloc,
             held_at(self.values, receiver_of(self.homes, self.args)),
         )

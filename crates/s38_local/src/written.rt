@@ -2,7 +2,7 @@ ghost use Rattle.std.specs.Prelude.{◌≡◌};
 ghost use Rattle.s38_local.specs.Overlap.{end_at, end_behind, value_behind};
 
 use crate::local_end::LocalEnd;
-use s38_base::{Exception, Op, Seq};
+use s38_base::{Exception, Op};
 use s38_code::Val;
 use s38_compute::write_string;
 
@@ -22,9 +22,9 @@ pub fn written(op: Op, value: Val, a: &[u8], b: &[u8], c: &[u8]) -> (Val, LocalE
 {
     match value {
         Val::Bytes(bytes) => {
-            let mut held = bytes.into_vec();
+            let mut held = bytes;
             let signal = write_string(op, held.as_mut_slice(), a, b, c);
-            (Val::Bytes(Seq::from_vec(held)), end_behind(signal))
+            (Val::Bytes(held), end_behind(signal))
         }
         other => (other, LocalEnd::Next),
     }

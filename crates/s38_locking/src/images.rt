@@ -2,7 +2,7 @@
 ghost use Rattle.std.specs.Prelude.{◌≡◌, ◌++◌, IfOk};
 ghost use Rattle.s38_rules.specs.Locking.{lock_image, locks_image};
 
-use s38_base::{Bytes, LockState, NoMemory, Seq};
+use s38_base::{Bytes, LockState, NoMemory};
 use s38_locks::rank;
 use s38_operands::count_image;
 use std::alloc::Global;
@@ -25,5 +25,5 @@ pub fn locks_image(alloc: Global, locks: &[(u32, LockState)]) -> Result<Bytes, N
         let image = lock_image(alloc, *lock)?;
         made.extend_from_slice(image.as_slice())?;
     }
-    Ok(Seq::from_vec(made))
+    Ok(Bytes::from_vec(made))
 }

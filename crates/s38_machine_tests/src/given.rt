@@ -54,7 +54,7 @@ fn operand(alloc: Global, given: Given) -> Result<Operand, Fail> {
         })),
         Given::Value(attr, bytes) => Operand::Value {
             attr,
-            bytes: Seq::from_slice(alloc, bytes)?,
+            bytes: Bytes::from_slice(alloc, bytes)?,
         },
         Given::Word(word) => Operand::Word(word),
         Given::Named(kind) => Operand::Ident(Id {

@@ -3,7 +3,7 @@ ghost use Rattle.std.specs.Option.{option_map};
 ghost use Rattle.s38_odt.specs.First.{blank_of, filled, first_of, literal_held, text_held};
 
 use crate::image::{number_held, units_held};
-use s38_base::{Attr, Bytes, NoMemory, Seq};
+use s38_base::{Attr, Bytes, NoMemory};
 use s38_words::{number, text_value};
 use std::alloc::Global;
 
@@ -17,7 +17,7 @@ fn filled(text: Vec<u8>, len: usize) -> Result<Bytes, NoMemory>
 {
     let mut bytes = text;
     bytes.resize(len, BLANK)?;
-    Ok(Seq::from_vec(bytes))
+    Ok(Bytes::from_vec(bytes))
 }
 
 /// The bytes of a text; None exactly where the attribute does not hold it.
@@ -40,8 +40,8 @@ pub fn blank(alloc: Global, attr: Attr) -> Result<Option<Bytes>, NoMemory>
     ensures { IfOk result (λ bytes. bytes ≡ blank_of attr) }
 {
     match attr {
-        Attr::Chars { len } => Ok(Some(Seq::from_vec(vec![in alloc; BLANK; len as usize]?))),
-        Attr::Pointer => Ok(Some(Seq::new(alloc))),
+        Attr::Chars { len } => Ok(Some(Bytes::repeated(alloc, BLANK, len as usize)?)),
+        Attr::Pointer => Ok(Some(Bytes::new(alloc))),
         _ => units_held(alloc, attr, 0),
     }
 }

@@ -4,7 +4,7 @@ ghost use Rattle.s38_base.specs.Scalar.{fits, is_numeric};
 ghost use Rattle.s38_base.specs.declared.attr.Attr.{Attr};
 ghost use Rattle.s38_odt.specs.First.{fewer_digits, is_exact, magnitude_in, more_digits, number_held, units_held};
 
-use s38_base::{Attr, Bytes, NoMemory, Seq};
+use s38_base::{Attr, Bytes, NoMemory};
 use s38_decimal::write_scalar;
 use s38_words::{Numeral, signed};
 use std::alloc::Global;
@@ -17,9 +17,9 @@ pub fn units_held(alloc: Global, attr: Attr, units: i128) -> Result<Option<Bytes
     if !attr.is_numeric() {
         return Ok(None);
     }
-    let mut bytes = vec![in alloc; 0; attr.length() as usize]?;
+    let mut bytes = Bytes::repeated(alloc, 0, attr.length() as usize)?;
     match write_scalar(attr, units, bytes.as_mut_slice()) {
-        Ok(()) => Ok(Some(Seq::from_vec(bytes))),
+        Ok(()) => Ok(Some(bytes)),
         Err(_) => Ok(None),
     }
 }

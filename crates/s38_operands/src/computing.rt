@@ -9,7 +9,7 @@ use crate::needs::{Needs, need};
 use crate::numbers::number_at;
 use crate::operands::{place, room_at, word_at};
 use crate::reads::{bytes_at, piece_at, pointer_at, size_at};
-use s38_base::{Attr, Bytes, Exception, NoMemory, Op, Pointer, Rights, Seq};
+use s38_base::{Attr, Bytes, Exception, NoMemory, Op, Pointer, Rights};
 use s38_code::{Operand, Request, Val};
 use s38_compute::{Piece, Sources, copies_right, failure, is_branch, value};
 use s38_decimal::Dec;
@@ -43,21 +43,13 @@ fn power_of(power: Option<&Operand>) -> i64
     }
 }
 
-fn zeros(alloc: Global, len: u16) -> Result<Bytes, NoMemory>
-    ensures { IfOk result (λ made. made ≡ replicate len 0) }
-{
-    let mut made = Vec::new(alloc);
-    made.resize(len as usize, 0)?;
-    Ok(Seq::from_vec(made))
-}
-
 /// What the receiver holds; of a variable that is neither known nor needed.
 fn held_in(alloc: Global, objects: &Objects, operands: &[Operand]) -> Result<Bytes, NoMemory>
     ensures { IfOk result (λ made. made ≡ held_in objects.now operands.now (operand operands.now 1)) }
 {
     match place(operands, 1) {
         Some(Operand::InSpace { .. }) => bytes_at(alloc, objects, operands, 1),
-        _ => zeros(alloc, room_at(operands, 1)),
+        _ => Bytes::repeated(alloc, 0, room_at(operands, 1) as usize),
     }
 }
 

@@ -7,7 +7,7 @@ ghost use Rattle.s38_compute.specs.Piece.{piece_bytes};
 
 use crate::operands::place;
 use crate::storage::{bytes_there, cells_there, one_cell, pointer_there, size_there};
-use s38_base::{Attr, Bytes, NoMemory, ObjNum, Pointer, Seq, TryClone};
+use s38_base::{Attr, Bytes, NoMemory, ObjNum, Pointer, TryClone};
 use s38_code::Operand;
 use s38_compute::Piece;
 use s38_memory::{Cell, Tagged};
@@ -65,7 +65,7 @@ fn bytes_of(alloc: Global, objects: &Objects, operand: Option<&Operand>) -> Resu
             Pointer::start(*base, *offset),
             attr.length(),
         ),
-        _ => Ok(Seq::new(alloc)),
+        _ => Ok(Bytes::new(alloc)),
     }
 }
 

@@ -5,7 +5,7 @@ ghost use Rattle.s38_memory.specs.Cell.{IsCell};
 ghost use Rattle.s38_memory.specs.Tagged.{is_aligned, is_within};
 ghost use Rattle.s38_rules.specs.Cells.{bytes_there, cell_for, cells_there, first_pointer, pointer_there};
 
-use s38_base::{Bytes, NoMemory, Pointer, Seq};
+use s38_base::{Bytes, NoMemory, Pointer};
 use s38_memory::{Cell, Tagged};
 use std::alloc::Global;
 
@@ -42,24 +42,16 @@ pub fn size_there(space: Option<&Tagged>, at: u64, len: u16) -> usize
     }
 }
 
-fn zeros(alloc: Global, len: u16) -> Result<Vec<u8>, NoMemory>
-    ensures { IfOk result (λ made. length made.items ≡ len) }
-{
-    let mut made = Vec::new(alloc);
-    made.resize(len as usize, 0)?;
-    Ok(made)
-}
-
 fn piece(alloc: Global, space: &Tagged, at: u64, len: u16) -> Result<Bytes, NoMemory>
     ensures { IfOk result (λ made. made ≡ bytes_there space.now at len) }
 {
     if !space.has_piece(at, len as usize) {
-        return Ok(Seq::new(alloc));
+        return Ok(Bytes::new(alloc));
     }
-    let mut made = zeros(alloc, len)?;
+    let mut made = Bytes::repeated(alloc, 0, len as usize)?;
     match space.read(at as u32, made.as_mut_slice()) {
-        Ok(()) => Ok(Seq::from_vec(made)),
-        Err(_) => Ok(Seq::new(alloc)),
+        Ok(()) => Ok(made),
+        Err(_) => Ok(Bytes::new(alloc)),
     }
 }
 
@@ -74,7 +66,7 @@ pub fn bytes_there(
     ensures { IfOk result (λ made. made ≡ bytes_there (unwrap_or (option_copied space.entry) []) at len) }
 {
     match space {
-        None => Ok(Seq::new(alloc)),
+        None => Ok(Bytes::new(alloc)),
         Some(space) => piece(alloc, space, at, len),
     }
 }

@@ -2,16 +2,16 @@
 ghost use Rattle.std.specs.Prelude.{◌≡◌, IfOk};
 ghost use Rattle.s38_rules.specs.Operands.{count_image, fitted};
 
-use s38_base::{Bytes, NoMemory, Seq};
+use s38_base::{Bytes, NoMemory};
 use std::alloc::Global;
 
 /// Bytes cut to a length, or filled to it on the right.
 pub fn fitted(alloc: Global, len: u16, fill: u8, bytes: &[u8]) -> Result<Bytes, NoMemory>
     ensures { IfOk result (λ made. made ≡ fitted len fill bytes.now) }
 {
-    let mut made = Vec::from_slice(alloc, bytes)?;
+    let mut made = Bytes::from_slice(alloc, bytes)?;
     made.resize(len as usize, fill)?;
-    Ok(Seq::from_vec(made))
+    Ok(made)
 }
 
 /// A count, of which the four low bytes are given.

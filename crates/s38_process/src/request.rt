@@ -3,7 +3,7 @@ ghost use Rattle.std.specs.Option.{option_copied};
 ghost use Rattle.s38_process.specs.Requests.{item_by, item_operand, operand_of, operands_of, request_of, source_by};
 
 use crate::variables::{form_in, is_receiver, value_bytes, value_of_item, value_pointer};
-use s38_base::{Attr, NoMemory, Seq, TryClone};
+use s38_base::{Attr, Bytes, NoMemory, Seq, TryClone};
 use s38_code::{Arg, Class, Form, Instruction, Operand, Request, Row, Val, classes};
 use std::alloc::Global;
 
@@ -14,7 +14,7 @@ fn source_by(alloc: Global, attr: Attr, value: Option<&Val>) -> Result<Operand, 
         Attr::Pointer => Ok(Operand::Ptr(value_pointer(value))),
         _ => Ok(Operand::Value {
             attr,
-            bytes: Seq::from_slice(alloc, value_bytes(value))?,
+            bytes: Bytes::from_slice(alloc, value_bytes(value))?,
         }),
     }
 }

@@ -9,7 +9,7 @@ ghost use Rattle.s38_process.specs.Replies.{is_taken, label_in, label_of, merged
 ghost use Rattle.s38_process.specs.Requests.{is_receiver};
 ghost use Rattle.s38_local.specs.Variables.{form_in, is_based, value_bytes, value_of_item, value_pointer};
 
-use s38_base::{Attr, Bytes, NoMemory, Op, Pointer, Seq, TryClone, try_clones};
+use s38_base::{Attr, Bytes, NoMemory, Op, Pointer, TryClone, try_clones};
 use s38_code::{Arg, Class, Form, Instruction, Row, Val, classes};
 use s38_compute::{copies_left, copies_right};
 use s38_local::{place_of, value_at};
@@ -44,7 +44,7 @@ fn blank_bytes(alloc: Global, attr: Attr) -> Result<Bytes, NoMemory>
 {
     match blank(alloc, attr)? {
         Some(bytes) => Ok(bytes),
-        None => Ok(Seq::new(alloc)),
+        None => Ok(Bytes::new(alloc)),
     }
 }
 
@@ -156,9 +156,9 @@ fn merge_bytes(op: Op, old: Bytes, new: Bytes) -> Bytes
     ensures { result ≡ merged_bytes op old new }
 {
     if copies_left(op) || copies_right(op) {
-        let mut held = old.into_vec();
+        let mut held = old;
         merge_into(op, held.as_mut_slice(), new.as_slice());
-        Seq::from_vec(held)
+        held
     } else {
         new
     }
@@ -281,9 +281,7 @@ fn merge_over(alloc: Global, op: Op, held: &mut Bytes, given: &[u8])
     requires { IsTrue (copies_left op || copies_right op) }
     ensures { held.new ≡ merged_bytes op held.old given.now }
 {
-    let mut bytes = mem::replace(held, Seq::new(alloc)).into_vec();
-    merge_into(op, bytes.as_mut_slice(), given);
-    *held = Seq::from_vec(bytes);
+    merge_into(op, held.as_mut_slice(), given);
 }
 
 /// Writes the bytes that came over as many others.
@@ -291,9 +289,7 @@ fn overwrite(alloc: Global, held: &mut Bytes, given: &[u8])
     requires { length held.old ≡ length given.now }
     ensures { held.new ≡ given.now }
 {
-    let mut bytes = mem::replace(held, Seq::new(alloc)).into_vec();
-    bytes.as_mut_slice().copy_from_slice(given);
-    *held = Seq::from_vec(bytes);
+    held.as_mut_slice().copy_from_slice(given);
 }
 
 /// Bytes of another number come in place of those that stand there.
@@ -301,7 +297,7 @@ fn replace_bytes(alloc: Global, held: &mut Bytes, given: &[u8]) -> Result<(), No
     ensures ok { OnOk result (held.new ≡ given.now) }
     ensures err { OnErr result (held.new ≡ held.old) }
 {
-    match Seq::from_slice(alloc, given) {
+    match Bytes::from_slice(alloc, given) {
         Err(fault) => Err(fault),
         Ok(copy) => {
             *held = copy;

@@ -4,7 +4,7 @@ ghost use Rattle.s38_queues.specs.MessageQueue.{found_message, image_size, is_as
 
 use crate::kept::Kept;
 use crate::message::{Message, Order};
-use s38_base::{NoMemory, Relation, Seq};
+use s38_base::{Bytes, NoMemory, Relation};
 use std::alloc::Global;
 use std::marker::Model;
 use thiserror::Error;
@@ -38,8 +38,8 @@ impl Model for Queue {
 fn message_of(alloc: Global, key: &[u8], text: &[u8]) -> Result<Message, NoMemory>
     ensures { IfOk result (λ made. made ≡ message key.now text.now) }
 {
-    let key = Seq::from_slice(alloc, key)?;
-    let text = Seq::from_slice(alloc, text)?;
+    let key = Bytes::from_slice(alloc, key)?;
+    let text = Bytes::from_slice(alloc, text)?;
     Ok(Message { key, text })
 }
 

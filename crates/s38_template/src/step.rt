@@ -35,7 +35,7 @@ pub fn start(alloc: Global) -> Reader
 fn add_line(alloc: Global, lines: &mut Seq<Bytes>, line: &[u8]) -> Result<(), NoMemory>
     ensures { OnOk result (lines.new ≡ lines.old ++ line.now ∷ []) }
 {
-    let bytes = Seq::from_slice(alloc, line)?;
+    let bytes = Bytes::from_slice(alloc, line)?;
     lines.push(bytes)?;
     Ok(())
 }

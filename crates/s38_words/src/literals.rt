@@ -7,7 +7,7 @@ ghost use Rattle.s38_words.specs.Literal.{ebcdic, hex_bytes, is_hex_text, is_tex
 
 use crate::numbers::number;
 use crate::texts::{are_hex_digits, hex_byte, is_digit, is_letter};
-use s38_base::{Attr, Bytes, NoMemory, Seq};
+use s38_base::{Attr, Bytes, NoMemory};
 use s38_code::Arg;
 use std::alloc::Global;
 
@@ -147,7 +147,7 @@ pub fn text_literal(alloc: Global, text: &[u8]) -> Result<Option<Arg>, NoMemory>
         attr: Attr::Chars {
             len: bytes.len() as u16,
         },
-        bytes: Seq::from_vec(bytes),
+        bytes: Bytes::from_vec(bytes),
     }))
 }
 
@@ -174,7 +174,7 @@ fn packed(alloc: Global, number: u128, sign: u8, last: u8) -> Result<Bytes, NoMe
     requires sign { sign < 16 }
     ensures { IfOk result (λ bytes. bytes ≡ map (packed_with last number sign) (range_with_len 0 (last + 1))) }
 {
-    let mut bytes = Vec::new(alloc);
+    let mut bytes = Bytes::new(alloc);
     for k in 0..last + 1 {
         let high = digit_at(number, 2 * (last - k));
         let low = if k == last {
@@ -184,7 +184,7 @@ fn packed(alloc: Global, number: u128, sign: u8, last: u8) -> Result<Bytes, NoMe
         };
         bytes.push(high * 16 + low)?;
     }
-    Ok(Seq::from_vec(bytes))
+    Ok(bytes)
 }
 
 /// The operand that a numeric literal is: a packed number of as many digits as are written.
