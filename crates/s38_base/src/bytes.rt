@@ -95,17 +95,6 @@ impl Bytes {
         }
     }
 
-    /// Adds these bytes at the end; an error leaves them as they were.
-    pub fn extend_from_slice(&mut self, more: &[u8]) -> Result<(), NoMemory>
-        ensures ok { OnOk result (self.new ≡ self.old ++ more.now) }
-        ensures err { OnErr result (self.new ≡ self.old) }
-    {
-        match self.items.extend_from_slice(more) {
-            Ok(()) => Ok(()),
-            Err(_) => Err(NoMemory),
-        }
-    }
-
     /// Keeps the first `len` bytes, or fills up to so many; an error leaves them as they were.
     pub fn resize(&mut self, len: usize, fill: u8) -> Result<(), NoMemory>
         ensures ok { OnOk result (self.new ≡ take len self.old ++ replicate (len - length self.old) fill) }

@@ -1,7 +1,7 @@
 //! What is read and refused as a name or a number, lists that grow and are made again, and the texts of errors.
 
 use s38_base::{
-    BadName, Failed, Name, NoMemory, Seq, TryClone, read_u32_at, read_u64_at, try_clones,
+    BadName, Bytes, Failed, Name, NoMemory, Seq, TryClone, read_u32_at, read_u64_at, try_clones,
 };
 use std::test::Fail;
 
@@ -47,12 +47,39 @@ fn lists_are_made_again(rt: HostRuntime) -> Result<(), Fail> {
     let again = try_clones(alloc, list.as_slice())?;
     assert_eq!(rt;
         format!(in alloc; "{again:?}")?.as_str(),
-        "Seq { items: [Seq { items: [65, 66] }, Seq { items: [] }] }"
+        "Seq { items: [Bytes { items: [65, 66] }, Bytes { items: [] }] }"
     );
     assert_eq!(rt;
-        Bytes::from_slice(alloc, b"AB")?.try_clone(alloc)?.as_slice(),
+        Bytes::from_slice(alloc, b"AB")?
+            .try_clone(alloc)?
+            .as_slice(),
         b"AB".as_slice()
     );
+    Ok(())
+}
+
+#[test]
+fn bytes_stand_in_place_and_on_the_heap(rt: HostRuntime) -> Result<(), Fail> {
+    let alloc = rt.alloc();
+    for len in [0, 1, 15, 16, 17, 300] {
+        let mut bytes = Bytes::repeated(alloc, 7, len)?;
+        bytes.push(9)?;
+        bytes.resize(len + 2, 5)?;
+        bytes.as_mut_slice().reverse();
+        let mut same = vec![in alloc; 7; len + 2]?;
+        same[0] = 5;
+        same[1] = 9;
+        assert_eq!(rt;
+            bytes.try_clone(alloc)?.as_slice(),
+            same.as_slice(),
+            "{len} bytes"
+        );
+        assert_eq!(rt;
+            Bytes::from_vec(same).as_slice(),
+            bytes.as_slice(),
+            "{len} bytes"
+        );
+    }
     Ok(())
 }
 
