@@ -64,6 +64,7 @@ impl Attr {
     }
 
     /// It is the attribute of a number, and keeps its bounds.
+    #[inline(always)]
     pub fn is_numeric(self) -> bool
         ensures { result ≡ is_numeric self }
     {

@@ -73,6 +73,7 @@ impl Relation {
     }
 
     /// It holds of what stands in this order to the other side; ANY, FIRST and LAST hold always.
+    #[inline(always)]
     pub fn holds(self, order: Ordering) -> bool
         ensures { result ≡ holds self order }
     {
