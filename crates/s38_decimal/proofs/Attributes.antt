@@ -54,6 +54,10 @@ fits_below (Binary size) z h = binary_below size z (search rules) (search rules)
 fits_below (Chars len) z h = search rules
 fits_below Pointer z h = search rules
 
+-- one of up to 18 digits
+pub short_below : (digits fraction : ℕ) (z : ℤ) → digits ≤ 18 → IsTrue (fits (Packed digits fraction) z) → unsigned_abs z < 10 ^ 18
+short_below digits fraction z few h = omega (arith, fits_below (Packed digits fraction) z h, tens_le digits 18 few)
+
 pub fits_numeric : (attr : Attr) (z : ℤ) → IsTrue (fits attr z) → IsTrue (is_numeric attr)
 unfolding fits
 fits_numeric attr z h = search rules

@@ -94,6 +94,41 @@ bad_pair bytes k pairs pair below is bad =
     (λ high. bad_high bytes k pairs below (omega arith))
     (cases_lt h 10)
 
+-- the pairs of four bytes
+pub four_number : (bytes : List ℕ) (a b c d : ℕ)
+    → Pair (slice_index bytes 0 / 16) (slice_index bytes 0 % 16) a → Pair (slice_index bytes 1 / 16) (slice_index bytes 1 % 16) b
+    → Pair (slice_index bytes 2 / 16) (slice_index bytes 2 % 16) c → Pair (slice_index bytes 3 / 16) (slice_index bytes 3 % 16) d
+    → a ≤ 99 → b ≤ 99 → c ≤ 99 → d ≤ 99
+    → ((a * 100 + b) * 100 + c) * 100 + d ≡ number_from 10 (half_byte bytes) 8
+four_number bytes a b c d a_is b_is c_is d_is a_few b_few c_few d_few =
+    let one = next_number bytes 0 0 refl in
+    let two = next_number bytes 1 (number_from 10 (half_byte bytes) 2) refl in
+    let three = next_number bytes 2 (number_from 10 (half_byte bytes) 4) refl in
+    let four = next_number bytes 3 (number_from 10 (half_byte bytes) 6) refl in
+    omega (
+      arith,
+      one,
+      two,
+      three,
+      four,
+      pair_is (slice_index bytes 0 / 16) (slice_index bytes 0 % 16) a a_is a_few,
+      pair_is (slice_index bytes 1 / 16) (slice_index bytes 1 % 16) b b_is b_few,
+      pair_is (slice_index bytes 2 / 16) (slice_index bytes 2 % 16) c c_is c_few,
+      pair_is (slice_index bytes 3 / 16) (slice_index bytes 3 % 16) d d_is d_few,
+    )
+
+pub four_decimal : (bytes : List ℕ) (a b c d : ℕ)
+    → Pair (slice_index bytes 0 / 16) (slice_index bytes 0 % 16) a → Pair (slice_index bytes 1 / 16) (slice_index bytes 1 % 16) b
+    → Pair (slice_index bytes 2 / 16) (slice_index bytes 2 % 16) c → Pair (slice_index bytes 3 / 16) (slice_index bytes 3 % 16) d
+    → a ≤ 99 → b ≤ 99 → c ≤ 99 → d ≤ 99
+    → are_decimal (half_byte bytes) 8 ≡ true
+four_decimal bytes a b c d a_is b_is c_is d_is a_few b_few c_few d_few =
+    next_decimal bytes 3 (next_decimal bytes 2 (next_decimal bytes 1 (next_decimal bytes 0 refl
+    (pair_high (slice_index bytes 0 / 16) (slice_index bytes 0 % 16) a a_is a_few) (pair_low (slice_index bytes 0 / 16) (slice_index bytes 0 % 16) a a_is a_few))
+    (pair_high (slice_index bytes 1 / 16) (slice_index bytes 1 % 16) b b_is b_few) (pair_low (slice_index bytes 1 / 16) (slice_index bytes 1 % 16) b b_is b_few))
+    (pair_high (slice_index bytes 2 / 16) (slice_index bytes 2 % 16) c c_is c_few) (pair_low (slice_index bytes 2 / 16) (slice_index bytes 2 % 16) c c_is c_few))
+    (pair_high (slice_index bytes 3 / 16) (slice_index bytes 3 % 16) d d_is d_few) (pair_low (slice_index bytes 3 / 16) (slice_index bytes 3 % 16) d d_is d_few)
+
 -- ---- digits that begin behind the first half byte
 
 number_ext : (f g : ℕ → ℕ) (n : ℕ) → ((k : ℕ) → f k ≡ g k) → number_from 10 f n ≡ number_from 10 g n

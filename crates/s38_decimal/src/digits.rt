@@ -1,5 +1,6 @@
 ghost use Rattle.std.specs.Prelude.{◌≡◌, ◌||◌, IsTrue, pos, negsuc, ◌≤ℤ◌};
 ghost use Rattle.s38_base.specs.Scalar.{is_numeric};
+ghost use Rattle.s38_decimal.specs.Forms.{is_short};
 ghost use Rattle.s38_decimal.specs.Need.{has_one, has_one_fraction, has_receiver, has_second, longer_fraction, longer_whole, need_of, quotient_need, scale_need, whole_digits};
 
 use s38_base::{Attr, Op};
@@ -33,6 +34,17 @@ pub fn has_one_fraction(a: Attr, b: Attr, to: Attr) -> bool
 {
     let behind = to.fraction();
     a.fraction() == behind && b.fraction() == behind
+}
+
+/// A packed number of up to 18 digits, which 64 bits hold.
+#[inline(always)]
+pub fn is_short(attr: Attr) -> bool
+    ensures { result ≡ is_short attr }
+{
+    match attr {
+        Attr::Packed { digits, .. } => digits <= 18,
+        _ => false,
+    }
 }
 
 fn quotient_need(a: Attr, b: Attr, to: Attr) -> u8

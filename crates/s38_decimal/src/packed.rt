@@ -27,6 +27,36 @@ fn pair_in(byte: u8) -> u8
     PAIRS[byte as usize]
 }
 
+/// The number that the half bytes of the first four bytes spell; None where one is no decimal digit. Numbers of eight
+/// and nine digits have as many before their last byte, and are read without a loop.
+#[inline(always)]
+fn four_pairs(bytes: &[u8], pairs: usize) -> Option<u64>
+    requires inside { 4 ≤ length bytes.now }
+    requires four { pairs ≡ 4 }
+    ensures value { result ≡ (if are_decimal (half_byte bytes.now) (2 * pairs)
+        then Some (number_from 10 (half_byte bytes.now) (2 * pairs)) else None) }
+    ensures bound { IfSome result (λ number. number < 10 ^ (2 * pairs)) }
+{
+    let _ = pairs;
+    let a = pair_in(bytes[0]);
+    let b = pair_in(bytes[1]);
+    let c = pair_in(bytes[2]);
+    let d = pair_in(bytes[3]);
+    if a > 99 {
+        return None;
+    }
+    if b > 99 {
+        return None;
+    }
+    if c > 99 {
+        return None;
+    }
+    if d > 99 {
+        return None;
+    }
+    Some(((a as u64 * 100 + b as u64) * 100 + c as u64) * 100 + d as u64)
+}
+
 /// The number that the half bytes of the first bytes spell; None where one is no decimal digit.
 #[inline(always)]
 fn pairs_number(bytes: &[u8], pairs: usize) -> Option<u64>
@@ -36,6 +66,9 @@ fn pairs_number(bytes: &[u8], pairs: usize) -> Option<u64>
         then Some (number_from 10 (half_byte bytes.now) (2 * pairs)) else None) }
     ensures bound { IfSome result (λ number. number < 10 ^ (2 * pairs)) }
 {
+    if pairs == 4 {
+        return four_pairs(bytes, pairs);
+    }
     let mut number = 0;
     for k in 0..pairs {
         let pair = pair_in(bytes[k]);

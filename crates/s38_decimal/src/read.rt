@@ -1,5 +1,7 @@
 ghost use Rattle.std.specs.Prelude.{◌≡◌, ◌<◌, ◌≤◌, ◌*◌, ◌&&◌, ◌==◌, ◌^◌, ℕ, unsigned_abs, IsTrue, IfOk, IfSome, MatchResult, ◌||◌, Some, None, length, if◌then◌else◌, slice_index, ℤ};
-ghost use Rattle.s38_decimal.specs.Forms.{is_decimal};
+ghost use Rattle.std.specs.Option.{option_map};
+ghost use Rattle.s38_base.specs.declared.attr.Attr.{Attr};
+ghost use Rattle.s38_decimal.specs.Forms.{is_decimal, is_short};
 ghost use Rattle.s38_base.specs.Scalar.{are_decimal, begins_right, digit_in, digits_of, fits, fits_bytes, half_byte, is_numeric, is_minus, is_sign, length_of, meaning_of, number_from, sign_in, spelled, twos_complement, value_of, with_minus};
 
 use crate::dec::{Dec, DecimalFault};
@@ -216,5 +218,42 @@ pub fn read_scalar(attr: Attr, bytes: &[u8]) -> Result<Dec, DecimalFault>
     match units_in(attr, bytes) {
         Some(units) => Ok(Dec { units, attr }),
         None => Err(DecimalFault::DecimalData),
+    }
+}
+
+/// The units of a packed number of up to 18 digits, which 64 bits hold.
+#[inline(always)]
+#[tactic(auto, using(crate::proofs::Attributes::short_below))]
+fn short_units(digits: u8, fraction: u8, bytes: &[u8]) -> Option<i64>
+    requires { digits ≤ 18 }
+    ensures value { result ≡ value_of (Attr.Packed digits fraction) bytes.now }
+    ensures fits { IfSome result (λ units. IsTrue (fits (Attr.Packed digits fraction) units)) }
+    ensures short { IfSome result (λ units. unsigned_abs units < 10 ^ 18) }
+{
+    match value(Attr::Packed { digits, fraction }, bytes) {
+        Some(units) => Some(units as i64),
+        None => None,
+    }
+}
+
+/// The packed number of up to 18 digits that stands in the bytes. None exactly where the attribute is another one or
+/// the bytes have no value.
+#[inline(always)]
+pub fn read_short(attr: Attr, bytes: &[u8]) -> Option<Dec>
+    ensures value { option_map (λ d. d.units) result ≡ (if is_short attr then value_of attr bytes.now else None) }
+    ensures attr { IfSome result (λ d. d.attr ≡ attr) }
+    ensures short { IfSome result (λ d. unsigned_abs d.units < 10 ^ 18) }
+{
+    match attr {
+        Attr::Packed { digits, fraction } if digits <= 18 => {
+            match short_units(digits, fraction, bytes) {
+                Some(units) => Some(Dec {
+                    units: i128::from(units),
+                    attr,
+                }),
+                None => None,
+            }
+        }
+        _ => None,
     }
 }

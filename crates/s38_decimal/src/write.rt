@@ -155,8 +155,9 @@ fn write_binary(units: i128, into: &mut [u8])
     }
 }
 
+#[inline(never)]
 #[tactic(auto, unfolding(s38_base::specs::Scalar::fits, s38_base::specs::Scalar::image_of))]
-fn write(attr: Attr, units: i128, into: &mut [u8])
+fn write_image(attr: Attr, units: i128, into: &mut [u8])
     requires long { length into.old ≡ length_of attr }
     requires fits { IsTrue (fits attr units) }
     ensures { into.new ≡ image_of attr units }
@@ -180,6 +181,23 @@ pub fn write_scalar(attr: Attr, units: i128, into: &mut [u8]) -> Result<(), Deci
     if !fits(attr, units) {
         return Err(DecimalFault::Size);
     }
-    write(attr, units, into);
+    write_image(attr, units, into);
     Ok(())
+}
+
+/// Writes a number that its attribute holds.
+#[inline(always)]
+#[tactic(auto, unfolding(s38_base::specs::Scalar::fits, s38_base::specs::Scalar::image_of))]
+pub fn write_fitting(attr: Attr, units: i128, into: &mut [u8])
+    requires long { length into.old ≡ length_of attr }
+    requires fits { IsTrue (fits attr units) }
+    ensures { into.new ≡ image_of attr units }
+{
+    match attr {
+        Attr::Packed { digits, .. } if digits <= 18 => {
+            let number = units.unsigned_abs();
+            write_pairs(number as u64, sign_of(units), into);
+        }
+        other => write_image(other, units, into),
+    }
 }

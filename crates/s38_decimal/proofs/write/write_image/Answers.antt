@@ -1,7 +1,7 @@
 use Rattle.std.proofs.Common.{rules}
 use Rattle.s38_base.specs.Scalar.{digits_of, fits, image_of}
 use Rattle.s38_decimal.proofs.Powers.{packed_room}
-use Rattle.s38_decimal.proofs.write.write.Goals as goal
+use Rattle.s38_decimal.proofs.write.write_image.Goals as goal
 
 pub write_packed-requires-clause-all : goal.write_packed-requires-clause-all
 unfolding fits image_of
