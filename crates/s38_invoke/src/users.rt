@@ -2,7 +2,7 @@
 ghost use Rattle.std.specs.Prelude.{◌≡◌, ◌+◌, ◌<◌, ◌≤◌, ◌++◌, ◌∷◌, [], length, map};
 ghost use Rattle.std.specs.Option.{option_map};
 ghost use Rattle.s38_rules.specs.Invocations.{in_use, most_frames, stack_of};
-ghost use Rattle.s38_rules.specs.Users.{acting, adopted, adoption_of, frame_header};
+ghost use Rattle.s38_rules.specs.Users.{acting, adopted, adoption_of, frame_header, with_owner};
 
 use crate::world::World;
 use s38_base::{ObjNum, UserNum};
@@ -84,33 +84,46 @@ fn adoption_of(last: bool, program: Option<Header>) -> Option<UserNum>
     }
 }
 
-/// The owners that the frames bring join the acting users. What is said of the program before them is handed on, so
-/// that a program that calls itself is looked up once.
-fn adopt<T: Table>(
+/// What is said of the program of a frame, which is handed on where it is the program of the frame before it.
+#[inline(always)]
+fn said_of<T: Table>(
     objects: &T,
-    acting: &mut Acting,
-    frames: &[ObjNum],
+    frame: ObjNum,
     before: ObjNum,
     said: Option<Header>,
-)
+) -> Option<Header>
+    requires { said ≡ frame_header (T.held objects.now) before }
+    ensures { result ≡ frame_header (T.held objects.now) frame }
+{
+    if frame == before {
+        said
+    } else {
+        frame_header(objects, frame)
+    }
+}
+
+/// An owner joins the acting users, where there is one.
+#[inline(always)]
+fn join(acting: &mut Acting, owner: Option<UserNum>)
+    requires { length acting.old < 65 }
+    ensures { acting.new ≡ acting.old ++ with_owner (option_map (λ u. u.0) owner) [] }
+{
+    if let Some(owner) = owner {
+        acting.add(owner);
+    }
+}
+
+/// The owners that the frames bring join the acting users. A program that calls itself is looked up once.
+fn adopt<T: Table>(objects: &T, acting: &mut Acting, frames: &[ObjNum])
     requires few { length acting.old + length frames.now ≤ 65 }
-    requires said { said ≡ frame_header (T.held objects.now) before }
     ensures { acting.new ≡ acting.old ++ adopted (T.held objects.now) frames.now }
 {
-    match frames {
-        [] => {}
-        [frame, more @ ..] => {
-            let program = if *frame == before {
-                said
-            } else {
-                frame_header(objects, *frame)
-            };
-            let owner = adoption_of(more.len() == 0, program);
-            if let Some(owner) = owner {
-                acting.add(owner);
-            }
-            adopt(objects, acting, more, *frame, program);
-        }
+    let mut before = ObjNum(0);
+    let mut said = None;
+    for (k, frame) in frames.iter().enumerate() {
+        said = said_of(objects, *frame, before, said);
+        before = *frame;
+        join(acting, adoption_of(k + 1 == frames.len(), said));
     }
 }
 
@@ -133,7 +146,7 @@ impl<T: Table> World<T> {
     {
         users.add(self.user_of(process));
         let frames = self.frames_in_use(process, depth);
-        adopt(&self.objects, users, frames, ObjNum(0), None);
+        adopt(&self.objects, users, frames);
     }
 
     /// The acting users of a process that has come to a depth of invocations.

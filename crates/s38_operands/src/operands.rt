@@ -7,6 +7,7 @@ use s38_base::{Attr, Id, Rights};
 use s38_code::Operand;
 
 /// What stands at an operand, from 1 on.
+#[inline(always)]
 pub fn place(operands: &[Operand], k: usize) -> Option<&Operand>
     ensures { option_copied result ≡ place operands.now k }
 {

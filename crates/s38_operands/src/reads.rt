@@ -26,6 +26,7 @@ fn pointer_in(space: Option<&Tagged>, at: u64, attr: Attr) -> Option<Pointer>
     }
 }
 
+#[inline(always)]
 fn pointer_of(objects: &Objects, operand: Option<&Operand>) -> Option<Pointer>
     ensures { result ≡ pointer_of objects.now (option_copied operand.entry) }
 {
@@ -41,6 +42,7 @@ fn pointer_of(objects: &Objects, operand: Option<&Operand>) -> Option<Pointer>
 }
 
 /// The pointer that is used.
+#[inline(always)]
 pub fn pointer_at(objects: &Objects, operands: &[Operand], k: usize) -> Option<Pointer>
     ensures { result ≡ pointer_at objects.now operands.now k }
 {
@@ -48,6 +50,7 @@ pub fn pointer_at(objects: &Objects, operands: &[Operand], k: usize) -> Option<P
 }
 
 /// The number of the object that the used pointer names, 0 for none.
+#[inline(always)]
 pub fn target(objects: &Objects, operands: &[Operand], k: usize) -> ObjNum
     ensures { result.0 ≡ target objects.now operands.now k }
 {
@@ -106,6 +109,7 @@ pub fn piece_at<'a>(
     piece_of(alloc, objects, place(operands, k))
 }
 
+#[inline(always)]
 fn size_of(objects: &Objects, operand: Option<&Operand>) -> usize
     ensures { result ≡ length (bytes_of objects.now (option_copied operand.entry)) }
 {
@@ -121,6 +125,7 @@ fn size_of(objects: &Objects, operand: Option<&Operand>) -> usize
 }
 
 /// How many they are.
+#[inline(always)]
 pub fn size_at(objects: &Objects, operands: &[Operand], k: usize) -> usize
     ensures { result ≡ size_at objects.now operands.now k }
 {
