@@ -8,6 +8,6 @@ use Rattle.s38_indexes.proofs.entries.add.Goals as goal
 pub returns-clause-ok : goal.returns-clause-ok
 returns-clause-ok c =
     let xs = c.args.entries.now.items in
-    let at = c.place-at.ensures.value ∙ ap (λ key. place key c.deref.result.now) c.as_slice.ensures.items in
+    let at = c.place-at.ensures.value ∙ ap (λ key. place key c.deref.result.now) c.as_slice.ensures in
     let is = inserted_at c.args.entry xs c.deref.result.now c.place-at.result at c.deref.ensures.value in
     on_ok_weaker _ (λ (e : c.insert_at.new.entries.items ≡ insert xs c.place-at.result c.args.entry). e ∙ is) c.insert_at.ensures.ok
