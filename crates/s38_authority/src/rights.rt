@@ -58,6 +58,7 @@ fn sources_on<T: Table>(world: &World<T>, number: ObjNum, users: &[UserNum]) -> 
 
 /// The rights that are available to these users on the object of a number, with those that the used pointer
 /// carries: none but those without the object.
+#[inline(always)]
 #[tactic(auto, unfolding(s38_rules::specs::Authority::available))]
 pub fn available<T: Table>(
     world: &World<T>,

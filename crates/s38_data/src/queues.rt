@@ -2,9 +2,9 @@
 ghost use Rattle.std.specs.Prelude.{◌≡◌, ◌≤◌, ℕ, [], Some, None, IfOk, OnOk, OnErr, is_some, length};
 ghost use Rattle.std.specs.Option.{option_copied, unwrap_or};
 ghost use Rattle.s38_queues.specs.MessageQueue.{MessageQueue, found, found_message, image_size, is_any, longest_key, message, with_message};
-ghost use Rattle.s38_rules.specs.Operands.{bytes_at};
+ghost use Rattle.s38_rules.specs.Operands.{bytes_at, is_given};
 ghost use Rattle.s38_rules.specs.Parts.{no_queue, on_queue, queue_at};
-ghost use Rattle.s38_rules.specs.Queues.{ask_fails, created_queue, crtq_changes, crtq_fails, deq_changes, deq_fails, deq_gives, deq_needs, enq_changes, enq_fails, enq_needs, key_len_at, left_by, longest_at, new_queue, order_of, put_fails, queues_row, suits_keys, suits_order, text_of};
+ghost use Rattle.s38_rules.specs.Queues.{ask_fails, created_queue, crtq_changes, crtq_fails, deq_changes, deq_fails, deq_gives, deq_needs, enq_changes, enq_fails, enq_needs, key_len_at, left_by, longest_at, new_queue, order_of, put_fails, queues_row, suits_keys, suits_order, take_fails, text_of};
 
 use s38_base::exceptions::{LENGTH_INVALID, LIMIT_EXCEEDED, NO_MESSAGE};
 use s38_base::{Category, Exception, Kind, NoMemory, ObjNum, Op, Relation, Rights};
@@ -16,8 +16,8 @@ use s38_code::{Operand, Request, Val};
 use s38_invoke::World;
 use s38_objects::Objects;
 use s38_operands::{
-    Needs, Question, QueueFacts, ask_at, fails, fitted, is_given, on_object, piece_at, queue_facts,
-    relation_at, room_at, size_at, target, whole_at, word_at,
+    Needs, Question, QueueFacts, ask_at, facts_of_queue, fails, fitted, is_given, on_object,
+    piece_at, queue_facts, relation_at, room_at, size_at, target, whole_at, word_at,
 };
 use s38_queues::{Message, Order, Queue};
 use s38_rules::{Body, Creating, Sought};
@@ -207,11 +207,15 @@ impl Question for HasMessage<'_> {
     }
 }
 
-/// Whether the queue of a number has a message that may be taken by the key at operand 4.
-fn has_message(objects: &Objects, number: ObjNum, relation: Relation, operands: &[Operand]) -> bool
-    ensures { result ≡ is_some (found (queue_at objects.now number.0) relation (bytes_at objects.now operands.now 4)) }
+/// Whether a queue has a message that may be taken by the key at operand 4.
+fn has_message(
+    objects: &Objects,
+    queue: Option<&Queue>,
+    relation: Relation,
+    operands: &[Operand],
+) -> bool
+    ensures { result ≡ is_some (found (unwrap_or (option_copied queue.entry) no_queue) relation (bytes_at objects.now operands.now 4)) }
 {
-    let queue = objects.queue(number);
     ask_at(&HasMessage { queue, relation }, objects, operands, 4)
 }
 
@@ -249,23 +253,34 @@ fn ask_fails(facts: &QueueFacts, relation: Relation, is_key: bool, len: usize) -
     fails(!suits_keys(facts, relation, is_key, len), LENGTH_INVALID, 4)
 }
 
-/// The queue may be asked so, and there is such a message.
-#[tactic(auto, unfolding(s38_rules::specs::Queues::deq_fails))]
-fn deq_fails(objects: &Objects, operands: &[Operand]) -> Option<Exception>
-    ensures { result ≡ deq_fails objects.now operands.now }
+/// A queue may be asked so, and it has such a message.
+fn take_fails(
+    objects: &Objects,
+    queue: Option<&Queue>,
+    relation: Relation,
+    operands: &[Operand],
+) -> Option<Exception>
+    ensures { result ≡ take_fails (unwrap_or (option_copied queue.entry) no_queue) relation (is_given operands.now 4) (bytes_at objects.now operands.now 4) }
 {
-    let number = target(objects, operands, 2);
-    let relation = relation_at(operands, 3);
-    let facts = queue_facts(objects, number);
+    let facts = facts_of_queue(queue);
     let len = size_at(objects, operands, 4);
     if let Some(failure) = ask_fails(&facts, relation, is_given(operands, 4), len) {
         return Some(failure);
     }
     fails(
-        !has_message(objects, number, relation, operands),
+        !has_message(objects, queue, relation, operands),
         NO_MESSAGE,
         2,
     )
+}
+
+/// The queue may be asked so, and there is such a message. The queue is looked up once.
+#[tactic(auto, unfolding(s38_rules::specs::Queues::deq_fails))]
+fn deq_fails(objects: &Objects, operands: &[Operand]) -> Option<Exception>
+    ensures { result ≡ deq_fails objects.now operands.now }
+{
+    let queue = objects.queue(target(objects, operands, 2));
+    take_fails(objects, queue, relation_at(operands, 3), operands)
 }
 
 fn text_of(message: Option<&Message>) -> &[u8]

@@ -139,6 +139,7 @@ impl<T: Table> World<T> {
 
     /// The acting users of a process that has come to a depth of invocations join those that act, who are nobody
     /// yet: its user, and the owners of programs that adopt.
+    #[inline(always)]
     #[tactic(auto, unfolding(s38_rules::specs::Users::acting))]
     pub fn act(&self, process: u32, depth: u16, users: &mut Acting)
         requires { users.old ≡ [] }

@@ -85,6 +85,7 @@ impl Text {
     }
 
     /// Adds two hexadecimal digits.
+    #[inline(always)]
     pub fn add_hex_byte(&mut self, byte: u8) -> Result<(), NoMemory>
         ensures { OnOk result (self.new ≡ self.old ++ hex_byte byte) }
     {

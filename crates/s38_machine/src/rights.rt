@@ -45,6 +45,7 @@ fn granting_rule(owns: bool, operand: u8, rights: Rights, there: Rights) -> Opti
 }
 
 /// What is claimed of an object is there for these users.
+#[inline(always)]
 fn claim_rule(
     world: &World<Objects>,
     users: &[UserNum],

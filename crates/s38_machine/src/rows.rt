@@ -16,6 +16,7 @@ use s38_programs::programs;
 use std::alloc::Global;
 
 /// What an instruction needs of its operands, in their order.
+#[inline(never)]
 #[tactic(auto, unfolding(s38_rules::specs::Rows::row_in))]
 pub fn needs(world: &World<Objects>, process: u32, depth: u16, request: &Request) -> Needs
     ensures { result ≡ (row request.now.op).needs world.now process depth request.now }

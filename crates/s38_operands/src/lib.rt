@@ -29,7 +29,7 @@ pub use operands::{
     attr_at, id_at, is_given, is_in_space, is_list, is_machine, place, rights_at, room_at,
     scalar_attr, whole_at, word_at,
 };
-pub use queues::{QueueFacts, queue_facts};
+pub use queues::{QueueFacts, facts_of_queue, queue_facts};
 pub use reads::{bytes_at, piece_at, pointer_at, size_at, source_cells, target};
 pub use storage::{first_pointer, is_aligned, is_within};
 pub use values::{count_image, fitted};

@@ -17,7 +17,8 @@ pub struct QueueFacts {
     pub size: u32,
 }
 
-fn facts_in(queue: Option<&Queue>) -> QueueFacts
+/// The facts of a queue.
+pub fn facts_of_queue(queue: Option<&Queue>) -> QueueFacts
     ensures order { result.order ≡ (unwrap_or (option_copied queue.entry) no_queue).order }
     ensures key_len { result.key_len ≡ (unwrap_or (option_copied queue.entry) no_queue).key_len }
     ensures longest { result.longest ≡ (unwrap_or (option_copied queue.entry) no_queue).longest }
@@ -48,5 +49,5 @@ pub fn queue_facts(objects: &Objects, number: ObjNum) -> QueueFacts
     ensures size { result.size ≡ image_size (queue_at objects.now number.0).messages }
     ensures bound { result.size ≤ 16777216 }
 {
-    facts_in(objects.queue(number))
+    facts_of_queue(objects.queue(number))
 }

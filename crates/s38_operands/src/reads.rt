@@ -93,7 +93,8 @@ fn piece_of<'a>(
 {
     match operand {
         Some(Operand::Value { bytes, .. }) => Ok(Piece::Lent(bytes.as_slice())),
-        _ => Ok(Piece::Made(bytes_of(alloc, objects, operand)?)),
+        Some(Operand::InSpace { .. }) => Ok(Piece::Made(bytes_of(alloc, objects, operand)?)),
+        _ => Ok(Piece::Lent(&[])),
     }
 }
 

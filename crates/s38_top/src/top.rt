@@ -8,6 +8,7 @@ use crate::tell::{Told, tell};
 use s38_code::Entry;
 use s38_io::{Sink, Source};
 use std::alloc::Global;
+use std::mem;
 
 /// What the program came to: its status, the history, a mark for each entry, and the disk that was handed in.
 #[derive(Drop)]
@@ -34,20 +35,21 @@ fn status(told: &Told) -> u8
     }
 }
 
-/// The history and the marks of a run.
+/// The history and the marks of a run. The program ends behind it, so the deck is left to the system.
 fn parted(whole: Whole) -> (Vec<Entry>, Vec<u64>)
     ensures history { result.0 ≡ whole.history }
     ensures marks { result.1 ≡ whole.marks }
 {
     let Whole {
-        deck: _,
+        deck,
         history,
         marks,
     } = whole;
+    mem::forget(deck);
     (history, marks)
 }
 
-/// The history and the marks of an outcome.
+/// The history and the marks of an outcome. The program ends behind it, so what else it holds is left to the system.
 fn entries(alloc: Global, outcome: Outcome) -> (Vec<Entry>, Vec<u64>)
     ensures history { result.0.items ≡ history_of outcome }
     ensures marks { result.1.items ≡ marks_of outcome }
@@ -55,7 +57,10 @@ fn entries(alloc: Global, outcome: Outcome) -> (Vec<Entry>, Vec<u64>)
     match outcome {
         Outcome::Complete { pick: _, whole } => parted(whole),
         Outcome::Demonstrated { size: _, whole } => parted(whole),
-        _ => (Vec::new(alloc), Vec::new(alloc)),
+        other => {
+            mem::forget(other);
+            (Vec::new(alloc), Vec::new(alloc))
+        }
     }
 }
 
