@@ -1,6 +1,6 @@
 //! Units of commitment: changes are noted, found and ended, a unit is full where it is, and faults have their texts.
 
-use s38_base::{NoMemory, ObjNum, Seq};
+use s38_base::{Bytes, NoMemory, ObjNum};
 use s38_commits::{Unit, UnitChange, UnitFault, Units};
 use std::alloc::Global;
 use std::test::Fail;
