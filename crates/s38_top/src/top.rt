@@ -1,14 +1,13 @@
-ghost use Rattle.std.specs.Prelude.{◌≡◌, ◌⊎◌, ◌≤◌, Some, None, length, map, if◌then◌else◌};
+ghost use Rattle.std.specs.Prelude.{◌≡◌, ◌⊎◌, ◌≤◌, [], Some, None, length, map, if◌then◌else◌};
 ghost use Rattle.s38_top.specs.Commands.{command_of};
 ghost use Rattle.s38_top.specs.Outcome.{Ends, IsGood, Serves, faulted, history_of, marks_of, status_of};
 
-use crate::outcome::{Outcome, Whole};
+use crate::outcome::{CheckedDeck, Outcome, Whole};
 use crate::run::decide;
 use crate::tell::{Told, tell};
-use s38_code::Entry;
+use s38_code::{Deck, Entry};
 use s38_io::{Sink, Source};
 use std::alloc::Global;
-use std::mem;
 
 /// What the program came to: its status, the history, a mark for each entry, and the disk that was handed in.
 #[derive(Drop)]
@@ -18,6 +17,24 @@ pub struct Report<D> {
     pub marks: Vec<u64>,
     /// None only where the status is 7.
     pub disk: Option<D>,
+    /// What else was held, which is dropped with the report.
+    rest: Rest,
+}
+
+/// What was read and made beside the history.
+#[derive(Drop)]
+enum Rest {
+    Nothing,
+    Run(Deck),
+    Checked(CheckedDeck),
+}
+
+/// What an outcome leaves behind.
+#[derive(Drop)]
+struct Parts {
+    history: Vec<Entry>,
+    marks: Vec<u64>,
+    rest: Rest,
 }
 
 fn status(told: &Told) -> u8
@@ -35,32 +52,45 @@ fn status(told: &Told) -> u8
     }
 }
 
-/// The history and the marks of a run. The program ends behind it, so the deck is left to the system.
-fn parted(whole: Whole) -> (Vec<Entry>, Vec<u64>)
-    ensures history { result.0 ≡ whole.history }
-    ensures marks { result.1 ≡ whole.marks }
+/// The parts of a run.
+fn parted(whole: Whole) -> Parts
+    ensures history { result.history ≡ whole.history }
+    ensures marks { result.marks ≡ whole.marks }
 {
     let Whole {
         deck,
         history,
         marks,
     } = whole;
-    mem::forget(deck);
-    (history, marks)
+    Parts {
+        history,
+        marks,
+        rest: Rest::Run(deck),
+    }
 }
 
-/// The history and the marks of an outcome. The program ends behind it, so what else it holds is left to the system.
-fn entries(alloc: Global, outcome: Outcome) -> (Vec<Entry>, Vec<u64>)
-    ensures history { result.0.items ≡ history_of outcome }
-    ensures marks { result.1.items ≡ marks_of outcome }
+/// The parts where no job ran.
+fn without_entries(alloc: Global, rest: Rest) -> Parts
+    ensures history { result.history.items ≡ [] }
+    ensures marks { result.marks.items ≡ [] }
+{
+    Parts {
+        history: Vec::new(alloc),
+        marks: Vec::new(alloc),
+        rest,
+    }
+}
+
+/// The parts of an outcome.
+fn parts(alloc: Global, outcome: Outcome) -> Parts
+    ensures history { result.history.items ≡ history_of outcome }
+    ensures marks { result.marks.items ≡ marks_of outcome }
 {
     match outcome {
         Outcome::Complete { pick: _, whole } => parted(whole),
         Outcome::Demonstrated { size: _, whole } => parted(whole),
-        other => {
-            mem::forget(other);
-            (Vec::new(alloc), Vec::new(alloc))
-        }
+        Outcome::Checked(checked) => without_entries(alloc, Rest::Checked(checked)),
+        _ => without_entries(alloc, Rest::Nothing),
     }
 }
 
@@ -82,12 +112,17 @@ fn report_of<D: Drop>(alloc: Global, told: Told, disk: D) -> Report<D>
 {
     let status = status(&told);
     let disk = disk_after(&told.outcome, disk);
-    let (history, marks) = entries(alloc, told.outcome);
+    let Parts {
+        history,
+        marks,
+        rest,
+    } = parts(alloc, told.outcome);
     Report {
         status,
         history,
         marks,
         disk,
+        rest,
     }
 }
 
