@@ -9,11 +9,12 @@ ghost use Rattle.s38_code.specs.declared.reply.Val.{Val};
 use crate::local_end::LocalEnd;
 use s38_base::{Attr, Bytes, Exception, Pointer, Seq};
 use s38_code::{Arg, Val};
-use s38_decimal::write_scalar;
+use s38_decimal::write_fitting;
 use std::alloc::Global;
 use std::mem;
 
 /// Writes a number in bytes of its attribute's length.
+#[inline(always)]
 fn write_held(alloc: Global, bytes: &mut Bytes, attr: Attr, units: i128)
     requires { IsTrue (fits attr units) }
     ensures { bytes.new ≡ (if length bytes.old == length_of attr then image_of attr units else bytes.old) }
@@ -22,10 +23,11 @@ fn write_held(alloc: Global, bytes: &mut Bytes, attr: Attr, units: i128)
         return;
     }
     let mut held = mem::replace(bytes, Seq::new(alloc)).into_vec();
-    let _ = write_scalar(attr, units, held.as_mut_slice());
+    write_fitting(attr, units, held.as_mut_slice());
     *bytes = Seq::from_vec(held);
 }
 
+#[inline(always)]
 fn write_number(alloc: Global, values: &mut [Val], at: usize, attr: Attr, units: i128)
     requires fits { IsTrue (fits attr units) }
     requires within { at < length values.old }
@@ -37,7 +39,8 @@ fn write_number(alloc: Global, values: &mut [Val], at: usize, attr: Attr, units:
     }
 }
 
-fn number_put(alloc: Global, values: &mut [Val], to: Option<usize>, attr: Attr, units: i128)
+#[inline(always)]
+pub fn number_put(alloc: Global, values: &mut [Val], to: Option<usize>, attr: Attr, units: i128)
     requires { IsTrue (fits attr units) }
     ensures { values.new ≡ number_put values.old to attr units }
 {
@@ -146,7 +149,8 @@ pub fn jump_to(label: Option<&Arg>) -> LocalEnd
 }
 
 /// Goes on at a label where the test holds.
-fn jump(test: bool, label: Option<&Arg>) -> LocalEnd
+#[inline(always)]
+pub fn jump(test: bool, label: Option<&Arg>) -> LocalEnd
     ensures { result ≡ jumps test (option_copied label.entry) }
 {
     if test { jump_to(label) } else { LocalEnd::Next }
