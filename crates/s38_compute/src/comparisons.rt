@@ -1,4 +1,4 @@
-ghost use Rattle.std.specs.Prelude.{◌≡◌, IfOk, IsTrue, Ok};
+ghost use Rattle.std.specs.Prelude.{◌≡◌, IfOk, IfSome, IsTrue, Ok};
 ghost use Rattle.s38_base.specs.declared.op.Op.{Op};
 ghost use Rattle.s38_base.specs.Relations.{relation_of};
 ghost use Rattle.s38_compute.specs.Compute.{compares, kind_word, numbers_compared, word_holds};
@@ -8,7 +8,7 @@ ghost use Rattle.s38_compute.specs.Written.{failed};
 use crate::sources::Sources;
 use s38_base::exceptions::DECIMAL_DATA;
 use s38_base::{Exception, NoMemory, Op, Pointer, Relation};
-use s38_decimal::compare as compare_numbers;
+use s38_decimal::{compare as compare_numbers, compare_short};
 use s38_strings::compare as compare_strings;
 use std::alloc::Global;
 use std::cmp::Ordering;
@@ -53,6 +53,23 @@ fn numbers_compared<S: Sources>(sources: &S) -> Result<bool, Exception>
                 Ok(word_holds(relation, compare_numbers(a, b)))
             }
         },
+    }
+}
+
+/// Whether a relation holds between two numbers to which there is a shorter way.
+#[inline(always)]
+#[tactic(auto, unfolding(crate::specs::Computed::test_given))]
+pub fn short_test<S: Sources>(sources: &S, op: Op) -> Option<bool>
+    ensures { IfSome result (λ test. test_given op (S.readings sources.now) ≡ Ok test) }
+{
+    match op {
+        Op::Cmpnvb => {
+            let a = sources.short(1)?;
+            let b = sources.short(2)?;
+            let relation = Relation::from_word(sources.word(3));
+            Some(word_holds(relation, compare_short(a, b)))
+        }
+        _ => None,
     }
 }
 

@@ -12,11 +12,11 @@ mod pointers;
 mod sources;
 mod strings;
 
-pub use comparisons::{is_branch, test_given};
+pub use comparisons::{is_branch, short_test, test_given};
 pub use computation::{compute, computes_number, computes_string, failure, is_computation, value};
 pub use copies::{copies_left, copies_right, shift_of};
 pub use given::Given;
-pub use numbers::number_given;
+pub use numbers::{number_given, short_number};
 pub use piece::Piece;
 pub use pointers::pointer_given;
 pub use sources::Sources;

@@ -1,4 +1,4 @@
-ghost use Rattle.std.specs.Prelude.{◌≡◌, ◌≤◌, ◌≤ℤ◌, ◌&&◌, IfOk, IsTrue, pos, negsuc};
+ghost use Rattle.std.specs.Prelude.{◌≡◌, ◌<◌, ◌≤◌, ◌≤ℤ◌, ◌^◌, ◌&&◌, IfOk, IfSome, IsTrue, Ok, pos, negsuc, unsigned_abs};
 ghost use Rattle.s38_base.specs.Scalar.{fits, is_numeric};
 ghost use Rattle.s38_decimal.specs.Need.{copy_need, has_one, has_one_fraction, has_second};
 ghost use Rattle.s38_decimal.specs.Values.{answer, exact_of};
@@ -9,7 +9,8 @@ use crate::sources::Sources;
 use s38_base::exceptions::{DECIMAL_DATA, SIZE, ZERO_DIVIDE};
 use s38_base::{Attr, Exception, Op};
 use s38_decimal::{
-    Dec, DecimalFault, Target, add, div, has_one_fraction, mult, need, neg, rem, scale, sub,
+    Dec, DecimalFault, Target, add, add_short, div, has_one_fraction, is_short, mult, need, neg,
+    rem, scale, sub,
 };
 
 /// The receiver holds numbers, and the instruction on two sources needs at most 38 digits.
@@ -67,6 +68,33 @@ fn two_computed(op: Op, to: Target, a: &Dec, b: &Dec) -> Result<i128, DecimalFau
         Op::Addn => add(*a, *b, to),
         Op::Subn => sub(*a, *b, to),
         _ => any_computed(op, target, a, b),
+    }
+}
+
+/// A sum or a difference at the fraction of both numbers, for a short receiver that holds it.
+#[inline(always)]
+fn short_computed(op: Op, to: Target, a: Dec, b: Dec) -> Option<i128>
+    requires first { unsigned_abs a.units < 10 ^ 18 }
+    requires second { unsigned_abs b.units < 10 ^ 18 }
+    ensures exact { IfSome result (λ units. two_computed op to a.attr a.units b.attr b.units ≡ Ok units) }
+    ensures fits { IfSome result (λ units. IsTrue (fits to.attr units)) }
+{
+    if !is_short(to.attr) {
+        return None;
+    }
+    if !is_plain(a.attr, b.attr, to.attr) {
+        return None;
+    }
+    match op {
+        Op::Addn => match add_short(a, b, to) {
+            Ok(units) => Some(units),
+            Err(_) => None,
+        },
+        Op::Subn => match sub(a, b, to) {
+            Ok(units) => Some(units),
+            Err(_) => None,
+        },
+        _ => None,
     }
 }
 
@@ -181,5 +209,23 @@ pub fn number_given<S: Sources>(sources: &S, op: Op, round: bool) -> Result<i128
     match op {
         Op::Neg | Op::Cpynv | Op::Scale => of_one(sources, op, round),
         _ => of_two(sources, op, round),
+    }
+}
+
+/// The number for a receiver of this attribute, where there is a shorter way to it; else `number_given` tells it.
+#[inline(always)]
+#[tactic(auto, unfolding(crate::specs::Computed::number_given))]
+pub fn short_number<S: Sources>(sources: &S, attr: Attr, op: Op, round: bool) -> Option<i128>
+    requires receiver { attr ≡ (S.readings sources.now).receiver }
+    ensures exact { IfSome result (λ units. number_given op round (S.readings sources.now) ≡ Ok units) }
+    ensures fits { IfSome result (λ units. IsTrue (fits attr units)) }
+{
+    match op {
+        Op::Addn | Op::Subn => {
+            let a = sources.short(2)?;
+            let b = sources.short(3)?;
+            short_computed(op, Target { attr, round }, a, b)
+        }
+        _ => None,
     }
 }

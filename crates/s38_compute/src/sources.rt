@@ -1,4 +1,4 @@
-ghost use Rattle.std.specs.Prelude.{◌≡◌, IfOk, IfSome, length};
+ghost use Rattle.std.specs.Prelude.{◌≡◌, ◌<◌, ◌^◌, IfOk, IfSome, Some, length, unsigned_abs};
 ghost use Rattle.std.specs.Option.{option_map};
 ghost use Rattle.s38_compute.specs.Piece.{piece_bytes};
 ghost use Rattle.s38_compute.specs.Readings.{Readings};
@@ -17,6 +17,12 @@ pub trait Sources {
     fn number(&self, k: usize) -> Option<Dec>
         ensures units { option_map (λ d. d.units) result ≡ (readings self.now).number k }
         ensures attr { IfSome result (λ d. d.attr ≡ (readings self.now).attr k) };
+
+    /// The number at an operand, where it has up to 18 digits and there is a shorter way to it; else `number` tells it.
+    fn short(&self, k: usize) -> Option<Dec>
+        ensures units { IfSome result (λ d. (readings self.now).number k ≡ Some d.units) }
+        ensures attr { IfSome result (λ d. d.attr ≡ (readings self.now).attr k) }
+        ensures few { IfSome result (λ d. unsigned_abs d.units < 10 ^ 18) };
 
     /// The bytes at an operand.
     fn bytes(&self, alloc: Global, k: usize) -> Result<Piece<'_>, NoMemory>

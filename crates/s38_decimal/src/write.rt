@@ -87,6 +87,38 @@ fn write_pairs(number: u64, sign: u8, into: &mut [u8])
     }
 }
 
+/// The same for five bytes, whose pairs are found in 32 bits and without a loop.
+#[inline(always)]
+fn write_five(number: u32, sign: u8, into: &mut [u8])
+    requires five { length into.old ≡ 5 }
+    requires few { number < 10 ^ 9 }
+    requires sign { sign < 16 }
+    ensures { into.new ≡ map (packed_with (length into.old - 1) number sign) (range_with_len 0 (length into.old)) }
+{
+    let rest = number / 10;
+    let high = rest / 10_000;
+    let low = rest % 10_000;
+    into[0] = pair_of((high / 100) as u8);
+    into[1] = pair_of((high % 100) as u8);
+    into[2] = pair_of((low / 100) as u8);
+    into[3] = pair_of((low % 100) as u8);
+    into[4] = (number % 10) as u8 * 16 + sign;
+}
+
+/// Writes a number in 64 bits, by the shortest way for its length.
+#[inline(always)]
+fn write_short(number: u64, sign: u8, into: &mut [u8])
+    requires some { 0 < length into.old }
+    requires sign { sign < 16 }
+    ensures { into.new ≡ map (packed_with (length into.old - 1) number sign) (range_with_len 0 (length into.old)) }
+{
+    if into.len() == 5 && number < 1_000_000_000 {
+        write_five(number as u32, sign, into);
+    } else {
+        write_pairs(number, sign, into);
+    }
+}
+
 /// The same for a number of up to 31 digits.
 #[inline(never)]
 fn write_long(number: u128, sign: u8, into: &mut [u8])
@@ -196,7 +228,7 @@ pub fn write_fitting(attr: Attr, units: i128, into: &mut [u8])
     match attr {
         Attr::Packed { digits, .. } if digits <= 18 => {
             let number = units.unsigned_abs();
-            write_pairs(number as u64, sign_of(units), into);
+            write_short(number as u64, sign_of(units), into);
         }
         other => write_image(other, units, into),
     }

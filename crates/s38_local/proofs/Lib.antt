@@ -1,6 +1,5 @@
 pub mod LawLaws
 pub mod MetLaws
-mod NumberLaws
 mod PlaceLaws
 mod ReceivedLaws
 pub mod ShapeLaws

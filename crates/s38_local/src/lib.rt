@@ -10,6 +10,7 @@ mod locality;
 mod operands;
 mod overlap;
 mod receivers;
+mod short;
 mod variables;
 mod way;
 mod written;

@@ -9,40 +9,42 @@ ghost use Rattle.s38_code.specs.declared.reply.Val.{Val};
 use crate::local_end::LocalEnd;
 use s38_base::{Attr, Bytes, Exception, Pointer};
 use s38_code::{Arg, Val};
-use s38_decimal::write_scalar;
-use std::alloc::Global;
+use s38_decimal::write_fitting;
 use std::mem;
 
 /// Writes a number in bytes of its attribute's length.
-fn write_held(alloc: Global, bytes: &mut Bytes, attr: Attr, units: i128)
+#[inline(always)]
+fn write_held(bytes: &mut Bytes, attr: Attr, units: i128)
     requires { IsTrue (fits attr units) }
     ensures { bytes.new ≡ (if length bytes.old == length_of attr then image_of attr units else bytes.old) }
 {
     if bytes.len() != attr.length() as usize {
         return;
     }
-    let _ = write_scalar(attr, units, bytes.as_mut_slice());
+    write_fitting(attr, units, bytes.as_mut_slice());
 }
 
-fn write_number(alloc: Global, values: &mut [Val], at: usize, attr: Attr, units: i128)
+#[inline(always)]
+fn write_number(values: &mut [Val], at: usize, attr: Attr, units: i128)
     requires fits { IsTrue (fits attr units) }
     requires within { at < length values.old }
     ensures { values.new ≡ number_put values.old (Some at) attr units }
 {
     match &mut values[at] {
-        Val::Bytes(bytes) => write_held(alloc, bytes, attr, units),
+        Val::Bytes(bytes) => write_held(bytes, attr, units),
         _ => {}
     }
 }
 
-fn number_put(alloc: Global, values: &mut [Val], to: Option<usize>, attr: Attr, units: i128)
+#[inline(always)]
+pub fn number_put(values: &mut [Val], to: Option<usize>, attr: Attr, units: i128)
     requires { IsTrue (fits attr units) }
     ensures { values.new ≡ number_put values.old to attr units }
 {
     match to {
         Some(at) => {
             if at < values.len() {
-                write_number(alloc, values, at, attr, units);
+                write_number(values, at, attr, units);
             }
         }
         None => {}
@@ -51,7 +53,6 @@ fn number_put(alloc: Global, values: &mut [Val], to: Option<usize>, attr: Attr, 
 
 /// The receiver gets a number, or the exception is signalled and all variables stay.
 pub fn receive_number(
-    alloc: Global,
     values: &mut [Val],
     to: Option<usize>,
     attr: Attr,
@@ -64,7 +65,7 @@ pub fn receive_number(
     match given {
         Err(refusal) => LocalEnd::Signal(refusal),
         Ok(units) => {
-            number_put(alloc, values, to, attr, units);
+            number_put(values, to, attr, units);
             LocalEnd::Next
         }
     }
@@ -144,7 +145,8 @@ pub fn jump_to(label: Option<&Arg>) -> LocalEnd
 }
 
 /// Goes on at a label where the test holds.
-fn jump(test: bool, label: Option<&Arg>) -> LocalEnd
+#[inline(always)]
+pub fn jump(test: bool, label: Option<&Arg>) -> LocalEnd
     ensures { result ≡ jumps test (option_copied label.entry) }
 {
     if test { jump_to(label) } else { LocalEnd::Next }

@@ -3,6 +3,7 @@ ghost use Rattle.std.specs.Prelude.{◌≡◌};
 use crate::operands::{
     attr_of, bytes_of, held_at, number_of, operand, pointer_of, receiver_of, whole_of, word_of,
 };
+use crate::short::short_of;
 use s38_base::{Attr, Bytes, NoMemory, Pointer};
 use s38_code::{Arg, Row, Val};
 use s38_compute::{Piece, Sources, are_hex};
@@ -26,6 +27,11 @@ impl<'a> Sources for Variables<'a> {
     #[inline(always)]
     fn number(&self, k: usize) -> Option<Dec> {
         number_of(self.rows, self.homes, self.values, operand(self.args, k))
+    }
+
+    #[inline(always)]
+    fn short(&self, k: usize) -> Option<Dec> {
+        short_of(self.rows, self.homes, self.values, operand(self.args, k))
     }
 
     fn bytes(&self, _alloc: Global, k: usize) -> Result<Piece<'_>, NoMemory> {

@@ -69,6 +69,10 @@ impl<'a> Sources for AtOperands<'a> {
         number_at(self.objects, self.operands, k)
     }
 
+    fn short(&self, _k: usize) -> Option<Dec> {
+        None
+    }
+
     fn bytes(&self, alloc: Global, k: usize) -> Result<Piece<'_>, NoMemory> {
         piece_at(alloc, self.objects, self.operands, k)
     }
