@@ -1,6 +1,7 @@
 ghost use Rattle.std.specs.Prelude.{◌≡◌, IfOk};
 
-use s38_base::{Bytes, Name, NoMemory, Seq, TryClone};
+use crate::lines::{Lines, TextLines};
+use s38_base::{Name, NoMemory, Seq, TryClone};
 use std::alloc::Global;
 use std::marker::Model;
 use std::sync::Arc;
@@ -9,7 +10,7 @@ use std::sync::Arc;
 /// Contracts see it as the list of the lines.
 #[derive(Drop, Debug)]
 pub struct Template {
-    held: Arc<Seq<Bytes>>,
+    held: Arc<TextLines>,
 }
 
 impl Model for Template {
@@ -22,7 +23,7 @@ impl Model for Template {
 
 impl Template {
     /// The template of these lines; where memory is refused they are dropped.
-    pub fn new(alloc: Global, lines: Seq<Bytes>) -> Result<Template, NoMemory>
+    pub fn new(alloc: Global, lines: TextLines) -> Result<Template, NoMemory>
         ensures { IfOk result (λ template. template ≡ lines) }
     {
         match Arc::new(alloc, lines) {
@@ -31,11 +32,11 @@ impl Template {
         }
     }
 
-    /// The lines.
-    pub fn lines(&self) -> &[Bytes]
-        ensures { result.now ≡ self.now }
+    /// The lines, in order.
+    pub fn lines(&self) -> Lines<'_>
+        ensures { result ≡ self.now }
     {
-        self.held.as_slice()
+        self.held.lines()
     }
 }
 

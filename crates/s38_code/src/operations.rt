@@ -17,6 +17,7 @@ use s38_base::{Kind, Op};
 
 /// The mnemonic of an operation, as decks and job logs write it.
 #[tactic(auto, unfolding(crate::specs::Operations::mnemonic))]
+#[inline(always)]
 pub fn mnemonic(op: Op) -> &'static [u8]
     ensures { result.now ≡ mnemonic op }
 {
@@ -399,6 +400,7 @@ pub fn made_kind(op: Op) -> Option<Kind>
 
 /// Whether `(R)` may stand behind the mnemonic.
 #[tactic(auto, unfolding(crate::specs::Operations::may_round))]
+#[inline(always)]
 pub fn may_round(op: Op) -> bool
     ensures { result ≡ may_round op }
 {

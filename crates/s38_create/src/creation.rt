@@ -8,8 +8,8 @@ ghost use Rattle.s38_odt.specs.Suited.{AreSuited};
 use crate::frame::{declaration_count, is_ended};
 use crate::instruction::instructions;
 use crate::scope::Scope;
-use s38_base::{Bytes, TryClone, exceptions};
-use s38_code::{CreateFault, Program, Template};
+use s38_base::{TryClone, exceptions};
+use s38_code::{CreateFault, Lines, Program, Template};
 use s38_odt::{CodeLines, definition_table, instruction_count};
 use s38_words::{Head, program_head};
 use std::alloc::Global;
@@ -52,11 +52,12 @@ fn with_rows(
 }
 
 /// At most so many declarations and instructions.
-fn is_small(body: &[Bytes]) -> bool
+fn is_small(body: &Lines<'_>) -> bool
     ensures { result ≡ is_small body.now }
 {
     let count = declaration_count(body);
-    count <= MOST_DECLARATIONS && instruction_count(&body[count..]) <= MOST_INSTRUCTIONS
+    let (_, code) = body.split_at(count);
+    count <= MOST_DECLARATIONS && instruction_count(&code) <= MOST_INSTRUCTIONS
 }
 
 /// The program of the lines between the first and the last.
@@ -64,7 +65,7 @@ fn created_inner(
     alloc: Global,
     template: &Template,
     head: Head,
-    body: &[Bytes],
+    body: &Lines<'_>,
 ) -> Result<Program, CreateFault>
     ensures formed { IfOk result (λ program. WellFormed program) }
     ensures created { IfOk result (λ program. created_inner template.now head body.now ≡ Ok program) }
@@ -74,8 +75,9 @@ fn created_inner(
         return Err(NO_TEMPLATE);
     }
     let count = declaration_count(body);
-    let code = CodeLines::new(alloc, &body[count..])?;
-    let table = definition_table(alloc, &code, &body[..count])?;
+    let (declarations, code) = body.split_at(count);
+    let code = CodeLines::new(alloc, code)?;
+    let table = definition_table(alloc, &code, &declarations)?;
     with_rows(alloc, template, head, Scope { table, code })
 }
 
@@ -89,11 +91,13 @@ fn created_by(
     ensures created { IfOk result (λ program. created_by template.now head ≡ Ok program) }
     ensures bad { IfErr result (λ fault. (fault ≡ CreateFault.NoMemory) ⊎ (created_by template.now head ≡ Err fault)) }
 {
+    let Some(head) = head else {
+        return Err(NO_TEMPLATE);
+    };
     let lines = template.lines();
-    match head {
-        Some(head) => created_inner(alloc, template, head, &lines[1..lines.len() - 1]),
-        None => Err(NO_TEMPLATE),
-    }
+    let (_, behind) = lines.split_at(1);
+    let (body, _) = behind.split_at(lines.len() - 2);
+    created_inner(alloc, template, head, &body)
 }
 
 /// Makes a checked program of a template. `Bad` is the first bad declaration, or else the first bad
@@ -106,10 +110,13 @@ pub fn create(alloc: Global, template: &Template) -> Result<Program, CreateFault
     ensures bad { IfErr result (λ fault. (fault ≡ CreateFault.NoMemory) ⊎ (created template.now ≡ Err fault)) }
 {
     let lines = template.lines();
-    if !is_ended(lines) {
+    if !is_ended(&lines) {
         return Err(NO_TEMPLATE);
     }
-    created_by(alloc, template, program_head(lines[0].as_slice()))
+    let Some(head) = lines.get(0) else {
+        return Err(NO_TEMPLATE);
+    };
+    created_by(alloc, template, program_head(head))
 }
 
 /// A template is refused at a place, and never for want of memory: what the definition answers is a program or

@@ -83,11 +83,10 @@ pub fn instructions(alloc: Global, scope: &Scope) -> Result<Instructions, Create
     ensures bad { IfErr result (λ fault. (fault ≡ CreateFault.NoMemory) ⊎ (code_from scope.now.table scope.now.code [] scope.now.code ≡ Err fault)) }
 {
     let mut created = Seq::new(alloc);
-    let lines = scope.code.lines();
-    for line in lines {
-        if !is_label(line.as_slice()) {
+    for line in scope.code.lines() {
+        if !is_label(line) {
             let number = created.len() as u32 + 1;
-            let instruction = instruction_of(alloc, scope, number, line.as_slice())?;
+            let instruction = instruction_of(alloc, scope, number, line)?;
             created.push(instruction)?;
         }
     }

@@ -2,7 +2,8 @@
 
 use s38_base::{Attr, AttrList, Op, Seq, TryClone};
 use s38_code::{
-    Code, CreateFault, EndCause, Event, Operand, Program, Reply, Request, StepFault, Template, Val,
+    Code, CreateFault, EndCause, Event, Operand, Program, Reply, Request, StepFault, Template,
+    TextLines, Val,
 };
 use std::alloc::Global;
 use std::test::Fail;
@@ -41,8 +42,8 @@ fn values_are_made_again(rt: HostRuntime) -> Result<(), Fail> {
 #[test]
 fn a_program_is_shared(rt: HostRuntime) -> Result<(), Fail> {
     let alloc = rt.alloc();
-    let mut lines = Seq::new(alloc);
-    lines.push(Seq::from_slice(alloc, b"PROGRAM P")?)?;
+    let mut lines = TextLines::new(alloc);
+    lines.push(b"PROGRAM P")?;
     let program = Program {
         template: Template::new(alloc, lines)?.try_clone(alloc)?,
         rows: Seq::new(alloc),

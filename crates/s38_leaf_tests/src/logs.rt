@@ -6,7 +6,7 @@ use s38_base::{
 };
 use s38_code::{
     CheckedTemplate, Code, CreateResult, EndCause, Entry, Event, Job, Program, Reply, Request,
-    Template, Val,
+    Template, TextLines, Val,
 };
 use s38_joblog::{bad_line, check_text, last_line, log_text};
 use std::alloc::Global;
@@ -51,7 +51,7 @@ fn with_value(alloc: Global, op: Op, value: Val) -> Result<Entry, NoMemory> {
 /// A program without code.
 fn program(alloc: Global) -> Result<Code, NoMemory> {
     let program = Program {
-        template: Template::new(alloc, Seq::new(alloc))?,
+        template: Template::new(alloc, TextLines::new(alloc))?,
         rows: Seq::new(alloc),
         code: Seq::new(alloc),
         adopts: false,

@@ -3,7 +3,7 @@
 use s38_base::{Attr, Id, Kind, Name, ObjNum, Op, Pointer, Rights, Seq};
 use s38_code::{
     Checked, CheckedTemplate, Code, CreateResult, EndCause, Event, Form, Job, Operand, Program,
-    Request, Row, Template,
+    Request, Row, Template, TextLines,
 };
 use std::alloc::Global;
 use std::test::Fail;
@@ -101,7 +101,7 @@ pub fn templates(alloc: Global) -> Result<Checked, Fail> {
         form: Form::Parm { k: 1, attr },
     })?;
     let program = Program {
-        template: Template::new(alloc, Seq::new(alloc))?,
+        template: Template::new(alloc, TextLines::new(alloc))?,
         rows,
         code: Seq::new(alloc),
         adopts: true,

@@ -1,7 +1,8 @@
 ghost use Rattle.std.specs.Prelude.{◌≡◌, ◌≤◌, IfOk, OnOk};
 ghost use Rattle.s38_odt.specs.Labels.{EntersNew, HasLabels, instruction_count, is_label, label_in};
 
-use s38_base::{Bytes, Name, NoMemory};
+use s38_base::{Name, NoMemory};
+use s38_code::Lines;
 use s38_words::label;
 use std::alloc::Global;
 use std::collections::BTreeMap;
@@ -18,12 +19,10 @@ pub fn is_label(line: &[u8]) -> bool
 }
 
 /// How many of the lines are no labels.
-pub fn instruction_count(code: &[Bytes]) -> usize
+pub fn instruction_count(code: &Lines<'_>) -> usize
     ensures { result ≡ instruction_count code.now }
 {
-    code.iter()
-        .filter(|line| !is_label(line.as_slice()))
-        .count()
+    code.iter().filter(|line| !is_label(line)).count()
 }
 
 /// Enters a label that is not there yet.
@@ -37,14 +36,14 @@ fn enter(labels: &mut LabelPlaces, name: Name, at: u32) -> Result<(), NoMemory>
 }
 
 /// Where each label stands: before how many instructions. The first of two labels of one name counts.
-fn labels_of(alloc: Global, code: &[Bytes]) -> Result<LabelPlaces, NoMemory>
+fn labels_of(alloc: Global, code: &Lines<'_>) -> Result<LabelPlaces, NoMemory>
     requires { instruction_count code.now ≤ 16384 }
     ensures { IfOk result (λ labels. HasLabels code.now labels) }
 {
     let mut labels = BTreeMap::new(alloc);
     let mut at: u32 = 0;
-    for line in code {
-        match label(line.as_slice()) {
+    for line in code.iter() {
+        match label(line) {
             Some(name) => enter(&mut labels, name, at)?,
             None => at += 1,
         }
@@ -56,7 +55,7 @@ fn labels_of(alloc: Global, code: &[Bytes]) -> Result<LabelPlaces, NoMemory>
 /// lines.
 #[derive(Drop)]
 pub struct CodeLines<'a> {
-    lines: &'a [Bytes],
+    lines: Lines<'a>,
     labels: LabelPlaces,
 }
 
@@ -66,26 +65,26 @@ impl<'a> Model for CodeLines<'a> {
 
     ghost Value = { List (List ℕ) };
 
-    ghost view = { λ c. c.lines.now };
+    ghost view = { λ c. c.lines };
 
-    ghost invariant = { λ c. HasLabels c.lines.now c.labels };
+    ghost invariant = { λ c. HasLabels c.lines c.labels };
 }
 
 impl<'a> CodeLines<'a> {
     /// Finds the labels in these lines.
-    pub fn new(alloc: Global, lines: &'a [Bytes]) -> Result<CodeLines<'a>, NoMemory>
-        requires { instruction_count lines.now ≤ 16384 }
-        ensures { IfOk result (λ code. code ≡ lines.now) }
+    pub fn new(alloc: Global, lines: Lines<'a>) -> Result<CodeLines<'a>, NoMemory>
+        requires { instruction_count lines ≤ 16384 }
+        ensures { IfOk result (λ code. code ≡ lines.entry) }
     {
-        let labels = labels_of(alloc, lines)?;
+        let labels = labels_of(alloc, &lines)?;
         Ok(CodeLines { lines, labels })
     }
 
     /// The lines, in order.
-    pub fn lines(&self) -> &'a [Bytes]
-        ensures { result.now ≡ self.now }
+    pub fn lines(&self) -> Lines<'a>
+        ensures { result ≡ self.now }
     {
-        self.lines
+        self.lines.iter()
     }
 
     /// The place at which a label stands: before the instruction of this number, from 0 on; None exactly where

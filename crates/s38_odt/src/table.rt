@@ -8,8 +8,8 @@ ghost use Rattle.s38_code.specs.declared.program.CreateFault.{CreateFault};
 use crate::form::row;
 use crate::labels::CodeLines;
 use crate::places::{Declared, Places, add};
-use s38_base::{Bytes, Name, NoMemory, Seq};
-use s38_code::{CreateFault, Row, Rows};
+use s38_base::{Name, NoMemory, Seq};
+use s38_code::{CreateFault, Lines, Row, Rows};
 use std::alloc::Global;
 use std::collections::BTreeMap;
 use std::marker::Model;
@@ -93,7 +93,7 @@ fn declare(
 fn declarations(
     alloc: Global,
     code: &CodeLines<'_>,
-    lines: &[Bytes],
+    lines: &Lines<'_>,
 ) -> Result<Declared, CreateFault>
     requires { length lines.now ≤ 1024 }
     ensures made { IfOk result (λ declared. rows_from code.now [] lines.now ≡ Ok declared.rows.items) }
@@ -104,9 +104,9 @@ fn declarations(
         rows: Vec::new(alloc),
         places: BTreeMap::new(alloc),
     };
-    for line in lines {
+    for line in lines.iter() {
         let number = declared.rows.len() as u32 + 1;
-        match declare(alloc, code, &mut declared, line.as_slice()) {
+        match declare(alloc, code, &mut declared, line) {
             Ok(Ok(())) => {}
             Ok(Err(id)) => return Err(CreateFault::Bad { id, number }),
             Err(NoMemory) => return Err(CreateFault::NoMemory),
@@ -121,7 +121,7 @@ fn declarations(
 pub fn definition_table(
     alloc: Global,
     code: &CodeLines<'_>,
-    lines: &[Bytes],
+    lines: &Lines<'_>,
 ) -> Result<Odt, CreateFault>
     requires { length lines.now ≤ 1024 }
     ensures made { IfOk result (λ table. rows_of code.now lines.now ≡ Ok table) }
@@ -137,7 +137,7 @@ pub fn definition_table(
 
 /// The rows of a program's declarations, which stand before this code. `Bad` exactly where one of them is bad: at
 /// the first, with its number from 1 on, and 2A02 or 2A03 as its cause.
-pub fn rows(alloc: Global, code: &CodeLines<'_>, lines: &[Bytes]) -> Result<Rows, CreateFault>
+pub fn rows(alloc: Global, code: &CodeLines<'_>, lines: &Lines<'_>) -> Result<Rows, CreateFault>
     requires { length lines.now ≤ 1024 }
     ensures made { IfOk result (λ rows. rows_of code.now lines.now ≡ Ok rows) }
     ensures bad { IfErr result (λ fault. (fault ≡ CreateFault.NoMemory) ⊎ (rows_of code.now lines.now ≡ Err fault)) }

@@ -5,8 +5,8 @@ ghost use Rattle.s38_programs.specs.Rooms.{room_after, room_behind};
 ghost use Rattle.s38_rules.specs.Programs.{is_named, line_size, program_by, program_in, refused_in, size_in, template_in, template_rule};
 
 use s38_base::exceptions::TEMPLATE_MISSING;
-use s38_base::{Bytes, Exception, Name, Rule};
-use s38_code::{CheckedTemplate, Code, CreateResult, Operand};
+use s38_base::{Exception, Name, Rule};
+use s38_code::{CheckedTemplate, Code, CreateResult, Lines, Operand};
 
 fn is_named(template: &CheckedTemplate, name: &Name) -> bool
     ensures { result ≡ is_named name.now template.now }
@@ -89,19 +89,19 @@ fn room_behind(room: Option<u32>, line: &[u8]) -> Option<u32>
     Some(room - (line.len() as u32 + 1))
 }
 
-fn room_after(lines: &[Bytes], room: Option<u32>) -> Option<u32>
-    ensures { result ≡ room_after room lines.now }
+fn room_after(lines: Lines<'_>, room: Option<u32>) -> Option<u32>
+    ensures { result ≡ room_after room lines.entry }
 {
     let mut left = room;
     for line in lines {
-        left = room_behind(left, line.as_slice());
+        left = room_behind(left, line);
     }
     left
 }
 
 /// Whether lines, each with its line feed, are longer than so many bytes.
-fn are_longer(lines: &[Bytes], limit: u32) -> bool
-    ensures { result ≡ nat_lt limit (sum_by line_size lines.now) }
+fn are_longer(lines: Lines<'_>, limit: u32) -> bool
+    ensures { result ≡ nat_lt limit (sum_by line_size lines.entry) }
 {
     room_after(lines, Some(limit)).is_none()
 }

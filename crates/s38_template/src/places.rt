@@ -24,8 +24,8 @@ const PROGRAM: &[u8] = b"PROGRAM ";
 fn name_of(template: &Template) -> Option<Name>
     ensures { result ≡ object_name (name_of template.now) }
 {
-    match template.lines().first() {
-        Some(head) => name_behind(head.as_slice()),
+    match template.lines().get(0) {
+        Some(head) => name_behind(head),
         None => None,
     }
 }

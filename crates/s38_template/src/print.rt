@@ -6,8 +6,8 @@ ghost use Rattle.s38_template.specs.Printing.{job_line, printed, printed_budget,
 ghost use Rattle.s38_template.specs.Reading.{read_of};
 
 use itoa::Buffer;
-use s38_base::{Bytes, Name, NoMemory};
-use s38_code::{Deck, Job, Template};
+use s38_base::{Name, NoMemory};
+use s38_code::{Deck, Job, Lines, Template};
 use std::alloc::Global;
 
 /// The budget that is not printed.
@@ -33,11 +33,11 @@ fn add_line(text: &mut Vec<u8>, line: &[u8]) -> Result<(), NoMemory>
 }
 
 /// Adds lines, each with its line feed.
-fn add_lines(text: &mut Vec<u8>, lines: &[Bytes]) -> Result<(), NoMemory>
-    ensures { OnOk result (text.new.items ≡ text.old.items ++ printed_lines lines.now) }
+fn add_lines(text: &mut Vec<u8>, lines: Lines<'_>) -> Result<(), NoMemory>
+    ensures { OnOk result (text.new.items ≡ text.old.items ++ printed_lines lines.entry) }
 {
     for line in lines {
-        add_line(text, line.as_slice())?;
+        add_line(text, line)?;
     }
     Ok(())
 }

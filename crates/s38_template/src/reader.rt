@@ -1,7 +1,6 @@
 use crate::place::Place;
 use crate::seen::Seen;
-use s38_base::{Bytes, Seq};
-use s38_code::{Jobs, Templates};
+use s38_code::{Jobs, Templates, TextLines};
 
 /// What was read of a deck so far.
 #[derive(Drop)]
@@ -10,7 +9,7 @@ pub struct Reader {
     /// The templates that have ended.
     pub templates: Templates,
     /// The lines of the template that has begun.
-    pub draft: Seq<Bytes>,
+    pub draft: TextLines,
     /// The labels of the template that has begun.
     pub labels: Seen,
     /// How many declarations it has.

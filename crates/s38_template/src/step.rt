@@ -8,8 +8,8 @@ use crate::place::Place;
 use crate::reader::Reader;
 use crate::said::{JobSaid, Line};
 use crate::seen::Seen;
-use s38_base::{Bytes, Name, NoMemory, Seq};
-use s38_code::{Job, Template};
+use s38_base::{Name, NoMemory, Seq};
+use s38_code::{Job, Template, TextLines};
 use std::alloc::Global;
 
 /// Nothing was read yet.
@@ -20,7 +20,7 @@ pub fn start(alloc: Global) -> Reader
     Reader {
         place: Place::Between,
         templates: Seq::new(alloc),
-        draft: Seq::new(alloc),
+        draft: TextLines::new(alloc),
         labels: Seen::new(alloc),
         declared: 0,
         acts: 0,
@@ -31,23 +31,14 @@ pub fn start(alloc: Global) -> Reader
     }
 }
 
-/// Adds a line.
-fn add_line(alloc: Global, lines: &mut Seq<Bytes>, line: &[u8]) -> Result<(), NoMemory>
-    ensures { OnOk result (lines.new ≡ lines.old ++ line.now ∷ []) }
-{
-    let bytes = Seq::from_slice(alloc, line)?;
-    lines.push(bytes)?;
-    Ok(())
-}
-
 /// A template of this name begins with this line.
 #[inline(never)]
 fn begin(alloc: Global, reader: &mut Reader, line: &[u8], name: Name) -> Result<(), NoMemory>
     ensures { OnOk result (state_of reader.new ≡ taken (state_of reader.old) line.now (Line.Program name)) }
 {
     reader.names.add(alloc, name)?;
-    reader.draft = Seq::new(alloc);
-    add_line(alloc, &mut reader.draft, line)?;
+    reader.draft = TextLines::new(alloc);
+    reader.draft.push(line)?;
     reader.labels = Seen::new(alloc);
     reader.declared = 0;
     reader.acts = 0;
@@ -61,7 +52,7 @@ fn declare(alloc: Global, reader: &mut Reader, line: &[u8], in_range: bool) -> R
     requires { IsTrue (has_room (state_of reader.old) (Line.Declare in_range)) }
     ensures { OnOk result (state_of reader.new ≡ taken (state_of reader.old) line.now (Line.Declare in_range)) }
 {
-    add_line(alloc, &mut reader.draft, line)?;
+    reader.draft.push(line)?;
     reader.declared += 1;
     Ok(())
 }
@@ -72,7 +63,7 @@ fn label(alloc: Global, reader: &mut Reader, line: &[u8], name: Name) -> Result<
     ensures { OnOk result (state_of reader.new ≡ taken (state_of reader.old) line.now (Line.Label name)) }
 {
     reader.labels.add(alloc, name)?;
-    add_line(alloc, &mut reader.draft, line)?;
+    reader.draft.push(line)?;
     reader.place = Place::Acting;
     Ok(())
 }
@@ -82,7 +73,7 @@ pub fn act(alloc: Global, reader: &mut Reader, line: &[u8]) -> Result<(), NoMemo
     requires { IsTrue (has_room (state_of reader.old) Line.Act) }
     ensures { OnOk result (state_of reader.new ≡ taken (state_of reader.old) line.now Line.Act) }
 {
-    add_line(alloc, &mut reader.draft, line)?;
+    reader.draft.push(line)?;
     reader.acts += 1;
     reader.place = Place::Acting;
     Ok(())
@@ -93,8 +84,8 @@ pub fn act(alloc: Global, reader: &mut Reader, line: &[u8]) -> Result<(), NoMemo
 fn end(alloc: Global, reader: &mut Reader, line: &[u8]) -> Result<(), NoMemory>
     ensures { OnOk result (state_of reader.new ≡ taken (state_of reader.old) line.now Line.End) }
 {
-    let mut lines = std::mem::replace(&mut reader.draft, Seq::new(alloc));
-    add_line(alloc, &mut lines, line)?;
+    let mut lines = std::mem::replace(&mut reader.draft, TextLines::new(alloc));
+    lines.push(line)?;
     let template = Template::new(alloc, lines)?;
     reader.templates.push(template)?;
     reader.place = Place::Between;

@@ -1,4 +1,4 @@
-use Rattle.std.proofs.Common.{◌≡◌, ℕ, ◌+◌, List, drop}
+use Rattle.std.proofs.Common.{◌≡◌, ℕ, ◌+◌, List}
 use Rattle.std.specs.Ordering.{nat_cmp}
 use Rattle.std.specs.Cmp.Lexicographic.{slice_cmp}
 use Rattle.std.specs.BTreeMap.{get}
@@ -8,6 +8,6 @@ use Rattle.s38_odt.proofs.labels.labels_of.Given as goal
 
 abbrev pub invariant-loop-line : goal.invariant-loop-line
 invariant-loop-line l = record {
-  count : l.at + instruction_count (drop l.line-index l.code) ≡ instruction_count l.code;
-  ahead : (name : List ℕ) → option_or (get (slice_cmp nat_cmp) l.labels name) (label_from l.at (drop l.line-index l.code) name) ≡ label_in l.code name;
+  count : l.at + instruction_count l.line-iterator ≡ instruction_count l.code;
+  ahead : (name : List ℕ) → option_or (get (slice_cmp nat_cmp) l.labels name) (label_from l.at l.line-iterator name) ≡ label_in l.code name;
 }

@@ -5,5 +5,5 @@ use Rattle.s38_programs.proofs.templates.are_longer.Goals as goal
 
 pub returns : goal.returns
 returns c =
-    let e = ap is_none c.room_after.ensures ∙ no_room c.args.lines.now c.args.limit in
+    let e = ap is_none c.room_after.ensures ∙ no_room c.args.lines c.args.limit in
     rw (sym e) (search rules)
