@@ -106,19 +106,16 @@ fn beginning_with(letter: u8) -> &'static [Op]
 }
 
 /// The first of these that a word is the mnemonic of.
+#[inline(always)]
 fn first_op(ops: &[Op], word: &[u8]) -> Option<Op>
     ensures { result ≡ first_op ops.now word.now }
 {
-    match ops {
-        [] => None,
-        [op, ops @ ..] => {
-            if is_word(mnemonic(*op), word) {
-                Some(*op)
-            } else {
-                first_op(ops, word)
-            }
+    for op in ops {
+        if is_word(mnemonic(*op), word) {
+            return Some(*op);
         }
     }
+    None
 }
 
 /// The operation that a word is the mnemonic of.

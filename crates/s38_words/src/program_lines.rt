@@ -70,6 +70,7 @@ pub fn program_head(line: &[u8]) -> Option<Head>
 
 /// The name in a line `LABEL name`; None for every other line.
 #[tactic(auto, unfolding(crate::specs::ProgramLine::label_of))]
+#[inline(always)]
 pub fn label(line: &[u8]) -> Option<Name>
     ensures { result ≡ label_of line.now }
 {

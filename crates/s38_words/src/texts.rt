@@ -4,6 +4,7 @@ ghost use Rattle.std.specs.Option.{option_map};
 ghost use Rattle.s38_words.specs.Text.{are_hex_digits, before, behind, hex_byte, hex_value, is_digit, is_hex_digit, is_letter, is_word, place_of, rest_after};
 
 /// Whether two texts that both have a first byte begin with the same one.
+#[inline(always)]
 fn begin_alike(one: &[u8], other: &[u8]) -> bool
     ensures word { IsTrue (is_word one.now other.now) → IsTrue result }
     ensures front { IsTrue (starts_with nat_eq other.now one.now) → IsTrue result }
@@ -15,6 +16,7 @@ fn begin_alike(one: &[u8], other: &[u8]) -> bool
 }
 
 /// The text is this word.
+#[inline(always)]
 pub fn is_word(word: &[u8], text: &[u8]) -> bool
     ensures { result ≡ is_word word.now text.now }
 {
@@ -22,6 +24,7 @@ pub fn is_word(word: &[u8], text: &[u8]) -> bool
 }
 
 /// Where the first such byte stands; None where there is none.
+#[inline(always)]
 pub fn place_of(byte: u8, text: &[u8]) -> Option<usize>
     ensures place { result ≡ place_of byte text.now }
     ensures bound { IfSome result (λ at. at < length text.now) }
@@ -50,6 +53,7 @@ pub fn behind(byte: u8, text: &[u8]) -> Option<&[u8]>
 }
 
 /// What stands before the first such byte, or all where there is none, and what stands behind it.
+#[inline(always)]
 pub fn parted(byte: u8, text: &[u8]) -> (&[u8], Option<&[u8]>)
     ensures front { result.0.now ≡ before byte text.now }
     ensures back { option_map (λ rest. rest.now) result.1 ≡ behind byte text.now }
@@ -61,6 +65,7 @@ pub fn parted(byte: u8, text: &[u8]) -> (&[u8], Option<&[u8]>)
 }
 
 /// What stands behind these bytes; None where the text does not begin with them.
+#[inline(always)]
 pub fn rest_after<'a>(front: &[u8], text: &'a [u8]) -> Option<&'a [u8]>
     ensures { option_map (λ rest. rest.now) result ≡ rest_after front.now text.now }
 {
