@@ -11,18 +11,18 @@ use std::alloc::Global;
 const BLANK: u8 = 0x40;
 
 /// The text, filled with blanks.
-fn filled(text: Vec<u8>, len: usize) -> Result<Bytes, NoMemory>
-    requires { length text.items ≤ len }
-    ensures { IfOk result (λ bytes. bytes ≡ filled len text.items) }
+fn filled(text: Bytes, len: usize) -> Result<Bytes, NoMemory>
+    requires { length text ≤ len }
+    ensures { IfOk result (λ bytes. bytes ≡ filled len text) }
 {
     let mut bytes = text;
     bytes.resize(len, BLANK)?;
-    Ok(Bytes::from_vec(bytes))
+    Ok(bytes)
 }
 
 /// The bytes of a text; None exactly where the attribute does not hold it.
-fn text_held(attr: Attr, text: Vec<u8>) -> Result<Option<Bytes>, NoMemory>
-    ensures { IfOk result (λ bytes. bytes ≡ text_held attr text.items) }
+fn text_held(attr: Attr, text: Bytes) -> Result<Option<Bytes>, NoMemory>
+    ensures { IfOk result (λ bytes. bytes ≡ text_held attr text) }
 {
     match attr {
         Attr::Chars { len } => {

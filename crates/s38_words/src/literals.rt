@@ -51,19 +51,19 @@ fn ebcdic(byte: u8) -> u8
     }
 }
 
-fn translated(alloc: Global, text: &[u8]) -> Result<Vec<u8>, NoMemory>
+fn translated(alloc: Global, text: &[u8]) -> Result<Bytes, NoMemory>
     requires { IsTrue (list_all is_text_byte text.now) }
-    ensures { IfOk result (λ bytes. bytes.items ≡ map ebcdic text.now) }
+    ensures { IfOk result (λ bytes. bytes ≡ map ebcdic text.now) }
 {
-    let mut bytes = Vec::with_capacity(alloc, text.len())?;
+    let mut bytes = Bytes::new(alloc);
     for byte in text {
         bytes.push(ebcdic(*byte))?;
     }
     Ok(bytes)
 }
 
-fn text_bytes(alloc: Global, text: &[u8]) -> Result<Option<Vec<u8>>, NoMemory>
-    ensures { IfOk result (λ bytes. option_map (λ v. v.items) bytes ≡ text_bytes text.now) }
+fn text_bytes(alloc: Global, text: &[u8]) -> Result<Option<Bytes>, NoMemory>
+    ensures { IfOk result (λ bytes. bytes ≡ text_bytes text.now) }
 {
     if !are_text_bytes(text) {
         return Ok(None);
@@ -71,11 +71,11 @@ fn text_bytes(alloc: Global, text: &[u8]) -> Result<Option<Vec<u8>>, NoMemory>
     Ok(Some(translated(alloc, text)?))
 }
 
-fn spelled(alloc: Global, digits: &[u8]) -> Result<Vec<u8>, NoMemory>
+fn spelled(alloc: Global, digits: &[u8]) -> Result<Bytes, NoMemory>
     requires { IsTrue (are_hex_digits digits.now) }
-    ensures { IfOk result (λ bytes. bytes.items ≡ map (spelled_byte digits.now) (range_with_len 0 (length digits.now / 2))) }
+    ensures { IfOk result (λ bytes. bytes ≡ map (spelled_byte digits.now) (range_with_len 0 (length digits.now / 2))) }
 {
-    let mut bytes = Vec::new(alloc);
+    let mut bytes = Bytes::new(alloc);
     for k in 0..digits.len() / 2 {
         bytes.push(hex_byte(digits[2 * k], digits[2 * k + 1]))?;
     }
@@ -89,8 +89,8 @@ fn is_hex_text(digits: &[u8]) -> bool
     are_hex_digits(digits) && digits.len() % 2 == 0
 }
 
-fn hex_bytes(alloc: Global, digits: &[u8]) -> Result<Option<Vec<u8>>, NoMemory>
-    ensures { IfOk result (λ bytes. option_map (λ v. v.items) bytes ≡ hex_bytes digits.now) }
+fn hex_bytes(alloc: Global, digits: &[u8]) -> Result<Option<Bytes>, NoMemory>
+    ensures { IfOk result (λ bytes. bytes ≡ hex_bytes digits.now) }
 {
     if !is_hex_text(digits) {
         return Ok(None);
@@ -100,8 +100,8 @@ fn hex_bytes(alloc: Global, digits: &[u8]) -> Result<Option<Vec<u8>>, NoMemory>
 
 /// The bytes that a text literal spells.
 #[tactic(auto, unfolding(crate::specs::Literal::text_of))]
-pub fn text_value(alloc: Global, text: &[u8]) -> Result<Option<Vec<u8>>, NoMemory>
-    ensures { IfOk result (λ bytes. option_map (λ v. v.items) bytes ≡ text_of text.now) }
+pub fn text_value(alloc: Global, text: &[u8]) -> Result<Option<Bytes>, NoMemory>
+    ensures { IfOk result (λ bytes. bytes ≡ text_of text.now) }
 {
     if !text.is_empty() && text[0] == b'X' {
         return match quoted(&text[1..]) {
@@ -147,7 +147,7 @@ pub fn text_literal(alloc: Global, text: &[u8]) -> Result<Option<Arg>, NoMemory>
         attr: Attr::Chars {
             len: bytes.len() as u16,
         },
-        bytes: Bytes::from_vec(bytes),
+        bytes,
     }))
 }
 

@@ -120,6 +120,7 @@ fn first_op(ops: &[Op], word: &[u8]) -> Option<Op>
 
 /// The operation that a word is the mnemonic of.
 #[tactic(auto, using(crate::proofs::MnemonicLaws::found, crate::proofs::MnemonicLaws::none_empty))]
+#[inline(always)]
 pub fn operation(word: &[u8]) -> Option<Op>
     ensures { result ≡ op_of word.now }
 {

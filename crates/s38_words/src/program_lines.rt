@@ -81,6 +81,7 @@ pub fn label(line: &[u8]) -> Option<Name>
 }
 
 /// The words behind a mnemonic, and the suffix before them.
+#[inline(always)]
 fn act_from(op: Op, text: Option<&[u8]>) -> InstructionLine<'_>
     ensures { act_in result ≡ act_from op (option_map (λ t. t.now) text.entry) }
 {
@@ -114,6 +115,7 @@ fn act_from(op: Op, text: Option<&[u8]>) -> InstructionLine<'_>
 
 /// The instruction of a line that begins with a mnemonic; None for every other line.
 #[tactic(auto, unfolding(crate::specs::ProgramLine::act_of))]
+#[inline(always)]
 pub fn instruction(line: &[u8]) -> Option<InstructionLine<'_>>
     ensures { option_map act_in result ≡ act_of line.now }
 {

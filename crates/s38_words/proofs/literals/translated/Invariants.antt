@@ -3,4 +3,4 @@ use Rattle.s38_words.specs.Literal.{ebcdic}
 use Rattle.s38_words.proofs.literals.translated.Given as goal
 
 abbrev pub invariant-loop-byte : goal.invariant-loop-byte
-invariant-loop-byte l = l.bytes.items ≡ map ebcdic (take l.byte-index l.text)
+invariant-loop-byte l = l.bytes ≡ map ebcdic (take l.byte-index l.text)
