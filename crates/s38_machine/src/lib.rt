@@ -16,7 +16,7 @@ mod verdicts;
 
 pub use asked::Asked;
 use log::Log;
-pub use machine::Machine;
+pub use machine::{Machine, State};
 pub use opening::{general_opening, installed};
 use s38_invoke::World;
 use s38_objects::Objects;

@@ -23,6 +23,9 @@ use std::alloc::Global;
 use std::marker::Model;
 use std::snapshot::Snapshot;
 
+/// The objects and the processes of a machine.
+pub type State = World<Objects>;
+
 /// The moment at which each entry is answered while there is no store.
 const NO_MOMENT: u64 = 0;
 
@@ -83,17 +86,20 @@ impl Machine {
         self.log.marks()
     }
 
-    /// Gives the history and the marks back.
-    pub fn end(self) -> (Vec<Entry>, Vec<u64>)
-        ensures { (result.0.items ≡ self.history) × (result.1.items ≡ self.marks) }
+    /// Gives back the history, the marks and the state.
+    pub fn end(self) -> (Vec<Entry>, Vec<u64>, State)
+        ensures history { result.0.items ≡ self.history }
+        ensures marks { result.1.items ≡ self.marks }
+        ensures state { result.2 ≡ self.state }
     {
         let Machine {
             alloc: _,
-            world: _,
+            world,
             log,
             origin: _,
         } = self;
-        log.into_parts()
+        let (history, marks) = log.into_parts();
+        (history, marks, world)
     }
 
     /// Whether a process has not ended, is of the current stage, and does not wait.

@@ -1,13 +1,14 @@
 -- Parts of a text.
-use Rattle.std.proofs.Common.{◌≡◌, ℕ, ◌+◌, ◌<◌, suc, Bool, true, false, not, ◌==◌, nat_le, List, [], ◌∷◌, ◌++◌, length, take, drop, Option, Some, None, sym, ap, subst, ◌∙◌, refl, arith, add-one, inl, inr}
+use Rattle.std.proofs.Common.{◌≡◌, ℕ, ◌+◌, ◌<◌, suc, Bool, true, false, not, ◌==◌, nat_le, List, [], ◌∷◌, ◌++◌, length, take, drop, slice_index, Option, Some, None, sym, ap, subst, ◌∙◌, refl, arith, add-one, inl, inr}
 use Rattle.std.proofs.lemmas.Bool.{cases_Bool, cases_lt, eqb-true, eq-eqb, ne_eqb, lt-ltb, le-ltb, leb-true, and_parts, not-true, not_from_false}
-use Rattle.std.proofs.lemmas.List.{append_assoc, length-append}
+use Rattle.std.proofs.lemmas.List.{append_assoc, length-append, length-take-le}
 use Rattle.std.proofs.lemmas.Option.{same_Some}
+use Rattle.std.proofs.Math.Bool.{and-true}
 use Rattle.std.specs.List.{position_or_len, position, list_all, flat_map, slice_split}
 use Rattle.std.specs.Option.{option_map, option_map_or}
 use Rattle.s38_words.specs.Text.{before, behind, place_of}
 use Rattle.s38_template.specs.Cut.{cut, onto_front}
-use Rattle.s38_template.specs.Grammar.{with_feed, is_plain, is_plain_byte}
+use Rattle.s38_template.specs.Grammar.{with_feed, is_odd, is_plain, is_plain_byte}
 use Rattle.s38_template.proofs.Options.{map_some, map_none, all_weaker}
 
 -- ---- cut
@@ -40,6 +41,62 @@ cut_position sep (c ∷ cs) =
       | inl e ↦ rw e (rw (lt-ltb 0 (suc (length cs)) (omega arith)) refl)
       | inr e ↦ rw (position_more sep c cs e) (rw e (rw (cut_position sep cs) (moved c cs (position (λ b. b == sep) cs))))
     ]
+
+-- ---- the first line, by the first byte that is not plain
+
+abbrev odd_at : List ℕ → ℕ
+odd_at text = position_or_len is_odd text
+
+-- the first line feed stands there, behind plain bytes
+abbrev pub LineTo : List ℕ → ℕ → Type 0
+LineTo text at = (cut 10 text ≡ Some (around text at)) × (list_all is_plain_byte (take at text) ≡ true)
+
+no_feed : (c : ℕ) → is_plain_byte c ≡ true → (c == 10) ≡ false
+no_feed c e = ne_eqb c 10 (λ z. omega (arith, leb-true 32 c (and_parts (nat_le 32 c) (nat_le c 126) e).0))
+
+plain_more : (c : ℕ) (cs : List ℕ) (at : ℕ) → is_plain_byte c ≡ true → list_all is_plain_byte (take at cs) ≡ true → list_all is_plain_byte (take (1 + at) (c ∷ cs)) ≡ true
+plain_more c cs at e h = let one : 1 + at ≡ suc at = omega arith in rw one (rw e h)
+
+line_more : (c : ℕ) (cs : List ℕ) (at : ℕ) → is_plain_byte c ≡ true → LineTo cs at → LineTo (c ∷ cs) (1 + at)
+line_more c cs at e line = (rw (no_feed c e) (rw line.0 (ap (λ p. Some p) (around_more c cs at))), plain_more c cs at e line.1)
+
+odd_more : (c : ℕ) (cs : List ℕ) → is_plain_byte c ≡ true → odd_at (c ∷ cs) ≡ 1 + odd_at cs
+odd_more c cs e = rw e refl
+
+odd_first : (c : ℕ) (cs : List ℕ) → is_plain_byte c ≡ false → odd_at (c ∷ cs) ≡ 0
+odd_first c cs e = rw e refl
+
+index_more : (c : ℕ) (cs : List ℕ) (at : ℕ) → slice_index (c ∷ cs) (1 + at) ≡ slice_index cs at
+index_more c cs at = let one : 1 + at ≡ suc at = omega arith in rw one refl
+
+line_at : (text : List ℕ) → odd_at text < length text → slice_index text (odd_at text) ≡ 10 → LineTo text (odd_at text)
+line_at [] small is = absurd (omega (arith, small))
+line_at (c ∷ cs) small is =
+    elim (cases_Bool (is_plain_byte c)) [
+      | inl e ↦
+          let odd = odd_more c cs e in
+          let line = line_at cs (omega (arith, small, odd)) (sym (index_more c cs (odd_at cs)) ∙ ap (slice_index (c ∷ cs)) (sym odd) ∙ is) in
+          subst (LineTo (c ∷ cs)) (sym odd) (line_more c cs (odd_at cs) e line)
+      | inr e ↦
+          let odd = odd_first c cs e in
+          let first : c ≡ 10 = ap (slice_index (c ∷ cs)) (sym odd) ∙ is in
+          subst (LineTo (c ∷ cs)) (sym odd) (rw (eq-eqb c 10 first) refl, refl)
+    ]
+
+odd_is : (text : List ℕ) (at : ℕ) → position is_odd text ≡ Some at → (odd_at text ≡ at) × (odd_at text < length text)
+odd_is text at e =
+    elim (cases_lt (odd_at text) (length text)) [
+      | inl h ↦ (same_Some (odd_at text) at (rw (lt-ltb (odd_at text) (length text) h) at e), h)
+      | inr h ↦ let bad = rw (le-ltb (odd_at text) (length text) h) at e in absurd cc
+    ]
+
+pub line_to : (text : List ℕ) (at : ℕ) → position is_odd text ≡ Some at → slice_index text at ≡ 10 → LineTo text at
+line_to text at e is =
+    let odd = odd_is text at e in
+    subst (LineTo text) odd.0 (line_at text odd.1 (ap (slice_index text) odd.0 ∙ is))
+
+pub plain_to : (text : List ℕ) (at : ℕ) → at < length text → list_all is_plain_byte (take at text) ≡ true → nat_le at 255 ≡ is_plain (take at text)
+plain_to text at within all = rw (length-take-le at text (omega (arith, within)), all) (sym (and-true (nat_le at 255)))
 
 -- what a cut gives is the text
 pub cut_joins : (sep : ℕ) (text : List ℕ) (p : List ℕ × List ℕ) → cut sep text ≡ Some p → text ≡ p.0 ++ sep ∷ p.1

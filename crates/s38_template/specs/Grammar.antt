@@ -22,7 +22,11 @@ with_feed line = line ++ 10 ∷ []
 abbrev pub is_plain_byte : ℕ → Bool
 is_plain_byte c = nat_le 32 c && nat_le c 126
 
--- at most 255 such bytes
+-- any other byte
+abbrev pub is_odd : ℕ → Bool
+is_odd c = not (is_plain_byte c)
+
+-- at most 255 bytes, all of them plain
 abbrev pub is_plain : List ℕ → Bool
 is_plain line = nat_le (length line) 255 && list_all is_plain_byte line
 

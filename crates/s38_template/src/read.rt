@@ -1,16 +1,15 @@
 ghost use Rattle.std.specs.Prelude.{◌≡◌, ◌⊎◌, ℕ, List, Ok, Err, IfOk, IfErr, Some, None};
 ghost use Rattle.s38_code.specs.declared.deck.Deck.{Deck};
-ghost use Rattle.s38_template.specs.Grammar.{Spells};
+ghost use Rattle.s38_template.specs.Grammar.{Spells, is_plain};
 ghost use Rattle.s38_template.specs.Lines.{line_of};
 ghost use Rattle.s38_template.specs.Reading.{Answers, after_line, code_of, end_at, read_of, rest_at, said_code, taken_if};
 ghost use Rattle.s38_template.specs.Views.{state_of};
 ghost use Rattle.s38_template.specs.declared.said.Line.{Line};
 
 use crate::code::{act_code, is_small, line_code};
-use crate::cut::cut;
 use crate::fault::DeckFault;
 use crate::forms::{line_of, says_act};
-use crate::line::{is_kept, is_plain};
+use crate::line::{NextLine, is_kept, next_line};
 use crate::place::Place;
 use crate::reader::Reader;
 use crate::step::{act, start, take};
@@ -77,18 +76,20 @@ fn keep(
     }
 }
 
-/// Any line, without its line feed: it is taken, or its code tells what is bad.
+/// Any line, without its line feed, and whether it is plain: it is taken, or its code tells what is bad.
 #[tactic(auto, unfolding(crate::specs::Reading::code_of, crate::specs::Reading::after_line))]
 fn turn(
     alloc: Global,
     reader: &mut Reader,
     size: usize,
     line: &[u8],
+    plain: bool,
 ) -> Result<Option<u8>, NoMemory>
+    requires { plain ≡ is_plain line.now }
     ensures code { IfOk result (λ code. code ≡ code_of (state_of reader.old) size line.now) }
     ensures after { IfOk result (λ code. code ≡ None → state_of reader.new ≡ after_line (state_of reader.old) line.now) }
 {
-    if !is_plain(line) {
+    if !plain {
         return Ok(Some(1));
     }
     if is_kept(line) {
@@ -143,9 +144,9 @@ fn read(alloc: Global, text: &[u8]) -> Result<Deck, DeckFault>
     let mut size = 0;
     let mut number = 1;
     let mut rest = text;
-    while let Some((line, more)) = cut(rest, b'\n') {
+    while let Some(NextLine { line, more, plain }) = next_line(rest) {
         size = size + line.len() + 1;
-        match turn(alloc, &mut reader, size, line) {
+        match turn(alloc, &mut reader, size, line, plain) {
             Ok(None) => {}
             Ok(Some(code)) => return Err(DeckFault::Bad { line: number, code }),
             Err(_) => return Err(DeckFault::NoMemory),

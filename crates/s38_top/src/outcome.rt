@@ -1,11 +1,13 @@
 use s38_code::{Checked, Deck, Entry};
+use s38_machine::State;
 
-/// A run that ended: the deck, the history and a mark for each of its entries.
+/// A run that ended: the deck, the history, a mark for each of its entries, and what the machine came to.
 #[derive(Drop)]
 pub struct Whole {
     pub deck: Deck,
     pub history: Vec<Entry>,
     pub marks: Vec<u64>,
+    pub state: State,
 }
 
 /// A deck, and what creation makes of each of its templates.

@@ -50,11 +50,12 @@ pub fn run_deck<P: Picker>(
         made.as_slice(),
         picker,
     )?;
-    let (history, marks) = machine.end();
+    let (history, marks, state) = machine.end();
     Ok(Whole {
         deck,
         history,
         marks,
+        state,
     })
 }
 

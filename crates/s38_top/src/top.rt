@@ -7,6 +7,7 @@ use crate::run::decide;
 use crate::tell::{Told, tell};
 use s38_code::{Deck, Entry};
 use s38_io::{Sink, Source};
+use s38_machine::State;
 use std::alloc::Global;
 
 /// What the program came to: its status, the history, a mark for each entry, and the disk that was handed in.
@@ -25,7 +26,7 @@ pub struct Report<D> {
 #[derive(Drop)]
 enum Rest {
     Nothing,
-    Run(Deck),
+    Run { deck: Deck, state: State },
     Checked(CheckedDeck),
 }
 
@@ -61,11 +62,12 @@ fn parted(whole: Whole) -> Parts
         deck,
         history,
         marks,
+        state,
     } = whole;
     Parts {
         history,
         marks,
-        rest: Rest::Run(deck),
+        rest: Rest::Run { deck, state },
     }
 }
 

@@ -7,7 +7,7 @@ use Rattle.s38_top.proofs.run.run_deck.Goals as goal
 
 pub returns-clause-run : goal.returns-clause-run
 returns-clause-run g c =
-    subst (λ (es : List Entry). IsRunOf c.args.objects (picks_of g.P.Picker.answer g.P.Picker.after (length es) c.args.picker.now) c.args.deck es) (sym c.end-history.ensures.0)
+    subst (λ (es : List Entry). IsRunOf c.args.objects (picks_of g.P.Picker.answer g.P.Picker.after (length es) c.args.picker.now) c.args.deck es) (sym c.end-history.ensures.history)
     (run_of c.args.objects _ c.args.deck c.in_ok-made.made.items c.args.templates c.in_ok-machine.machine c.in_ok-machine-2.machine c.in_ok-made.ensures.len c.in_ok-made.ensures.each
     c.requires.checked
     (rw c.as_slice-2.ensures.items at c.in_ok-machine.ensures)
@@ -18,4 +18,4 @@ returns-clause-run g c =
 
 pub returns-clause-marks : goal.returns-clause-marks
 returns-clause-marks g c =
-    marks_of_run c.in_ok-machine-2.machine c.end-history.result.0.items c.end-history.result.1.items c.in_ok-machine-2.ensures.sound c.end-history.ensures.0 c.end-history.ensures.1
+    marks_of_run c.in_ok-machine-2.machine c.end-history.result.0.items c.end-history.result.1.items c.in_ok-machine-2.ensures.sound c.end-history.ensures.history c.end-history.ensures.marks
