@@ -84,7 +84,7 @@ fn without_entries(alloc: Global, rest: Rest) -> Parts
 }
 
 /// The parts of an outcome.
-fn parts(alloc: Global, outcome: Outcome) -> Parts
+fn parts_of(alloc: Global, outcome: Outcome) -> Parts
     ensures history { result.history.items ≡ history_of outcome }
     ensures marks { result.marks.items ≡ marks_of outcome }
 {
@@ -118,7 +118,7 @@ fn report_of<D: Drop>(alloc: Global, told: Told, disk: D) -> Report<D>
         history,
         marks,
         rest,
-    } = parts(alloc, told.outcome);
+    } = parts_of(alloc, told.outcome);
     Report {
         status,
         history,
