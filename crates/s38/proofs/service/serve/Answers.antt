@@ -41,4 +41,4 @@ returns-in-Err g c = served _ c.args.words.now _ _ _ _ _ _ _ _ _ c.in-len1-up.le
 pub returns-in-Ok : goal.returns-in-Ok
 returns-in-Ok g c =
     served _ c.args.words.now _ _ _ _ _ _ _ _ _ c.in-len1-up.len_at_least
-    (ends_of _ (λ text. text.now) _ c.in-Ok.texts.items c.as_slice.result.now _ _ _ _ _ _ _ _ _ _ _ c.in-Ok.ensures c.as_slice.ensures.value c.plain_top.ensures.ends)
+    (ends_of _ (λ text. text.now) _ c.in-Ok.texts.items c.as_slice.result.now _ _ _ _ _ _ _ _ _ _ _ c.in-Ok.ensures c.as_slice.ensures.value c.plain_top-report.ensures.ends)
