@@ -6,7 +6,7 @@ ghost use Rattle.s38_rules.specs.Resolving.{carried_rights, context_at, context_
 use s38_authority::{available, has_rights, missing};
 use s38_base::exceptions::OBJECT_NOT_FOUND;
 use s38_base::limits::MACHINE_CONTEXT;
-use s38_base::{Category, Exception, Id, Kind, NoMemory, ObjNum, Op, Pointer, Rights, UserNum};
+use s38_base::{Category, Exception, HeldPointer, Id, Kind, NoMemory, ObjNum, Op, Pointer, Rights, UserNum};
 use s38_code::{Operand, Request, Val};
 use s38_invoke::World;
 use s38_objects::{Objects, kind_of};
@@ -227,7 +227,7 @@ fn rslvsp_gives(world: &World<Objects>, process: u32, depth: u16, operands: &[Op
     ensures { result ≡ rslvsp_gives world.now process depth operands.now }
 {
     let located = resolved(world, process, depth, operands);
-    Val::Ptr(pointer_to(rights_at(operands, 4), located))
+    Val::Ptr(HeldPointer::of(pointer_to(rights_at(operands, 4), located)))
 }
 
 // ---- SETSPFP
@@ -238,11 +238,11 @@ fn setspfp_gives(objects: &Objects, operands: &[Operand]) -> Val
     ensures { result ≡ setspfp_gives objects.now operands.now }
 {
     match pointer_at(objects, operands, 2) {
-        None => Val::Ptr(None),
-        Some(pointer) => Val::Ptr(Some(Pointer::System {
+        None => Val::Ptr(HeldPointer::of(None)),
+        Some(pointer) => Val::Ptr(HeldPointer::of(Some(Pointer::System {
             object: pointer.object(),
             rights: Rights(0),
-        })),
+        }))),
     }
 }
 

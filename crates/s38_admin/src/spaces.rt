@@ -6,7 +6,7 @@ ghost use Rattle.s38_memory.specs.Tagged.{resized};
 ghost use Rattle.s38_rules.specs.Spaces.{cpybwp_changes, cpybwp_fails, cpybwp_gives, crts_changes, crts_fails, is_space_length, is_unaligned, length_at, length_rule, mods_changes, mods_fails, new_space, owner_pays, setdp_fails, setdp_gives, setsppfp_gives, spaces_row};
 
 use s38_base::exceptions::{BOUNDARY_ALIGNMENT, DECIMAL_DATA, LENGTH_INVALID, SPACE_ADDRESSING};
-use s38_base::{Category, Exception, Kind, NoMemory, Op, Pointer, Rights};
+use s38_base::{Category, Exception, HeldPointer, Kind, NoMemory, Op, Pointer, Rights};
 use s38_changes::{
     creation_changes, creation_fails, creation_gives, creation_needs, destruction_changes,
     destruction_needs, in_context, owner_pays, pages_for_length, put_cells, resize,
@@ -178,11 +178,11 @@ fn setsppfp_gives(objects: &Objects, operands: &[Operand]) -> Val
     ensures { result ≡ setsppfp_gives objects.now operands.now }
 {
     match pointer_at(objects, operands, 2) {
-        None => Val::Ptr(None),
-        Some(pointer) => Val::Ptr(Some(Pointer::Space {
+        None => Val::Ptr(HeldPointer::of(None)),
+        Some(pointer) => Val::Ptr(HeldPointer::of(Some(Pointer::Space {
             object: pointer.object(),
             offset: 0,
-        })),
+        }))),
     }
 }
 
@@ -203,12 +203,12 @@ fn setdp_gives(objects: &Objects, operands: &[Operand]) -> Val
     ensures { result ≡ setdp_gives objects.now operands.now }
 {
     match pointer_at(objects, operands, 2) {
-        None => Val::Ptr(None),
-        Some(pointer) => Val::Ptr(Some(Pointer::Item {
+        None => Val::Ptr(HeldPointer::of(None)),
+        Some(pointer) => Val::Ptr(HeldPointer::of(Some(Pointer::Item {
             object: pointer.object(),
             offset: pointer.offset(),
             attr: attr_at(operands, 3),
-        })),
+        }))),
     }
 }
 
@@ -218,7 +218,7 @@ fn is_unaligned(operand: Option<&Operand>) -> bool
     ensures { result ≡ is_unaligned (option_copied operand.entry) }
 {
     match operand {
-        Some(Operand::InSpace { base, offset, .. }) => !is_aligned(Pointer::start(*base, *offset)),
+        Some(Operand::InSpace { base, offset, .. }) => !is_aligned(Pointer::start(base.get(), *offset)),
         _ => false,
     }
 }
@@ -247,7 +247,7 @@ fn cpybwp_gives(
         return Ok(None);
     }
     let cells = source_cells(alloc, objects, operands, 2)?;
-    Ok(Some(Val::Ptr(first_pointer(cells.as_slice()))))
+    Ok(Some(Val::Ptr(HeldPointer::of(first_pointer(cells.as_slice())))))
 }
 
 /// Cells go with their tags into the space.

@@ -1,6 +1,7 @@
 pub mod Exceptions
 pub mod Faults
 pub mod Fields
+pub mod HeldPointers
 pub mod Ids
 pub mod Lending
 pub mod Limits

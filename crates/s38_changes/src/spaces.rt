@@ -51,7 +51,7 @@ pub fn put_value(world: &mut World<Objects>, number: ObjNum, at: u64, value: &Va
 {
     match value {
         Val::Bytes(bytes) => write(&mut world.objects, number, at, bytes.as_slice()),
-        Val::Ptr(pointer) => set_pointer(&mut world.objects, number, at, *pointer),
+        Val::Ptr(pointer) => set_pointer(&mut world.objects, number, at, pointer.get()),
         _ => {}
     }
 }
@@ -63,8 +63,8 @@ pub fn put_cells(world: &mut World<Objects>, receiver: Option<&Operand>, cells: 
 {
     match receiver {
         Some(Operand::InSpace { base, offset, .. }) => {
-            let at = Pointer::start(*base, *offset);
-            copy_in(&mut world.objects, Pointer::target(*base), at, cells);
+            let at = Pointer::start(base.get(), *offset);
+            copy_in(&mut world.objects, Pointer::target(base.get()), at, cells);
         }
         _ => {}
     }

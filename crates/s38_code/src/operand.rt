@@ -1,4 +1,4 @@
-use s38_base::{Attr, AttrList, Bytes, Id, Name, NoMemory, Pointer, Seq, TryClone};
+use s38_base::{Attr, AttrList, Bytes, HeldPointer, Id, Name, NoMemory, Seq, TryClone};
 use std::alloc::Global;
 
 /// An operand as the machine gets it: the process has put in the values of its variables.
@@ -15,12 +15,12 @@ pub enum Operand {
     },
     /// An item in a space: its base, and its offset from there.
     InSpace {
-        base: Option<Pointer>,
+        base: HeldPointer,
         offset: u32,
         attr: Attr,
     },
     /// A pointer that is used, or none.
-    Ptr(Option<Pointer>),
+    Ptr(HeldPointer),
     /// A whole number.
     Whole(i64),
     /// A word of the row: rights, a relation, a lock state, as their numbers.

@@ -1,12 +1,12 @@
 use crate::code::Code;
-use s38_base::{Bytes, Exception, NoMemory, Pointer, Seq, TryClone, try_clones};
+use s38_base::{Bytes, Exception, HeldPointer, NoMemory, Seq, TryClone, try_clones};
 use std::alloc::Global;
 
 /// A value that comes back to a process.
 #[derive(Drop, Debug)]
 pub enum Val {
     Bytes(Bytes),
-    Ptr(Option<Pointer>),
+    Ptr(HeldPointer),
     Branch(bool),
     Code(Code),
 }

@@ -2,7 +2,7 @@ ghost use Rattle.std.specs.Prelude.{◌≡◌, IfOk, IsTrue};
 ghost use Rattle.s38_base.specs.Scalar.{fits, image_of};
 ghost use Rattle.s38_code.specs.declared.reply.Val.{Val};
 
-use s38_base::{Attr, Bytes, NoMemory, Pointer};
+use s38_base::{Attr, Bytes, HeldPointer, NoMemory, Pointer};
 use s38_code::Val;
 use s38_decimal::write_scalar;
 use std::alloc::Global;
@@ -40,7 +40,7 @@ impl Given {
         match self {
             Given::Number { attr, units } => number_value(alloc, attr, units),
             Given::Bytes(bytes) => Ok(Val::Bytes(bytes)),
-            Given::Pointer(pointer) => Ok(Val::Ptr(Some(pointer))),
+            Given::Pointer(pointer) => Ok(Val::Ptr(HeldPointer::of(Some(pointer)))),
             Given::Branch(taken) => Ok(Val::Branch(taken)),
         }
     }

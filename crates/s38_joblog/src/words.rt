@@ -131,7 +131,7 @@ pub fn add_value(text: &mut Text, value: &Val) -> Result<(), NoMemory>
         }
         Val::Ptr(pointer) => {
             text.add_byte(b' ')?;
-            add_pointer(text, *pointer)
+            add_pointer(text, pointer.get())
         }
         Val::Branch(taken) => add_answer(text, *taken),
         Val::Code(_) => Ok(()),

@@ -254,7 +254,7 @@ const CAUSES: &[EndCause] = &[
 /// Entries with each kind of pointer.
 fn add_pointers(alloc: Global, history: &mut Vec<Entry>) -> Result<(), NoMemory> {
     for pointer in POINTERS {
-        history.push(with_value(alloc, Op::Cpybwp, Val::Ptr(*pointer))?)?;
+        history.push(with_value(alloc, Op::Cpybwp, Val::Ptr(HeldPointer::of(*pointer)))?)?;
     }
     Ok(())
 }

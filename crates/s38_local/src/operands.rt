@@ -61,7 +61,7 @@ fn value_pointer(value: Option<&Val>) -> Option<Pointer>
     ensures { result ≡ value_pointer (option_copied value.entry) }
 {
     match value {
-        Some(Val::Ptr(pointer)) => *pointer,
+        Some(Val::Ptr(pointer)) => pointer.get(),
         _ => None,
     }
 }

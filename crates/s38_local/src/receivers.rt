@@ -7,7 +7,7 @@ ghost use Rattle.s38_local.specs.Variables.{put_at};
 ghost use Rattle.s38_code.specs.declared.reply.Val.{Val};
 
 use crate::local_end::LocalEnd;
-use s38_base::{Attr, Bytes, Exception, Pointer};
+use s38_base::{Attr, Bytes, Exception, HeldPointer, Pointer};
 use s38_code::{Arg, Val};
 use s38_decimal::write_fitting;
 use std::mem;
@@ -77,7 +77,7 @@ fn pointer_put(values: &mut [Val], to: Option<usize>, pointer: Pointer)
     match to {
         Some(at) => {
             if at < values.len() {
-                values[at] = Val::Ptr(Some(pointer));
+                values[at] = Val::Ptr(HeldPointer::of(Some(pointer)));
             }
         }
         None => {}

@@ -83,7 +83,7 @@ fn item_lock(
                 &world.locks,
                 process,
                 k,
-                Pointer::target(*base),
+                Pointer::target(base.get()),
                 use_at(op, k),
             )
         }

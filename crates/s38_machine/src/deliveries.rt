@@ -48,8 +48,8 @@ pub fn put(world: &mut World<Objects>, shift: u16, receiver: Option<&Operand>, v
         None => {}
         Some(value) => match receiver {
             Some(Operand::InSpace { base, offset, .. }) => {
-                let at = Pointer::start(*base, *offset) + u64::from(shift);
-                put_value(world, Pointer::target(*base), at, &value);
+                let at = Pointer::start(base.get(), *offset) + u64::from(shift);
+                put_value(world, Pointer::target(base.get()), at, &value);
             }
             _ => {}
         },

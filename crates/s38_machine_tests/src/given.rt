@@ -1,6 +1,6 @@
 //! Jobs, a template and events, as a table gives them.
 
-use s38_base::{Attr, Bytes, Id, Kind, Name, ObjNum, Op, Pointer, Rights, Seq};
+use s38_base::{Attr, Bytes, HeldPointer, Id, Kind, Name, ObjNum, Op, Pointer, Rights, Seq};
 use s38_code::{
     Checked, CheckedTemplate, Code, CreateResult, EndCause, Event, Form, Job, Operand, Program,
     Request, Row, Template, TextLines,
@@ -41,17 +41,17 @@ fn operand(alloc: Global, given: Given) -> Result<Operand, Fail> {
     Ok(match given {
         Given::Into(attr) => Operand::Receiver { attr },
         Given::Cell(offset) => Operand::InSpace {
-            base: Some(Pointer::Space {
+            base: HeldPointer::of(Some(Pointer::Space {
                 object: ObjNum(6),
                 offset: 0,
-            }),
+            })),
             offset,
             attr: Attr::Pointer,
         },
-        Given::Object(number) => Operand::Ptr(Some(Pointer::System {
+        Given::Object(number) => Operand::Ptr(HeldPointer::of(Some(Pointer::System {
             object: ObjNum(number),
             rights: Rights(0),
-        })),
+        }))),
         Given::Value(attr, bytes) => Operand::Value {
             attr,
             bytes: Bytes::from_slice(alloc, bytes)?,

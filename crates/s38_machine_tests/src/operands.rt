@@ -1,6 +1,6 @@
 //! Calls that can want memory, with ample memory: a space is made, and read at operands.
 
-use s38_base::{Attr, Id, Kind, Name, ObjNum, Op, Pointer, Rights, Seq};
+use s38_base::{Attr, HeldPointer, Id, Kind, Name, ObjNum, Op, Pointer, Rights, Seq};
 use s38_code::{Operand, Request, Val};
 use s38_memory::Tagged;
 use s38_objects::Objects;
@@ -37,10 +37,10 @@ fn with_space(alloc: Global) -> Result<Objects, Fail> {
 /// An item of so many bytes at the beginning of the first space that is made.
 fn item(len: u16) -> Operand {
     Operand::InSpace {
-        base: Some(Pointer::Space {
+        base: HeldPointer::of(Some(Pointer::Space {
             object: ObjNum(2),
             offset: 0,
-        }),
+        })),
         offset: 0,
         attr: Attr::Chars { len },
     }

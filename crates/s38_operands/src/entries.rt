@@ -79,11 +79,11 @@ fn have_values_of(objects: &Objects, operand: Option<&Operand>, fields: &[Attr])
     match operand {
         Some(Operand::Value { bytes, .. }) => have_values(fields, bytes.as_slice()),
         Some(Operand::InSpace { base, offset, attr }) => {
-            match objects.space(Pointer::target(*base)) {
+            match objects.space(Pointer::target(base.get())) {
                 Some(space) => have_values_in(
                     fields,
                     space,
-                    Pointer::start(*base, *offset),
+                    Pointer::start(base.get(), *offset),
                     attr.length(),
                 ),
                 None => have_values(fields, &[]),

@@ -60,8 +60,8 @@ pub fn are_hex_of(objects: &Objects, source: Option<&Operand>) -> bool
     match source {
         Some(Operand::Value { bytes, .. }) => are_hex(bytes.as_slice()),
         Some(Operand::InSpace { base, offset, attr }) => are_hex_in(
-            objects.space(Pointer::target(*base)),
-            Pointer::start(*base, *offset),
+            objects.space(Pointer::target(base.get())),
+            Pointer::start(base.get(), *offset),
             attr.length(),
         ),
         _ => true,

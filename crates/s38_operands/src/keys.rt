@@ -100,8 +100,8 @@ fn ask_of<Q: Question>(question: &Q, objects: &Objects, operand: Option<&Operand
         Some(Operand::Value { bytes, .. }) => question.ask(bytes.as_slice()),
         Some(Operand::InSpace { base, offset, attr }) => ask_space(
             question,
-            objects.space(Pointer::target(*base)),
-            Pointer::start(*base, *offset),
+            objects.space(Pointer::target(base.get())),
+            Pointer::start(base.get(), *offset),
             attr.length(),
         ),
         _ => question.ask(&[]),

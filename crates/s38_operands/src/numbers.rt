@@ -58,8 +58,8 @@ fn number_of(objects: &Objects, operand: Option<&Operand>) -> Option<Dec>
     match operand {
         Some(Operand::Value { attr, bytes }) => read_scalar(*attr, bytes.as_slice()).ok(),
         Some(Operand::InSpace { base, offset, attr }) => number_in(
-            objects.space(Pointer::target(*base)),
-            Pointer::start(*base, *offset),
+            objects.space(Pointer::target(base.get())),
+            Pointer::start(base.get(), *offset),
             *attr,
         ),
         _ => None,

@@ -31,10 +31,10 @@ fn pointer_of(objects: &Objects, operand: Option<&Operand>) -> Option<Pointer>
     ensures { result ≡ pointer_of objects.now (option_copied operand.entry) }
 {
     match operand {
-        Some(Operand::Ptr(pointer)) => *pointer,
+        Some(Operand::Ptr(pointer)) => pointer.get(),
         Some(Operand::InSpace { base, offset, attr }) => pointer_in(
-            objects.space(Pointer::target(*base)),
-            Pointer::start(*base, *offset),
+            objects.space(Pointer::target(base.get())),
+            Pointer::start(base.get(), *offset),
             *attr,
         ),
         _ => None,
@@ -64,8 +64,8 @@ fn bytes_of(alloc: Global, objects: &Objects, operand: Option<&Operand>) -> Resu
         Some(Operand::Value { bytes, .. }) => bytes.try_clone(alloc),
         Some(Operand::InSpace { base, offset, attr }) => bytes_there(
             alloc,
-            objects.space(Pointer::target(*base)),
-            Pointer::start(*base, *offset),
+            objects.space(Pointer::target(base.get())),
+            Pointer::start(base.get(), *offset),
             attr.length(),
         ),
         _ => Ok(Bytes::new(alloc)),
@@ -117,8 +117,8 @@ fn size_of(objects: &Objects, operand: Option<&Operand>) -> usize
     match operand {
         Some(Operand::Value { bytes, .. }) => bytes.len(),
         Some(Operand::InSpace { base, offset, attr }) => size_there(
-            objects.space(Pointer::target(*base)),
-            Pointer::start(*base, *offset),
+            objects.space(Pointer::target(base.get())),
+            Pointer::start(base.get(), *offset),
             attr.length(),
         ),
         _ => 0,
@@ -142,11 +142,11 @@ fn cells_of(
     ensures whole { IfOk result (λ made. All IsCell made.items) }
 {
     match operand {
-        Some(Operand::Ptr(pointer)) => one_cell(alloc, *pointer),
+        Some(Operand::Ptr(pointer)) => one_cell(alloc, pointer.get()),
         Some(Operand::InSpace { base, offset, attr }) => cells_there(
             alloc,
-            objects.space(Pointer::target(*base)),
-            Pointer::start(*base, *offset),
+            objects.space(Pointer::target(base.get())),
+            Pointer::start(base.get(), *offset),
             attr.length(),
         ),
         _ => Ok(Vec::new(alloc)),

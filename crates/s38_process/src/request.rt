@@ -3,7 +3,7 @@ ghost use Rattle.std.specs.Option.{option_copied};
 ghost use Rattle.s38_process.specs.Requests.{item_by, item_operand, operand_of, operands_of, request_of, source_by};
 
 use crate::variables::{form_in, is_receiver, value_bytes, value_of_item, value_pointer};
-use s38_base::{Attr, Bytes, NoMemory, Seq, TryClone};
+use s38_base::{Attr, Bytes, HeldPointer, NoMemory, Seq, TryClone};
 use s38_code::{Arg, Class, Form, Instruction, Operand, Request, Row, Val, classes};
 use std::alloc::Global;
 
@@ -11,7 +11,7 @@ fn source_by(alloc: Global, attr: Attr, value: Option<&Val>) -> Result<Operand, 
     ensures { IfOk result (λ operand. operand ≡ source_by attr (option_copied value.entry)) }
 {
     match attr {
-        Attr::Pointer => Ok(Operand::Ptr(value_pointer(value))),
+        Attr::Pointer => Ok(Operand::Ptr(HeldPointer::of(value_pointer(value)))),
         _ => Ok(Operand::Value {
             attr,
             bytes: Bytes::from_slice(alloc, value_bytes(value))?,
@@ -48,7 +48,7 @@ fn item_by(
     let attr = match form {
         Some(Form::Based { base, offset, attr }) => {
             return Ok(Operand::InSpace {
-                base: value_pointer(value_of_item(homes, values, *base as usize)),
+                base: HeldPointer::of(value_pointer(value_of_item(homes, values, *base as usize))),
                 offset: *offset,
                 attr: *attr,
             });

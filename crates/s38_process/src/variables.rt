@@ -9,7 +9,7 @@ ghost use Rattle.s38_process.specs.Replies.{is_taken, label_in, label_of, merged
 ghost use Rattle.s38_process.specs.Requests.{is_receiver};
 ghost use Rattle.s38_local.specs.Variables.{form_in, is_based, value_bytes, value_of_item, value_pointer};
 
-use s38_base::{Attr, Bytes, NoMemory, Op, Pointer, TryClone, try_clones};
+use s38_base::{Attr, Bytes, HeldPointer, NoMemory, Op, Pointer, TryClone, try_clones};
 use s38_code::{Arg, Class, Form, Instruction, Row, Val, classes};
 use s38_compute::{copies_left, copies_right};
 use s38_local::{place_of, value_at};
@@ -33,7 +33,7 @@ fn first_by(attr: Attr, first: Bytes) -> Val
     ensures { result ≡ first_by attr first }
 {
     match attr {
-        Attr::Pointer => Val::Ptr(None),
+        Attr::Pointer => Val::Ptr(HeldPointer::of(None)),
         _ => Val::Bytes(first),
     }
 }
@@ -54,9 +54,9 @@ fn first_value(alloc: Global, form: &Form) -> Result<Val, NoMemory>
 {
     match form {
         Form::Local { attr, first } => Ok(first_by(*attr, first.try_clone(alloc)?)),
-        Form::Parm { .. } => Ok(Val::Ptr(None)),
-        Form::Based { .. } => Ok(Val::Ptr(None)),
-        Form::Handler { .. } => Ok(Val::Ptr(None)),
+        Form::Parm { .. } => Ok(Val::Ptr(HeldPointer::of(None))),
+        Form::Based { .. } => Ok(Val::Ptr(HeldPointer::of(None))),
+        Form::Handler { .. } => Ok(Val::Ptr(HeldPointer::of(None))),
     }
 }
 
@@ -101,7 +101,7 @@ pub fn value_pointer(value: Option<&Val>) -> Option<Pointer>
     ensures { result ≡ value_pointer (option_copied value.entry) }
 {
     match value {
-        Some(Val::Ptr(pointer)) => *pointer,
+        Some(Val::Ptr(pointer)) => pointer.get(),
         _ => None,
     }
 }
