@@ -245,7 +245,7 @@ pub fn read_short(attr: Attr, bytes: &[u8]) -> Option<Dec>
     ensures short { IfSome result (λ d. unsigned_abs d.units < 10 ^ 18) }
 {
     match attr {
-        Attr::Packed { digits, fraction } if digits <= 18 => {
+        Attr::Packed { digits, fraction } if 1 <= digits && digits <= 18 => {
             match short_units(digits, fraction, bytes) {
                 Some(units) => Some(Dec {
                     units: i128::from(units),

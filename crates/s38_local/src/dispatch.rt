@@ -75,7 +75,7 @@ fn placed_sum(
 }
 
 /// Writes a sum where there are short ways to its operands, and says whether it did.
-#[inline(never)]
+#[inline(always)]
 fn short_sum(rows: &[Row], homes: &[usize], values: &mut [Val], instruction: &Instruction) -> bool
     ensures done { IsTrue result → number_run rows.now homes.now values.old instruction.now ≡ goes_on values.new }
     ensures stays { result ≡ false → values.new ≡ values.old }
@@ -122,7 +122,7 @@ fn any_number(
 }
 
 /// Whether a comparison of numbers branches, where there are short ways to its operands.
-#[inline(never)]
+#[inline(always)]
 fn short_compared(
     rows: &[Row],
     homes: &[usize],
