@@ -6,7 +6,9 @@ ghost use Rattle.s38_rules.specs.Resolving.{carried_rights, context_at, context_
 use s38_authority::{available, has_rights, missing};
 use s38_base::exceptions::OBJECT_NOT_FOUND;
 use s38_base::limits::MACHINE_CONTEXT;
-use s38_base::{Category, Exception, HeldPointer, Id, Kind, NoMemory, ObjNum, Op, Pointer, Rights, UserNum};
+use s38_base::{
+    Category, Exception, HeldPointer, Id, Kind, NoMemory, ObjNum, Op, Pointer, Rights, UserNum,
+};
 use s38_code::{Operand, Request, Val};
 use s38_invoke::World;
 use s38_objects::{Objects, kind_of};

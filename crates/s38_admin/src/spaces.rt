@@ -218,7 +218,10 @@ fn is_unaligned(operand: Option<&Operand>) -> bool
     ensures { result ≡ is_unaligned (option_copied operand.entry) }
 {
     match operand {
-        Some(Operand::InSpace { base, offset, .. }) => !is_aligned(Pointer::start(base.get(), *offset)),
+        Some(Operand::InSpace { base, offset, .. }) => !is_aligned(Pointer::start(
+            base.get(),
+            *offset,
+        )),
         _ => false,
     }
 }

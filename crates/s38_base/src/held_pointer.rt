@@ -85,11 +85,13 @@ impl HeldPointer {
             Some(Pointer::Space { object, offset }) => HeldPointer {
                 form: Form::Space { offset, object },
             },
-            Some(Pointer::Item {
-                object,
-                offset,
-                attr,
-            }) => HeldPointer {
+            Some(
+                Pointer::Item {
+                    object,
+                    offset,
+                    attr,
+                },
+            ) => HeldPointer {
                 form: form_of_item(object, offset, attr),
             },
         }

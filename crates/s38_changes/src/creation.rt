@@ -12,7 +12,9 @@ use crate::charges::pays_more;
 use crate::users::{pay_within, prepare, take_back};
 use s38_base::exceptions::{DUPLICATE_IDENTIFICATION, LIMIT_EXCEEDED};
 use s38_base::limits::{CEILING_STEP, LAST_NUMBER, MACHINE_CONTEXT, MOST_OBJECTS};
-use s38_base::{Category, Exception, HeldPointer, Id, Kind, NoMemory, ObjNum, Pointer, Rights, UserNum};
+use s38_base::{
+    Category, Exception, HeldPointer, Id, Kind, NoMemory, ObjNum, Pointer, Rights, UserNum,
+};
 use s38_code::{Operand, Val};
 use s38_invoke::World;
 use s38_objects::{Objects, pages};

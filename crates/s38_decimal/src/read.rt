@@ -239,6 +239,7 @@ fn short_units(digits: u8, fraction: u8, bytes: &[u8]) -> Option<i64>
 /// The packed number of up to 18 digits that stands in the bytes. None exactly where the attribute is another one or
 /// the bytes have no value.
 #[inline(always)]
+#[tactic(auto, unfolding(s38_base::specs::Scalar::value_of))]
 pub fn read_short(attr: Attr, bytes: &[u8]) -> Option<Dec>
     ensures value { option_map (λ d. d.units) result ≡ (if is_short attr then value_of attr bytes.now else None) }
     ensures attr { IfSome result (λ d. d.attr ≡ attr) }

@@ -83,7 +83,13 @@ fn item_rule(objects: &Objects, k: u8, operand: &Operand) -> Option<Exception>
     ensures { result ≡ item_rule objects.now k operand.now }
 {
     match operand {
-        Operand::InSpace { base, offset, attr } => base_rule(objects, k, base.get(), *offset, *attr),
+        Operand::InSpace { base, offset, attr } => base_rule(
+            objects,
+            k,
+            base.get(),
+            *offset,
+            *attr,
+        ),
         _ => None,
     }
 }
