@@ -98,7 +98,7 @@ impl HeldPointer {
     }
 
     /// The pointer, or none.
-    #[inline]
+    #[inline(always)]
     pub fn get(self) -> Option<Pointer>
         ensures { result ≡ self }
     {

@@ -1,97 +1,142 @@
-ghost use Rattle.std.specs.Prelude.{◌≡◌, ◌++◌, IfOk, OnOk};
+ghost use Rattle.std.specs.Prelude.{◌≡◌, ◌++◌, ◌∷◌, [], IfOk, OnOk};
 ghost use Rattle.std.specs.Option.{option_copied};
+ghost use Rattle.s38_code.specs.declared.operand.Operand.{Operand};
 ghost use Rattle.s38_process.specs.Requests.{item_by, item_operand, operand_of, operands_of, request_of, source_by};
 
 use crate::variables::{form_in, is_receiver, value_bytes, value_of_item, value_pointer};
-use s38_base::{Attr, Bytes, HeldPointer, NoMemory, Seq, TryClone};
+use s38_base::{Attr, AttrList, Bytes, NoMemory, Seq};
 use s38_code::{Arg, Class, Form, Instruction, Operand, Request, Row, Val, classes};
 use std::alloc::Global;
 
-fn source_by(alloc: Global, attr: Attr, value: Option<&Val>) -> Result<Operand, NoMemory>
-    ensures { IfOk result (λ operand. operand ≡ source_by attr (option_copied value.entry)) }
+/// Adds an operand where it is made, which spares a copy of it.
+#[inline(always)]
+fn add(made: &mut Vec<Operand>, operand: Operand) -> Result<(), NoMemory>
+    ensures { OnOk result (made.new.items ≡ made.old.items ++ operand ∷ []) }
 {
-    match attr {
-        Attr::Pointer => Ok(Operand::Ptr(HeldPointer::of(value_pointer(value)))),
-        _ => Ok(Operand::Value {
-            attr,
-            bytes: Bytes::from_slice(alloc, value_bytes(value))?,
-        }),
+    match made.push(operand) {
+        Ok(()) => Ok(()),
+        Err(_) => Err(NoMemory),
     }
 }
 
-fn item_operand(
+#[inline(always)]
+fn add_bytes(
     alloc: Global,
+    made: &mut Vec<Operand>,
+    attr: Attr,
+    given: &[u8],
+) -> Result<(), NoMemory>
+    ensures { OnOk result (made.new.items ≡ made.old.items ++ Operand.Value attr given.now ∷ []) }
+{
+    match Bytes::from_slice(alloc, given) {
+        Ok(bytes) => add(made, Operand::Value { attr, bytes }),
+        Err(fault) => Err(fault),
+    }
+}
+
+#[inline(always)]
+fn add_source(
+    alloc: Global,
+    made: &mut Vec<Operand>,
+    attr: Attr,
+    value: Option<&Val>,
+) -> Result<(), NoMemory>
+    ensures { OnOk result (made.new.items ≡ made.old.items ++ source_by attr (option_copied value.entry) ∷ []) }
+{
+    match attr {
+        Attr::Pointer => add(made, Operand::Ptr(value_pointer(value))),
+        _ => add_bytes(alloc, made, attr, value_bytes(value)),
+    }
+}
+
+#[inline(always)]
+fn add_held(
+    alloc: Global,
+    made: &mut Vec<Operand>,
     receiver: bool,
     attr: Attr,
     value: Option<&Val>,
-) -> Result<Operand, NoMemory>
-    ensures { IfOk result (λ operand. operand ≡ item_operand receiver attr (option_copied value.entry)) }
+) -> Result<(), NoMemory>
+    ensures { OnOk result (made.new.items ≡ made.old.items ++ item_operand receiver attr (option_copied value.entry) ∷ []) }
 {
     if receiver {
-        Ok(Operand::Receiver { attr })
+        add(made, Operand::Receiver { attr })
     } else {
-        source_by(alloc, attr, value)
+        add_source(alloc, made, attr, value)
     }
 }
 
-/// An item as the machine gets it: one behind a base lies in the space of the base's pointer.
-fn item_by(
+/// Adds an item as the machine gets it: one behind a base lies in the space of the base's pointer.
+#[inline(always)]
+fn add_item(
     alloc: Global,
+    made: &mut Vec<Operand>,
     homes: &[usize],
     values: &[Val],
     receiver: bool,
     item: usize,
     form: Option<&Form>,
-) -> Result<Operand, NoMemory>
-    ensures { IfOk result (λ operand. operand ≡ item_by homes.now values.now receiver item (option_copied form.entry)) }
+) -> Result<(), NoMemory>
+    ensures { OnOk result (made.new.items ≡ made.old.items ++ item_by homes.now values.now receiver item (option_copied form.entry) ∷ []) }
 {
     let attr = match form {
         Some(Form::Based { base, offset, attr }) => {
-            return Ok(Operand::InSpace {
-                base: HeldPointer::of(value_pointer(value_of_item(homes, values, *base as usize))),
-                offset: *offset,
-                attr: *attr,
-            });
+            let base = value_pointer(value_of_item(homes, values, *base as usize));
+            return add(
+                made,
+                Operand::InSpace {
+                    base,
+                    offset: *offset,
+                    attr: *attr,
+                },
+            );
         }
         Some(Form::Local { attr, .. }) => *attr,
         Some(Form::Parm { attr, .. }) => *attr,
         _ => Attr::Pointer,
     };
-    item_operand(alloc, receiver, attr, value_of_item(homes, values, item))
+    let value = value_of_item(homes, values, item);
+    add_held(alloc, made, receiver, attr, value)
 }
 
-fn operand_of(
+fn add_attrs(alloc: Global, made: &mut Vec<Operand>, attrs: &AttrList) -> Result<(), NoMemory>
+    ensures { OnOk result (made.new.items ≡ made.old.items ++ Operand.Attrs attrs.now ∷ []) }
+{
+    match Seq::from_slice(alloc, attrs.as_slice()) {
+        Ok(attrs) => add(made, Operand::Attrs(attrs)),
+        Err(fault) => Err(fault),
+    }
+}
+
+#[inline(always)]
+fn add_operand(
     alloc: Global,
+    made: &mut Vec<Operand>,
     rows: &[Row],
     homes: &[usize],
     values: &[Val],
     class: Class,
     arg: &Arg,
-) -> Result<Operand, NoMemory>
-    ensures { IfOk result (λ operand. operand ≡ operand_of rows.now homes.now values.now class arg.now) }
+) -> Result<(), NoMemory>
+    ensures { OnOk result (made.new.items ≡ made.old.items ++ operand_of rows.now homes.now values.now class arg.now ∷ []) }
 {
     match arg {
-        Arg::Item(item) => item_by(
-            alloc,
-            homes,
-            values,
-            is_receiver(class),
-            *item as usize,
-            form_in(rows.get(*item as usize)),
-        ),
-        Arg::Literal { attr, bytes } => Ok(Operand::Value {
-            attr: *attr,
-            bytes: bytes.try_clone(alloc)?,
-        }),
-        Arg::Whole(number) => Ok(Operand::Whole(*number)),
-        Arg::Jump(_) => Ok(Operand::Nothing),
-        Arg::Word(word) => Ok(Operand::Word(*word)),
-        Arg::Ident(id) => Ok(Operand::Ident(*id)),
-        Arg::Text(name) => Ok(Operand::Text(*name)),
-        Arg::Attrs(attrs) => Ok(Operand::Attrs(Seq::from_slice(alloc, attrs.as_slice())?)),
-        Arg::Nothing => Ok(Operand::Nothing),
-        Arg::MachineContext => Ok(Operand::MachineContext),
-        Arg::ContextList => Ok(Operand::ContextList),
+        Arg::Item(item) => {
+            let item = *item as usize;
+            let receiver = is_receiver(class);
+            let form = form_in(rows.get(item));
+            add_item(alloc, made, homes, values, receiver, item, form)
+        }
+        Arg::Literal { attr, bytes } => add_bytes(alloc, made, *attr, bytes.as_slice()),
+        Arg::Whole(number) => add(made, Operand::Whole(*number)),
+        Arg::Jump(_) => add(made, Operand::Nothing),
+        Arg::Word(word) => add(made, Operand::Word(*word)),
+        Arg::Ident(id) => add(made, Operand::Ident(*id)),
+        Arg::Text(name) => add(made, Operand::Text(*name)),
+        Arg::Attrs(attrs) => add_attrs(alloc, made, attrs),
+        Arg::Nothing => add(made, Operand::Nothing),
+        Arg::MachineContext => add(made, Operand::MachineContext),
+        Arg::ContextList => add(made, Operand::ContextList),
     }
 }
 
@@ -111,10 +156,9 @@ fn add_operands(
         match more {
             [] => return Ok(()),
             [class, rest @ ..] => {
-                let operand = operand_of(alloc, rows, homes, values, *class, arg)?;
-                match made.push(operand) {
+                match add_operand(alloc, made, rows, homes, values, *class, arg) {
                     Ok(()) => {}
-                    Err(_) => return Err(NoMemory),
+                    Err(fault) => return Err(fault),
                 }
                 more = rest;
             }

@@ -97,12 +97,12 @@ pub fn value_bytes(value: Option<&Val>) -> &[u8]
 }
 
 /// The pointer of a variable.
-pub fn value_pointer(value: Option<&Val>) -> Option<Pointer>
+pub fn value_pointer(value: Option<&Val>) -> HeldPointer
     ensures { result ≡ value_pointer (option_copied value.entry) }
 {
     match value {
-        Some(Val::Ptr(pointer)) => pointer.get(),
-        _ => None,
+        Some(Val::Ptr(pointer)) => *pointer,
+        _ => HeldPointer::of(None),
     }
 }
 
