@@ -9,7 +9,7 @@ ghost use Rattle.s38_process.specs.Replies.{is_taken, label_in, label_of, merged
 ghost use Rattle.s38_process.specs.Requests.{is_receiver};
 ghost use Rattle.s38_local.specs.Variables.{form_in, is_based, value_bytes, value_of_item, value_pointer};
 
-use s38_base::{Attr, Bytes, HeldPointer, NoMemory, Op, Pointer, TryClone, try_clones};
+use s38_base::{Attr, Bytes, HeldPointer, NoMemory, Op, TryClone, try_clones};
 use s38_code::{Arg, Class, Form, Instruction, Row, Val, classes};
 use s38_compute::{copies_left, copies_right};
 use s38_local::{place_of, value_at};
