@@ -19,9 +19,9 @@ pub invariant_of-world-in-Ptr : goal.invariant_of-world-in-Ptr
 invariant_of-world-in-Ptr c = (
   c.world.invariant.0,
   subst (λ (h : Held). Mirrors c.world.inside.profiles h) (sym c.set_pointer.ensures)
-      (cells_kept c.world.inside.profiles c.world.inside.objects c.args.number.0 (with_pointer c.args.at c.in-Ptr.pointer)
-      (pointer_length c.args.at c.in-Ptr.pointer (cells_at c.world.inside.objects c.args.number.0)) c.world.invariant.1),
+      (cells_kept c.world.inside.profiles c.world.inside.objects c.args.number.0 (with_pointer c.args.at c.get.result)
+      (pointer_length c.args.at c.get.result (cells_at c.world.inside.objects c.args.number.0)) c.world.invariant.1),
 )
 
 pub returns-in-Ptr : goal.returns-in-Ptr
-returns-in-Ptr c = rw (c.set_pointer.ensures, c.in-Ptr.is, ← c.world.view_is) refl
+returns-in-Ptr c = rw (c.set_pointer.ensures, c.get.ensures, c.in-Ptr.is, ← c.world.view_is) refl
