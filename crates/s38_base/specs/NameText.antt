@@ -1,5 +1,5 @@
 -- The text of a name, and how it is kept in thirty bytes.
-use Rattle.std.specs.Prelude.{◌≡◌, ℕ, Bool, ◌&&◌, ◌||◌, IsTrue, List, ◌++◌, length, take, drop, replicate, nat_le, nat_lt}
+use Rattle.std.specs.Prelude.{◌≡◌, ℕ, zero, suc, ◌+◌, ◌*◌, [], ◌∷◌, Bool, ◌&&◌, ◌||◌, IsTrue, List, ◌++◌, length, take, drop, replicate, nat_le, nat_lt}
 use Rattle.std.specs.List.{list_all}
 use Rattle.std.proofs.Common.{sym, ◌∙◌, ap}
 
@@ -17,6 +17,12 @@ is_name text = nat_lt 0 (length text) && (nat_le (length text) 30 && are_name_by
 -- filled with zeros to thirty bytes
 abbrev pub padded : List ℕ → List ℕ
 padded text = text ++ drop (length text) (replicate 30 0)
+
+-- the number that n bytes spell behind another, the first the greatest, where zeros stand behind the text
+abbrev pub front : ℕ → ℕ → List ℕ → ℕ
+front start zero text = start
+front start (suc n) [] = front (start * 256) n []
+front start (suc n) (b ∷ bs) = front (start * 256 + b) n bs
 
 -- the first len bytes are a name, and zeros stand behind it
 pub record IsPadded (bytes : List ℕ) (len : ℕ) : Type 0 where

@@ -1,9 +1,9 @@
-ghost use Rattle.std.specs.Prelude.{◌≡◌, ◌≤◌, List, ℕ, Some, IsTrue, length, nat_eq, refl};
+ghost use Rattle.std.specs.Prelude.{◌≡◌, ◌≤◌, List, ℕ, Some, IsTrue, length, nat_eq, nat_le, refl};
 ghost use Rattle.std.specs.Result.{OkIff};
 ghost use Rattle.std.specs.Ordering.{nat_cmp};
 ghost use Rattle.std.specs.Cmp.{partial_equiv_from_equiv};
 ghost use Rattle.std.specs.Cmp.Lexicographic.{nat_list_cmp_total, nat_list_eq_equiv, pointwise, slice_cmp, texts_po, texts_ties};
-ghost use Rattle.s38_base.specs.NameText.{are_name_bytes, is_name, is_name_byte, padded};
+ghost use Rattle.s38_base.specs.NameText.{are_name_bytes, front, is_name, is_name_byte, padded};
 
 use std::cmp::Ordering;
 use std::marker::Model;
@@ -76,6 +76,33 @@ impl Name {
         })
     }
 
+    /// The first eight bytes as one number, the first byte the greatest; zeros stand behind a short name.
+    #[inline(always)]
+    #[tactic(auto, using(crate::proofs::NameOrder::head_is))]
+    fn head(&self) -> u64
+        ensures number { result ≡ front 0 8 self.now }
+        ensures name { IsTrue (is_name self.now) }
+    {
+        u64::from_be_bytes([
+            self.bytes[0],
+            self.bytes[1],
+            self.bytes[2],
+            self.bytes[3],
+            self.bytes[4],
+            self.bytes[5],
+            self.bytes[6],
+            self.bytes[7],
+        ])
+    }
+
+    /// The name has no byte behind its head.
+    #[inline(always)]
+    fn is_short(&self) -> bool
+        ensures { result ≡ nat_le (length self.now) 8 }
+    {
+        self.len <= 8
+    }
+
     /// The bytes of the name.
     pub fn as_bytes(&self) -> &[u8]
         ensures text { result.now ≡ self.now }
@@ -83,6 +110,14 @@ impl Name {
     {
         &self.bytes[..self.len as usize]
     }
+}
+
+/// How two names stand to one another, byte by byte.
+#[inline(never)]
+fn order_behind(name: &Name, other: &Name) -> Ordering
+    ensures { result ≡ slice_cmp nat_cmp name.now other.now }
+{
+    name.as_bytes().cmp(other.as_bytes())
 }
 
 impl PartialEq for Name {
@@ -118,7 +153,15 @@ impl Ord for Name {
 
     ghost matches_eq = { texts_ties };
 
+    #[inline(always)]
     fn cmp(&self, other: &Name) -> Ordering {
-        self.as_bytes().cmp(other.as_bytes())
+        let (head, other_head) = (self.head(), other.head());
+        if head != other_head {
+            return head.cmp(&other_head);
+        }
+        if self.is_short() && other.is_short() {
+            return Ordering::Equal;
+        }
+        order_behind(self, other)
     }
 }

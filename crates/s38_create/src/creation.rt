@@ -1,5 +1,5 @@
-ghost use Rattle.std.specs.Prelude.{◌≡◌, ◌⊎◌, ◌≤◌, length, Ok, Err, IfOk, IfErr};
-ghost use Rattle.s38_create.specs.Created.{created, created_by, created_inner, is_small, with_rows};
+ghost use Rattle.std.specs.Prelude.{◌≡◌, ◌⊎◌, ◌≤◌, ◌&&◌, length, nat_le, Ok, Err, IfOk, IfErr};
+ghost use Rattle.s38_create.specs.Created.{created, created_by, created_inner, with_rows};
 ghost use Rattle.s38_create.specs.WellFormed.{WellFormed};
 ghost use Rattle.s38_odt.specs.Formed.{AreFormed};
 ghost use Rattle.s38_odt.specs.Labels.{instruction_count};
@@ -52,12 +52,10 @@ fn with_rows(
 }
 
 /// At most so many declarations and instructions.
-fn is_small(body: &Lines<'_>) -> bool
-    ensures { result ≡ is_small body.now }
+fn is_small(declarations: usize, code: &Lines<'_>) -> bool
+    ensures { result ≡ (nat_le declarations 1024 && nat_le (instruction_count code.now) 16384) }
 {
-    let count = declaration_count(body);
-    let (_, code) = body.split_at(count);
-    count <= MOST_DECLARATIONS && instruction_count(&code) <= MOST_INSTRUCTIONS
+    declarations <= MOST_DECLARATIONS && instruction_count(code) <= MOST_INSTRUCTIONS
 }
 
 /// The program of the lines between the first and the last.
@@ -71,11 +69,11 @@ fn created_inner(
     ensures created { IfOk result (λ program. created_inner template.now head body.now ≡ Ok program) }
     ensures bad { IfErr result (λ fault. (fault ≡ CreateFault.NoMemory) ⊎ (created_inner template.now head body.now ≡ Err fault)) }
 {
-    if !is_small(body) {
-        return Err(NO_TEMPLATE);
-    }
     let count = declaration_count(body);
     let (declarations, code) = body.split_at(count);
+    if !is_small(count, &code) {
+        return Err(NO_TEMPLATE);
+    }
     let code = CodeLines::new(alloc, code)?;
     let table = definition_table(alloc, &code, &declarations)?;
     with_rows(alloc, template, head, Scope { table, code })

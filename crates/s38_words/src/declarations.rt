@@ -1,12 +1,13 @@
 ghost use Rattle.std.specs.Prelude.{◌≡◌, is_some};
 ghost use Rattle.std.specs.Option.{option_map};
-ghost use Rattle.s38_words.specs.DeclarationLine.{based_of, behind_dcl, behind_init, count_of, declaration_of, declaration_behind, declares_of, description_of, initial_of, is_in_range, is_initial, is_literal, parameter_of, taken_of, variable_of};
+ghost use Rattle.s38_words.specs.DeclarationLine.{based_of, behind_dcl, behind_init, count_of, declaration_of, declaration_behind, declares_of, description_of, initial_of, is_in_range, is_initial, is_literal, parameter_of, taken_of, variable_from};
+ghost use Rattle.s38_words.specs.Attribute.{attr_of};
 
 use crate::attribute_words::attribute;
 use crate::literals::is_text;
 use crate::names::{declared_name, exception_code};
 use crate::numbers::{natural, number};
-use crate::texts::{before, behind, is_word, rest_after};
+use crate::texts::{before, behind, is_word, parted, rest_after};
 use s38_base::{Attr, Name};
 
 /// What a line declares its name to be.
@@ -52,11 +53,13 @@ fn is_initial(text: &[u8]) -> bool
     }
 }
 
-fn variable(text: &[u8]) -> Option<Declares>
-    ensures { result ≡ variable_of text.now }
+/// What a text declares that is this word and what stands behind it.
+#[inline(always)]
+fn variable(word: &[u8], rest: Option<&[u8]>) -> Option<Declares>
+    ensures { result ≡ variable_from (attr_of word.now) (option_map (λ r. r.now) rest.entry) }
 {
-    let attr = attribute(before(b' ', text))?;
-    match behind(b' ', text) {
+    let attr = attribute(word)?;
+    match rest {
         None => Some(Declares::Variable { attr }),
         Some(rest) => if is_initial(rest) {
             Some(Declares::Variable { attr })
@@ -109,24 +112,25 @@ fn description(text: &[u8]) -> Option<Declares>
 fn what_is_declared(text: &[u8]) -> Option<Declares>
     ensures { result ≡ declares_of text.now }
 {
-    let word = before(b' ', text);
+    let (word, rest) = parted(b' ', text);
     if is_word(b"PARM", word) {
-        return parameter(behind(b' ', text)?);
+        return parameter(rest?);
     }
     if is_word(b"BASED", word) {
-        return based(behind(b' ', text)?);
+        return based(rest?);
     }
     if is_word(b"EXCM", word) {
-        return description(behind(b' ', text)?);
+        return description(rest?);
     }
-    variable(text)
+    variable(word, rest)
 }
 
 fn declaration_behind(text: &[u8]) -> Option<DeclarationLine>
     ensures { result ≡ declaration_behind text.now }
 {
-    let name = declared_name(before(b' ', text))?;
-    let declares = what_is_declared(behind(b' ', text)?)?;
+    let (word, rest) = parted(b' ', text);
+    let name = declared_name(word)?;
+    let declares = what_is_declared(rest?)?;
     Some(DeclarationLine { name, declares })
 }
 

@@ -2,7 +2,6 @@ ghost use Rattle.std.specs.Prelude.{◌≡◌, Some};
 ghost use Rattle.s38_code.specs.Operations.{mnemonic};
 ghost use Rattle.s38_words.specs.Operation.{beginning_with, first_op, op_of};
 
-use crate::texts::is_word;
 use s38_base::Op;
 use s38_code::mnemonic;
 
@@ -111,7 +110,7 @@ fn first_op(ops: &[Op], word: &[u8]) -> Option<Op>
     ensures { result ≡ first_op ops.now word.now }
 {
     for op in ops {
-        if is_word(mnemonic(*op), word) {
+        if word == mnemonic(*op) {
             return Some(*op);
         }
     }
