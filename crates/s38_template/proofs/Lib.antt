@@ -1,5 +1,6 @@
 pub mod Acts
 pub mod Complete
+pub mod Declarations
 pub mod Ends
 pub mod LineForms
 pub mod JobText

@@ -134,3 +134,20 @@ pub fn act_code(reader: &Reader, size: usize) -> Option<u8>
         None
     }
 }
+
+/// The least code of a declaration's line, where the deck has so many bytes up to its end.
+pub fn declare_code(reader: &Reader, size: usize, in_range: bool) -> Option<u8>
+    ensures { result ≡ first_code (tests (state_of reader.now) size (Line.Declare in_range)) }
+{
+    if !may_stand(reader.place, &Line::Declare(in_range)) {
+        Some(2)
+    } else if !in_range {
+        Some(4)
+    } else if !is_small(size) {
+        Some(6)
+    } else if reader.declared >= MOST_DECLARATIONS {
+        Some(7)
+    } else {
+        None
+    }
+}

@@ -1,6 +1,6 @@
-ghost use Rattle.std.specs.Prelude.{◌≡◌, IfOk, IsTrue, Some};
+ghost use Rattle.std.specs.Prelude.{◌≡◌, IfOk, IsTrue, Some, is_some};
 ghost use Rattle.std.specs.Option.{option_map};
-ghost use Rattle.s38_words.specs.DeclarationLine.{declaration_of};
+ghost use Rattle.s38_words.specs.DeclarationLine.{behind_dcl, declaration_of};
 ghost use Rattle.s38_words.specs.Views.{act_in};
 ghost use Rattle.s38_words.specs.ProgramLine.{head_of};
 ghost use Rattle.s38_template.specs.Lines.{begun_by, are_formed, are_operands, declare, end_line, is_act, is_instruction, line_of, rest_said, said_by, stage_line};
@@ -79,6 +79,17 @@ fn declared(line: &[u8]) -> Option<Line>
 {
     let said = declaration(line)?;
     Some(Line::Declare(is_in_range(&said.declares)))
+}
+
+/// Whether the numbers of a line that begins as a declaration are in their ranges; None exactly where it has no form.
+#[inline(always)]
+#[tactic(auto, using(crate::proofs::Declarations::declaration_said))]
+pub fn declared_range(line: &[u8]) -> Option<bool>
+    requires { IsTrue (is_some (behind_dcl line.now)) }
+    ensures { option_map (λ in_range. Line.Declare in_range) result ≡ line_of line.now }
+{
+    let said = declaration(line)?;
+    Some(is_in_range(&said.declares))
 }
 
 /// The head of a template.

@@ -1,4 +1,5 @@
-ghost use Rattle.std.specs.Prelude.{◌≡◌, ◌⊎◌, ℕ, List, Ok, Err, IfOk, IfErr, Some, None};
+ghost use Rattle.std.specs.Prelude.{◌≡◌, ◌⊎◌, ℕ, List, Ok, Err, IfOk, IfErr, IsTrue, Some, None, is_some};
+ghost use Rattle.s38_words.specs.DeclarationLine.{behind_dcl};
 ghost use Rattle.s38_code.specs.declared.deck.Deck.{Deck};
 ghost use Rattle.s38_template.specs.Grammar.{Spells, is_plain};
 ghost use Rattle.s38_template.specs.Lines.{line_of};
@@ -6,15 +7,16 @@ ghost use Rattle.s38_template.specs.Reading.{Answers, after_line, code_of, end_a
 ghost use Rattle.s38_template.specs.Views.{state_of};
 ghost use Rattle.s38_template.specs.declared.said.Line.{Line};
 
-use crate::code::{act_code, is_small, line_code};
+use crate::code::{act_code, declare_code, is_small, line_code};
 use crate::fault::DeckFault;
-use crate::forms::{line_of, says_act};
+use crate::forms::{declared_range, line_of, says_act};
 use crate::line::{NextLine, is_kept, next_line};
 use crate::place::Place;
 use crate::reader::Reader;
-use crate::step::{act, start, take};
+use crate::step::{act, declare, start, take};
 use s38_base::NoMemory;
 use s38_code::Deck;
+use s38_words::is_declaration;
 use std::alloc::Global;
 
 /// An instruction's line, where the deck has so many bytes up to its end: it is taken, or its code tells what is
@@ -33,6 +35,28 @@ fn keep_act(
         return Ok(code);
     }
     act(alloc, reader, line)?;
+    Ok(None)
+}
+
+/// The same for a line that begins as a declaration.
+fn keep_declaration(
+    alloc: Global,
+    reader: &mut Reader,
+    size: usize,
+    line: &[u8],
+) -> Result<Option<u8>, NoMemory>
+    requires { IsTrue (is_some (behind_dcl line.now)) }
+    ensures code { IfOk result (λ code. code ≡ said_code (state_of reader.old) size (line_of line.now)) }
+    ensures after { IfOk result (λ code. code ≡ None → state_of reader.new ≡ taken_if (state_of reader.old) line.now (line_of line.now)) }
+{
+    let Some(in_range) = declared_range(line) else {
+        return Ok(Some(2));
+    };
+    let code = declare_code(reader, size, in_range);
+    if code.is_some() {
+        return Ok(code);
+    }
+    declare(alloc, reader, line, in_range)?;
     Ok(None)
 }
 
@@ -69,7 +93,9 @@ fn keep(
     ensures code { IfOk result (λ code. code ≡ said_code (state_of reader.old) size (line_of line.now)) }
     ensures after { IfOk result (λ code. code ≡ None → state_of reader.new ≡ taken_if (state_of reader.old) line.now (line_of line.now)) }
 {
-    if says_act(line) {
+    if is_declaration(line) {
+        keep_declaration(alloc, reader, size, line)
+    } else if says_act(line) {
         keep_act(alloc, reader, size, line)
     } else {
         keep_other(alloc, reader, size, line)

@@ -47,8 +47,12 @@ fn begin(alloc: Global, reader: &mut Reader, line: &[u8], name: Name) -> Result<
 }
 
 /// The template declares a name.
-#[inline(never)]
-fn declare(alloc: Global, reader: &mut Reader, line: &[u8], in_range: bool) -> Result<(), NoMemory>
+pub fn declare(
+    alloc: Global,
+    reader: &mut Reader,
+    line: &[u8],
+    in_range: bool,
+) -> Result<(), NoMemory>
     requires { IsTrue (has_room (state_of reader.old) (Line.Declare in_range)) }
     ensures { OnOk result (state_of reader.new ≡ taken (state_of reader.old) line.now (Line.Declare in_range)) }
 {
