@@ -1,4 +1,5 @@
 pub mod DigitLaws
+pub mod FrontLaws
 pub mod MnemonicLaws
 pub mod NumberLaws
 pub mod PartLaws

@@ -64,12 +64,21 @@ pub fn parted(byte: u8, text: &[u8]) -> (&[u8], Option<&[u8]>)
     }
 }
 
+/// Whether a text is at least as long as another and begins with its first byte.
+#[inline(always)]
+#[tactic(auto, using(crate::proofs::FrontLaws::starts_long))]
+fn may_begin(front: &[u8], text: &[u8]) -> bool
+    ensures { IsTrue (starts_with nat_eq text.now front.now) → IsTrue result }
+{
+    front.len() <= text.len() && begin_alike(front, text)
+}
+
 /// What stands behind these bytes; None where the text does not begin with them.
 #[inline(always)]
 pub fn rest_after<'a>(front: &[u8], text: &'a [u8]) -> Option<&'a [u8]>
     ensures { option_map (λ rest. rest.now) result ≡ rest_after front.now text.now }
 {
-    if begin_alike(front, text) {
+    if may_begin(front, text) {
         text.strip_prefix(front)
     } else {
         None
