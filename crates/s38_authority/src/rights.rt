@@ -1,6 +1,6 @@
 //! Rights: which are available on an object, and which of those that are needed are missing.
 ghost use Rattle.std.specs.Prelude.{◌≡◌, map};
-ghost use Rattle.std.specs.Option.{option_map};
+ghost use Rattle.std.specs.Option.{option_copied, option_map};
 ghost use Rattle.std.specs.Result.{result_err};
 ghost use Rattle.s38_rules.specs.Authority.{available, has_rights, missing_in, source_by, sources_by, sources_on};
 ghost use Rattle.s38_rules.specs.Headers.{public_in};
@@ -9,7 +9,7 @@ ghost use Rattle.s38_rules.specs.Held.{object};
 use crate::users::has_special;
 use s38_base::{ObjNum, Rights, Special, UserNum};
 use s38_invoke::World;
-use s38_rules::Table;
+use s38_rules::{Object, Table};
 
 /// Needed rights that are not available.
 #[derive(Clone, Copy, PartialEq, Eq, Debug)]
@@ -69,6 +69,38 @@ pub fn available<T: Table>(
     ensures { result.0 ≡ available world.now.held (map (λ u. u.0) users.now) number.0 carried.0 }
 {
     Rights(carried.0 | sources_on(world, number, users))
+}
+
+fn sources_of<T: Table>(
+    world: &World<T>,
+    number: ObjNum,
+    users: &[UserNum],
+    found: Option<&Object>,
+) -> u8
+    requires { option_copied found ≡ object world.now.held number.0 }
+    ensures { result ≡ sources_on world.now.held number.0 (map (λ u. u.0) users.now) (object world.now.held number.0) }
+{
+    match found {
+        None => 0,
+        Some(found) => sources_by(world, number, found.public, users),
+    }
+}
+
+/// The rights that are available to these users on the object of a number, which is looked up already, with those that
+/// the used pointer carries: none but those without the object.
+#[inline(always)]
+#[tactic(auto, unfolding(s38_rules::specs::Authority::available))]
+pub fn available_on<T: Table>(
+    world: &World<T>,
+    users: &[UserNum],
+    number: ObjNum,
+    carried: Rights,
+    found: Option<&Object>,
+) -> Rights
+    requires { option_copied found ≡ object world.now.held number.0 }
+    ensures { result.0 ≡ available world.now.held (map (λ u. u.0) users.now) number.0 carried.0 }
+{
+    Rights(carried.0 | sources_of(world, number, users, found))
 }
 
 /// Exactly the needed rights that are not there, where some are not.

@@ -1,5 +1,5 @@
 //! Who acts in a process.
-ghost use Rattle.std.specs.Prelude.{◌≡◌, ◌+◌, ◌<◌, ◌≤◌, ◌++◌, ◌∷◌, [], length, map};
+ghost use Rattle.std.specs.Prelude.{◌≡◌, ◌+◌, ◌<◌, ◌≤◌, ◌++◌, ◌∷◌, [], IfSome, IsTrue, length, map};
 ghost use Rattle.std.specs.Option.{option_map};
 ghost use Rattle.s38_rules.specs.Invocations.{in_use, most_frames, stack_of};
 ghost use Rattle.s38_rules.specs.Users.{acting, adopted, adoption_of, frame_header, with_owner};
@@ -127,6 +127,18 @@ fn adopt<T: Table>(objects: &T, acting: &mut Acting, frames: &[ObjNum])
     }
 }
 
+/// Whether there is at most one frame, which brings no owner.
+#[inline(always)]
+fn brings_nobody<T: Table>(objects: &T, frames: &[ObjNum]) -> bool
+    ensures { IsTrue result → adopted (T.held objects.now) frames.now ≡ [] }
+{
+    match frames {
+        [] => true,
+        [frame] => adoption_of(true, frame_header(objects, *frame)).is_none(),
+        _ => false,
+    }
+}
+
 impl<T: Table> World<T> {
     /// The frames of a process that count at a depth.
     fn frames_in_use(&self, process: u32, depth: u16) -> &[ObjNum]
@@ -135,6 +147,20 @@ impl<T: Table> World<T> {
     {
         let frames = self.stack_of(process);
         &frames[..frames.len().min(depth as usize)]
+    }
+
+    /// The user of a process that has come to a depth of invocations, where it is known at once that nobody else acts:
+    /// there is at most one frame, and it brings nobody.
+    #[inline(always)]
+    #[tactic(auto, unfolding(s38_rules::specs::Users::acting))]
+    pub fn sole_user(&self, process: u32, depth: u16) -> Option<UserNum>
+        ensures { IfSome result (λ user. acting self.now process depth ≡ user.0 ∷ []) }
+    {
+        if brings_nobody(&self.objects, self.frames_in_use(process, depth)) {
+            Some(self.user_of(process))
+        } else {
+            None
+        }
     }
 
     /// The acting users of a process that has come to a depth of invocations join those that act, who are nobody

@@ -1,10 +1,13 @@
 //! The address rules: what a pointer has to be, and where an item in a space has to lie.
 ghost use Rattle.std.specs.Prelude.{◌≡◌, []};
 ghost use Rattle.std.specs.Option.{option_copied, unwrap_or};
-ghost use Rattle.s38_rules.specs.Verdict.{address_rule, address_rules, base_rule, cells_rule, is_base, is_looked_at, is_pointer, is_sought, item_rule, named_rule, object_rule, place_rule, pointer_rule, space_rule};
+ghost use Rattle.s38_base.specs.Pointers.{target_of};
+ghost use Rattle.s38_rules.specs.Held.{Held, object};
+ghost use Rattle.s38_rules.specs.Verdict.{address_rule, address_rules, base_rule, cells_rule, is_base, is_looked_at, is_pointer, is_sought, item_rule, named_rule, object_rule, place_rule, pointer_rule, space_rule, subject};
 ghost use Rattle.s38_rules.specs.Parts.{space_part};
 
 use crate::by_operand::{OperandRules, by_operand};
+use crate::rights::subject;
 use s38_base::exceptions::{
     BOUNDARY_ALIGNMENT, OBJECT_DESTROYED, OBJECT_TYPE_INVALID, POINTER_MISSING,
     POINTER_TYPE_INVALID, SPACE_ADDRESSING,
@@ -138,14 +141,19 @@ fn object_rule(need: &Need, object_used: Option<&Object>) -> Option<Exception>
     }
 }
 
-fn pointer_rule(objects: &Objects, need: &Need, pointer: Option<Pointer>) -> Option<Exception>
-    ensures { result ≡ pointer_rule objects.now need.now pointer }
+#[inline(always)]
+fn pointer_rule_on(
+    need: &Need,
+    pointer: Option<Pointer>,
+    found: Option<&Object>,
+) -> Option<Exception>
+    ensures { (h : Held) → option_copied found.entry ≡ object h (target_of pointer) → result ≡ pointer_rule h need.now pointer }
 {
     match pointer {
         None => Some(Exception::plain(POINTER_MISSING, need.place)),
         Some(pointer) => {
             if is_pointer(need.pointer, pointer) {
-                object_rule(need, objects.get(pointer.object()))
+                object_rule(need, found)
             } else {
                 Some(Exception::plain(POINTER_TYPE_INVALID, need.place))
             }
@@ -153,20 +161,36 @@ fn pointer_rule(objects: &Objects, need: &Need, pointer: Option<Pointer>) -> Opt
     }
 }
 
-/// There is a pointer, of the kind that is used, to an object that is there, of the kind that is used.
-#[inline(never)]
+/// There is a pointer, of the kind that is used, to an object that is there, of the kind that is used. The object is
+/// looked up already.
+#[inline(always)]
 #[tactic(auto, unfolding(s38_rules::specs::Verdict::address_rule))]
-fn address_rule(objects: &Objects, operands: &[Operand], need: &Need) -> Option<Exception>
+pub fn address_rule_on(
+    objects: &Objects,
+    operands: &[Operand],
+    need: &Need,
+    found: Option<&Object>,
+) -> Option<Exception>
+    requires { option_copied found ≡ object objects.now (subject objects.now operands.now need.now.place need.now.named) }
     ensures { result ≡ address_rule objects.now operands.now need.now }
 {
     match need.named {
-        Named::Written => pointer_rule(
-            objects,
+        Named::Written => pointer_rule_on(
             need,
             pointer_at(objects, operands, need.place as usize),
+            found,
         ),
-        Named::Implied(number) => object_rule(need, objects.get(number)),
+        Named::Implied(_) => object_rule(need, found),
     }
+}
+
+/// There is a pointer, of the kind that is used, to an object that is there, of the kind that is used.
+#[inline(never)]
+fn address_rule(objects: &Objects, operands: &[Operand], need: &Need) -> Option<Exception>
+    ensures { result ≡ address_rule objects.now operands.now need.now }
+{
+    let found = objects.get(subject(objects, operands, need));
+    address_rule_on(objects, operands, need, found)
 }
 
 /// The address rules over the objects and the operands of a request.

@@ -12,6 +12,7 @@ mod machine;
 mod opening;
 mod rights;
 mod rows;
+mod sole;
 mod verdicts;
 
 pub use asked::Asked;

@@ -1,16 +1,18 @@
 //! The rule of authority: what an instruction claims of each object is there.
 ghost use Rattle.std.specs.Prelude.{◌≡◌, map};
+ghost use Rattle.std.specs.Option.{option_copied};
+ghost use Rattle.s38_rules.specs.Held.{object};
 ghost use Rattle.s38_rules.specs.Needs.{first_of};
 ghost use Rattle.s38_rules.specs.Verdict.{claim_rule, granting_rule, names_owners, rights_rule, subject};
 
-use s38_authority::{available, is_governed, missing};
+use s38_authority::{available_on, is_governed, missing};
 use s38_base::exceptions::OWNERSHIP_REQUIRED;
 use s38_base::{Exception, ObjNum, Pointer, Rights, UserNum};
 use s38_code::Operand;
 use s38_invoke::World;
 use s38_objects::Objects;
 use s38_operands::{fails, pointer_at, target};
-use s38_rules::{Claim, Named, Need};
+use s38_rules::{Claim, Named, Need, Object};
 
 /// The object that a need speaks of.
 pub fn subject(objects: &Objects, operands: &[Operand], need: &Need) -> ObjNum
@@ -44,7 +46,7 @@ fn granting_rule(owns: bool, operand: u8, rights: Rights, there: Rights) -> Opti
     fails(names_owners(rights), OWNERSHIP_REQUIRED, operand)
 }
 
-/// What is claimed of an object is there for these users.
+/// What is claimed of an object, which is looked up already, is there for these users.
 #[inline(always)]
 fn claim_rule(
     world: &World<Objects>,
@@ -52,17 +54,23 @@ fn claim_rule(
     number: ObjNum,
     carried: Rights,
     need: &Need,
+    found: Option<&Object>,
 ) -> Option<Exception>
+    requires { option_copied found ≡ object world.now.held number.0 }
     ensures { result ≡ claim_rule need.now.claim world.now.held (map (λ u. u.0) users.now) number.0 carried.0 need.now.place need.now.rights.0 }
 {
     let place = need.place;
     match need.claim {
-        Claim::Available => missing(place, need.rights, available(world, users, number, carried)),
+        Claim::Available => missing(
+            place,
+            need.rights,
+            available_on(world, users, number, carried, found),
+        ),
         Claim::Granting => granting_rule(
             is_governed(world, users, number),
             place,
             need.rights,
-            available(world, users, number, carried),
+            available_on(world, users, number, carried, found),
         ),
         Claim::Ownership => fails(
             !is_governed(world, users, number),
@@ -72,14 +80,17 @@ fn claim_rule(
     }
 }
 
-/// What a need claims is there.
+/// What a need claims is there. Its object is looked up already.
+#[inline(always)]
 #[tactic(auto, unfolding(s38_rules::specs::Verdict::rights_rule))]
-fn rights_rule(
+pub fn rights_rule_on(
     world: &World<Objects>,
     users: &[UserNum],
     operands: &[Operand],
     need: &Need,
+    found: Option<&Object>,
 ) -> Option<Exception>
+    requires { option_copied found ≡ object world.now.held (subject world.now.held operands.now need.now.place need.now.named) }
     ensures { result ≡ rights_rule world.now.held (map (λ u. u.0) users.now) operands.now need.now }
 {
     match need.named {
@@ -91,10 +102,24 @@ fn rights_rule(
                 Pointer::target(pointer),
                 Pointer::carried(pointer),
                 need,
+                found,
             )
         }
-        Named::Implied(number) => claim_rule(world, users, number, Rights(0), need),
+        Named::Implied(number) => claim_rule(world, users, number, Rights(0), need, found),
     }
+}
+
+/// What a need claims is there.
+fn rights_rule(
+    world: &World<Objects>,
+    users: &[UserNum],
+    operands: &[Operand],
+    need: &Need,
+) -> Option<Exception>
+    ensures { result ≡ rights_rule world.now.held (map (λ u. u.0) users.now) operands.now need.now }
+{
+    let found = world.objects.get(subject(&world.objects, operands, need));
+    rights_rule_on(world, users, operands, need, found)
 }
 
 /// The first claim that the acting users don't meet.

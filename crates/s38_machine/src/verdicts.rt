@@ -11,6 +11,7 @@ use crate::addresses::address_rules;
 use crate::blocking::lock_rules;
 use crate::rights::first_unmet;
 use crate::rows;
+use crate::sole::{refused_by_sole, sole_need};
 use s38_authority::lacks_special;
 use s38_base::exceptions::{ALL_WAIT, LOCK_NOT_GRANTABLE, NO_MESSAGE};
 use s38_base::{Exception, Op};
@@ -41,10 +42,10 @@ fn authority_rules(
     first_unmet(world, users.as_slice(), request.operands.as_slice(), needs)
 }
 
-/// The first rule that an instruction fails: address rules, then a special authority, then authority over objects,
-/// then locks, then its conditions and limits.
+/// The first rule that an instruction fails whose needs are listed: address rules, then a special authority, then
+/// authority over objects, then locks, then its conditions and limits.
 #[tactic(auto, unfolding(s38_rules::specs::Verdict::refused_by))]
-fn refused_by(
+fn refused_by_list(
     world: &World<Objects>,
     process: u32,
     depth: u16,
@@ -64,6 +65,21 @@ fn refused_by(
         return Some(failure);
     }
     rows::conditions(world, process, depth, request)
+}
+
+/// The first rule that an instruction fails.
+fn refused_by(
+    world: &World<Objects>,
+    process: u32,
+    depth: u16,
+    request: &Request,
+) -> Option<Exception>
+    ensures { result ≡ refused_by (row request.now.op) world.now process depth request.now }
+{
+    match sole_need(request.op) {
+        Some(need) => refused_by_sole(world, process, depth, request, need),
+        None => refused_by_list(world, process, depth, request),
+    }
 }
 
 fn of_failure(failure: Option<Exception>) -> Verdict
