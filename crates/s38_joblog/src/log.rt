@@ -1,7 +1,7 @@
-ghost use Rattle.std.specs.Prelude.{◌≡◌, ◌+◌, ◌<◌, ◌++◌, [], codes, map, length, slice_set, IfOk, OnOk};
-ghost use Rattle.std.specs.List.{enumerate_from, flat_map, slice_index_or};
-ghost use Rattle.s38_joblog.specs.Log.{bad_line, done_text, entry_line, event_name, job_line, last_line, lines_of, log_text, result_text};
-ghost use Rattle.s38_joblog.specs.Grouped.{AreGrouped, Gains};
+ghost use Rattle.std.specs.Prelude.{◌≡◌, ◌+◌, ◌<◌, ◌++◌, [], codes, length, slice_set, IfOk, OnOk};
+ghost use Rattle.std.specs.List.{flat_map, slice_index_or};
+ghost use Rattle.s38_joblog.specs.Log.{bad_line, done_text, entry_line, event_name, job_line, last_line, log_text, result_text};
+ghost use Rattle.s38_joblog.specs.Grouped.{AreGrouped, Gains, heads};
 ghost use Rattle.s38_joblog.specs.Words.{value_text};
 
 use crate::text::Text;
@@ -42,9 +42,8 @@ fn add_done(text: &mut Text, event: &Event, values: &[Val]) -> Result<(), NoMemo
     ensures { OnOk result (text.new ≡ text.old ++ done_text event.now values.now) }
 {
     match event {
-        Event::Start => add_ok(text, values),
-        Event::Act { .. } => add_ok(text, values),
         Event::Finish { cause } => add_cause(text, *cause),
+        _ => add_ok(text, values),
     }
 }
 
@@ -90,13 +89,23 @@ fn add_job_line(text: &mut Text, number: u64, job: &Job) -> Result<(), NoMemory>
     text.add(b"\n")
 }
 
-/// An empty text for each job.
-fn empty_texts(alloc: Global, jobs: &[Job]) -> Result<Vec<Text>, NoMemory>
-    ensures { IfOk result (λ texts. texts.items ≡ map (λ job. []) jobs.now) }
+/// A text with a job's line.
+fn begun_text(alloc: Global, number: u64, job: &Job) -> Result<Text, NoMemory>
+    ensures { IfOk result (λ text. text ≡ job_line number job.now) }
+{
+    let mut text = Text::new(alloc);
+    add_job_line(&mut text, number, job)?;
+    Ok(text)
+}
+
+/// A text for each job, which begins with the job's line.
+fn begun_texts(alloc: Global, jobs: &[Job]) -> Result<Vec<Text>, NoMemory>
+    ensures { IfOk result (λ texts. texts.items ≡ heads jobs.now) }
 {
     let mut texts = Vec::new(alloc);
-    for _job in jobs {
-        texts.push(Text::new(alloc))?;
+    for (k, job) in jobs.iter().enumerate() {
+        let text = begun_text(alloc, k as u64 + 1, job)?;
+        texts.push(text)?;
     }
     Ok(texts)
 }
@@ -130,16 +139,27 @@ fn add_line(
     add_line_at(alloc, texts, entry.process as usize - 1, position, entry)
 }
 
-/// The lines of each job's process.
+/// Each job's line, and the lines of its process.
 fn grouped(alloc: Global, history: &[Entry], jobs: &[Job]) -> Result<Vec<Text>, NoMemory>
     ensures count { IfOk result (λ texts. length texts.items ≡ length jobs.now) }
-    ensures lines { IfOk result (λ texts. AreGrouped history.now texts.items) }
+    ensures lines { IfOk result (λ texts. AreGrouped (heads jobs.now) history.now texts.items) }
 {
-    let mut texts = empty_texts(alloc, jobs)?;
+    let mut texts = begun_texts(alloc, jobs)?;
     for (k, entry) in history.iter().enumerate() {
         add_line(alloc, &mut texts, k as u64 + 1, entry)?;
     }
     Ok(texts)
+}
+
+/// The texts one behind another. Each is dropped once it was added, and the first is not copied.
+fn joined(alloc: Global, texts: Vec<Text>) -> Result<Text, NoMemory>
+    ensures { IfOk result (λ text. text ≡ flat_map (λ t. t) texts.items) }
+{
+    let mut whole = Text::new(alloc);
+    for text in texts {
+        whole.join(text)?;
+    }
+    Ok(whole)
 }
 
 /// The log of a history: for each job in order a line with its number, from 1 on, its name and its user;
@@ -150,12 +170,8 @@ pub fn log_text(alloc: Global, history: &[Entry], jobs: &[Job]) -> Result<Vec<u8
     ensures { IfOk result (λ text. text.items ≡ log_text history.now jobs.now) }
 {
     let texts = grouped(alloc, history, jobs)?;
-    let mut text = Text::new(alloc);
-    for (k, job) in jobs.iter().enumerate() {
-        add_job_line(&mut text, k as u64 + 1, job)?;
-        text.add(texts[k].as_slice())?;
-    }
-    Ok(text.into_bytes())
+    let whole = joined(alloc, texts)?;
+    Ok(whole.into_bytes())
 }
 
 /// The last line of a run that was good: DONE and a count.

@@ -1,4 +1,4 @@
-ghost use Rattle.std.specs.Prelude.{◌≡◌, ◌<◌, ◌++◌, ◌∷◌, [], decimal, OnOk};
+ghost use Rattle.std.specs.Prelude.{◌≡◌, ◌<◌, ◌≤◌, ◌+◌, ◌*◌, ◌++◌, ◌∷◌, [], decimal, length, vec_capacity, vec_len, OnOk};
 ghost use Rattle.s38_joblog.specs.Words.{hex_byte, hex_code, hex_digit, hex_text};
 
 use itoa::Buffer;
@@ -29,6 +29,17 @@ fn hex_digit(number: u8) -> u8
         number + b'0'
     } else {
         number + 55
+    }
+}
+
+/// Puts two hexadecimal digits for each byte behind a text that has the room.
+fn put_hex(text: &mut Vec<u8>, bytes: &[u8])
+    requires { vec_len text.old + 2 * length bytes.now ≤ vec_capacity text.old }
+    ensures { text.new.items ≡ text.old.items ++ hex_text bytes.now }
+{
+    for byte in bytes {
+        text.push_reserved(hex_digit(*byte / 16));
+        text.push_reserved(hex_digit(*byte % 16));
     }
 }
 
@@ -66,6 +77,17 @@ impl Text {
         }
     }
 
+    /// Adds a text; to an empty one it comes without a copy.
+    pub fn join(&mut self, other: Text) -> Result<(), NoMemory>
+        ensures { OnOk result (self.new ≡ self.old ++ other) }
+    {
+        if self.bytes.is_empty() {
+            *self = other;
+            return Ok(());
+        }
+        self.add(other.as_slice())
+    }
+
     /// Adds a byte.
     pub fn add_byte(&mut self, byte: u8) -> Result<(), NoMemory>
         ensures { OnOk result (self.new ≡ self.old ++ byte ∷ []) }
@@ -77,6 +99,7 @@ impl Text {
     }
 
     /// Adds a number in decimal digits.
+    #[inline(always)]
     pub fn add_number(&mut self, number: u64) -> Result<(), NoMemory>
         ensures { OnOk result (self.new ≡ self.old ++ decimal number) }
     {
@@ -105,9 +128,15 @@ impl Text {
     pub fn add_hex_bytes(&mut self, bytes: &[u8]) -> Result<(), NoMemory>
         ensures { OnOk result (self.new ≡ self.old ++ hex_text bytes.now) }
     {
-        for byte in bytes {
-            self.add_hex_byte(*byte)?;
+        let Some(more) = bytes.len().checked_mul(2) else {
+            return Err(NoMemory);
+        };
+        match self.bytes.reserve(more) {
+            Ok(()) => {
+                put_hex(&mut self.bytes, bytes);
+                Ok(())
+            }
+            Err(_) => Err(NoMemory),
         }
-        Ok(())
     }
 }

@@ -113,6 +113,7 @@ impl Log {
     }
 
     /// Adds the entry of an answer, and the moment at which it was answered; it takes no memory.
+    #[inline(always)]
     pub fn push(&mut self, process: u32, event: Event, reply: Reply, mark: u64)
         requires room { 0 < self.old.spare }
         requires first { 0 < process }
@@ -143,8 +144,5 @@ fn push_reserved<T: Drop>(items: &mut Vec<T>, item: T)
     ensures items { items.new.items ≡ items.old.items ++ item ∷ [] }
     ensures len { vec_len items.new ≡ length items.old.items + 1 }
 {
-    match items.push(item) {
-        Ok(()) => {}
-        Err(_) => unreachable!(),
-    }
+    items.push_reserved(item);
 }

@@ -1,10 +1,10 @@
-ghost use Rattle.std.specs.Prelude.{◌≡◌, IfOk, OnErr, OnOk};
+ghost use Rattle.std.specs.Prelude.{◌≡◌, IfOk, IsTrue, OnErr, OnOk};
 ghost use Rattle.s38_code.specs.declared.reply.Reply.{Reply};
 ghost use Rattle.s38_odt.specs.Suited.{AreSuited};
 ghost use Rattle.s38_process.specs.Asked.{asked};
 ghost use Rattle.s38_process.specs.Invocations.{code_in, rows_in};
 ghost use Rattle.s38_process.specs.Lawful.{IsLawful, SuitsReply};
-ghost use Rattle.s38_process.specs.Process.{absorbed, event_of, fresh};
+ghost use Rattle.s38_process.specs.Process.{absorbed, event_of, fresh, settled};
 
 use crate::next::Next;
 use crate::unsettled::Unsettled;
@@ -17,14 +17,40 @@ use std::marker::Model;
 #[derive(Drop)]
 pub struct Process {
     inner: Unsettled,
+    /// Whether its local run is known to be done.
+    rests: bool,
 }
 
 impl Model for Process {
+    ghost use Rattle.std.specs.Prelude.{◌≡◌, IsTrue};
     ghost use Rattle.s38_process.specs.Process.{ProcessState, settled};
 
     ghost Value = { ProcessState };
 
     ghost view = { λ p. settled p.inner };
+
+    ghost invariant = { λ p. IsTrue p.rests → settled p.inner ≡ p.inner };
+}
+
+/// Does the local run, unless it is known to be done.
+#[inline(always)]
+#[tactic(auto, using(crate::proofs::Alone::settled_again))]
+fn settle(inner: &mut Unsettled, rests: &mut bool) -> Result<(), NoMemory>
+    requires { IsTrue rests.old → settled inner.old ≡ inner.old }
+    ensures ok { OnOk result (inner.new ≡ settled inner.old) }
+    ensures same { settled inner.new ≡ settled inner.old }
+    ensures rests { IsTrue rests.new → settled inner.new ≡ inner.new }
+{
+    if *rests {
+        return Ok(());
+    }
+    match inner.run_locally() {
+        Ok(()) => {
+            *rests = true;
+            Ok(())
+        }
+        Err(fault) => Err(fault),
+    }
 }
 
 impl Process {
@@ -35,7 +61,10 @@ impl Process {
         ensures lawful { AreSuited (rows_in made) (code_in made) → IfOk result (λ process. IsLawful process) }
     {
         let inner = Unsettled::begin(alloc, job, made)?;
-        Ok(Process { inner })
+        Ok(Process {
+            inner,
+            rests: false,
+        })
     }
 
     /// What the process does next: the same again until it is answered, and Ended exactly after its end.
@@ -44,7 +73,7 @@ impl Process {
         ensures same { self.new ≡ self.old }
         ensures lawful { IsLawful self.old → IsLawful self.new }
     {
-        match self.inner.run_locally() {
+        match settle(&mut self.inner, &mut self.rests) {
             Ok(()) => {}
             Err(fault) => return Err(fault),
         }
@@ -59,10 +88,11 @@ impl Process {
         ensures err { OnErr result (self.new ≡ self.old) }
         ensures lawful { IsLawful self.old → SuitsReply self.old reply.now → IsLawful self.new }
     {
-        match self.inner.run_locally() {
+        match settle(&mut self.inner, &mut self.rests) {
             Ok(()) => {}
             Err(fault) => return Err(fault),
         }
+        self.rests = false;
         self.inner.answer(reply)
     }
 }

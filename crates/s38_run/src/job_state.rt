@@ -1,4 +1,5 @@
 ghost use Rattle.std.specs.Prelude.{◌≡◌, ◌≢◌, IfOk, OnOk};
+ghost use Rattle.s38_process.specs.Process.{fresh};
 ghost use Rattle.s38_process.specs.declared.status.Status.{Status};
 ghost use Rattle.s38_run.specs.Running.{doing, unbegun};
 
@@ -26,7 +27,23 @@ pub fn unbegun(alloc: Global, jobs: &[Job]) -> Result<Vec<JobState>, NoMemory>
     Ok(states)
 }
 
+/// The process of a job begins. It stands apart, so that a turn of one that has begun makes no room for it.
+#[inline(never)]
+fn begin_first(
+    alloc: Global,
+    state: &mut JobState,
+    job: &Job,
+    made: &CreateResult,
+) -> Result<(), NoMemory>
+    ensures { OnOk result (state.new ≡ JobState.Running (fresh made.now job.now.budget)) }
+{
+    let own = made.try_clone(alloc)?;
+    *state = JobState::Running(Process::begin(alloc, job, own)?);
+    Ok(())
+}
+
 /// The process of a job that is not over begins, where it has not begun.
+#[inline(always)]
 pub fn begin(
     alloc: Global,
     state: &mut JobState,
@@ -37,8 +54,7 @@ pub fn begin(
     ensures { OnOk result (state.new ≡ JobState.Running (doing made.now job.now.budget state.old)) }
 {
     if matches!(state, JobState::Unbegun) {
-        let own = made.try_clone(alloc)?;
-        *state = JobState::Running(Process::begin(alloc, job, own)?);
+        return begin_first(alloc, state, job, made);
     }
     Ok(())
 }

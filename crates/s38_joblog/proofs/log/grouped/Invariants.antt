@@ -1,9 +1,9 @@
 use Rattle.std.proofs.Common.{◌≡◌, length, take}
-use Rattle.s38_joblog.specs.Grouped.{AreGrouped}
+use Rattle.s38_joblog.specs.Grouped.{AreGrouped, heads}
 use Rattle.s38_joblog.proofs.log.grouped.Given as goal
 
 abbrev pub invariant-loop-k : goal.invariant-loop-k
 invariant-loop-k l = record {
   count : length l.texts.items ≡ length l.jobs;
-  lines : AreGrouped (take l.k l.history) l.texts.items;
+  lines : AreGrouped (heads l.jobs) (take l.k l.history) l.texts.items;
 }

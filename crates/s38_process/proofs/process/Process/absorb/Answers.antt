@@ -4,4 +4,4 @@ use Rattle.s38_process.proofs.process.Process.absorb.Goals as goal
 
 pub returns-clause-lawful : goal.returns-clause-lawful
 returns-clause-lawful c =
-    answered_lawful c.args.self.now c.run_locally.new.self c.answer.new.self c.args.reply.now c.answer.result (c.in-Ok.ensures.ok ∙ c.self.view_is) c.answer.ensures.ok c.answer.ensures.err
+    answered_lawful c.args.self.now c.settle.new.inner c.answer.new.self c.args.reply.now c.answer.result (c.in-Ok.ensures.ok ∙ c.self.view_is) c.answer.ensures.ok c.answer.ensures.err
