@@ -10,7 +10,7 @@ use Rattle.s38_rules.specs.declared.need.Need.{Need}
 use Rattle.s38_rules.specs.Held.{Held}
 use Rattle.s38_rules.specs.Needs.{first_of}
 use Rattle.s38_rules.specs.Operands.{is_in_space}
-use Rattle.s38_rules.specs.Verdict.{address_rule, address_rules, by_operand, item_rule, needs_rule, stands_at}
+use Rattle.s38_rules.specs.Verdict.{address_rule, address_rules, by_operand, item_rule, needs_rule}
 use Rattle.s38_machine.specs.Plain.{are_plain}
 
 plain_item : (h : Held) (k : ℕ) (operand : Operand) → not (is_in_space (Some operand)) ≡ true → item_rule h k operand ≡ None
@@ -72,7 +72,7 @@ met h rule need k (operand ∷ more) plain none =
     let parts = both_true (not (is_in_space (Some operand))) (are_plain more) plain in
     let at = min k last_operand in
     skip (item_rule h at operand) (needs_rule rule (need ∷ []) at) (by_operand (item_rule h) rule (need ∷ []) (k + 1) more)
-      (plain_item h at operand parts.0) (quiet rule need at none)
+    (plain_item h at operand parts.0) (quiet rule need at none)
     ∙ met h rule need (k + 1) more parts.1 none
 
 implied : (h : Held) (rule : Need → Option Exception) (need : Need) (k : ℕ) (ops : List Operand) → are_plain ops ≡ true → need.place ≡ 0 → 0 < k
@@ -84,7 +84,7 @@ implied h rule need k (operand ∷ more) plain zero_place low =
     let above : 0 < min k 255 = omega (arith, low) in
     let other : (need.place == min k 255) ≡ false = grind (arith, nat_tests, zero_place, above) in
     skip (item_rule h at operand) (needs_rule rule (need ∷ []) at) (by_operand (item_rule h) rule (need ∷ []) (k + 1) more)
-      (plain_item h at operand parts.0) (passed rule need at other)
+    (plain_item h at operand parts.0) (passed rule need at other)
     ∙ implied h rule need (k + 1) more parts.1 zero_place (omega (arith, low))
 
 failed : (h : Held) (rule : Need → Option Exception) (need : Need) (x : Exception) (k : ℕ) (ops : List Operand) → are_plain ops ≡ true → rule need ≡ Some x
@@ -101,12 +101,12 @@ failed h rule need x k (operand ∷ more) plain some low high few =
     by true here own later =
         let at = min k last_operand in
         stop (item_rule h at operand) (needs_rule rule (need ∷ []) at) (by_operand (item_rule h) rule (need ∷ []) (k + 1) more) x
-          (plain_item h at operand own) (asked rule need at here ∙ some)
+        (plain_item h at operand own) (asked rule need at here ∙ some)
     by false here own later =
         let at = min k last_operand in
         let behind : k + 1 ≤ need.place = grind (arith, nat_tests, here, low, few) in
         skip (item_rule h at operand) (needs_rule rule (need ∷ []) at) (by_operand (item_rule h) rule (need ∷ []) (k + 1) more)
-          (plain_item h at operand own) (passed rule need at here)
+        (plain_item h at operand own) (passed rule need at here)
         ∙ later behind
 
 -- the address rules of one need

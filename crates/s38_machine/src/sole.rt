@@ -15,9 +15,11 @@ use crate::rights::{rights_rule_on, subject};
 use crate::rows;
 use s38_base::{Category, Exception, Kind, Op, Rights};
 use s38_code::{Operand, Request};
+use s38_data::queues;
 use s38_invoke::{Acting, World};
 use s38_objects::Objects;
 use s38_operands::is_in_space;
+use s38_programs::programs;
 use s38_rules::{Claim, Named, Need, Object, PointerKind, Sought};
 
 /// INSERT on the queue of ENQ.
@@ -133,6 +135,24 @@ fn sole_lock(
     lock_rules(world, process, request, &[*need])
 }
 
+/// The first of its conditions and limits that fails. Those with one need are asked without their family.
+#[inline(always)]
+#[tactic(auto, unfolding(s38_code::specs::Operations::family_of, s38_rules::specs::Rows::row_in))]
+fn sole_conditions(
+    world: &World<Objects>,
+    process: u32,
+    depth: u16,
+    request: &Request,
+) -> Option<Exception>
+    ensures { result ≡ (row request.now.op).fails world.now process depth request.now }
+{
+    match request.op {
+        Op::Enq | Op::Deq => queues::conditions(world, process, depth, request),
+        Op::Callx | Op::Xctl => programs::conditions(world, process, depth, request),
+        _ => rows::conditions(world, process, depth, request),
+    }
+}
+
 /// The first rule that an instruction fails that has one need, and needs no special authority.
 #[tactic(auto, unfolding(s38_rules::specs::Verdict::refused_by, s38_rules::specs::Verdict::rights_rules, s38_rules::specs::Authority::lacks_special))]
 pub fn refused_by_sole(
@@ -157,5 +177,5 @@ pub fn refused_by_sole(
     if let Some(failure) = sole_lock(world, process, request, need) {
         return Some(failure);
     }
-    rows::conditions(world, process, depth, request)
+    sole_conditions(world, process, depth, request)
 }

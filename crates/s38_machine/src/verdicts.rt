@@ -44,6 +44,7 @@ fn authority_rules(
 
 /// The first rule that an instruction fails whose needs are listed: address rules, then a special authority, then
 /// authority over objects, then locks, then its conditions and limits.
+#[inline(never)]
 #[tactic(auto, unfolding(s38_rules::specs::Verdict::refused_by))]
 fn refused_by_list(
     world: &World<Objects>,
