@@ -2,7 +2,7 @@
 ghost use Rattle.std.specs.Prelude.{◌≡◌, ◌≤◌, ℕ, [], Some, None, IfOk, OnOk, OnErr, is_some, length};
 ghost use Rattle.std.specs.Option.{option_copied, unwrap_or};
 ghost use Rattle.s38_queues.specs.MessageQueue.{MessageQueue, found, found_message, image_size, is_any, longest_key, message, with_message};
-ghost use Rattle.s38_rules.specs.Operands.{bytes_at, is_given};
+ghost use Rattle.s38_rules.specs.Operands.{bytes_at, is_given, target};
 ghost use Rattle.s38_rules.specs.Parts.{no_queue, on_queue, queue_at};
 ghost use Rattle.s38_rules.specs.Queues.{ask_fails, created_queue, crtq_changes, crtq_fails, deq_changes, deq_fails, deq_gives, deq_needs, enq_changes, enq_fails, enq_needs, key_len_at, left_by, longest_at, new_queue, order_of, put_fails, queues_row, suits_keys, suits_order, take_fails, text_of};
 
@@ -16,8 +16,9 @@ use s38_code::{Operand, Request, Val};
 use s38_invoke::World;
 use s38_objects::Objects;
 use s38_operands::{
-    Needs, Question, QueueFacts, ask_at, facts_of_queue, fails, fitted, is_given, on_object,
-    piece_at, queue_facts, relation_at, room_at, size_at, target, whole_at, word_at,
+    Needs, Question, QueueFacts, ask_at, bytes_at, facts_of_queue, fails, fitted, is_given,
+    lent_at, on_object, piece_at, queue_facts, relation_at, room_at, size_at, target, whole_at,
+    word_at,
 };
 use s38_queues::{Message, Order, Queue};
 use s38_rules::{Body, Creating, Sought};
@@ -145,6 +146,7 @@ fn put_queue(queue: &mut Queue, key: &[u8], text: &[u8]) -> Result<(), NoMemory>
 }
 
 /// Puts a message behind those of the queue of a number; where memory is refused nothing changes.
+#[inline(always)]
 fn put_in(objects: &mut Objects, number: ObjNum, key: &[u8], text: &[u8]) -> Result<(), NoMemory>
     ensures ok { OnOk result (objects.new ≡ on_queue objects.old number.0 (λ q. with_message q (message key.now text.now))) }
     ensures err { OnErr result (objects.new ≡ objects.old) }
@@ -156,6 +158,7 @@ fn put_in(objects: &mut Objects, number: ObjNum, key: &[u8], text: &[u8]) -> Res
 }
 
 /// A message stands last in the queue of a number; where memory is refused nothing changes.
+#[inline(always)]
 fn put(world: &mut World<Objects>, number: ObjNum, key: &[u8], text: &[u8]) -> Result<(), NoMemory>
     ensures ok { OnOk result (world.new ≡ record world.old { held = on_queue world.old.held number.0 (λ q. with_message q (message key.now text.now)) }) }
     ensures err { OnErr result (world.new ≡ world.old) }
@@ -166,9 +169,10 @@ fn put(world: &mut World<Objects>, number: ObjNum, key: &[u8], text: &[u8]) -> R
     }
 }
 
-/// The message stands last in the queue.
+/// The message stands last in the queue, where its key or its text lies in a space.
+#[inline(never)]
 #[tactic(auto, unfolding(s38_rules::specs::Queues::enq_changes))]
-fn enq(alloc: Global, world: &mut World<Objects>, operands: &[Operand]) -> Result<(), NoMemory>
+fn enq_read(alloc: Global, world: &mut World<Objects>, operands: &[Operand]) -> Result<(), NoMemory>
     ensures ok { OnOk result (world.new ≡ record world.old { held = enq_changes world.old.held operands.now }) }
     ensures err { OnErr result (world.new ≡ world.old) }
 {
@@ -180,6 +184,22 @@ fn enq(alloc: Global, world: &mut World<Objects>, operands: &[Operand]) -> Resul
         },
         Err(fault) => Err(fault),
     }
+}
+
+/// The message stands last in the queue.
+#[tactic(auto, unfolding(s38_rules::specs::Queues::enq_changes))]
+fn enq(alloc: Global, world: &mut World<Objects>, operands: &[Operand]) -> Result<(), NoMemory>
+    ensures ok { OnOk result (world.new ≡ record world.old { held = enq_changes world.old.held operands.now }) }
+    ensures err { OnErr result (world.new ≡ world.old) }
+{
+    let Some(key) = lent_at(operands, 2) else {
+        return enq_read(alloc, world, operands);
+    };
+    let Some(text) = lent_at(operands, 3) else {
+        return enq_read(alloc, world, operands);
+    };
+    let number = target(&world.objects, operands, 1);
+    put(world, number, key, text)
 }
 
 // ---- DEQ
@@ -302,16 +322,40 @@ fn found_text<'a>(objects: &'a Objects, number: ObjNum, relation: Relation, key:
     }
 }
 
+/// The text of the message that the queue at operand 2 gives by the relation at operand 3.
+#[inline(always)]
+fn sought_text<'a>(objects: &'a Objects, operands: &[Operand], key: &[u8]) -> &'a [u8]
+    ensures { result.now ≡ text_of (found_message (queue_at objects.now (target objects.now operands.now 2)) (relation_at operands.now 3) key.now) }
+{
+    found_text(
+        objects,
+        target(objects, operands, 2),
+        relation_at(operands, 3),
+        key,
+    )
+}
+
+/// The text of the message that is taken, where the key lies in a space.
+#[inline(never)]
+#[tactic(auto, unfolding(s38_rules::specs::Queues::deq_gives))]
+fn deq_reads(alloc: Global, objects: &Objects, operands: &[Operand]) -> Result<Val, NoMemory>
+    ensures { IfOk result (λ value. value ≡ deq_gives objects.now operands.now) }
+{
+    let key = bytes_at(alloc, objects, operands, 4)?;
+    let text = sought_text(objects, operands, key.as_slice());
+    Ok(Val::Bytes(fitted(alloc, room_at(operands, 1), BLANK, text)?))
+}
+
 /// The text of the message that is taken, cut or filled with blanks.
 #[tactic(auto, unfolding(s38_rules::specs::Queues::deq_gives))]
 fn deq_gives(alloc: Global, objects: &Objects, operands: &[Operand]) -> Result<Val, NoMemory>
     ensures { IfOk result (λ value. value ≡ deq_gives objects.now operands.now) }
 {
-    let key = piece_at(alloc, objects, operands, 4)?;
-    let number = target(objects, operands, 2);
-    let text = found_text(objects, number, relation_at(operands, 3), key.as_slice());
-    let bytes = fitted(alloc, room_at(operands, 1), BLANK, text)?;
-    Ok(Val::Bytes(bytes))
+    let Some(key) = lent_at(operands, 4) else {
+        return deq_reads(alloc, objects, operands);
+    };
+    let text = sought_text(objects, operands, key);
+    Ok(Val::Bytes(fitted(alloc, room_at(operands, 1), BLANK, text)?))
 }
 
 fn take_queue(queue: &mut Queue, relation: Relation, key: &[u8])
@@ -321,6 +365,7 @@ fn take_queue(queue: &mut Queue, relation: Relation, key: &[u8])
 }
 
 /// Takes a message out of the queue of a number.
+#[inline(always)]
 fn take_in(objects: &mut Objects, number: ObjNum, relation: Relation, key: &[u8])
     ensures { objects.new ≡ on_queue objects.old number.0 (left_by relation key.now) }
 {
@@ -330,10 +375,27 @@ fn take_in(objects: &mut Objects, number: ObjNum, relation: Relation, key: &[u8]
 }
 
 /// A message leaves the queue of a number.
+#[inline(always)]
 fn take(world: &mut World<Objects>, number: ObjNum, relation: Relation, key: &[u8])
     ensures { world.new ≡ record world.old { held = on_queue world.old.held number.0 (left_by relation key.now) } }
 {
     take_in(&mut world.objects, number, relation, key);
+}
+
+/// The message leaves the queue, where the key lies in a space; where memory is refused nothing changes.
+#[inline(never)]
+#[tactic(auto, unfolding(s38_rules::specs::Queues::deq_changes))]
+fn deq_read(alloc: Global, world: &mut World<Objects>, operands: &[Operand]) -> Result<(), NoMemory>
+    ensures ok { OnOk result (world.new ≡ record world.old { held = deq_changes world.old.held operands.now }) }
+    ensures err { OnErr result (world.new ≡ world.old) }
+{
+    let number = target(&world.objects, operands, 2);
+    let key = match bytes_at(alloc, &world.objects, operands, 4) {
+        Ok(key) => key,
+        Err(fault) => return Err(fault),
+    };
+    take(world, number, relation_at(operands, 3), key.as_slice());
+    Ok(())
 }
 
 /// The message leaves the queue; where memory is refused nothing changes.
@@ -342,12 +404,11 @@ fn deq(alloc: Global, world: &mut World<Objects>, operands: &[Operand]) -> Resul
     ensures ok { OnOk result (world.new ≡ record world.old { held = deq_changes world.old.held operands.now }) }
     ensures err { OnErr result (world.new ≡ world.old) }
 {
-    let number = target(&world.objects, operands, 2);
-    let key = match piece_at(alloc, &world.objects, operands, 4) {
-        Ok(key) => key,
-        Err(fault) => return Err(fault),
+    let Some(key) = lent_at(operands, 4) else {
+        return deq_read(alloc, world, operands);
     };
-    take(world, number, relation_at(operands, 3), key.as_slice());
+    let number = target(&world.objects, operands, 2);
+    take(world, number, relation_at(operands, 3), key);
     Ok(())
 }
 

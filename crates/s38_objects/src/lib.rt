@@ -6,6 +6,7 @@ mod kept;
 mod listing;
 mod name_key;
 mod names;
+mod number;
 mod numbered;
 mod objects;
 mod table;

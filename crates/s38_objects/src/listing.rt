@@ -4,6 +4,7 @@ ghost use Rattle.std.specs.BTreeMap.{values};
 ghost use Rattle.s38_rules.specs.Contexts.{entered, listed};
 ghost use Rattle.s38_rules.specs.Held.{is_in_context};
 
+use crate::number::Number;
 use s38_base::{NoMemory, ObjNum};
 use s38_rules::{Listed, Object};
 use std::alloc::Global;
@@ -39,7 +40,7 @@ fn enter(
 /// The objects in a context, each under its identification.
 pub fn names(
     alloc: Global,
-    objects: &BTreeMap<u64, Object>,
+    objects: &BTreeMap<Number, Object>,
     context: ObjNum,
 ) -> Result<BTreeMap<Listed, ObjNum>, NoMemory>
     ensures { IfOk result (λ names. names.entries ≡ entered [] (filter (is_in_context context.0) (values objects.now))) }

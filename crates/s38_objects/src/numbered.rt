@@ -9,19 +9,28 @@ ghost use Rattle.s38_rules.specs.Standing.{granted, open_to_all, owned_by};
 ghost use Rattle.s38_objects.specs.Changes.{changed_at, placed, restood};
 
 use crate::body;
+use crate::number::Number;
 use s38_base::{Id, NoMemory, ObjNum, Rights, Special, UserNum};
 use s38_rules::Object;
 use std::alloc::AllocFailed;
 use std::collections::BTreeMap;
 
 /// Adds an object at its number. Where memory was refused it comes back and nothing changed.
-pub fn add(objects: &mut BTreeMap<u64, Object>, object: Object) -> Result<(), AllocFailed<Object>>
+pub fn add(
+    objects: &mut BTreeMap<Number, Object>,
+    object: Object,
+) -> Result<(), AllocFailed<Object>>
     ensures ok { OnOk result (objects.new.entries ≡ insert_entry nat_cmp objects.old.entries object.number.0 object) }
     ensures ordered { IsOrdered nat_cmp objects.new }
     ensures back { IfErr result (λ e. e.value ≡ object) }
     ensures err { OnErr result (objects.new.entries ≡ objects.old.entries) }
 {
-    match objects.insert(object.number.0, object) {
+    match objects.insert(
+        Number {
+            number: object.number.0,
+        },
+        object,
+    ) {
         Ok(_) => Ok(()),
         Err(refused) => Err(AllocFailed {
             value: refused.value.1,
@@ -30,54 +39,59 @@ pub fn add(objects: &mut BTreeMap<u64, Object>, object: Object) -> Result<(), Al
 }
 
 /// The object of a number in another context, and with another identification.
-pub fn place(objects: &mut BTreeMap<u64, Object>, number: u64, context: ObjNum, id: Id)
+pub fn place(objects: &mut BTreeMap<Number, Object>, number: u64, context: ObjNum, id: Id)
     ensures { objects.new.entries ≡ changed_at objects.old.entries number (placed context id) }
 {
-    if let Some(object) = objects.get_mut(&number) {
+    if let Some(object) = objects.get_mut(&Number { number }) {
         object.context = context;
         object.id = id;
     }
 }
 
 /// Another owner of the object of a number.
-pub fn set_owner(objects: &mut BTreeMap<u64, Object>, number: u64, user: UserNum)
+pub fn set_owner(objects: &mut BTreeMap<Number, Object>, number: u64, user: UserNum)
     ensures { objects.new.entries ≡ changed_at objects.old.entries number (restood (owned_by user)) }
 {
-    if let Some(object) = objects.get_mut(&number) {
+    if let Some(object) = objects.get_mut(&Number { number }) {
         object.owner = user;
     }
 }
 
 /// Other rights of everybody on the object of a number.
-pub fn set_public(objects: &mut BTreeMap<u64, Object>, number: u64, rights: Rights)
+pub fn set_public(objects: &mut BTreeMap<Number, Object>, number: u64, rights: Rights)
     ensures { objects.new.entries ≡ changed_at objects.old.entries number (restood (open_to_all rights)) }
 {
-    if let Some(object) = objects.get_mut(&number) {
+    if let Some(object) = objects.get_mut(&Number { number }) {
         object.public = rights;
     }
 }
 
 /// The object of a number is on disk.
-pub fn ensure(objects: &mut BTreeMap<u64, Object>, number: u64)
+pub fn ensure(objects: &mut BTreeMap<Number, Object>, number: u64)
     ensures { objects.new.entries ≡ changed_at objects.old.entries number kept_on_disk }
 {
-    if let Some(object) = objects.get_mut(&number) {
+    if let Some(object) = objects.get_mut(&Number { number }) {
         object.on_disk = true;
     }
 }
 
 /// Other special authorities of the user of a number, and another limit.
-pub fn set_profile(objects: &mut BTreeMap<u64, Object>, number: u64, special: Special, limit: u32)
+pub fn set_profile(
+    objects: &mut BTreeMap<Number, Object>,
+    number: u64,
+    special: Special,
+    limit: u32,
+)
     ensures { objects.new.entries ≡ changed_at objects.old.entries number (over_object profile_part (λ _. (special, limit))) }
 {
-    if let Some(object) = objects.get_mut(&number) {
+    if let Some(object) = objects.get_mut(&Number { number }) {
         body::set_profile(&mut object.body, special, limit);
     }
 }
 
 /// The rights of a user by a private row on the object of a number.
 pub fn set_row(
-    objects: &mut BTreeMap<u64, Object>,
+    objects: &mut BTreeMap<Number, Object>,
     number: u64,
     user: UserNum,
     rights: Rights,
@@ -88,7 +102,7 @@ pub fn set_row(
     ensures added { OnErr result ((row_in (get nat_cmp objects.old number) user.0 ≡ 0) × (rights.0 ≢ 0)) }
     ensures err { OnErr result (objects.new.entries ≡ objects.old.entries) }
 {
-    match objects.get_mut(&number) {
+    match objects.get_mut(&Number { number }) {
         None => Ok(()),
         Some(object) => object.rows.set(user, rights),
     }

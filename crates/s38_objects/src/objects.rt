@@ -18,6 +18,7 @@ ghost use Rattle.s38_objects.specs.Lawful.{IsLawful, is_place, is_place_of};
 ghost use Rattle.s38_objects.specs.Lending.{LendsHeld};
 
 use crate::name_key::{NameKey, key};
+use crate::number::Number;
 use crate::{listing, names, numbered};
 use s38_base::{Id, NoMemory, ObjNum, Rights, Special, UserNum};
 use s38_indexes::Index;
@@ -35,7 +36,7 @@ use std::marker::Model;
 #[derive(Drop)]
 pub struct Objects {
     alloc: Global,
-    by_number: BTreeMap<u64, Object>,
+    by_number: BTreeMap<Number, Object>,
     by_name: BTreeMap<NameKey, u64>,
     next: u64,
     ceiling: u64,
@@ -83,7 +84,7 @@ impl Objects {
     }
 
     /// The objects, in rising order of number.
-    pub fn all(&self) -> Values<'_, u64, Object>
+    pub fn all(&self) -> Values<'_, Number, Object>
         ensures all { result ≡ self.now.objects }
         ensures lawful { IsLawful self.now }
     {
@@ -108,7 +109,7 @@ impl Objects {
     pub fn get(&self, number: ObjNum) -> Option<&Object>
         ensures { option_copied result ≡ object self.now number.0 }
     {
-        self.by_number.get(&number.0)
+        self.by_number.get(&Number { number: number.0 })
     }
 
     /// Whether the object of a number is there, in logarithmic time.
@@ -137,7 +138,7 @@ impl Objects {
         ensures { option_copied result ≡ found self.now context.0 id.now }
     {
         match self.find(context, id) {
-            Some(number) => self.by_number.get(&number.0),
+            Some(number) => self.by_number.get(&Number { number: number.0 }),
             None => None,
         }
     }
@@ -191,7 +192,7 @@ impl Objects {
         ensures object { result ≡ object self.old number.0 }
         ensures rest { self.new ≡ without self.old number.0 }
     {
-        match self.by_number.remove(&number.0) {
+        match self.by_number.remove(&Number { number: number.0 }) {
             Some(object) => {
                 names::leave(&mut self.by_name, &object);
                 Some(object)
@@ -272,7 +273,7 @@ impl Objects {
         ensures* writes_back { sem 𝓛 (LendsHeld P.row P.part self.entry number.0 result) }
         ensures value { option_copied_mut result ≡ part_at P.part self.old number.0 }
     {
-        match self.by_number.get_mut(&number.0) {
+        match self.by_number.get_mut(&Number { number: number.0 }) {
             Some(object) => P::of_mut(&mut object.body),
             None => None,
         }
@@ -340,7 +341,7 @@ impl Objects {
         ensures ok { OnOk result (self.new ≡ change self.old number.0 (placed context id.now)) }
         ensures err { OnErr result (self.new ≡ self.old) }
     {
-        match self.by_number.get(&number.0) {
+        match self.by_number.get(&Number { number: number.0 }) {
             None => return Ok(()),
             Some(object) => match names::change(&mut self.by_name, object, context, id) {
                 Ok(()) => {}
@@ -358,7 +359,7 @@ impl Objects {
         ensures ok { OnOk result (self.new ≡ renamed self.old number.0 id) }
         ensures err { OnErr result (self.new ≡ self.old) }
     {
-        match self.by_number.get(&number.0) {
+        match self.by_number.get(&Number { number: number.0 }) {
             None => Ok(()),
             Some(object) => {
                 let context = object.context;
@@ -375,7 +376,7 @@ impl Objects {
         ensures ok { OnOk result (self.new ≡ moved self.old number.0 context) }
         ensures err { OnErr result (self.new ≡ self.old) }
     {
-        match self.by_number.get(&number.0) {
+        match self.by_number.get(&Number { number: number.0 }) {
             None => Ok(()),
             Some(object) => {
                 let id = object.id;

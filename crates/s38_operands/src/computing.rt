@@ -175,6 +175,7 @@ fn is_call(op: Op) -> bool
 }
 
 /// The operand that gets the value of an instruction; that of a branch and of a call comes back with the reply.
+#[inline(always)]
 pub fn receiver_at(op: Op, operands: &[Operand]) -> Option<&Operand>
     ensures { option_copied result ≡ receiver_at op operands.now }
 {

@@ -30,7 +30,7 @@ pub use operands::{
     scalar_attr, whole_at, word_at,
 };
 pub use queues::{QueueFacts, facts_of_queue, queue_facts};
-pub use reads::{bytes_at, piece_at, pointer_at, size_at, source_cells, target};
+pub use reads::{bytes_at, lent_at, piece_at, pointer_at, size_at, source_cells, target};
 pub use storage::{first_pointer, is_aligned, is_within};
 pub use values::{count_image, fitted};
 

@@ -1,7 +1,8 @@
 //! What an instruction reads at its operands, also where they lie in a space.
-ghost use Rattle.std.specs.Prelude.{◌≡◌, [], All, IfOk, length};
+ghost use Rattle.std.specs.Prelude.{◌≡◌, [], All, IfOk, IfSome, length};
 ghost use Rattle.std.specs.Option.{option_copied, unwrap_or};
 ghost use Rattle.s38_memory.specs.Cell.{IsCell};
+ghost use Rattle.s38_rules.specs.Held.{Held};
 ghost use Rattle.s38_rules.specs.Operands.{bytes_at, bytes_of, cells_of, pointer_at, pointer_in, pointer_of, size_at, source_cells, target};
 ghost use Rattle.s38_compute.specs.Piece.{piece_bytes};
 
@@ -96,6 +97,24 @@ fn piece_of<'a>(
         Some(Operand::InSpace { .. }) => Ok(Piece::Made(bytes_of(alloc, objects, operand)?)),
         _ => Ok(Piece::Lent(&[])),
     }
+}
+
+fn lent_of(operand: Option<&Operand>) -> Option<&[u8]>
+    ensures { (h : Held) → IfSome result (λ bytes. bytes.now ≡ bytes_of h (option_copied operand.entry)) }
+{
+    match operand {
+        Some(Operand::Value { bytes, .. }) => Some(bytes.as_slice()),
+        Some(Operand::InSpace { .. }) => None,
+        _ => Some(&[]),
+    }
+}
+
+/// The bytes that are read, where they stand in the operand itself.
+#[inline(always)]
+pub fn lent_at(operands: &[Operand], k: usize) -> Option<&[u8]>
+    ensures { (h : Held) → IfSome result (λ bytes. bytes.now ≡ bytes_at h operands.now k) }
+{
+    lent_of(place(operands, k))
 }
 
 /// The bytes that are read; those of a value are not copied.

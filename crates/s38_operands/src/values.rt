@@ -9,8 +9,12 @@ use std::alloc::Global;
 pub fn fitted(alloc: Global, len: u16, fill: u8, bytes: &[u8]) -> Result<Bytes, NoMemory>
     ensures { IfOk result (λ made. made ≡ fitted len fill bytes.now) }
 {
+    let len = len as usize;
+    if len <= bytes.len() {
+        return Bytes::from_slice(alloc, &bytes[..len]);
+    }
     let mut made = Bytes::from_slice(alloc, bytes)?;
-    made.resize(len as usize, fill)?;
+    made.resize(len, fill)?;
     Ok(made)
 }
 

@@ -38,7 +38,11 @@ impl Model for Queue {
 fn message_of(alloc: Global, key: &[u8], text: &[u8]) -> Result<Message, NoMemory>
     ensures { IfOk result (λ made. made ≡ message key.now text.now) }
 {
-    let key = Bytes::from_slice(alloc, key)?;
+    let key = if key.is_empty() {
+        Bytes::new(alloc)
+    } else {
+        Bytes::from_slice(alloc, key)?
+    };
     let text = Bytes::from_slice(alloc, text)?;
     Ok(Message { key, text })
 }
