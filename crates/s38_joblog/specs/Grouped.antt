@@ -5,6 +5,7 @@ use Rattle.s38_code.specs.declared.deck.Job.{Job}
 use Rattle.s38_code.specs.declared.entry.Entry.{Entry}
 use Rattle.s38_joblog.specs.Log.{entry_line, job_line, lines_of}
 
+-- a numbered job's line
 abbrev pub head : ℕ × Job → List ℕ
 head numbered = job_line numbered.0 numbered.1
 

@@ -1,5 +1,4 @@
 use Rattle.std.proofs.Common.{◌≡◌, ◌+◌, ◌∷◌, ◌++◌, [], sym, ◌∙◌, ap, arith}
-use Rattle.s38_joblog.specs.Grouped.{heads}
 use Rattle.s38_joblog.specs.Log.{job_line}
 use Rattle.s38_joblog.proofs.Grouping.{heads-more}
 use Rattle.s38_joblog.proofs.log.begun_texts.Goals as goal
