@@ -1,5 +1,5 @@
 -- A line that begins as a declaration says what it declares, or nothing.
-use Rattle.std.proofs.Common.{◌≡◌, ℕ, true, List, ◌++◌, Option, Some, None, codes, sym, subst, refl}
+use Rattle.std.proofs.Common.{◌≡◌, ℕ, true, List, ◌++◌, Some, None, codes, sym, subst, refl}
 use Rattle.std.specs.Option.{is_some, option_map}
 use Rattle.s38_words.specs.DeclarationLine.{behind_dcl, declaration_of}
 use Rattle.s38_template.specs.Lines.{declare, line_of, said_by}
