@@ -103,6 +103,7 @@ impl Log {
     }
 
     /// Takes the memory of one further entry.
+    #[inline(always)]
     pub fn reserve(&mut self) -> Result<(), NoMemory>
         ensures ok { OnOk result (0 < self.new.spare) }
         ensures same { (self.new.history ≡ self.old.history) × (self.new.marks ≡ self.old.marks) × (self.new.processes ≡ self.old.processes) }

@@ -157,6 +157,7 @@ impl Machine {
     }
 
     /// A permitted event takes effect and is entered.
+    #[inline(always)]
     fn permit(&mut self, process: u32, event: Event) -> Result<(), NoMemory>
         requires first { 0 < process }
         requires last { process ≤ length self.old.state.processes }

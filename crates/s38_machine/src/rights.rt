@@ -15,6 +15,7 @@ use s38_operands::{fails, pointer_at, target};
 use s38_rules::{Claim, Named, Need, Object};
 
 /// The object that a need speaks of.
+#[inline(always)]
 pub fn subject(objects: &Objects, operands: &[Operand], need: &Need) -> ObjNum
     ensures { result.0 ≡ subject objects.now operands.now need.now.place need.now.named }
 {

@@ -17,6 +17,7 @@ use s38_process::{Next, Process};
 use std::alloc::Global;
 
 /// A process goes on by a reply; `ends` says whether it asked for its end.
+#[inline(always)]
 fn absorb(process: &mut Process, reply: &Reply, ends: bool) -> Result<Outcome, NoMemory>
     ensures { IfOk result (λ outcome. (process.new ≡ absorbed process.old reply.now) × ((event : Event) → ends ≡ is_finish event → outcome ≡ outcome_of event reply.now)) }
 {
