@@ -1,8 +1,8 @@
 //! The exact text of every kind of entry, value, detail and cause.
 
 use s38_base::{
-    Attr, Bytes, Exception, LockState, Name, NoMemory, ObjNum, Op, Pointer, Rights, Rule, Seq,
-    Special, exceptions,
+    Attr, Bytes, Exception, HeldPointer, LockState, Name, NoMemory, ObjNum, Op, Pointer, Rights,
+    Rule, Seq, Special, exceptions,
 };
 use s38_code::{
     CheckedTemplate, Code, CreateResult, EndCause, Entry, Event, Job, Program, Reply, Request,
