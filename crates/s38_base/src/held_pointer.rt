@@ -1,4 +1,4 @@
-ghost use Rattle.std.specs.Prelude.{◌≡◌};
+ghost use Rattle.std.specs.Prelude.{◌≡◌, IsTrue};
 ghost use Rattle.s38_base.specs.declared.pointer.Pointer.TheVariants as pointers;
 ghost use Rattle.s38_base.specs.HeldPointers.{form_of_item};
 
@@ -15,7 +15,7 @@ pub struct HeldPointer {
 }
 
 /// A pointer with the attribute of its item in its place.
-#[derive(Clone, Copy, Debug)]
+#[derive(Clone, Copy, PartialEq, Debug)]
 enum Form {
     Nothing,
     System {
@@ -95,6 +95,14 @@ impl HeldPointer {
                 form: form_of_item(object, offset, attr),
             },
         }
+    }
+
+    /// Whether both are the same pointer, or none.
+    #[inline(always)]
+    pub fn is_same(self, other: HeldPointer) -> bool
+        ensures { IsTrue result → self ≡ other }
+    {
+        self.form == other.form
     }
 
     /// The pointer, or none.

@@ -1,5 +1,5 @@
 use crate::operand::Operands;
-use s38_base::{NoMemory, Op, TryClone, try_clones};
+use s38_base::{NoMemory, Op, TryClone};
 use std::alloc::Global;
 
 /// An instruction as it is asked of the machine.
@@ -39,7 +39,7 @@ impl TryClone for Request {
         Ok(Request {
             op: self.op,
             round: self.round,
-            operands: try_clones(alloc, self.operands.as_slice())?,
+            operands: self.operands.try_clone(alloc)?,
         })
     }
 }

@@ -1,5 +1,9 @@
+ghost use Rattle.std.specs.Prelude.{◌≡◌, IfOk, IsTrue};
+
 use s38_base::{Attr, AttrList, Bytes, HeldPointer, Id, Name, NoMemory, Seq, TryClone};
 use std::alloc::Global;
+use std::marker::Model;
+use std::sync::Arc;
 
 /// An operand as the machine gets it: the process has put in the values of its variables.
 #[derive(Drop, Debug)]
@@ -39,8 +43,92 @@ pub enum Operand {
     ContextList,
 }
 
-/// The operands of a request, in order.
-pub type Operands = Seq<Operand>;
+/// The operands of a request, in order; those who hold them share them. Contracts see them as the list.
+#[derive(Drop, Debug)]
+pub struct Operands {
+    held: Arc<Vec<Operand>>,
+}
+
+impl Model for Operands {
+    ghost use Rattle.std.specs.Prelude.{List};
+    ghost use Rattle.s38_code.specs.declared.operand.Operand.{Operand};
+
+    ghost Value = { List Operand };
+
+    ghost view = { λ o. o.held.value.items };
+}
+
+impl Operands {
+    /// Puts operands where they can be shared; where memory is refused they are dropped.
+    pub fn new(alloc: Global, operands: Vec<Operand>) -> Result<Operands, NoMemory>
+        ensures { IfOk result (λ made. made ≡ operands.items) }
+    {
+        match Arc::new(alloc, operands) {
+            Ok(held) => Ok(Operands { held }),
+            Err(_) => Err(NoMemory),
+        }
+    }
+
+    /// The operands.
+    pub fn as_slice(&self) -> &[Operand]
+        ensures { result.now ≡ self.now }
+    {
+        self.held.as_slice()
+    }
+}
+
+impl TryClone for Operands {
+    fn try_clone(&self, _: Global) -> Result<Self, NoMemory> {
+        match Arc::try_clone(&self.held) {
+            Ok(held) => Ok(Operands { held }),
+            Err(_) => Err(NoMemory),
+        }
+    }
+}
+
+impl Operand {
+    /// Whether it is the other one over again.
+    pub fn is_same(&self, other: &Operand) -> bool
+        ensures { IsTrue result → self.now ≡ other.now }
+    {
+        match (self, other) {
+            (Operand::Value { attr, bytes }, Operand::Value { attr: a, bytes: b }) => {
+                attr == a && bytes.as_slice() == b.as_slice()
+            }
+            (Operand::Receiver { attr }, Operand::Receiver { attr: a }) => attr == a,
+            (
+                Operand::InSpace { base, offset, attr },
+                Operand::InSpace {
+                    base: b,
+                    offset: o,
+                    attr: a,
+                },
+            ) => { base.is_same(*b) && offset == o && attr == a }
+            (Operand::Ptr(pointer), Operand::Ptr(p)) => pointer.is_same(*p),
+            (Operand::Whole(number), Operand::Whole(n)) => number == n,
+            (Operand::Word(word), Operand::Word(w)) => word == w,
+            (Operand::Ident(id), Operand::Ident(i)) => id == i,
+            (Operand::Text(name), Operand::Text(n)) => name == n,
+            (Operand::Nothing, Operand::Nothing) => true,
+            (Operand::MachineContext, Operand::MachineContext) => true,
+            (Operand::ContextList, Operand::ContextList) => true,
+            _ => false,
+        }
+    }
+}
+
+/// Whether the operands are the others over again, in the same order.
+pub fn are_same(operands: &[Operand], others: &[Operand]) -> bool
+    ensures { IsTrue result → operands.now ≡ others.now }
+{
+    match operands {
+        [] => others.is_empty(),
+        [operand, rest @ ..] => match others {
+            [] => false,
+            [other, more @ ..] => operand.is_same(other) && are_same(rest, more),
+        },
+    }
+}
 
 impl TryClone for Operand {
     fn try_clone(&self, alloc: Global) -> Result<Self, NoMemory> {

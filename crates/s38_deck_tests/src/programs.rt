@@ -2,7 +2,7 @@
 
 use s38_base::{Attr, AttrList, Bytes, Op, Seq, TryClone};
 use s38_code::{
-    Code, CreateFault, EndCause, Event, Operand, Program, Reply, Request, StepFault, Template,
+    Code, CreateFault, EndCause, Event, Operand, Operands, Program, Reply, Request, StepFault, Template,
     TextLines, Val,
 };
 use std::alloc::Global;
@@ -24,7 +24,7 @@ fn values_are_made_again(rt: HostRuntime) -> Result<(), Fail> {
     let request = Request {
         op: Op::Addn,
         round: true,
-        operands: Seq::from_vec(operands),
+        operands: Operands::new(alloc, operands)?,
     };
     let events = [
         Event::Start,

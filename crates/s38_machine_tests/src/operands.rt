@@ -1,7 +1,7 @@
 //! Calls that can want memory, with ample memory: a space is made, and read at operands.
 
-use s38_base::{Attr, HeldPointer, Id, Kind, Name, ObjNum, Op, Pointer, Rights, Seq};
-use s38_code::{Operand, Request, Val};
+use s38_base::{Attr, HeldPointer, Id, Kind, Name, ObjNum, Op, Pointer, Rights};
+use s38_code::{Operand, Operands, Request, Val};
 use s38_memory::Tagged;
 use s38_objects::Objects;
 use s38_operands::{bytes_at, computing_gives, fitted, piece_at, source_cells, write_cells};
@@ -84,7 +84,7 @@ fn a_computation_reads_a_space(rt: HostRuntime) -> Result<(), Fail> {
     let request = Request {
         op: Op::Cat,
         round: false,
-        operands: Seq::from_vec(operands),
+        operands: Operands::new(alloc, operands)?,
     };
     let value = computing_gives(alloc, &objects, &request)?;
     assert!(rt; is_bytes(&value, b"aba\x40"));

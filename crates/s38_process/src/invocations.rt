@@ -9,6 +9,7 @@ ghost use Rattle.s38_process.specs.Requests.{request_of};
 
 use crate::homes::{argument_places, first_frame, own_places};
 use crate::made::{code_of, rows_of};
+use crate::recent::Recent;
 use crate::request::request_of;
 use crate::standing::Standing;
 use crate::variables::{blank_values, first_values, next_instruction, receive};
@@ -155,13 +156,19 @@ impl Invocations {
     }
 
     /// What an instruction of the newest invocation asks.
-    pub fn request(&self, alloc: Global, instruction: &Instruction) -> Result<Request, NoMemory>
+    pub fn request(
+        &self,
+        recent: &mut Recent,
+        instruction: &Instruction,
+    ) -> Result<Request, NoMemory>
         ensures { IfOk result (λ request. request ≡ request_of (rows_in self.now.top.made) self.now.top.frame.homes self.now.values instruction.now) }
     {
+        let frame = self.top.frame();
         request_of(
-            alloc,
+            recent,
+            frame.at,
             rows_of(self.top.made()),
-            self.top.frame().homes.as_slice(),
+            frame.homes.as_slice(),
             self.values.as_slice(),
             instruction,
         )

@@ -12,6 +12,7 @@ mod made;
 mod next;
 mod process;
 mod progress;
+mod recent;
 mod request;
 mod standing;
 mod status;

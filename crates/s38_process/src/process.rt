@@ -7,6 +7,7 @@ ghost use Rattle.s38_process.specs.Lawful.{IsLawful, SuitsReply};
 ghost use Rattle.s38_process.specs.Process.{absorbed, event_of, fresh, settled};
 
 use crate::next::Next;
+use crate::recent::Recent;
 use crate::unsettled::Unsettled;
 use s38_base::NoMemory;
 use s38_code::{CreateResult, Job, Reply};
@@ -19,6 +20,7 @@ pub struct Process {
     inner: Unsettled,
     /// Whether its local run is known to be done.
     rests: bool,
+    recent: Recent,
 }
 
 impl Model for Process {
@@ -64,6 +66,7 @@ impl Process {
         Ok(Process {
             inner,
             rests: false,
+            recent: Recent::new(alloc),
         })
     }
 
@@ -77,7 +80,7 @@ impl Process {
             Ok(()) => {}
             Err(fault) => return Err(fault),
         }
-        self.inner.asks()
+        self.inner.asks(&mut self.recent)
     }
 
     /// Goes on by the reply to what it asked. MustWait leaves it as it was, and so does an error.

@@ -3,6 +3,7 @@ ghost use Rattle.std.specs.Option.{option_copied};
 ghost use Rattle.s38_code.specs.declared.operand.Operand.{Operand};
 ghost use Rattle.s38_process.specs.Requests.{item_by, item_operand, operand_of, operands_of, request_of, source_by};
 
+use crate::recent::Recent;
 use crate::variables::{form_in, is_receiver, value_bytes, value_of_item, value_pointer};
 use s38_base::{Attr, AttrList, Bytes, NoMemory, Seq};
 use s38_code::{Arg, Class, Form, Instruction, Operand, Request, Row, Val, classes};
@@ -167,10 +168,11 @@ fn add_operands(
     Ok(())
 }
 
-/// What an instruction asks, with the values of the variables put in.
+/// What an instruction at this place asks, with the values of the variables put in.
 #[tactic(auto, unfolding(crate::specs::Requests::request_of))]
 pub fn request_of(
-    alloc: Global,
+    recent: &mut Recent,
+    at: usize,
     rows: &[Row],
     homes: &[usize],
     values: &[Val],
@@ -178,23 +180,27 @@ pub fn request_of(
 ) -> Result<Request, NoMemory>
     ensures { IfOk result (λ request. request ≡ request_of rows.now homes.now values.now instruction.now) }
 {
+    let operands = classes(instruction.op);
     let args = instruction.args.as_slice();
-    let mut made = Vec::with_capacity(alloc, args.len())?;
+    recent.made.clear();
     match add_operands(
-        alloc,
-        &mut made,
+        recent.alloc,
+        &mut recent.made,
         rows,
         homes,
         values,
-        classes(instruction.op),
+        operands,
         args,
     ) {
         Ok(()) => {}
         Err(fault) => return Err(fault),
     }
-    Ok(Request {
-        op: instruction.op,
-        round: instruction.round,
-        operands: Seq::from_vec(made),
-    })
+    match recent.share(at) {
+        Ok(operands) => Ok(Request {
+            op: instruction.op,
+            round: instruction.round,
+            operands,
+        }),
+        Err(fault) => Err(fault),
+    }
 }

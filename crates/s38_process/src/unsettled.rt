@@ -11,6 +11,7 @@ use crate::local_run::{is_return, run_locally};
 use crate::made::begun_by;
 use crate::next::Next;
 use crate::progress::Progress;
+use crate::recent::Recent;
 use crate::status::Status;
 use s38_base::NoMemory;
 use s38_code::{CreateResult, EndCause, Event, Instruction, Job, Reply, Val};
@@ -78,7 +79,7 @@ impl Unsettled {
         Event::Finish { cause }
     }
 
-    fn acts(&self, instruction: &Instruction) -> Result<Event, NoMemory>
+    fn acts(&self, recent: &mut Recent, instruction: &Instruction) -> Result<Event, NoMemory>
         ensures { IfOk result (λ event. event ≡ acts self.now (Some instruction.now)) }
     {
         if is_return(instruction.op) {
@@ -86,11 +87,11 @@ impl Unsettled {
         }
         Ok(Event::Act {
             depth: self.invocations.depth() as u16,
-            request: self.invocations.request(self.alloc, instruction)?,
+            request: self.invocations.request(recent, instruction)?,
         })
     }
 
-    fn runs(&self) -> Result<Event, NoMemory>
+    fn runs(&self, recent: &mut Recent) -> Result<Event, NoMemory>
         ensures { IfOk result (λ event. event ≡ runs self.now) }
     {
         if self.budget <= self.progress.done {
@@ -100,18 +101,18 @@ impl Unsettled {
         }
         match self.invocations.instruction() {
             None => Ok(self.returns()),
-            Some(instruction) => self.acts(instruction),
+            Some(instruction) => self.acts(recent, instruction),
         }
     }
 
     /// What the process asks where it stands.
     #[tactic(auto, unfolding(crate::specs::Process::event_of))]
-    pub fn asks(&self) -> Result<Next, NoMemory>
+    pub fn asks(&self, recent: &mut Recent) -> Result<Next, NoMemory>
         ensures { IfOk result (λ next. asked next ≡ event_of self.now) }
     {
         match self.progress.status {
             Status::Fresh => Ok(Next::Step(Event::Start)),
-            Status::Running => Ok(Next::Step(self.runs()?)),
+            Status::Running => Ok(Next::Step(self.runs(recent)?)),
             Status::Ending(cause) => Ok(Next::Step(Event::Finish { cause })),
             Status::Ended => Ok(Next::Ended),
         }
