@@ -25,7 +25,7 @@ pub use event::{EndCause, Event, Request};
 pub use family::Family;
 pub use lines::{Lines, TextLines};
 pub use made::{Checked, CheckedTemplate, CreateResult};
-pub use operand::{Operand, Operands, are_same};
+pub use operand::{Operand, Operands};
 pub use operations::{classes, family_of, made_kind, may_round, mnemonic, operand_rule};
 pub use program::{Arg, Args, CreateFault, Form, Instruction, Instructions, Program, Row, Rows};
 pub use reply::{Reply, Val, Vals};

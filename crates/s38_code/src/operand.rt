@@ -1,4 +1,4 @@
-ghost use Rattle.std.specs.Prelude.{◌≡◌, IfOk, IsTrue};
+ghost use Rattle.std.specs.Prelude.{◌≡◌, IfOk};
 
 use s38_base::{Attr, AttrList, Bytes, HeldPointer, Id, Name, NoMemory, Seq, TryClone};
 use std::alloc::Global;
@@ -83,50 +83,6 @@ impl TryClone for Operands {
             Ok(held) => Ok(Operands { held }),
             Err(_) => Err(NoMemory),
         }
-    }
-}
-
-impl Operand {
-    /// Whether it is the other one over again.
-    pub fn is_same(&self, other: &Operand) -> bool
-        ensures { IsTrue result → self.now ≡ other.now }
-    {
-        match (self, other) {
-            (Operand::Value { attr, bytes }, Operand::Value { attr: a, bytes: b }) => {
-                attr == a && bytes.as_slice() == b.as_slice()
-            }
-            (Operand::Receiver { attr }, Operand::Receiver { attr: a }) => attr == a,
-            (
-                Operand::InSpace { base, offset, attr },
-                Operand::InSpace {
-                    base: b,
-                    offset: o,
-                    attr: a,
-                },
-            ) => { base.is_same(*b) && offset == o && attr == a }
-            (Operand::Ptr(pointer), Operand::Ptr(p)) => pointer.is_same(*p),
-            (Operand::Whole(number), Operand::Whole(n)) => number == n,
-            (Operand::Word(word), Operand::Word(w)) => word == w,
-            (Operand::Ident(id), Operand::Ident(i)) => id == i,
-            (Operand::Text(name), Operand::Text(n)) => name == n,
-            (Operand::Nothing, Operand::Nothing) => true,
-            (Operand::MachineContext, Operand::MachineContext) => true,
-            (Operand::ContextList, Operand::ContextList) => true,
-            _ => false,
-        }
-    }
-}
-
-/// Whether the operands are the others over again, in the same order.
-pub fn are_same(operands: &[Operand], others: &[Operand]) -> bool
-    ensures { IsTrue result → operands.now ≡ others.now }
-{
-    match operands {
-        [] => others.is_empty(),
-        [operand, rest @ ..] => match others {
-            [] => false,
-            [other, more @ ..] => operand.is_same(other) && are_same(rest, more),
-        },
     }
 }
 

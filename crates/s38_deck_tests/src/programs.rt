@@ -2,8 +2,8 @@
 
 use s38_base::{Attr, AttrList, Bytes, Op, Seq, TryClone};
 use s38_code::{
-    Code, CreateFault, EndCause, Event, Operand, Operands, Program, Reply, Request, StepFault, Template,
-    TextLines, Val,
+    Code, CreateFault, EndCause, Event, Operand, Operands, Program, Reply, Request, StepFault,
+    Template, TextLines, Val,
 };
 use std::alloc::Global;
 use std::test::Fail;

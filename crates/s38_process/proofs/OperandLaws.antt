@@ -1,5 +1,6 @@
 -- The operands of a request, once each argument has been looked at.
-use Rattle.std.proofs.Common.{◌≡◌, ◌≤◌, ℕ, ◌++◌, List, [], ◌∷◌, drop, length, refl, sym, ◌∙◌, ap}
+use Rattle.std.proofs.Common.{◌≡◌, ◌≤◌, ◌==◌, ℕ, Bool, IsTrue, ◌++◌, List, [], ◌∷◌, drop, length, refl, sym, ◌∙◌, ap, arith}
+use Rattle.std.proofs.lemmas.Bool.Decides.{nat_tests}
 use Rattle.std.proofs.Math.ListN.{drop_of_length-le}
 use Rattle.std.proofs.lemmas.List.{append-nil}
 use Rattle.s38_code.specs.declared.program.Arg.{Arg}
@@ -13,7 +14,16 @@ none_left : (rows : List Row) (homes : List ℕ) (values : List Val) (more : Lis
 none_left rows homes values [] = refl
 none_left rows homes values (class ∷ more) = refl
 
--- behind the last argument all operands are made
+-- behind the last argument nothing is asked for
+pub none_behind : (rows : List Row) (homes : List ℕ) (values : List Val) (more : List Class) (given : List Arg) (k : ℕ) → length given ≤ k → operands_of rows homes values more (drop k given) ≡ []
+none_behind rows homes values more given k past = ap (operands_of rows homes values more) (drop_of_length-le given past) ∙ none_left rows homes values more
+
+-- so all operands are made there
 pub all_made : (rows : List Row) (homes : List ℕ) (values : List Val) (more : List Class) (given : List Arg) (k : ℕ) (made all : List Operand) → length given ≤ k → made ++ operands_of rows homes values more (drop k given) ≡ all → made ≡ all
 all_made rows homes values more given k made all past h =
-    sym (append-nil made) ∙ sym (ap (λ o. made ++ o) (ap (operands_of rows homes values more) (drop_of_length-le given past) ∙ none_left rows homes values more)) ∙ h
+    sym (append-nil made) ∙ sym (ap (λ o. made ++ o) (none_behind rows homes values more given k past)) ∙ h
+
+-- a list is empty where its length is told to be none
+pub none_there : (xs : List Operand) (told : Bool) → told ≡ (length xs == 0) → IsTrue told → xs ≡ []
+none_there [] told test is = refl
+none_there (x ∷ xs) told test is = absurd (grind (arith, nat_tests))

@@ -158,6 +158,7 @@ impl Invocations {
     /// What an instruction of the newest invocation asks.
     pub fn request(
         &self,
+        alloc: Global,
         recent: &mut Recent,
         instruction: &Instruction,
     ) -> Result<Request, NoMemory>
@@ -165,6 +166,7 @@ impl Invocations {
     {
         let frame = self.top.frame();
         request_of(
+            alloc,
             recent,
             frame.at,
             rows_of(self.top.made()),

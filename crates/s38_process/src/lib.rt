@@ -1,6 +1,7 @@
 //! A process: it asks one event after another, and goes on by the replies.
 #![tactic(auto)]
 
+mod again;
 mod entering;
 mod exceptions;
 mod homes;

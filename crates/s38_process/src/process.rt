@@ -66,7 +66,7 @@ impl Process {
         Ok(Process {
             inner,
             rests: false,
-            recent: Recent::new(alloc),
+            recent: Recent::new(),
         })
     }
 

@@ -1,12 +1,14 @@
-ghost use Rattle.std.specs.Prelude.{◌≡◌, ◌++◌, ◌∷◌, [], IfOk, OnOk};
+ghost use Rattle.std.specs.Prelude.{◌≡◌, ◌++◌, ◌∷◌, [], IfOk, IfSome, OnOk};
 ghost use Rattle.std.specs.Option.{option_copied};
+ghost use Rattle.s38_code.specs.Operations.{classes};
 ghost use Rattle.s38_code.specs.declared.operand.Operand.{Operand};
 ghost use Rattle.s38_process.specs.Requests.{item_by, item_operand, operand_of, operands_of, request_of, source_by};
 
+use crate::again::are_operands;
 use crate::recent::Recent;
 use crate::variables::{form_in, is_receiver, value_bytes, value_of_item, value_pointer};
-use s38_base::{Attr, AttrList, Bytes, NoMemory, Seq};
-use s38_code::{Arg, Class, Form, Instruction, Operand, Request, Row, Val, classes};
+use s38_base::{Attr, AttrList, Bytes, NoMemory, Seq, TryClone};
+use s38_code::{Arg, Class, Form, Instruction, Operand, Operands, Request, Row, Val, classes};
 use std::alloc::Global;
 
 /// Adds an operand where it is made, which spares a copy of it.
@@ -168,9 +170,92 @@ fn add_operands(
     Ok(())
 }
 
-/// What an instruction at this place asks, with the values of the variables put in.
+/// The operands with which the instruction at this place asked before, where they are those with which it asks now.
+#[inline(always)]
+fn operands_again(
+    alloc: Global,
+    recent: &Recent,
+    at: usize,
+    rows: &[Row],
+    homes: &[usize],
+    values: &[Val],
+    instruction: &Instruction,
+) -> Result<Option<Operands>, NoMemory>
+    ensures { IfOk result (λ found. IfSome found (λ operands. operands ≡ operands_of rows.now homes.now values.now (classes instruction.now.op) instruction.now.args)) }
+{
+    let args = instruction.args.as_slice();
+    match recent.get(at) {
+        Some(kept)
+            if are_operands(
+                kept.as_slice(),
+                rows,
+                homes,
+                values,
+                classes(instruction.op),
+                args,
+            ) => {
+            match kept.try_clone(alloc) {
+                Ok(operands) => Ok(Some(operands)),
+                Err(fault) => Err(fault),
+            }
+        }
+        _ => Ok(None),
+    }
+}
+
+/// The operands of an instruction, made anew.
+#[inline(never)]
+fn operands_anew(
+    alloc: Global,
+    rows: &[Row],
+    homes: &[usize],
+    values: &[Val],
+    instruction: &Instruction,
+) -> Result<Operands, NoMemory>
+    ensures { IfOk result (λ operands. operands ≡ operands_of rows.now homes.now values.now (classes instruction.now.op) instruction.now.args) }
+{
+    let args = instruction.args.as_slice();
+    let mut made = Vec::with_capacity(alloc, args.len())?;
+    add_operands(
+        alloc,
+        &mut made,
+        rows,
+        homes,
+        values,
+        classes(instruction.op),
+        args,
+    )?;
+    Operands::new(alloc, made)
+}
+
+/// The operands of the instruction at this place: shared with those with which it asked before, where they are the same.
+#[inline(always)]
+fn operands_at(
+    alloc: Global,
+    recent: &mut Recent,
+    at: usize,
+    rows: &[Row],
+    homes: &[usize],
+    values: &[Val],
+    instruction: &Instruction,
+) -> Result<Operands, NoMemory>
+    ensures { IfOk result (λ operands. operands ≡ operands_of rows.now homes.now values.now (classes instruction.now.op) instruction.now.args) }
+{
+    match operands_again(alloc, recent, at, rows, homes, values, instruction) {
+        Ok(Some(operands)) => Ok(operands),
+        Ok(None) => {
+            let operands = operands_anew(alloc, rows, homes, values, instruction)?;
+            recent.keep(at, operands.try_clone(alloc)?);
+            Ok(operands)
+        }
+        Err(fault) => Err(fault),
+    }
+}
+
+/// What the instruction at this place asks, with the values of the variables put in.
 #[tactic(auto, unfolding(crate::specs::Requests::request_of))]
 pub fn request_of(
+    alloc: Global,
     recent: &mut Recent,
     at: usize,
     rows: &[Row],
@@ -180,22 +265,7 @@ pub fn request_of(
 ) -> Result<Request, NoMemory>
     ensures { IfOk result (λ request. request ≡ request_of rows.now homes.now values.now instruction.now) }
 {
-    let operands = classes(instruction.op);
-    let args = instruction.args.as_slice();
-    recent.made.clear();
-    match add_operands(
-        recent.alloc,
-        &mut recent.made,
-        rows,
-        homes,
-        values,
-        operands,
-        args,
-    ) {
-        Ok(()) => {}
-        Err(fault) => return Err(fault),
-    }
-    match recent.share(at) {
+    match operands_at(alloc, recent, at, rows, homes, values, instruction) {
         Ok(operands) => Ok(Request {
             op: instruction.op,
             round: instruction.round,

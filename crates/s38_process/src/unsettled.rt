@@ -87,7 +87,7 @@ impl Unsettled {
         }
         Ok(Event::Act {
             depth: self.invocations.depth() as u16,
-            request: self.invocations.request(recent, instruction)?,
+            request: self.invocations.request(self.alloc, recent, instruction)?,
         })
     }
 
