@@ -75,6 +75,13 @@ fn instruction_of(
     }
 }
 
+/// No instructions, with memory for so many.
+fn room_for(alloc: Global, count: usize) -> Result<Instructions, NoMemory>
+    ensures { IfOk result (λ created. created ≡ []) }
+{
+    Ok(Seq::from_vec(Vec::with_capacity(alloc, count)?))
+}
+
 /// The instructions of the code. `Bad` exactly at the first line that makes none, with its number among the
 /// instructions, from 1 on.
 pub fn instructions(alloc: Global, scope: &Scope) -> Result<Instructions, CreateFault>
@@ -82,7 +89,7 @@ pub fn instructions(alloc: Global, scope: &Scope) -> Result<Instructions, Create
     ensures created { IfOk result (λ created. code_from scope.now.table scope.now.code [] scope.now.code ≡ Ok created) }
     ensures bad { IfErr result (λ fault. (fault ≡ CreateFault.NoMemory) ⊎ (code_from scope.now.table scope.now.code [] scope.now.code ≡ Err fault)) }
 {
-    let mut created = Seq::new(alloc);
+    let mut created = room_for(alloc, scope.code.lines().len())?;
     for line in scope.code.lines() {
         if !is_label(line) {
             let number = created.len() as u32 + 1;

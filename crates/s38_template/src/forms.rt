@@ -17,6 +17,7 @@ use std::alloc::Global;
 
 /// Whether a text is words of operands, parted by one comma.
 #[tactic(auto, unfolding(crate::specs::Lines::are_operands))]
+#[inline(never)]
 fn are_operands(text: &[u8]) -> bool
     ensures { result ≡ are_operands text.now }
 {
@@ -41,6 +42,7 @@ fn is_act(act: InstructionLine<'_>) -> bool
 
 /// Whether a line has the form of an instruction: a mnemonic, and words of operands.
 #[tactic(auto, unfolding(crate::specs::Lines::is_instruction))]
+#[inline(always)]
 fn is_instruction(line: &[u8]) -> bool
     ensures { result ≡ is_instruction line.now }
 {

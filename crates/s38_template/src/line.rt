@@ -22,6 +22,7 @@ fn are_plain_bytes(line: &[u8]) -> bool
 }
 
 /// Whether a line has at most 255 bytes, each of 20 to 7E.
+#[inline(never)]
 fn is_plain(line: &[u8]) -> bool
     ensures { result ≡ is_plain line.now }
 {
@@ -46,7 +47,7 @@ pub struct NextLine<'a> {
 }
 
 /// The first line of a text; None where there is no line feed.
-#[inline(never)]
+#[inline(always)]
 fn any_line(text: &[u8]) -> Option<NextLine<'_>>
     ensures parts { option_map (λ next. (next.line.now, next.more.now)) result ≡ cut 10 text.now }
     ensures plain { IfSome result (λ next. next.plain ≡ is_plain next.line.now) }

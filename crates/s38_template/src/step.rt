@@ -73,6 +73,7 @@ fn label(alloc: Global, reader: &mut Reader, line: &[u8], name: Name) -> Result<
 }
 
 /// The template has an instruction.
+#[inline(always)]
 pub fn act(alloc: Global, reader: &mut Reader, line: &[u8]) -> Result<(), NoMemory>
     requires { IsTrue (has_room (state_of reader.old) Line.Act) }
     ensures { OnOk result (state_of reader.new ≡ taken (state_of reader.old) line.now Line.Act) }
