@@ -5,8 +5,8 @@ use s38_base::{
     Rule, Seq, Special, exceptions,
 };
 use s38_code::{
-    CheckedTemplate, Code, CreateResult, EndCause, Entry, Event, Job, Program, Reply, Request,
-    Template, TextLines, Val,
+    CheckedTemplate, Code, CreateResult, EndCause, Entry, Event, Job, Operands, Program, Reply,
+    Request, Template, TextLines, Val,
 };
 use s38_joblog::{bad_line, check_text, last_line, log_text};
 use std::alloc::Global;
@@ -23,14 +23,13 @@ fn job(alloc: Global, name: &[u8]) -> Result<Job, Fail> {
     })
 }
 
-fn act(alloc: Global, op: Op) -> Event {
-    let operands = Seq::new(alloc);
+fn act(alloc: Global, op: Op) -> Result<Event, NoMemory> {
     let request = Request {
         op,
         round: false,
-        operands,
+        operands: Operands::new(alloc, Vec::new(alloc))?,
     };
-    Event::Act { depth: 1, request }
+    Ok(Event::Act { depth: 1, request })
 }
 
 fn entry(process: u32, event: Event, reply: Reply) -> Entry {
@@ -45,7 +44,7 @@ fn entry(process: u32, event: Event, reply: Reply) -> Entry {
 fn with_value(alloc: Global, op: Op, value: Val) -> Result<Entry, NoMemory> {
     let mut values = Seq::new(alloc);
     values.push(value)?;
-    Ok(entry(1, act(alloc, op), Reply::Done(values)))
+    Ok(entry(1, act(alloc, op)?, Reply::Done(values)))
 }
 
 /// A program without code.
@@ -182,7 +181,7 @@ fn is_told(alloc: Global, rule: Rule, detail: &str) -> Result<bool, Fail> {
         rule,
     });
     let mut history = Vec::new(alloc);
-    history.push(entry(1, act(alloc, Op::Enq), signal))?;
+    history.push(entry(1, act(alloc, Op::Enq)?, signal))?;
     let text = log_of(alloc, &history, &[b"J"])?;
     let want = format!(in alloc; "JOB 1 J USER QUSER\n1 ENQ 0A01 2{detail}\n")?;
     Ok(text.as_slice() == want.as_bytes())
@@ -283,11 +282,11 @@ fn add_ends(alloc: Global, history: &mut Vec<Entry>) -> Result<(), NoMemory> {
 /// The entries of two jobs, and one of a third.
 fn entries(alloc: Global) -> Result<Vec<Entry>, NoMemory> {
     let mut history = Vec::new(alloc);
-    history.push(entry(2, act(alloc, Op::Lock), Reply::MustWait))?;
+    history.push(entry(2, act(alloc, Op::Lock)?, Reply::MustWait))?;
     history.push(entry(1, Event::Start, Reply::Done(Seq::new(alloc))))?;
     add_pointers(alloc, &mut history)?;
     add_values(alloc, &mut history)?;
-    history.push(entry(3, act(alloc, Op::Enq), Reply::MustWait))?;
+    history.push(entry(3, act(alloc, Op::Enq)?, Reply::MustWait))?;
     add_ends(alloc, &mut history)?;
     Ok(history)
 }

@@ -2,8 +2,8 @@
 
 use s38_base::{Attr, Bytes, HeldPointer, Id, Kind, Name, ObjNum, Op, Pointer, Rights, Seq};
 use s38_code::{
-    Checked, CheckedTemplate, Code, CreateResult, EndCause, Event, Form, Job, Operand, Program,
-    Request, Row, Template, TextLines,
+    Checked, CheckedTemplate, Code, CreateResult, EndCause, Event, Form, Job, Operand, Operands,
+    Program, Request, Row, Template, TextLines,
 };
 use std::alloc::Global;
 use std::test::Fail;
@@ -79,15 +79,14 @@ pub fn event(alloc: Global, asked: Asked) -> Result<Event, Fail> {
             return Ok(Event::Finish { cause });
         }
     };
-    let mut operands = Seq::new(alloc);
+    let mut operands = Vec::new(alloc);
     for one in given {
         operands.push(operand(alloc, *one)?)?;
     }
-    let round = false;
     let request = Request {
         op,
-        round,
-        operands,
+        round: false,
+        operands: Operands::new(alloc, operands)?,
     };
     Ok(Event::Act { depth, request })
 }
