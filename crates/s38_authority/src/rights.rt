@@ -1,15 +1,15 @@
 //! Rights: which are available on an object, and which of those that are needed are missing.
 ghost use Rattle.std.specs.Prelude.{◌≡◌, map};
-ghost use Rattle.std.specs.Option.{option_copied, option_map};
+ghost use Rattle.std.specs.Option.{option_map};
 ghost use Rattle.std.specs.Result.{result_err};
 ghost use Rattle.s38_rules.specs.Authority.{available, has_rights, missing_in, source_by, sources_by, sources_on};
-ghost use Rattle.s38_rules.specs.Headers.{public_in};
+ghost use Rattle.s38_rules.specs.Headers.{public_in, public_of};
 ghost use Rattle.s38_rules.specs.Held.{object};
 
 use crate::users::has_special;
 use s38_base::{ObjNum, Rights, Special, UserNum};
 use s38_invoke::World;
-use s38_rules::{Object, Table};
+use s38_rules::Table;
 
 /// Needed rights that are not available.
 #[derive(Clone, Copy, PartialEq, Eq, Debug)]
@@ -47,19 +47,52 @@ fn sources_by<T: Table>(world: &World<T>, number: ObjNum, public: Rights, users:
     }
 }
 
-fn sources_on<T: Table>(world: &World<T>, number: ObjNum, users: &[UserNum]) -> u8
+/// What these users bring to an object with these rights of everybody; nothing where there is none.
+fn sources_on<T: Table>(
+    world: &World<T>,
+    number: ObjNum,
+    users: &[UserNum],
+    public: Option<Rights>,
+) -> u8
+    requires { public ≡ public_of (object world.now.held number.0) }
     ensures { result ≡ sources_on world.now.held number.0 (map (λ u. u.0) users.now) (object world.now.held number.0) }
 {
-    match world.objects.header(number) {
+    match public {
         None => 0,
-        Some(header) => sources_by(world, number, header.public, users),
+        Some(public) => sources_by(world, number, public, users),
+    }
+}
+
+/// The rights that are available to these users on an object, whose rights of everybody are looked up already, with
+/// those that the used pointer carries: none but those without the object.
+#[inline(always)]
+#[tactic(auto, unfolding(s38_rules::specs::Authority::available))]
+pub fn available_on<T: Table>(
+    world: &World<T>,
+    users: &[UserNum],
+    number: ObjNum,
+    carried: Rights,
+    public: Option<Rights>,
+) -> Rights
+    requires { public ≡ public_of (object world.now.held number.0) }
+    ensures { result.0 ≡ available world.now.held (map (λ u. u.0) users.now) number.0 carried.0 }
+{
+    Rights(carried.0 | sources_on(world, number, users, public))
+}
+
+/// The rights of everybody on the object of a number, where there is one.
+fn public_of<T: Table>(world: &World<T>, number: ObjNum) -> Option<Rights>
+    ensures { result ≡ public_of (object world.now.held number.0) }
+{
+    match world.objects.header(number) {
+        None => None,
+        Some(header) => Some(header.public),
     }
 }
 
 /// The rights that are available to these users on the object of a number, with those that the used pointer
 /// carries: none but those without the object.
 #[inline(always)]
-#[tactic(auto, unfolding(s38_rules::specs::Authority::available))]
 pub fn available<T: Table>(
     world: &World<T>,
     users: &[UserNum],
@@ -68,39 +101,7 @@ pub fn available<T: Table>(
 ) -> Rights
     ensures { result.0 ≡ available world.now.held (map (λ u. u.0) users.now) number.0 carried.0 }
 {
-    Rights(carried.0 | sources_on(world, number, users))
-}
-
-fn sources_of<T: Table>(
-    world: &World<T>,
-    number: ObjNum,
-    users: &[UserNum],
-    found: Option<&Object>,
-) -> u8
-    requires { option_copied found ≡ object world.now.held number.0 }
-    ensures { result ≡ sources_on world.now.held number.0 (map (λ u. u.0) users.now) (object world.now.held number.0) }
-{
-    match found {
-        None => 0,
-        Some(found) => sources_by(world, number, found.public, users),
-    }
-}
-
-/// The rights that are available to these users on the object of a number, which is looked up already, with those that
-/// the used pointer carries: none but those without the object.
-#[inline(always)]
-#[tactic(auto, unfolding(s38_rules::specs::Authority::available))]
-pub fn available_on<T: Table>(
-    world: &World<T>,
-    users: &[UserNum],
-    number: ObjNum,
-    carried: Rights,
-    found: Option<&Object>,
-) -> Rights
-    requires { option_copied found ≡ object world.now.held number.0 }
-    ensures { result.0 ≡ available world.now.held (map (λ u. u.0) users.now) number.0 carried.0 }
-{
-    Rights(carried.0 | sources_of(world, number, users, found))
+    available_on(world, users, number, carried, public_of(world, number))
 }
 
 /// Exactly the needed rights that are not there, where some are not.

@@ -1,4 +1,4 @@
-ghost use Rattle.std.specs.Prelude.{◌≡◌, IsTrue};
+ghost use Rattle.std.specs.Prelude.{◌≡◌, ◌↔◌, IsTrue};
 ghost use Rattle.s38_base.specs.declared.pointer.Pointer.TheVariants as pointers;
 ghost use Rattle.s38_base.specs.HeldPointers.{form_of_item};
 
@@ -100,7 +100,7 @@ impl HeldPointer {
     /// Whether both are the same pointer, or none.
     #[inline(always)]
     pub fn is_same(self, other: HeldPointer) -> bool
-        ensures { IsTrue result → self ≡ other }
+        ensures { IsTrue result ↔ self ≡ other }
     {
         self.form == other.form
     }

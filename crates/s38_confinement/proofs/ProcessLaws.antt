@@ -45,7 +45,7 @@ use Rattle.s38_process.specs.Exceptions.{Offered, label_by, offered, offered_fro
 use Rattle.s38_process.specs.Invocations.{Stack, blank_bytes, blank_values, deepest, depth_of, entered, first_by, first_value, first_values, instruction_of, popped_to, rows_in, with_blank}
 use Rattle.s38_process.specs.Process.{ProcessState, absorbed, act_of, acts, after_asked, after_event, after_local, after_run, alone, asks as asks_of, behind, event_of, fresh, is_return, local_step, local_steps, program_in, ran, returns, settled, went_by, went_into, went_on, with_frame}
 use Rattle.s38_process.specs.Replies.{merged, put, received, takes_value}
-use Rattle.s38_process.specs.Requests.{is_receiver, item_by, item_operand, operand_of, operands_of, request_of, source_by}
+use Rattle.s38_requests.specs.Requests.{is_receiver, item_by, item_operand, operand_of, operands_of, request_of, source_by}
 use Rattle.s38_confinement.proofs.PointerLaws.{OfComputed, computed_kept, get_of}
 use Rattle.s38_confinement.specs.OfPointers.{IsClosed, OfEvent, OfOperand, OfPointer, OfReply, OfVal, OfVals}
 

@@ -20,7 +20,7 @@ pub use dispatch::run_local;
 pub use frame::Frame;
 pub use local_end::LocalEnd;
 pub use locality::{declares_space, is_local, is_local_by};
-pub use operands::{place_of, value_at};
+pub use operands::{form_in, place_of, value_at, value_bytes, value_of_item, value_pointer};
 
 /// What is sent between threads.
 fn sends<T: Send + Sync>() {}

@@ -1,11 +1,21 @@
 ghost use Rattle.std.specs.Prelude.{◌≡◌, IfSome};
 ghost use Rattle.std.specs.Option.{option_copied, option_map};
 ghost use Rattle.s38_local.specs.Local.{number_of, operand, receiver_of, whole_of, word_of};
-ghost use Rattle.s38_local.specs.Variables.{attr_in, attr_of, attr_of_form, bytes_of, held_at, place_of, pointer_of, value_at, value_bytes, value_of_item, value_pointer};
+ghost use Rattle.s38_local.specs.Variables.{attr_in, attr_of, attr_of_form, bytes_of, form_in, held_at, place_of, pointer_of, value_at, value_bytes, value_of_item, value_pointer};
 
-use s38_base::{Attr, Pointer};
+use s38_base::{Attr, HeldPointer, Pointer};
 use s38_code::{Arg, Form, Row, Val};
 use s38_decimal::{Dec, read_scalar};
+
+/// What a declaration stands for.
+pub fn form_in(row: Option<&Row>) -> Option<&Form>
+    ensures { option_copied result ≡ form_in (option_copied row.entry) }
+{
+    match row {
+        None => None,
+        Some(row) => Some(&row.form),
+    }
+}
 
 #[inline(always)]
 fn attr_of_form(form: &Form) -> Attr
@@ -57,12 +67,13 @@ pub fn value_bytes(value: Option<&Val>) -> &[u8]
     }
 }
 
-fn value_pointer(value: Option<&Val>) -> Option<Pointer>
+/// The pointer of a variable.
+pub fn value_pointer(value: Option<&Val>) -> HeldPointer
     ensures { result ≡ value_pointer (option_copied value.entry) }
 {
     match value {
-        Some(Val::Ptr(pointer)) => pointer.get(),
-        _ => None,
+        Some(Val::Ptr(pointer)) => *pointer,
+        _ => HeldPointer::of(None),
     }
 }
 
@@ -87,10 +98,10 @@ pub fn value_at(values: &[Val], place: Option<usize>) -> Option<&Val>
 }
 
 /// What an item holds.
-fn value_of_item<'a>(homes: &[usize], values: &'a [Val], item: u16) -> Option<&'a Val>
+pub fn value_of_item<'a>(homes: &[usize], values: &'a [Val], item: usize) -> Option<&'a Val>
     ensures { option_copied result ≡ value_of_item homes.now values.now item }
 {
-    value_at(values, homes.get(item as usize).copied())
+    value_at(values, homes.get(item).copied())
 }
 
 /// The bytes of an item or a literal.
@@ -98,7 +109,7 @@ pub fn bytes_of<'a>(homes: &[usize], values: &'a [Val], arg: Option<&'a Arg>) ->
     ensures { result.now ≡ bytes_of homes.now values.now (option_copied arg.entry) }
 {
     match arg {
-        Some(Arg::Item(item)) => value_bytes(value_of_item(homes, values, *item)),
+        Some(Arg::Item(item)) => value_bytes(value_of_item(homes, values, *item as usize)),
         Some(Arg::Literal { bytes, .. }) => bytes.as_slice(),
         _ => &[],
     }
@@ -109,7 +120,7 @@ pub fn pointer_of(homes: &[usize], values: &[Val], arg: Option<&Arg>) -> Option<
     ensures { result ≡ pointer_of homes.now values.now (option_copied arg.entry) }
 {
     match arg {
-        Some(Arg::Item(item)) => value_pointer(value_of_item(homes, values, *item)),
+        Some(Arg::Item(item)) => value_pointer(value_of_item(homes, values, *item as usize)).get(),
         _ => None,
     }
 }
@@ -128,7 +139,7 @@ fn scalar_of<'a>(
     match arg {
         Some(Arg::Item(item)) => (
             attr_in(rows.get(*item as usize)),
-            value_bytes(value_of_item(homes, values, *item)),
+            value_bytes(value_of_item(homes, values, *item as usize)),
         ),
         Some(Arg::Literal { attr, bytes }) => (*attr, bytes.as_slice()),
         _ => (Attr::Pointer, &[]),

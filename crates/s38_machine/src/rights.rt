@@ -1,6 +1,7 @@
 //! The rule of authority: what an instruction claims of each object is there.
 ghost use Rattle.std.specs.Prelude.{◌≡◌, map};
 ghost use Rattle.std.specs.Option.{option_copied};
+ghost use Rattle.s38_rules.specs.Headers.{public_of};
 ghost use Rattle.s38_rules.specs.Held.{object};
 ghost use Rattle.s38_rules.specs.Needs.{first_of};
 ghost use Rattle.s38_rules.specs.Verdict.{claim_rule, granting_rule, names_owners, rights_rule, subject};
@@ -47,6 +48,17 @@ fn granting_rule(owns: bool, operand: u8, rights: Rights, there: Rights) -> Opti
     fails(names_owners(rights), OWNERSHIP_REQUIRED, operand)
 }
 
+/// The rights of everybody on an object, where there is one.
+#[inline(always)]
+fn public_of(found: Option<&Object>) -> Option<Rights>
+    ensures { result ≡ public_of (option_copied found.entry) }
+{
+    match found {
+        None => None,
+        Some(found) => Some(found.public),
+    }
+}
+
 /// What is claimed of an object, which is looked up already, is there for these users.
 #[inline(always)]
 fn claim_rule(
@@ -65,13 +77,13 @@ fn claim_rule(
         Claim::Available => missing(
             place,
             need.rights,
-            available_on(world, users, number, carried, found),
+            available_on(world, users, number, carried, public_of(found)),
         ),
         Claim::Granting => granting_rule(
             is_governed(world, users, number),
             place,
             need.rights,
-            available_on(world, users, number, carried, found),
+            available_on(world, users, number, carried, public_of(found)),
         ),
         Claim::Ownership => fails(
             !is_governed(world, users, number),

@@ -4,7 +4,6 @@ pub mod LawfulLawsOfCalls
 pub mod LawfulLawsOfLists
 pub mod LawfulLawsOfSignals
 mod OfferLaws
-mod OperandLaws
 mod ParameterLaws
 mod PlaceLaws
 mod ReceiptLaws

@@ -5,4 +5,3 @@ pub mod Lawful
 pub mod Process
 pub mod Progress
 pub mod Replies
-pub mod Requests

@@ -28,7 +28,7 @@ use Rattle.s38_process.specs.declared.status.Status.TheVariants.{Fresh, Running,
 use Rattle.s38_process.specs.Exceptions.{Offered, offered}
 use Rattle.s38_process.specs.Invocations.{Stack, deepest, depth_of, entered, exchanged, first_stack, instruction_of, popped, rows_in}
 use Rattle.s38_process.specs.Replies.{is_taken, label_in, received}
-use Rattle.s38_process.specs.Requests.{request_of}
+use Rattle.s38_requests.specs.Requests.{request_of}
 
 pub record ProcessState : Type 0 where
   -- its invocations and their variables

@@ -10,7 +10,7 @@ use Rattle.s38_code.specs.declared.reply.Val.{Val}
 use Rattle.s38_code.specs.declared.reply.Val.TheVariants as vals
 use Rattle.s38_compute.specs.Computed.{copies_left, copies_right}
 use Rattle.s38_local.specs.Variables.{form_in, is_based, place_of, put_at, value_at}
-use Rattle.s38_process.specs.Requests.{is_receiver}
+use Rattle.s38_requests.specs.Requests.{is_receiver}
 use Rattle.s38_strings.specs.Copies.{copied_left, copied_right}
 
 -- a copy into a receiver that is longer brings the copied bytes and no others, and the others stay

@@ -5,17 +5,16 @@ ghost use Rattle.s38_local.specs.declared.local_end.LocalEnd.{LocalEnd};
 ghost use Rattle.s38_process.specs.Exceptions.{takes};
 ghost use Rattle.s38_process.specs.Invocations.{argument_places, arguments_in, code_in, deepest, depth_of, entered, exchanged, first_stack, first_values, instruction_of, invoked, places_for, popped, rows_in};
 ghost use Rattle.s38_process.specs.Process.{alone_there, is_none, ran, went_on, with_frame};
-ghost use Rattle.s38_process.specs.Requests.{request_of};
+ghost use Rattle.s38_requests.specs.Requests.{request_of};
 
 use crate::homes::{argument_places, first_frame, own_places};
 use crate::made::{code_of, rows_of};
-use crate::recent::Recent;
-use crate::request::request_of;
 use crate::standing::Standing;
 use crate::variables::{blank_values, first_values, next_instruction, receive};
 use s38_base::NoMemory;
 use s38_code::{Arg, Code, CreateResult, Instruction, Request, Val};
 use s38_local::{Frame, LocalEnd};
+use s38_requests::{Recent, Scope, request_of};
 use std::alloc::Global;
 use std::marker::Model;
 use std::mem;
@@ -165,15 +164,12 @@ impl Invocations {
         ensures { IfOk result (λ request. request ≡ request_of (rows_in self.now.top.made) self.now.top.frame.homes self.now.values instruction.now) }
     {
         let frame = self.top.frame();
-        request_of(
-            alloc,
-            recent,
-            frame.at,
-            rows_of(self.top.made()),
-            frame.homes.as_slice(),
-            self.values.as_slice(),
-            instruction,
-        )
+        let scope = Scope {
+            rows: rows_of(self.top.made()),
+            homes: frame.homes.as_slice(),
+            values: self.values.as_slice(),
+        };
+        request_of(alloc, recent, frame.at, scope, instruction)
     }
 
     /// The newest invocation goes on at a place.

@@ -1,7 +1,6 @@
 //! A process: it asks one event after another, and goes on by the replies.
 #![tactic(auto)]
 
-mod again;
 mod entering;
 mod exceptions;
 mod homes;
@@ -13,8 +12,6 @@ mod made;
 mod next;
 mod process;
 mod progress;
-mod recent;
-mod request;
 mod standing;
 mod status;
 mod unsettled;

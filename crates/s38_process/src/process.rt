@@ -7,10 +7,10 @@ ghost use Rattle.s38_process.specs.Lawful.{IsLawful, SuitsReply};
 ghost use Rattle.s38_process.specs.Process.{absorbed, event_of, fresh, settled};
 
 use crate::next::Next;
-use crate::recent::Recent;
 use crate::unsettled::Unsettled;
 use s38_base::NoMemory;
 use s38_code::{CreateResult, Job, Reply};
+use s38_requests::Recent;
 use std::alloc::Global;
 use std::marker::Model;
 

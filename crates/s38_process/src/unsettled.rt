@@ -11,10 +11,10 @@ use crate::local_run::{is_return, run_locally};
 use crate::made::begun_by;
 use crate::next::Next;
 use crate::progress::Progress;
-use crate::recent::Recent;
 use crate::status::Status;
 use s38_base::NoMemory;
 use s38_code::{CreateResult, EndCause, Event, Instruction, Job, Reply, Val};
+use s38_requests::Recent;
 use std::alloc::Global;
 use std::marker::Model;
 

@@ -6,27 +6,18 @@ ghost use Rattle.s38_compute.specs.Computed.{copies_left, copies_right};
 ghost use Rattle.s38_process.specs.Invocations.{blank_bytes, blank_values, first_by, first_value, first_values};
 ghost use Rattle.s38_process.specs.Process.{next_instruction};
 ghost use Rattle.s38_process.specs.Replies.{is_taken, label_in, label_of, merged, merged_bytes, place_for, put, received, takes_value};
-ghost use Rattle.s38_process.specs.Requests.{is_receiver};
-ghost use Rattle.s38_local.specs.Variables.{form_in, is_based, value_bytes, value_of_item, value_pointer};
+ghost use Rattle.s38_requests.specs.Requests.{is_receiver};
+ghost use Rattle.s38_local.specs.Variables.{is_based};
 
 use s38_base::{Attr, Bytes, HeldPointer, NoMemory, Op, TryClone, try_clones};
 use s38_code::{Arg, Class, Form, Instruction, Row, Val, classes};
 use s38_compute::{copies_left, copies_right};
-use s38_local::{place_of, value_at};
+use s38_local::{form_in, place_of};
 use s38_odt::blank;
+use s38_requests::is_receiver;
 use s38_strings::{copy_left, copy_right};
 use std::alloc::Global;
 use std::mem;
-
-/// What a declaration stands for.
-pub fn form_in(row: Option<&Row>) -> Option<&Form>
-    ensures { option_copied result ≡ form_in (option_copied row.entry) }
-{
-    match row {
-        None => None,
-        Some(row) => Some(&row.form),
-    }
-}
 
 /// What a variable begins with: a pointer variable with no pointer, another with its first bytes.
 fn first_by(attr: Attr, first: Bytes) -> Val
@@ -84,43 +75,6 @@ pub fn blank_values(alloc: Global, rows: &[Row]) -> Result<Vec<Val>, NoMemory>
         }
     }
     Ok(values)
-}
-
-/// The bytes of a variable.
-pub fn value_bytes(value: Option<&Val>) -> &[u8]
-    ensures { result.now ≡ value_bytes (option_copied value.entry) }
-{
-    match value {
-        Some(Val::Bytes(bytes)) => bytes.as_slice(),
-        _ => &[],
-    }
-}
-
-/// The pointer of a variable.
-pub fn value_pointer(value: Option<&Val>) -> HeldPointer
-    ensures { result ≡ value_pointer (option_copied value.entry) }
-{
-    match value {
-        Some(Val::Ptr(pointer)) => *pointer,
-        _ => HeldPointer::of(None),
-    }
-}
-
-/// What an item holds.
-pub fn value_of_item<'a>(homes: &[usize], values: &'a [Val], item: usize) -> Option<&'a Val>
-    ensures { option_copied result ≡ value_of_item homes.now values.now item }
-{
-    value_at(values, homes.get(item).copied())
-}
-
-/// Whether an operand of this class gets a value.
-pub fn is_receiver(class: Class) -> bool
-    ensures { result ≡ is_receiver class }
-{
-    matches!(
-        class,
-        Class::NumberReceiver | Class::BytesReceiver | Class::PointerReceiver | Class::CellsReceiver
-    )
 }
 
 fn is_based(form: Option<&Form>) -> bool

@@ -1,6 +1,7 @@
 -- What is said of an object beside its name and what it holds: its header, and a user's private row.
 use Rattle.std.specs.Prelude.{ℕ, Bool, false, List, [], Option, Some, None}
 use Rattle.s38_base.specs.RightNames as rights
+use Rattle.s38_base.specs.declared.rights.Rights.{Rights}
 use Rattle.s38_rules.specs.declared.object.Object.{Object}
 use Rattle.s38_rules.specs.declared.object.Body.{Body}
 use Rattle.s38_rules.specs.declared.object.Body.TheVariants as bodies
@@ -51,6 +52,11 @@ header_in (Some o) = Some (header_of o)
 abbrev pub public_in : Option Object → ℕ
 public_in None = rights.no_rights
 public_in (Some o) = o.public.0
+
+-- the rights of everybody, where there is an object
+abbrev pub public_of : Option Object → Option Rights
+public_of None = None
+public_of (Some o) = Some o.public
 
 -- ---- private rows
 

@@ -1,14 +1,15 @@
-ghost use Rattle.std.specs.Prelude.{◌≡◌, ◌++◌, ◌∷◌, [], IfOk, IfSome, OnOk};
+//! The operands of an instruction, made anew.
+ghost use Rattle.std.specs.Prelude.{◌≡◌, ◌++◌, ◌∷◌, [], IfOk, OnOk};
 ghost use Rattle.std.specs.Option.{option_copied};
 ghost use Rattle.s38_code.specs.Operations.{classes};
 ghost use Rattle.s38_code.specs.declared.operand.Operand.{Operand};
-ghost use Rattle.s38_process.specs.Requests.{item_by, item_operand, operand_of, operands_of, request_of, source_by};
+ghost use Rattle.s38_requests.specs.Requests.{item_by, item_operand, operand_of, operands_of, source_by};
 
-use crate::again::are_operands;
-use crate::recent::Recent;
-use crate::variables::{form_in, is_receiver, value_bytes, value_of_item, value_pointer};
-use s38_base::{Attr, AttrList, Bytes, NoMemory, Seq, TryClone};
-use s38_code::{Arg, Class, Form, Instruction, Operand, Operands, Request, Row, Val, classes};
+use crate::receivers::is_receiver;
+use crate::scope::Scope;
+use s38_base::{Attr, AttrList, Bytes, NoMemory, Seq};
+use s38_code::{Arg, Class, Form, Instruction, Operand, Operands, Val, classes};
+use s38_local::{form_in, value_bytes, value_of_item, value_pointer};
 use std::alloc::Global;
 
 /// Adds an operand where it is made, which spares a copy of it.
@@ -74,17 +75,16 @@ fn add_held(
 fn add_item(
     alloc: Global,
     made: &mut Vec<Operand>,
-    homes: &[usize],
-    values: &[Val],
+    scope: Scope<'_>,
     receiver: bool,
     item: usize,
     form: Option<&Form>,
 ) -> Result<(), NoMemory>
-    ensures { OnOk result (made.new.items ≡ made.old.items ++ item_by homes.now values.now receiver item (option_copied form.entry) ∷ []) }
+    ensures { OnOk result (made.new.items ≡ made.old.items ++ item_by scope.entry.homes.now scope.entry.values.now receiver item (option_copied form.entry) ∷ []) }
 {
     let attr = match form {
         Some(Form::Based { base, offset, attr }) => {
-            let base = value_pointer(value_of_item(homes, values, *base as usize));
+            let base = value_pointer(value_of_item(scope.homes, scope.values, *base as usize));
             return add(
                 made,
                 Operand::InSpace {
@@ -98,7 +98,7 @@ fn add_item(
         Some(Form::Parm { attr, .. }) => *attr,
         _ => Attr::Pointer,
     };
-    let value = value_of_item(homes, values, item);
+    let value = value_of_item(scope.homes, scope.values, item);
     add_held(alloc, made, receiver, attr, value)
 }
 
@@ -115,20 +115,18 @@ fn add_attrs(alloc: Global, made: &mut Vec<Operand>, attrs: &AttrList) -> Result
 fn add_operand(
     alloc: Global,
     made: &mut Vec<Operand>,
-    rows: &[Row],
-    homes: &[usize],
-    values: &[Val],
+    scope: Scope<'_>,
     class: Class,
     arg: &Arg,
 ) -> Result<(), NoMemory>
-    ensures { OnOk result (made.new.items ≡ made.old.items ++ operand_of rows.now homes.now values.now class arg.now ∷ []) }
+    ensures { OnOk result (made.new.items ≡ made.old.items ++ operand_of scope.entry.rows.now scope.entry.homes.now scope.entry.values.now class arg.now ∷ []) }
 {
     match arg {
         Arg::Item(item) => {
             let item = *item as usize;
             let receiver = is_receiver(class);
-            let form = form_in(rows.get(item));
-            add_item(alloc, made, homes, values, receiver, item, form)
+            let form = form_in(scope.rows.get(item));
+            add_item(alloc, made, scope, receiver, item, form)
         }
         Arg::Literal { attr, bytes } => add_bytes(alloc, made, *attr, bytes.as_slice()),
         Arg::Whole(number) => add(made, Operand::Whole(*number)),
@@ -146,20 +144,18 @@ fn add_operand(
 fn add_operands(
     alloc: Global,
     made: &mut Vec<Operand>,
-    rows: &[Row],
-    homes: &[usize],
-    values: &[Val],
+    scope: Scope<'_>,
     classes: &[Class],
     args: &[Arg],
 ) -> Result<(), NoMemory>
-    ensures { OnOk result (made.new.items ≡ made.old.items ++ operands_of rows.now homes.now values.now classes.now args.now) }
+    ensures { OnOk result (made.new.items ≡ made.old.items ++ operands_of scope.entry.rows.now scope.entry.homes.now scope.entry.values.now classes.now args.now) }
 {
     let mut more = classes;
     for arg in args {
         match more {
             [] => return Ok(()),
             [class, rest @ ..] => {
-                match add_operand(alloc, made, rows, homes, values, *class, arg) {
+                match add_operand(alloc, made, scope, *class, arg) {
                     Ok(()) => {}
                     Err(fault) => return Err(fault),
                 }
@@ -170,107 +166,17 @@ fn add_operands(
     Ok(())
 }
 
-/// The operands with which the instruction at this place asked before, where they are those with which it asks now.
-#[inline(always)]
-fn operands_again(
-    alloc: Global,
-    recent: &Recent,
-    at: usize,
-    rows: &[Row],
-    homes: &[usize],
-    values: &[Val],
-    instruction: &Instruction,
-) -> Result<Option<Operands>, NoMemory>
-    ensures { IfOk result (λ found. IfSome found (λ operands. operands ≡ operands_of rows.now homes.now values.now (classes instruction.now.op) instruction.now.args)) }
-{
-    let args = instruction.args.as_slice();
-    match recent.get(at) {
-        Some(kept)
-            if are_operands(
-                kept.as_slice(),
-                rows,
-                homes,
-                values,
-                classes(instruction.op),
-                args,
-            ) => {
-            match kept.try_clone(alloc) {
-                Ok(operands) => Ok(Some(operands)),
-                Err(fault) => Err(fault),
-            }
-        }
-        _ => Ok(None),
-    }
-}
-
 /// The operands of an instruction, made anew.
 #[inline(never)]
-fn operands_anew(
+pub fn operands_anew(
     alloc: Global,
-    rows: &[Row],
-    homes: &[usize],
-    values: &[Val],
+    scope: Scope<'_>,
     instruction: &Instruction,
 ) -> Result<Operands, NoMemory>
-    ensures { IfOk result (λ operands. operands ≡ operands_of rows.now homes.now values.now (classes instruction.now.op) instruction.now.args) }
+    ensures { IfOk result (λ operands. operands ≡ operands_of scope.entry.rows.now scope.entry.homes.now scope.entry.values.now (classes instruction.now.op) instruction.now.args) }
 {
     let args = instruction.args.as_slice();
     let mut made = Vec::with_capacity(alloc, args.len())?;
-    add_operands(
-        alloc,
-        &mut made,
-        rows,
-        homes,
-        values,
-        classes(instruction.op),
-        args,
-    )?;
+    add_operands(alloc, &mut made, scope, classes(instruction.op), args)?;
     Operands::new(alloc, made)
-}
-
-/// The operands of the instruction at this place: shared with those with which it asked before, where they are the same.
-#[inline(always)]
-fn operands_at(
-    alloc: Global,
-    recent: &mut Recent,
-    at: usize,
-    rows: &[Row],
-    homes: &[usize],
-    values: &[Val],
-    instruction: &Instruction,
-) -> Result<Operands, NoMemory>
-    ensures { IfOk result (λ operands. operands ≡ operands_of rows.now homes.now values.now (classes instruction.now.op) instruction.now.args) }
-{
-    match operands_again(alloc, recent, at, rows, homes, values, instruction) {
-        Ok(Some(operands)) => Ok(operands),
-        Ok(None) => {
-            let operands = operands_anew(alloc, rows, homes, values, instruction)?;
-            recent.keep(at, operands.try_clone(alloc)?);
-            Ok(operands)
-        }
-        Err(fault) => Err(fault),
-    }
-}
-
-/// What the instruction at this place asks, with the values of the variables put in.
-#[tactic(auto, unfolding(crate::specs::Requests::request_of))]
-pub fn request_of(
-    alloc: Global,
-    recent: &mut Recent,
-    at: usize,
-    rows: &[Row],
-    homes: &[usize],
-    values: &[Val],
-    instruction: &Instruction,
-) -> Result<Request, NoMemory>
-    ensures { IfOk result (λ request. request ≡ request_of rows.now homes.now values.now instruction.now) }
-{
-    match operands_at(alloc, recent, at, rows, homes, values, instruction) {
-        Ok(operands) => Ok(Request {
-            op: instruction.op,
-            round: instruction.round,
-            operands,
-        }),
-        Err(fault) => Err(fault),
-    }
 }

@@ -8,7 +8,7 @@ use Rattle.s38_code.specs.declared.program.Row.{Row}
 use Rattle.s38_code.specs.declared.class.Class.{Class}
 use Rattle.s38_code.specs.declared.operand.Operand.{Operand}
 use Rattle.s38_code.specs.declared.reply.Val.{Val}
-use Rattle.s38_process.specs.Requests.{operands_of}
+use Rattle.s38_requests.specs.Requests.{operands_of}
 
 none_left : (rows : List Row) (homes : List ℕ) (values : List Val) (more : List Class) → operands_of rows homes values more [] ≡ []
 none_left rows homes values [] = refl

@@ -3,11 +3,13 @@
 ghost use Rattle.std.specs.Prelude.{◌≡◌, IsTrue};
 ghost use Rattle.std.specs.Option.{option_copied};
 ghost use Rattle.s38_code.specs.declared.operand.Operand.{Operand};
-ghost use Rattle.s38_process.specs.Requests.{item_by, item_operand, operand_of, operands_of};
+ghost use Rattle.s38_requests.specs.Requests.{item_by, item_operand, operand_of, operands_of};
 
-use crate::variables::{form_in, is_receiver, value_bytes, value_of_item, value_pointer};
+use crate::receivers::is_receiver;
+use crate::scope::Scope;
 use s38_base::{Attr, HeldPointer};
-use s38_code::{Arg, Class, Form, Operand, Row, Val};
+use s38_code::{Arg, Class, Form, Operand, Val};
+use s38_local::{form_in, value_bytes, value_of_item, value_pointer};
 
 #[inline(always)]
 fn is_value(operand: &Operand, attr: Attr, given: &[u8]) -> bool
@@ -50,42 +52,39 @@ fn is_held(operand: &Operand, receiver: bool, attr: Attr, value: Option<&Val>) -
 #[inline(always)]
 fn is_item(
     operand: &Operand,
-    homes: &[usize],
-    values: &[Val],
+    scope: Scope<'_>,
     receiver: bool,
     item: usize,
     form: Option<&Form>,
 ) -> bool
-    ensures { IsTrue result → operand.now ≡ item_by homes.now values.now receiver item (option_copied form.entry) }
+    ensures { IsTrue result → operand.now ≡ item_by scope.entry.homes.now scope.entry.values.now receiver item (option_copied form.entry) }
 {
     let attr = match form {
         Some(Form::Based { base, offset, attr }) => {
-            let base = value_pointer(value_of_item(homes, values, *base as usize));
+            let base = value_pointer(value_of_item(scope.homes, scope.values, *base as usize));
             return is_in_space(operand, base, *offset, *attr);
         }
         Some(Form::Local { attr, .. }) => *attr,
         Some(Form::Parm { attr, .. }) => *attr,
         _ => Attr::Pointer,
     };
-    is_held(operand, receiver, attr, value_of_item(homes, values, item))
+    is_held(
+        operand,
+        receiver,
+        attr,
+        value_of_item(scope.homes, scope.values, item),
+    )
 }
 
 #[inline(always)]
-fn is_operand(
-    operand: &Operand,
-    rows: &[Row],
-    homes: &[usize],
-    values: &[Val],
-    class: Class,
-    arg: &Arg,
-) -> bool
-    ensures { IsTrue result → operand.now ≡ operand_of rows.now homes.now values.now class arg.now }
+fn is_operand(operand: &Operand, scope: Scope<'_>, class: Class, arg: &Arg) -> bool
+    ensures { IsTrue result → operand.now ≡ operand_of scope.entry.rows.now scope.entry.homes.now scope.entry.values.now class arg.now }
 {
     match arg {
         Arg::Item(item) => {
             let item = *item as usize;
-            let form = form_in(rows.get(item));
-            is_item(operand, homes, values, is_receiver(class), item, form)
+            let form = form_in(scope.rows.get(item));
+            is_item(operand, scope, is_receiver(class), item, form)
         }
         Arg::Literal { attr, bytes } => is_value(operand, *attr, bytes.as_slice()),
         Arg::Word(word) => matches!(operand, Operand::Word(held) if held == word),
@@ -97,15 +96,8 @@ fn is_operand(
 }
 
 /// Whether these operands are known to be those of an instruction, with the values of the variables put in.
-pub fn are_operands(
-    operands: &[Operand],
-    rows: &[Row],
-    homes: &[usize],
-    values: &[Val],
-    classes: &[Class],
-    args: &[Arg],
-) -> bool
-    ensures { IsTrue result → operands.now ≡ operands_of rows.now homes.now values.now classes.now args.now }
+pub fn are_operands(operands: &[Operand], scope: Scope<'_>, classes: &[Class], args: &[Arg]) -> bool
+    ensures { IsTrue result → operands.now ≡ operands_of scope.entry.rows.now scope.entry.homes.now scope.entry.values.now classes.now args.now }
 {
     let mut left = operands;
     let mut more = classes;
@@ -115,7 +107,7 @@ pub fn are_operands(
             [operand, others @ ..] => match more {
                 [] => return false,
                 [class, rest @ ..] => {
-                    if !is_operand(operand, rows, homes, values, *class, arg) {
+                    if !is_operand(operand, scope, *class, arg) {
                         return false;
                     }
                     left = others;

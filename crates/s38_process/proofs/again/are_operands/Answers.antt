@@ -1,9 +1,0 @@
-use Rattle.std.proofs.Common.{arith, sym, ◌∙◌}
-use Rattle.s38_process.proofs.OperandLaws.{none_behind, none_there}
-use Rattle.s38_process.proofs.again.are_operands.Goals as goal
-
-pub returns : goal.returns
-returns c empty =
-    let none = none_there c.loop-arg.left.now c.is_empty.result c.is_empty.ensures empty in
-    let past = none_behind c.args.rows.now c.args.homes.now c.args.values.now c.loop-arg.more.now c.args.args.now c.loop-arg.arg-index (omega (arith, c.loop-arg-test.false)) in
-    c.loop-arg.invariant (none ∙ sym past)

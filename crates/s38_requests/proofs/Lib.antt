@@ -1,0 +1,2 @@
+mod OperandLaws
+mod RecentLaws
