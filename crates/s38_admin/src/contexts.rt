@@ -6,9 +6,9 @@ ghost use Rattle.s38_rules.specs.Contexts.{contexts_row, crtctx_changes, crtctx_
 ghost use Rattle.s38_base.specs.RightNames as rights;
 ghost use Rattle.s38_base.specs.declared.words.Category.TheVariants.{Change};
 ghost use Rattle.s38_rules.specs.declared.need.Sought.TheVariants.{Any};
-ghost use Rattle.s38_rules.specs.Held.{context_in, object};
+ghost use Rattle.s38_rules.specs.Held.{context_in, home, moved, object};
 ghost use Rattle.s38_rules.specs.Needs.{on_object};
-ghost use Rattle.s38_rules.specs.Operands.{target};
+ghost use Rattle.s38_rules.specs.Operands.{id_at, target};
 
 use crate::listing::names_image;
 use crate::resolving::{context_at, context_read};

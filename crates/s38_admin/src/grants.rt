@@ -3,7 +3,7 @@ ghost use Rattle.s38_rules.specs.Changes.{done};
 ghost use Rattle.std.specs.Prelude.{◌≡◌, ◌==◌, None, IfOk, OnOk, OnErr, length, map};
 ghost use Rattle.std.specs.List.{list_any};
 ghost use Rattle.std.specs.Option.{option_copied};
-ghost use Rattle.s38_rules.specs.Grants.{grant_fails, grant_needs, grants_row, matau_gives, matau_needs, matauobj_gives, matauobj_needs, matauobj_special, row_or_public, row_rule, testau_gives, testau_needs, truth, user_at, user_needs, with_rights, xfro_fails, xfro_needs};
+ghost use Rattle.s38_rules.specs.Grants.{given_to, grant_fails, grant_needs, grants_row, matau_gives, matau_needs, matauobj_gives, matauobj_needs, matauobj_special, row_or_public, row_rule, testau_gives, testau_needs, truth, user_at, user_needs, with_granted, with_retracted, with_rights, xfro_fails, xfro_needs};
 ghost use Rattle.s38_rules.specs.Headers.{row_in, rows_in};
 ghost use Rattle.s38_rules.specs.Held.{object};
 ghost use Rattle.s38_rules.specs.Operands.{is_given, target};

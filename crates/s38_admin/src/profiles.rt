@@ -1,5 +1,7 @@
 //! User profiles: made, changed and destroyed. Each needs the special authority over profiles.
 ghost use Rattle.s38_rules.specs.Changes.{done};
+ghost use Rattle.s38_rules.specs.Operands.{target};
+ghost use Rattle.s38_rules.specs.Parts.{set_profile};
 ghost use Rattle.std.specs.Prelude.{◌≡◌, None, IfOk, OnOk, OnErr};
 ghost use Rattle.std.specs.List.{list_any};
 ghost use Rattle.std.specs.Option.{option_copied};

@@ -1,6 +1,7 @@
 //! Spaces: made, lengthened or cut, and destroyed; pointers into them; copies of cells with their tags.
 ghost use Rattle.s38_rules.specs.Changes.{done};
-ghost use Rattle.s38_rules.specs.Operands.{cells_put};
+ghost use Rattle.s38_rules.specs.Operands.{cells_put, place, source_cells, target};
+ghost use Rattle.s38_rules.specs.Parts.{on_space};
 ghost use Rattle.std.specs.Prelude.{◌≡◌, ◌≤◌, [], Some, None, IfOk, OnOk, OnErr, true};
 ghost use Rattle.std.specs.Option.{option_copied};
 ghost use Rattle.s38_base.specs.Limits.{furthest};

@@ -1,5 +1,6 @@
 //! Which ports a journal space has, and which data spaces a port; what destroys, journals and ensures.
 ghost use Rattle.s38_rules.specs.Changes.{through_port};
+ghost use Rattle.s38_rules.specs.Operands.{target};
 ghost use Rattle.std.specs.Prelude.{◌≡◌, is_some};
 ghost use Rattle.std.specs.Option.{option_copied};
 ghost use Rattle.s38_rules.specs.Held.{disk_in, ensured, is_on_disk};

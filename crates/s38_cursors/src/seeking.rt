@@ -1,6 +1,8 @@
 //! Where a cursor goes.
+ghost use Rattle.s38_rules.specs.Operands.{target, word_at};
+ghost use Rattle.s38_rules.specs.Parts.{on_cursor};
 ghost use Rattle.std.specs.Prelude.{◌≡◌};
-ghost use Rattle.s38_rules.specs.DataSpaces.{is_at, ordinal_rule, seek_fails, seek_of, setcr_fails, sought_ordinal};
+ghost use Rattle.s38_rules.specs.DataSpaces.{is_at, moved_to, ordinal_rule, seek_fails, seek_of, setcr_fails, sought_ordinal};
 
 use crate::changes::stand_at;
 use crate::reads::{cursor_of, ordinal_in, sought_in, table_of};

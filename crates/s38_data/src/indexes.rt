@@ -4,7 +4,7 @@ ghost use Rattle.std.specs.Prelude.{◌≡◌, ◌≤◌, [], Some, None, IfOk, 
 ghost use Rattle.std.specs.Option.{option_copied, unwrap_or};
 ghost use Rattle.s38_indexes.specs.Entries.{found, image_size, largest};
 ghost use Rattle.s38_rules.specs.Indexes.{created_index, crtinx_changes, crtinx_fails, entered, entry_len_at, entry_or_none, fndinxen_fails, fndinxen_gives, fndinxen_needs, indexes_row, insinxen_fails, insinxen_needs, new_index, removed, rmvinxen_fails, rmvinxen_needs};
-ghost use Rattle.s38_rules.specs.Operands.{bytes_at};
+ghost use Rattle.s38_rules.specs.Operands.{bytes_at, target};
 ghost use Rattle.s38_rules.specs.Parts.{index_at, no_index, on_index};
 
 use s38_base::exceptions::{DUPLICATE_ENTRY, LENGTH_INVALID, LIMIT_EXCEEDED, NO_INDEX_ENTRY};

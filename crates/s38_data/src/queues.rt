@@ -5,7 +5,7 @@ ghost use Rattle.std.specs.Option.{option_copied, unwrap_or};
 ghost use Rattle.s38_queues.specs.MessageQueue.{MessageQueue, found, found_message, image_size, is_any, longest_key, message, with_message};
 ghost use Rattle.s38_rules.specs.Operands.{bytes_at, is_given, target};
 ghost use Rattle.s38_rules.specs.Parts.{no_queue, on_queue, queue_at};
-ghost use Rattle.s38_rules.specs.Queues.{ask_fails, created_queue, crtq_changes, crtq_fails, deq_fails, deq_gives, deq_needs, enq_fails, enq_needs, key_len_at, left_by, longest_at, new_queue, order_of, put_fails, queues_row, relation_at, suits_keys, suits_order, take_fails, text_of};
+ghost use Rattle.s38_rules.specs.Queues.{ask_fails, created_queue, crtq_changes, crtq_fails, deq_fails, deq_gives, deq_needs, enq_fails, enq_needs, key_len_at, left_by, longest_at, new_queue, order_of, put_fails, queues_row, relation_at, suits_keys, suits_order, take_fails, text_of, with_put};
 
 use s38_base::exceptions::{LENGTH_INVALID, LIMIT_EXCEEDED, NO_MESSAGE};
 use s38_base::{Category, Exception, Kind, NoMemory, ObjNum, Op, Relation, Rights};
