@@ -91,8 +91,8 @@ data_in None = None
 data_in (Some body) = data_of body
 
 made_carries : (h : Held) (owner : ℕ) (made : Creating) (body : Option Body) → IsData (data_in body) → Carries h (made_by h owner made body)
-made_carries h owner made None data = carries_same h
-made_carries h owner made (Some body) data = creation_carries h owner made body data
+made_carries h owner made None of = carries_same h
+made_carries h owner made (Some body) of = creation_carries h owner made body of
 
 restack_right : (f : List ObjNum → List ObjNum) (s : State) (p : ℕ) (x : Option ProcessEntry) → IsRight s → IsRight (restack_at f s p x)
 restack_right f s p None right = right
