@@ -86,7 +86,7 @@ profile_back _ x h = cc
 profile_lawful : IsPart (Special × ℕ) profile_part
 profile_lawful = record { got = λ x. refl; back = profile_back }
 
-data_in : Option Body → Option DataBody
+abbrev data_in : Option Body → Option DataBody
 data_in None = None
 data_in (Some body) = data_of body
 
