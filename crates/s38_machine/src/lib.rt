@@ -2,7 +2,6 @@
 #![tactic(auto)]
 
 mod addresses;
-mod asked;
 mod blocking;
 mod by_operand;
 mod deliveries;
@@ -15,7 +14,6 @@ mod rows;
 mod sole;
 mod verdicts;
 
-pub use asked::Asked;
 use log::Log;
 pub use machine::{Machine, State};
 pub use opening::{general_opening, installed};

@@ -1,6 +1,6 @@
 ghost use Rattle.std.specs.Prelude.{◌≡◌, ◌-◌, ◌<◌, ◌≤◌, ◌==◌, ◌^◌, not, IfOk, IsErrOf, OnErr, OnOk, Some, length};
 ghost use Rattle.std.specs.Option.{option_copied};
-ghost use Rattle.s38_machine.specs.Asking.{last_reply, reply_by};
+ghost use Rattle.s38_code.specs.Asking.{last_reply, reply_by};
 ghost use Rattle.s38_rules.specs.declared.verdict.Verdict.{Verdict};
 ghost use Rattle.s38_rules.specs.Kept.{CanBeKept};
 ghost use Rattle.s38_rules.specs.Legal.{IsProcess, IsSound, after, after_by, begun, no_moment};
@@ -9,13 +9,12 @@ ghost use Rattle.s38_rules.specs.State.{ready, ready_list};
 ghost use Rattle.s38_rules.specs.Step.{by_verdict, step};
 ghost use Rattle.s38_rules.specs.Verdict.{awake_verdict, verdict_of};
 
-use crate::asked::Asked;
 use crate::effects::{apply, parted_values};
 use crate::log::Log;
 use crate::opening::opened;
 use crate::verdicts::{awake_verdict, verdict_of};
 use s38_base::{Exception, NoMemory, TryClone};
-use s38_code::{Checked, Entry, Event, Job, Reply, StepFault, Stepper};
+use s38_code::{Asked, Checked, Entry, Event, Job, Reply, StepFault, Stepper};
 use s38_invoke::World;
 use s38_objects::Objects;
 use s38_rules::Verdict;

@@ -1,4 +1,4 @@
-/// Where the reply to what a process has asked stands.
+/// Where the reply to what a process has asked is.
 #[derive(Clone, Copy, PartialEq, Eq, Debug)]
 pub enum Asked {
     /// In the last entry of the history.
