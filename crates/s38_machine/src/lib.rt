@@ -31,3 +31,8 @@ pub fn all_may_be_sent() {
     sends::<Log>();
     sends::<Snapshot<World<Objects>>>();
 }
+
+/// A machine may be sent and shared.
+pub fn machine_may_be_sent() {
+    sends::<Machine>();
+}

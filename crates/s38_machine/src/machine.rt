@@ -308,4 +308,12 @@ impl Stepper for Machine {
     fn step(&mut self, process: u32, event: &Event) -> Result<Reply, StepFault> {
         Machine::step(self, process, event)
     }
+
+    fn ask(&mut self, process: u32, event: Event) -> Result<Asked, StepFault> {
+        Machine::ask(self, process, event)
+    }
+
+    fn last_reply(&self) -> Option<&Reply> {
+        Machine::last_reply(self)
+    }
 }
