@@ -4,7 +4,7 @@ use Rattle.std.proofs.lemmas.Bool.{and_parts, cond_both, true≢false}
 use Rattle.std.proofs.lemmas.List.Elements.{All-append, All-cons, All-head, All-nil, All-set, All-tail}
 use Rattle.std.proofs.lemmas.List.{length-append, length-set}
 use Rattle.std.specs.Option.{option_flatten, option_map, unwrap_or}
-use Rattle.std.specs.Prelude.{All, None, Option, Some, is_none, is_some, slice_get}
+use Rattle.std.specs.Prelude.{All, IsTrue, None, Option, Some, is_none, is_some, slice_get}
 use Rattle.s38_base.specs.declared.attr.Attr.{Attr}
 use Rattle.s38_code.specs.declared.event.Request.{Request}
 use Rattle.s38_code.specs.declared.operand.Operand.{Operand}
@@ -26,14 +26,14 @@ use Rattle.s38_rules.specs.Parts.{data_lawful, data_part, no_journal, on_data, o
 use Rattle.s38_rules.specs.State.{State}
 use Rattle.s38_rules.specs.Verdict.{refused_by}
 use Rattle.s38_rules.specs.declared.data_body.DataBody.{DataBody}
-use Rattle.s38_commitment_laws.proofs.ChangeLaws.{IsBlock, block_met, holding_free, journaled_there, right_logged}
+use Rattle.s38_commitment_laws.proofs.ChangeLaws.{IsBlock, IsKnown, block_met, change_written, holding_free, journaled_there, right_logged}
 use Rattle.s38_commitment_laws.proofs.DestroyLaws.{rule_met}
 use Rattle.s38_commitment_laws.proofs.EndLaws.{block_by_data, data_tables, journal_by_data, port_by_data, right_data}
 use Rattle.s38_commitment_laws.proofs.HeldLaws.{over_unused, part_over}
 use Rattle.s38_commitment_laws.proofs.JoinLaws.{IsFree}
 use Rattle.s38_commitment_laws.proofs.KeptLaws.{IsLater, Lasts, LastsAt, Spares, all_then, both_hold, grows_by, stays_by, journal_number, lasts_same, right_kept}
 use Rattle.s38_commitment_laws.proofs.UnitLaws.{Both}
-use Rattle.s38_commitment_laws.specs.Right.{AreRight, IsChangeOf, IsData, IsEntryOf, IsLogged, IsRight, IsUnit}
+use Rattle.s38_commitment_laws.specs.Right.{is_change_written, AreRight, IsChangeOf, IsData, IsEntryOf, IsLogged, IsRight, IsUnit}
 
 -- ---- an entry is changed, journaled or not
 
@@ -45,6 +45,17 @@ pub record MayEnter (s : State) (block : ℕ) (change : UnitChange) (t : DataTab
   pub free : IsFree s.units block change.space.0 change.at
   pub ruled : (block == 0) ≡ false → IsBlock s.held block change.space.0
 
+known_of : (s : State) (p block journal : ℕ) (change : UnitChange) (t : DataTable → DataTable) → IsRight s → MayEnter s block change t → journal_for s.held change.space.0 ≡ Some journal → IsKnown s p block journal change t
+known_of s p block journal change t right may is = record {
+  right = right;
+  journaled = is;
+  later = may.later;
+  table = may.table;
+  of = may.of (journaled_there s.held change.space.0 journal right.unused is);
+  free = may.free;
+  ruled = may.ruled;
+}
+
 pub entered_right : (s : State) (p block : ℕ) (change : UnitChange) (t : DataTable → DataTable) → IsRight s → MayEnter s block change t
     → AreRight (on_table (logged s p block change).held change.space.0 t) (logged s p block change).units
 unfolding logged
@@ -52,15 +63,12 @@ entered_right s p block change t right may = by (journal_for s.held change.space
   where
     by : (r : Option ℕ) → journal_for s.held change.space.0 ≡ r → AreRight (on_table (logged_in s p block change r).held change.space.0 t) (logged_in s p block change r).units
     by None is = right_data s.held s.units change.space.0 (over_table t) right may.later may.table
-    by (Some journal) is = right_logged s p block journal change t (record {
-      right = right;
-      journaled = is;
-      later = may.later;
-      table = may.table;
-      of = may.of (journaled_there s.held change.space.0 journal right.unused is);
-      free = may.free;
-      ruled = may.ruled;
-    })
+    by (Some journal) is = right_logged s p block journal change t (known_of s p block journal change t right may is)
+
+-- what the journal says of the change may be written
+pub entered_written : (s : State) (p block journal : ℕ) (change : UnitChange) (t : DataTable → DataTable) → IsRight s → MayEnter s block change t → journal_for s.held change.space.0 ≡ Some journal
+    → IsTrue (is_change_written s p block change journal)
+entered_written s p block journal change t right may is = change_written s p block journal change t (known_of s p block journal change t right may is)
 
 -- what the rules of a change say of its entry and its block
 rules_free : (s : State) (p block space at : ℕ) → IsRight s → held_rule s.units p block space at ≡ None → IsFree s.units block space at

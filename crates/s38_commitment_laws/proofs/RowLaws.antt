@@ -86,7 +86,7 @@ profile_back _ x h = cc
 profile_lawful : IsPart (Special × ℕ) profile_part
 profile_lawful = record { got = λ x. refl; back = profile_back }
 
-abbrev data_in : Option Body → Option DataBody
+abbrev pub data_in : Option Body → Option DataBody
 data_in None = None
 data_in (Some body) = data_of body
 
@@ -99,7 +99,7 @@ restack_right f s p None right = right
 restack_right f s p (Some x) right = right
 
 -- nothing that a unit names is of an object that is destroyed
-abbrev IsUnnamedBy : State → Kind → ℕ → Type 0
+abbrev pub IsUnnamedBy : State → Kind → ℕ → Type 0
 IsUnnamedBy s kinds.DataSpace n = is_space_changed s.units n ≡ false
 IsUnnamedBy s kinds.Port n = is_used s.held n ≡ false
 IsUnnamedBy s kinds.Journal n = is_attached s.held n ≡ false
@@ -120,7 +120,7 @@ kind_right s kinds.Index n right none = right_gone s.held s.units kinds.Index n 
 kind_right s kinds.Cursor n right none = right_gone s.held s.units kinds.Cursor n right (refl, refl, refl, refl)
 
 -- what a change must meet for the units to stay right: those of most words nothing
-abbrev May : State → ℕ → Changes → Type 0
+abbrev pub May : State → ℕ → Changes → Type 0
 May s p (Entered block change f) = MayEnter s block change f
 May s p (Journaled n port) = is_some (journal_for s.held n) ≡ false
 May s p (Made owner made body) = IsData (data_in body)
@@ -165,7 +165,7 @@ new_table : (ops : List Operand) → IsData (Some (new_data_space ops))
 new_table ops = record { fields = fields_fit (attributes_of (place ops 5)); entries = All-nil (IsEntryOf (new_data_space ops).space.fields) }
 
 -- where no rule refuses an instruction, its changes meet what they must
-abbrev MayRow : Instruction → Type 0
+abbrev pub MayRow : Instruction → Type 0
 MayRow i = (s : State) (p d : ℕ) (t : Request) → IsRight s → refused_by i s p d t ≡ None → May s p (i.changes s p d t)
 
 desds_may : MayRow desds
@@ -256,7 +256,7 @@ unfolding indexes_row
 indexes_may Crtinx = λ s p d t right e. tt
 indexes_may _ = λ s p d t right e. tt
 
-row_may : (f : Family) (op : Op) → MayRow (row_in f op)
+pub row_may : (f : Family) (op : Op) → MayRow (row_in f op)
 unfolding row_in
 row_may families.Computing op = λ s p d t right e. tt
 row_may families.Resolving op = resolving_may op
