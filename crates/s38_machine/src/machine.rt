@@ -25,11 +25,11 @@ use std::snapshot::Snapshot;
 /// The objects and the processes of a machine.
 pub type State = World<Objects>;
 
-/// The moment at which each entry is answered while there is no store.
+/// The moment at which each entry is answered if there is no store.
 const NO_MOMENT: u64 = 0;
 
 /// The machine: its objects and processes, and the history of its answers. Contracts see what it was started
-/// with, its state, its history and its marks.
+/// with, its state, its history and its marks, and the moments of its store, of which it has none yet.
 #[derive(Drop)]
 pub struct Machine {
     alloc: Global,
@@ -40,11 +40,11 @@ pub struct Machine {
 
 impl Model for Machine {
     ghost use Rattle.std.specs.Prelude.{◌≡◌, length};
-    ghost use Rattle.s38_rules.specs.Legal.{Run};
+    ghost use Rattle.s38_rules.specs.Legal.{Run, no_moment};
 
     ghost Value = { Run };
 
-    ghost view = { λ m. record { origin = m.origin.value; state = m.world; history = m.log.history; marks = m.log.marks } };
+    ghost view = { λ m. record { origin = m.origin.value; state = m.world; history = m.log.history; marks = m.log.marks; first = no_moment; moment = no_moment } };
 
     ghost invariant = { λ m. m.log.processes ≡ length m.world.processes };
 }
@@ -58,7 +58,7 @@ impl Machine {
         jobs: &[Job],
     ) -> Result<Machine, NoMemory>
         requires kept { CanBeKept objects }
-        ensures { IfOk result (λ machine. machine ≡ begun (state_of objects templates jobs.now)) }
+        ensures { IfOk result (λ machine. machine ≡ begun no_moment (state_of objects templates jobs.now)) }
     {
         let world = opened(alloc, objects, templates, jobs)?;
         let log = Log::new(alloc, jobs.len())?;
@@ -161,7 +161,7 @@ impl Machine {
         requires first { 0 < process }
         requires last { process ≤ length self.old.state.processes }
         requires permit { awake_verdict self.old.state process event ≡ Verdict.Permit }
-        ensures ok { OnOk result (self.new ≡ after_by self.old no_moment process event (by_verdict self.old.state process event Verdict.Permit)) }
+        ensures ok { OnOk result (self.new ≡ after_by self.old self.old.moment process event (by_verdict self.old.state process event Verdict.Permit)) }
         ensures err { OnErr result (self.new ≡ self.old) }
     {
         let (values, value) = parted_values(self.alloc, &self.world, process, &event)?;
@@ -179,7 +179,7 @@ impl Machine {
     fn refuse(&mut self, process: u32, event: Event, exception: Exception) -> Result<(), NoMemory>
         requires first { 0 < process }
         requires last { process ≤ length self.old.state.processes }
-        ensures ok { OnOk result (self.new ≡ after_by self.old no_moment process event (by_verdict self.old.state process event (Verdict.Refuse exception))) }
+        ensures ok { OnOk result (self.new ≡ after_by self.old self.old.moment process event (by_verdict self.old.state process event (Verdict.Refuse exception))) }
         ensures err { OnErr result (self.new ≡ self.old) }
     {
         self.log.reserve()?;
@@ -192,7 +192,7 @@ impl Machine {
     fn wait(&mut self, process: u32, event: Event) -> Result<(), NoMemory>
         requires first { 0 < process }
         requires last { process ≤ length self.old.state.processes }
-        ensures ok { OnOk result (self.new ≡ after_by self.old no_moment process event (by_verdict self.old.state process event Verdict.Wait)) }
+        ensures ok { OnOk result (self.new ≡ after_by self.old self.old.moment process event (by_verdict self.old.state process event Verdict.Wait)) }
         ensures err { OnErr result (self.new ≡ self.old) }
     {
         self.log.reserve()?;
@@ -208,7 +208,7 @@ impl Machine {
         requires first { 0 < process }
         requires last { process ≤ length self.old.state.processes }
         requires verdict { awake_verdict self.old.state process event ≡ verdict }
-        ensures ok { OnOk result (self.new ≡ after_by self.old no_moment process event (by_verdict self.old.state process event verdict)) }
+        ensures ok { OnOk result (self.new ≡ after_by self.old self.old.moment process event (by_verdict self.old.state process event verdict)) }
         ensures err { OnErr result (self.new ≡ self.old) }
     {
         match verdict {
@@ -222,7 +222,7 @@ impl Machine {
     fn ask_or(&mut self, process: u32, event: Event) -> Result<Asked, NoMemory>
         requires first { 0 < process }
         requires last { process ≤ length self.old.state.processes }
-        ensures ok { OnOk result (self.new ≡ after self.old no_moment process event) }
+        ensures ok { OnOk result (self.new ≡ after self.old self.old.moment process event) }
         ensures reply { IfOk result (λ asked. reply_by asked self.new.history ≡ Some (step self.old.state process event).reply) }
         ensures err { OnErr result (self.new ≡ self.old) }
     {
@@ -243,7 +243,7 @@ impl Machine {
     pub fn ask(&mut self, process: u32, event: Event) -> Result<Asked, StepFault>
         requires sound { IsSound self.old }
         requires may { IsProcess self.old.origin process }
-        ensures ok { OnOk result (self.new ≡ after self.old no_moment process event) }
+        ensures ok { OnOk result (self.new ≡ after self.old self.old.moment process event) }
         ensures reply { IfOk result (λ asked. reply_by asked self.new.history ≡ Some (step self.old.state process event).reply) }
         ensures err { OnErr result (self.new ≡ self.old) }
         ensures sound { IsSound self.new }
@@ -258,7 +258,7 @@ impl Machine {
     fn step_or(&mut self, process: u32, event: &Event) -> Result<Reply, NoMemory>
         requires first { 0 < process }
         requires last { process ≤ length self.old.state.processes }
-        ensures ok { IfOk result (λ r. (r ≡ (step self.old.state process event.now).reply) × (self.new ≡ after self.old no_moment process event.now)) }
+        ensures ok { IfOk result (λ r. (r ≡ (step self.old.state process event.now).reply) × (self.new ≡ after self.old self.old.moment process event.now)) }
         ensures err { OnErr result (self.new ≡ self.old) }
     {
         let own = event.try_clone(self.alloc)?;
@@ -273,7 +273,7 @@ impl Machine {
     pub fn step(&mut self, process: u32, event: &Event) -> Result<Reply, StepFault>
         requires sound { IsSound self.old }
         requires may { IsProcess self.old.origin process }
-        ensures ok { IfOk result (λ r. (r ≡ (step self.old.state process event.now).reply) × (self.new ≡ after self.old no_moment process event.now)) }
+        ensures ok { IfOk result (λ r. (r ≡ (step self.old.state process event.now).reply) × (self.new ≡ after self.old self.old.moment process event.now)) }
         ensures err { OnErr result (self.new ≡ self.old) }
         ensures sound { IsSound self.new }
         ensures going { IsErrOf result StepFault.Stopped → ⊥ }

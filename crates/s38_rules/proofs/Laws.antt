@@ -1,8 +1,8 @@
 -- Laws of the definitions that the crates above rest on.
-use Rattle.std.proofs.Common.{◌≡◌, ℕ, ◌+◌, ◌-◌, ◌==◌, Bool, true, false, List, [], ◌∷◌, ◌++◌, length, map, refl, sym, ◌∙◌, ap, subst, inl, inr, append_assoc, length-append, length-set, get_or-set_other, zero, suc}
+use Rattle.std.proofs.Common.{◌≡◌, ℕ, ◌+◌, ◌-◌, ◌==◌, Bool, true, false, List, [], ◌∷◌, ◌++◌, length, map, refl, sym, ◌∙◌, ap, subst, inl, inr, append_assoc, length-append, length-set, get_or-set_other, arith, zero, suc}
 use Rattle.std.proofs.lemmas.List.{append-nil, length-map}
-use Rattle.std.proofs.lemmas.List.Elements.{All-nil, All-push}
-use Rattle.std.specs.Prelude.{Option, Some, None, slice_get, slice_set}
+use Rattle.std.proofs.lemmas.List.Elements.{All-cons, All-nil}
+use Rattle.std.specs.Prelude.{All, ◌≤◌, Option, Some, None, slice_get, slice_set}
 use Rattle.s38_base.specs.declared.id.ObjNum.{ObjNum}
 use Rattle.s38_base.specs.declared.op.Op.{Op}
 use Rattle.s38_base.specs.declared.op.Op.TheVariants.{Crtctx, Rslvsp, Setsppfp, Crtpg, Lock, Crtq, Crtinx, Crtds, Crtjs}
@@ -33,7 +33,7 @@ use Rattle.s38_rules.specs.Locking.{locks_row}
 use Rattle.s38_rules.specs.Effect.{effect, effect_of, start_at, end_at}
 use Rattle.s38_rules.specs.Instruction.{AreKept, Instruction, unstacked}
 use Rattle.s38_rules.specs.Invocations.{restack, restack_at, restacked, with_stack}
-use Rattle.s38_rules.specs.Legal.{IsEntry, IsProcess, IsSound, IsUnstored, Leads, Run, after, after_by, begun, history_after}
+use Rattle.s38_rules.specs.Legal.{AreMoments, IsEntry, IsProcess, IsSound, Leads, Run, after, after_by, begun, history_after}
 use Rattle.s38_rules.specs.Operands.{deliver, delivered}
 use Rattle.s38_rules.specs.Programs.{programs_row}
 use Rattle.s38_rules.specs.Indexes.{indexes_row}
@@ -261,33 +261,54 @@ pub step_keeps : (s : State) (p : ℕ) (e : Event) → length (step s p e).state
 unfolding step
 step_keeps s p e = waiting_keeps (waits s p) s p e
 
-sound_by : (m : Run) (mark p : ℕ) (e : Event) (b : Bool) → (step m.state p e).enters ≡ b → IsSound m → IsProcess m.origin p → IsUnstored mark → IsSound (after_by m mark p e (step m.state p e))
-sound_by m mark p e true h sound may unstored =
+-- ---- moments
+
+moments_later : (first : ℕ) (marks : List ℕ) (now later : ℕ) → AreMoments first marks now → now ≤ later → AreMoments first marks later
+moments_later first [] now later moments after = omega (arith, moments, after)
+moments_later first (mark ∷ marks) now later moments after = (moments.0, moments_later mark marks now later moments.1 after)
+
+moments_more : (first : ℕ) (marks : List ℕ) (now mark : ℕ) → AreMoments first marks now → now ≤ mark → AreMoments first (marks ++ mark ∷ []) mark
+moments_more first [] now mark moments after = (omega (arith, moments, after), omega arith)
+moments_more first (m ∷ marks) now mark moments after = (moments.0, moments_more m marks now mark moments.1 after)
+
+moments_rise : (first : ℕ) (marks : List ℕ) (now : ℕ) → AreMoments first marks now → first ≤ now
+moments_rise first [] now moments = moments
+moments_rise first (mark ∷ marks) now moments = omega (arith, moments.0, moments_rise mark marks now moments.1)
+
+-- where the moment stayed, all marks are that moment
+pub moments_stay : (first : ℕ) (marks : List ℕ) → AreMoments first marks first → All (λ mark. mark ≡ first) marks
+moments_stay first [] moments = All-nil (λ mark. mark ≡ first)
+moments_stay first (mark ∷ marks) moments =
+    let same : mark ≡ first = omega (arith, moments.0, moments_rise mark marks first moments.1) in
+    All-cons (λ m. m ≡ first) mark marks same (moments_stay first marks (subst (λ (m : ℕ). AreMoments m marks first) same moments.1))
+
+sound_by : (m : Run) (mark p : ℕ) (e : Event) (b : Bool) → (step m.state p e).enters ≡ b → IsSound m → IsProcess m.origin p → m.moment ≤ mark → IsSound (after_by m mark p e (step m.state p e))
+sound_by m mark p e true h sound may later =
     let here : IsProcess m.state p = record { first = may.first; last = rw sound.kept may.last } in
     let one : IsEntry m.state ([] ++ m.history) (entry_after m.history p e (step m.state p e).reply) =
     record { process = here; entered = h; reply = refl; seq = refl } in
     record {
       legal = rw h (leads_more m.origin [] m.history m.state _ sound.legal one);
       marked = rw h (simp length-append (ap (λ n. n + 1) sound.marked));
-      stamped = rw h (All-push IsUnstored m.marks mark sound.stamped unstored);
+      stamped = rw h (moments_more m.first m.marks m.moment mark sound.stamped later);
       kept = step_keeps m.state p e ∙ sound.kept;
     }
-sound_by m mark p e false h sound may unstored =
+sound_by m mark p e false h sound may later =
     record {
       legal = rw h (subst (λ t. Leads m.origin [] m.history t) (sym (silent m.state p e h)) sound.legal);
       marked = rw h sound.marked;
-      stamped = rw h sound.stamped;
+      stamped = rw h (moments_later m.first m.marks m.moment mark sound.stamped later);
       kept = step_keeps m.state p e ∙ sound.kept;
     }
 
 -- a step of a job's process keeps a machine sound
-pub sound_after : (m : Run) (mark p : ℕ) (e : Event) → IsSound m → IsProcess m.origin p → IsUnstored mark → IsSound (after m mark p e)
+pub sound_after : (m : Run) (mark p : ℕ) (e : Event) → IsSound m → IsProcess m.origin p → m.moment ≤ mark → IsSound (after m mark p e)
 unfolding after
-sound_after m mark p e sound may unstored = sound_by m mark p e (step m.state p e).enters refl sound may unstored
+sound_after m mark p e sound may later = sound_by m mark p e (step m.state p e).enters refl sound may later
 
 -- a machine that has just begun is sound
-pub sound_begun : (s : State) → IsSound (begun s)
-sound_begun s = record { legal = refl; marked = refl; stamped = All-nil IsUnstored; kept = refl }
+pub sound_begun : (moment : ℕ) (s : State) → IsSound (begun moment s)
+sound_begun moment s = record { legal = refl; marked = refl; stamped = omega arith; kept = refl }
 
 answered_by : (m : Run) (p : ℕ) (e : Event) (b : Bool) → (step m.state p e).enters ≡ b → IsAnswered p e (step m.state p e).reply m.history (history_after m.history p e (step m.state p e))
 answered_by m p e true h = rw h (inl refl)
