@@ -204,9 +204,12 @@ abbrev pub moved_to : Option ℕ → Cursor → Cursor
 moved_to None c = c
 moved_to (Some position) c = at_position position c
 
--- the cursor stands there
+-- the cursor is at the entry that is sought
+unfoldable pub at_sought : Held → List Operand → (Cursor → Cursor)
+at_sought h ops = moved_to (sought_ordinal (seek_of (word_at ops 2)) h ops)
+
 abbrev pub setcr_changes : Held → List Operand → Changes
-setcr_changes h ops = OnCursor (target h ops 1) (moved_to (sought_ordinal (seek_of (word_at ops 2)) h ops))
+setcr_changes h ops = OnCursor (target h ops 1) (at_sought h ops)
 
 abbrev pub setcr : Instruction
 setcr = record inert {
