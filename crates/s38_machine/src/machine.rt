@@ -2,6 +2,8 @@ ghost use Rattle.std.specs.Prelude.{◌≡◌, ◌-◌, ◌<◌, ◌≤◌, ◌=
 ghost use Rattle.std.specs.Option.{option_copied};
 ghost use Rattle.s38_code.specs.Asking.{last_reply, reply_by};
 ghost use Rattle.s38_rules.specs.declared.verdict.Verdict.{Verdict};
+ghost use Rattle.s38_machine.specs.Events.{GoesAsThatOf};
+ghost use Rattle.s38_rules.specs.Effect.{effect_of};
 ghost use Rattle.s38_rules.specs.Kept.{CanBeKept};
 ghost use Rattle.s38_rules.specs.Legal.{IsProcess, IsSound, after, after_by, begun, no_moment};
 ghost use Rattle.s38_rules.specs.Opening.{state_of};
@@ -14,7 +16,7 @@ use crate::log::Log;
 use crate::opening::opened;
 use crate::verdicts::{awake_verdict, verdict_of};
 use s38_base::{Exception, NoMemory, TryClone};
-use s38_code::{Asked, Checked, Entry, Event, Job, Reply, StepFault, Stepper};
+use s38_code::{Asked, Checked, Entry, Event, Job, Reply, StepFault, Stepper, Val, Vals};
 use s38_invoke::World;
 use s38_objects::Objects;
 use s38_rules::Verdict;
@@ -130,29 +132,39 @@ impl Machine {
         verdict_of(&self.world, process, event)
     }
 
-    /// The reply that an event gets.
-    #[tactic(auto, unfolding(s38_rules::specs::Step::step))]
-    fn reply_to(&self, process: u32, event: &Event) -> Result<Reply, NoMemory>
-        ensures { IfOk result (λ r. r ≡ (step self.now.state process event.now).reply) }
-    {
-        if self.world.waits(process) {
-            return Ok(Reply::MustWait);
-        }
-        match awake_verdict(&self.world, process, event) {
-            Verdict::Permit => {
-                let (values, _value) = parted_values(self.alloc, &self.world, process, event)?;
-                Ok(Reply::Done(values))
-            }
-            Verdict::Wait => Ok(Reply::MustWait),
-            Verdict::Refuse(exception) => Ok(Reply::Signal(exception)),
-        }
-    }
-
     /// The reply of the last entry of the history.
     pub fn last_reply(&self) -> Option<&Reply>
         ensures { option_copied result ≡ last_reply self.now.history }
     {
         self.log.last_reply()
+    }
+
+    /// A permitted event takes effect and is entered, with the values of its reply, and the value that goes into the
+    /// space of its receiver.
+    #[inline(always)]
+    fn enter_permitted(
+        &mut self,
+        process: u32,
+        event: Event,
+        values: Vals,
+        value: Option<Val>,
+    ) -> Result<(), NoMemory>
+        requires first { 0 < process }
+        requires last { process ≤ length self.old.state.processes }
+        requires permit { awake_verdict self.old.state process event ≡ Verdict.Permit }
+        requires values { values ≡ (effect_of self.old.state process event).values }
+        requires value { GoesAsThatOf self.old.state process event value }
+        ensures ok { OnOk result (self.new ≡ after_by self.old self.old.moment process event (by_verdict self.old.state process event Verdict.Permit)) }
+        ensures err { OnErr result (self.new ≡ self.old) }
+    {
+        self.log.reserve()?;
+        match apply(self.alloc, &mut self.world, process, &event, value) {
+            Ok(()) => {}
+            Err(fault) => return Err(fault),
+        }
+        self.log
+            .push(process, event, Reply::Done(values), NO_MOMENT);
+        Ok(())
     }
 
     /// A permitted event takes effect and is entered.
@@ -165,14 +177,24 @@ impl Machine {
         ensures err { OnErr result (self.new ≡ self.old) }
     {
         let (values, value) = parted_values(self.alloc, &self.world, process, &event)?;
-        self.log.reserve()?;
-        match apply(self.alloc, &mut self.world, process, &event, value) {
-            Ok(()) => {}
-            Err(fault) => return Err(fault),
+        self.enter_permitted(process, event, values, value)
+    }
+
+    /// The same, with a copy of the reply.
+    fn permit_copied(&mut self, process: u32, event: Event) -> Result<Reply, NoMemory>
+        requires first { 0 < process }
+        requires last { process ≤ length self.old.state.processes }
+        requires permit { awake_verdict self.old.state process event ≡ Verdict.Permit }
+        ensures ok { IfOk result (λ r. (r ≡ (by_verdict self.old.state process event Verdict.Permit).reply)
+            × (self.new ≡ after_by self.old self.old.moment process event (by_verdict self.old.state process event Verdict.Permit))) }
+        ensures err { OnErr result (self.new ≡ self.old) }
+    {
+        let (values, value) = parted_values(self.alloc, &self.world, process, &event)?;
+        let copy = values.try_clone(self.alloc)?;
+        match self.enter_permitted(process, event, values, value) {
+            Ok(()) => Ok(Reply::Done(copy)),
+            Err(fault) => Err(fault),
         }
-        self.log
-            .push(process, event, Reply::Done(values), NO_MOMENT);
-        Ok(())
     }
 
     /// An event that is not permitted is entered with its reply.
@@ -255,16 +277,45 @@ impl Machine {
         }
     }
 
+    fn answer_copied(
+        &mut self,
+        process: u32,
+        event: Event,
+        verdict: Verdict,
+    ) -> Result<Reply, NoMemory>
+        requires first { 0 < process }
+        requires last { process ≤ length self.old.state.processes }
+        requires verdict { awake_verdict self.old.state process event ≡ verdict }
+        ensures ok { IfOk result (λ r. (r ≡ (by_verdict self.old.state process event verdict).reply) × (self.new ≡ after_by self.old self.old.moment process event (by_verdict self.old.state process event verdict))) }
+        ensures err { OnErr result (self.new ≡ self.old) }
+    {
+        match verdict {
+            Verdict::Permit => self.permit_copied(process, event),
+            Verdict::Wait => match self.wait(process, event) {
+                Ok(()) => Ok(Reply::MustWait),
+                Err(fault) => Err(fault),
+            },
+            Verdict::Refuse(exception) => match self.refuse(process, event, exception) {
+                Ok(()) => Ok(Reply::Signal(exception)),
+                Err(fault) => Err(fault),
+            },
+        }
+    }
+
+    #[tactic(auto, unfolding(s38_rules::specs::Step::step, s38_rules::specs::Legal::after))]
     fn step_or(&mut self, process: u32, event: &Event) -> Result<Reply, NoMemory>
         requires first { 0 < process }
         requires last { process ≤ length self.old.state.processes }
         ensures ok { IfOk result (λ r. (r ≡ (step self.old.state process event.now).reply) × (self.new ≡ after self.old self.old.moment process event.now)) }
         ensures err { OnErr result (self.new ≡ self.old) }
     {
+        if self.world.waits(process) {
+            return Ok(Reply::MustWait);
+        }
+        let verdict = awake_verdict(&self.world, process, event);
         let own = event.try_clone(self.alloc)?;
-        let reply = self.reply_to(process, event)?;
-        match self.ask_or(process, own) {
-            Ok(_) => Ok(reply),
+        match self.answer_copied(process, own, verdict) {
+            Ok(reply) => Ok(reply),
             Err(fault) => Err(fault),
         }
     }
