@@ -10,8 +10,8 @@ ghost use Rattle.s38_rules.specs.Profiles.{crtup_changes, crtup_fails, desup_fai
 use s38_base::exceptions::OBJECT_IN_USE;
 use s38_base::{Category, Exception, Kind, NoMemory, Op, Rights, Special, UserNum};
 use s38_changes::{
-    creation_changes, creation_fails, creation_gives, destroy, destruction_needs,
-    is_owner, machine_needs, of_machine, set_profile,
+    creation_changes, creation_fails, creation_gives, destroy, destruction_needs, is_owner,
+    machine_needs, of_machine, set_profile,
 };
 use s38_code::{Operand, Request, Val};
 use s38_invoke::World;

@@ -11,8 +11,8 @@ ghost use Rattle.s38_rules.specs.Spaces.{cpybwp_fails, cpybwp_gives, crts_change
 use s38_base::exceptions::{BOUNDARY_ALIGNMENT, DECIMAL_DATA, LENGTH_INVALID, SPACE_ADDRESSING};
 use s38_base::{Category, Exception, HeldPointer, Kind, NoMemory, Op, Pointer, Rights};
 use s38_changes::{
-    creation_changes, creation_fails, creation_gives, creation_needs, destroy,
-    destruction_needs, in_context, owner_pays, pages_for_length, put_cells, resize,
+    creation_changes, creation_fails, creation_gives, creation_needs, destroy, destruction_needs,
+    in_context, owner_pays, pages_for_length, put_cells, resize,
 };
 use s38_code::{Operand, Request, Val};
 use s38_invoke::World;

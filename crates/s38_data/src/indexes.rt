@@ -10,8 +10,8 @@ ghost use Rattle.s38_rules.specs.Parts.{index_at, no_index, on_index};
 use s38_base::exceptions::{DUPLICATE_ENTRY, LENGTH_INVALID, LIMIT_EXCEEDED, NO_INDEX_ENTRY};
 use s38_base::{Category, Exception, Kind, NoMemory, ObjNum, Op, Relation, Rights};
 use s38_changes::{
-    creation_changes, creation_fails, creation_gives, creation_needs, destroy,
-    destruction_needs, in_context,
+    creation_changes, creation_fails, creation_gives, creation_needs, destroy, destruction_needs,
+    in_context,
 };
 use s38_code::{Operand, Request, Val};
 use s38_indexes::Index;

@@ -10,8 +10,8 @@ ghost use Rattle.s38_rules.specs.Queues.{ask_fails, created_queue, crtq_changes,
 use s38_base::exceptions::{LENGTH_INVALID, LIMIT_EXCEEDED, NO_MESSAGE};
 use s38_base::{Category, Exception, Kind, NoMemory, ObjNum, Op, Relation, Rights};
 use s38_changes::{
-    creation_changes, creation_fails, creation_gives, creation_needs, destroy,
-    destruction_needs, in_context,
+    creation_changes, creation_fails, creation_gives, creation_needs, destroy, destruction_needs,
+    in_context,
 };
 use s38_code::{Operand, Request, Val};
 use s38_invoke::World;

@@ -9,8 +9,8 @@ use crate::templates::{is_larger, program_in, template_in, template_rule};
 use s38_base::exceptions::LIMIT_EXCEEDED;
 use s38_base::{Exception, Kind, NoMemory, Op, TryClone};
 use s38_changes::{
-    creation_changes, creation_fails, creation_gives, creation_needs, destroy,
-    destruction_needs, in_context,
+    creation_changes, creation_fails, creation_gives, creation_needs, destroy, destruction_needs,
+    in_context,
 };
 use s38_code::{CheckedTemplate, Code, Operand, Request, Val};
 use s38_invoke::World;

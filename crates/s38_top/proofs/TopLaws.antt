@@ -61,13 +61,13 @@ run_of held picks deck made ts begun_by m count each checked begins sound origin
 pub marks_of_run : (held : Held) (deck : Deck) (ts : List CheckedTemplate) (begun_by m : Run) (history : List Entry) (marks : List ℕ) → begun_by ≡ begun no_moment (state_of held ts deck.jobs) → IsSound m
     → (m.first ≡ begun_by.first) × (m.moment ≡ begun_by.first) → history ≡ m.history → marks ≡ m.marks → AreMarks marks history
 marks_of_run held deck ts begun_by m history marks begins sound still h k =
-  let start : begun_by.first ≡ no_moment = ap (λ (r : Run). r.first) begins in
-  let moments : AreMoments no_moment m.marks no_moment =
-  subst (λ (n : ℕ). AreMoments n m.marks no_moment) (still.0 ∙ start) (subst (λ (n : ℕ). AreMoments m.first m.marks n) (still.1 ∙ start) sound.stamped) in
-  record {
-  count = ap length k ∙ sound.marked ∙ ap length (sym h);
-  stamped = subst (λ (xs : List ℕ). All IsUnstored xs) (sym k) (moments_stay no_moment m.marks moments);
-}
+    let start : begun_by.first ≡ no_moment = ap (λ (r : Run). r.first) begins in
+    let moments : AreMoments no_moment m.marks no_moment =
+    subst (λ (n : ℕ). AreMoments n m.marks no_moment) (still.0 ∙ start) (subst (λ (n : ℕ). AreMoments m.first m.marks n) (still.1 ∙ start) sound.stamped) in
+    record {
+      count = ap length k ∙ sound.marked ∙ ap length (sym h);
+      stamped = subst (λ (xs : List ℕ). All IsUnstored xs) (sym k) (moments_stay no_moment m.marks moments);
+    }
 
 -- ---- what a text comes to
 
