@@ -1,10 +1,8 @@
 """What creation refuses of a template: the causes 2A02 to 2A08, each with its column and a hint."""
-import re
-
 from . import pages
 from .deck import MADE, attribute_of, columns, named_operands, split_act
 from .faults import Fault, place_of
-from .words import (NAME, WHOLE, digits_of, holds, is_a, is_bounded, is_number, is_numeric, is_parsed, length_of,
+from .words import (digits_of, holds, is_bounded, is_number, is_numeric, is_parsed, length_of,
                     literal_attribute, near, sizes)
 
 # What a row asks of its operands together, in words.
@@ -75,23 +73,19 @@ class Names:
 
 # ---- instructions
 
-def form_of(mnemonic):
-    """The operands of a row in words, and their letters."""
-    spelled, letters = pages.heads()[mnemonic]
-    return f"{mnemonic} {spelled} ({letters})" if letters else mnemonic
-
-
 def operands_fault(text):
     """2A04: the operands are not those of the row."""
     mnemonic, rounds, operands = split_act(text)
     most, least = pages.most_operands(mnemonic)
     if not least <= len(operands) <= most:
         column = columns(text)[most] if len(operands) > most else len(text) + 1
-        return column, f"{mnemonic} has {most} operands ({form_of(mnemonic)}), and the line has {len(operands)}"
+        spelled = pages.heads()[mnemonic][0]
+        said = f"{most} operand{'' if most == 1 else 's'}" + (f" ({spelled})" if spelled else "")
+        return column, f"{mnemonic} has {said}, and the line has {len(operands)}"
     for place, word in enumerate(operands):
         letter = pages.letter_at(mnemonic, place)
         if not is_parsed(letter, word):
-            return columns(text)[place], f"operand {place + 1} is {word}, and {wanted(letter)} is wanted"
+            return columns(text)[place], f"operand {place + 1}: {wanted(letter)} is wanted, but {word} is written"
     return None
 
 
@@ -195,7 +189,7 @@ def attributes_fault(names, text):
     for place, word in enumerate(operands, 1):
         letter = pages.letter_at(mnemonic, place - 1)
         if place in items and not item_suits(letter, names[word][1]):
-            return at[place - 1], f"{word} (operand {place}) is {attribute_of(names[word][1])}, and {suited(letter, names[word])}"
+            return at[place - 1], f"operand {place}: {wanted(letter)} is wanted, but {word} is {described(names[word][1])}"
         if place not in items and not word_suits(letter, word):
             return at[place - 1], f"operand {place}: {bad_word(letter, word)}"
     made, place = MADE.get(mnemonic), pages.rows()[mnemonic].find("I")
@@ -207,11 +201,9 @@ def attributes_fault(names, text):
     return None if keeps_together(mnemonic, names, operands) else (at[0], TOGETHER[mnemonic])
 
 
-def suited(letter, declared):
-    """What is wanted of an item, in words."""
-    if letter == "a" and declared[1][0] == "BASED":
-        return "it lies in a space; a variable or a parameter is wanted"
-    return f"{wanted(letter)} is wanted"
+def described(words):
+    """What an item is, in words."""
+    return f"{attribute_of(words)} in a space" if words[0] == "BASED" else attribute_of(words)
 
 
 def digits_needed(mnemonic, names, operands):
@@ -281,11 +273,3 @@ def template_faults(template, bad=()):
 def creation_fault(template, code, number):
     """What is known of the fault that creation named so, or nothing."""
     return next((fault for fault in template_faults(template) if (fault.code, fault.number) == (code, number)), None)
-
-
-def is_whole(word):
-    return is_a(WHOLE, word)
-
-
-def is_name(word):
-    return re.fullmatch(NAME, word) is not None

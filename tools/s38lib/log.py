@@ -2,6 +2,7 @@
 import re
 
 from . import pages
+from .faults import deck_faults
 
 HEAD = re.compile(r"JOB ([1-9][0-9]{0,4}) ([A-Z][A-Z0-9]{0,29}) USER ([A-Z0-9]{1,30})")
 ENTRY = re.compile(r"([1-9][0-9]{0,9}) ([A-Z]{1,8})(?: (.+))?")
@@ -106,3 +107,11 @@ def entry_fault(deck, log):
     known = {"START", "FINISH", *pages.rows()}
     odd = next((entry for entry in log.history() if entry.name not in known), None)
     return f"line {odd.line} of the log names {odd.name}, which is no instruction" if odd else None
+
+
+def fault_of(deck, log):
+    """Why a log is not the whole log of a deck, or nothing."""
+    bad = next(iter(deck_faults(deck)), None)
+    if not log.fault and bad and not (log.last.startswith("BAD ") or log.last in ("DECK FAULT", "NO MEMORY")):
+        return f"the deck is bad at line {bad.line} (code {bad.code}), and the log says nothing of it"
+    return log.fault or mismatch(deck, log) or entry_fault(deck, log)

@@ -2,6 +2,7 @@
 from . import pages, values
 from .deck import MADE, split_act
 from .walk import object_in, places, walk
+from .words import is_a
 
 OPENING = {1: "CONTEXT/00/QMACHINE", 2: "PROFILE/00/QSECOFR", 3: "CONTEXT/00/QGPL", 4: "PROFILE/00/QUSER",
            5: "QUEUE/00/QLOCKED"}
@@ -23,7 +24,7 @@ class Story:
     def __init__(self, deck, log):
         self.deck, self.log = deck, log
         self.names, self.steps = dict(OPENING), []
-        self.walker, self.states = walk(deck, log)
+        self.walker, self.states, self.last = walk(deck, log)
         for entry in log.history():
             self.steps.append(self.tell(entry))
 
@@ -99,15 +100,15 @@ class Story:
         return said + self.detail(words[2:])
 
     def operand(self, step, place):
-        if not step.text or not place.isdigit():
+        if not step.text or not is_a("[0-9]{1,2}", place):
             return ""
         operands = split_act(step.text)[2]
         return f" ({operands[int(place) - 1]})" if 0 < int(place) <= len(operands) else ""
 
     def detail(self, words):
-        if len(words) == 1 and words[0].isdigit():
+        if len(words) == 1 and is_a("[0-9]{1,5}", words[0]):
             return f", the unit is of job {self.job_name(int(words[0]))}"
-        if len(words) == 2 and words[0].isdigit():
+        if len(words) == 2 and is_a("[0-9]{1,5}", words[0]):
             return f", in the way is {words[1]} of job {self.job_name(int(words[0]))}"
         return f", missing {' '.join(words)}" if words else ""
 
@@ -126,7 +127,7 @@ class Story:
     def pointer(self, value, number):
         name = self.name(number)
         if value[0] == "S":
-            bits = int(value.partition("/")[2] or "0", 16)
+            bits = int(value[-2:], 16) if is_a("S[0-9]+/[0-9A-F]{2}", value) else 0
             return f"{name} (object {number})" + (f" with {values.rights_of(bits)}" if bits else "")
         kind = "space pointer" if value[0] == "A" else "data pointer"
         return f"{kind} to byte {value.partition('+')[2]} of {name} (object {number})"

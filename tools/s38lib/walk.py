@@ -6,6 +6,7 @@ import collections
 import functools
 
 from . import pages
+from .creation import template_faults
 from .deck import attribute_of, split_act
 from .words import is_a
 
@@ -66,7 +67,7 @@ class Walker:
     """The templates of a deck, and the objects that are known to be programs."""
 
     def __init__(self, deck):
-        self.codes = {name: Code(template) for name, template in deck.templates.items()}
+        self.codes = {name: Code(template) for name, template in deck.templates.items() if not template_faults(template)}
         self.programs = collections.defaultdict(set)  # the number of an object: the templates that it may be made of
 
     # ---- the pointers of variables
@@ -199,6 +200,27 @@ class Walker:
                     waiting.append(one)
         return stops, ends, returns
 
+    def suspects(self, states, code):
+        """The lines without an entry, from these states on, that may signal a code which nothing takes."""
+        found, seen, waiting = {}, set(states), list(states)
+        while waiting and len(seen) < MOST_STEPS:
+            state = waiting.pop()
+            frame = state.frames[-1]
+            walked = self.codes[frame.template]
+            if frame.at >= len(walked.items):
+                nexts = [self.come_back(state)]
+            elif walked.logged[frame.at]:
+                continue
+            else:
+                line, text = walked.items[frame.at][:2]
+                nexts, ends = self.after_local(state)
+                if code in ends:
+                    found[line] = text
+            fresh = [one for one in nexts if one is not None and one not in seen]
+            seen.update(fresh)
+            waiting += fresh
+        return sorted(found.items())
+
     # ---- what has one
 
     def suits(self, state, entry):
@@ -260,7 +282,7 @@ class Walker:
 def object_in(value):
     """The number of the object of a pointer as a log prints it."""
     digits = value[1:].partition("/")[0].partition("+")[0]
-    return int(digits) if value[:1] in ("S", "A", "D") and digits.isdigit() else None
+    return int(digits) if value[:1] in ("S", "A", "D") and is_a("[0-9]{1,20}", digits) else None
 
 
 def may_signal(text):
@@ -283,8 +305,8 @@ class Ways:
 
     def __init__(self, walker, job):
         self.walker, self.job = walker, job
-        self.steps = []  # for each entry: the states before it that suit, each with those that it leads to
-        self.now, self.lost = [], False
+        self.steps = []  # for each entry: the states that suit it, each with those before and behind it
+        self.now = []  # where the job may be
 
     def take(self, entry):
         """Goes on by one entry."""
@@ -296,13 +318,14 @@ class Ways:
         try:
             self.go(entry)
         except Lost:
-            self.now, self.lost = [], True
+            self.now = []
             self.steps.append({})
 
     def go(self, entry):
         if entry.name == "FINISH":
             # Only the ways on which the job may end so are kept.
-            self.steps.append({state: None for state in self.now if self.may_end(state, entry)})
+            self.now = [state for state in self.now if self.may_end(state, entry)]
+            self.steps.append(dict.fromkeys(self.now, ([], [])))
             return
         links, stops = {}, {}
         for before in self.now:
@@ -341,7 +364,8 @@ class Ways:
 
 
 def walk(deck, log):
-    """For each entry of a log, by its position: the states in which its job may have been, and the walker."""
+    """The walker; for each entry of a log, by its position, the states in which its job may have been; and for each job,
+    by its number, those behind its last entry but the end."""
     walker = Walker(deck)
     ways = {job.number: Ways(walker, deck.job(job.number)) for job in log.jobs}
     for entry in log.history():
@@ -350,7 +374,7 @@ def walk(deck, log):
     for job in log.jobs:
         for entry, states in zip(job.entries, ways[job.number].prune(job.entries)):
             found[entry.position] = states
-    return walker, found
+    return walker, found, {number: way.now for number, way in ways.items()}
 
 
 def places(walker, states):
