@@ -1,20 +1,24 @@
 """Which line of the deck each entry of a log is of: the templates are walked beside the log.
 
-What a process does among its own variables has no entry, so after a comparison both ways are walked, and a computation
-may go on or signal. A way stays where the rest of the job's entries can be made on it."""
+What a process does among its own variables has no entry, so after a comparison both ways are walked, unless the log told
+what is compared; and a computation may go on or signal. A way stays where the rest of the job's entries can be made on
+it."""
 import collections
+import fractions
 import functools
 
 from . import pages
 from .creation import template_faults
 from .deck import attribute_of, split_act
-from .words import is_a
+from .values import scalar
+from .words import is_a, is_number, length_of
 
 # A frame of the stack: the template, the place in its code, the places to come back to, the descriptions that are off,
 # and for each parameter the variable that it is.
 Frame = collections.namedtuple("Frame", "template at calls off homes")
-# A state: the frames, and the numbers of the objects of the pointers that are known, by depth and name.
-State = collections.namedtuple("State", "frames pointers")
+# A state: the frames, and what the log told of variables, by depth and name: the number of the object of a pointer, or
+# bytes in hexadecimal.
+State = collections.namedtuple("State", "frames known")
 
 MOST_STATES, MOST_STEPS = 300, 6000
 GIVES = "ncpx"
@@ -70,7 +74,7 @@ class Walker:
         self.codes = {name: Code(template) for name, template in deck.templates.items() if not template_faults(template)}
         self.programs = collections.defaultdict(set)  # the number of an object: the templates that it may be made of
 
-    # ---- the pointers of variables
+    # ---- what is known of variables
 
     def home(self, state, name):
         """The variable for which a name of the newest invocation stands, or nothing for an item in a space."""
@@ -82,17 +86,19 @@ class Walker:
 
     def object_of(self, state, name):
         """The number of the object of a pointer, where it is known."""
-        return dict(state.pointers).get(self.home(state, name))
+        found = dict(state.known).get(self.home(state, name))
+        return found if isinstance(found, int) else None
 
-    def with_pointer(self, state, name, number):
+    def with_value(self, state, name, value):
+        """What is known of a variable from now on; nothing where it is None."""
         home = self.home(state, name)
         if home is None:
             return state
-        kept = dict(state.pointers)
+        kept = dict(state.known)
         kept.pop(home, None)
-        if number is not None:
-            kept[home] = number
-        return state._replace(pointers=tuple(sorted(kept.items())))
+        if value is not None:
+            kept[home] = value
+        return state._replace(known=tuple(sorted(kept.items(), key=str)))
 
     # ---- steps
 
@@ -108,7 +114,7 @@ class Walker:
         if len(state.frames) == 1:
             return None
         depth = len(state.frames) - 1
-        kept = tuple(pair for pair in state.pointers if pair[0][0] < depth)
+        kept = tuple(pair for pair in state.known if pair[0][0] < depth)
         below = state.frames[-2]
         return State((*state.frames[:-2], below._replace(at=below.at + 1)), kept)
 
@@ -128,7 +134,7 @@ class Walker:
             for name, of, label in taken.handlers:
                 if name not in frame.off and of in ("*", code) and label in taken.labels:
                     there = frame._replace(at=taken.labels[label], calls=())
-                    kept = tuple(pair for pair in state.pointers if pair[0][0] <= depth)
+                    kept = tuple(pair for pair in state.known if pair[0][0] <= depth)
                     return State((*state.frames[:depth], there), kept)
         return None
 
@@ -138,7 +144,7 @@ class Walker:
         homes = tuple(zip(code.parameters, (self.home(state, word) for word in operands[1:])))
         frames = state.frames[:-1] if transfers else state.frames
         depth = len(frames)
-        kept = tuple(pair for pair in state.pointers if pair[0][0] < depth)
+        kept = tuple(pair for pair in state.known if pair[0][0] < depth)
         return State((*frames, Frame(template, 0, (), (), homes)), kept)
 
     # ---- what has no entry
@@ -149,7 +155,8 @@ class Walker:
         code = self.codes[frame.template]
         _, text, mnemonic, _, operands = code.items[frame.at]
         nexts, ends = [], set()
-        if mnemonic in ("CMPNVB", "CMPBLAB", "CMPPTRT", "B") and operands[-1] in code.labels:
+        holds = self.compared(state, mnemonic, operands)
+        if mnemonic in ("CMPNVB", "CMPBLAB", "CMPPTRT", "B") and operands[-1] in code.labels and holds is not False:
             nexts.append(self.move(state, code.labels[operands[-1]]))
         if mnemonic == "CALLI" and operands[-1] in code.labels and len(frame.calls) < 64:
             there = frame._replace(at=code.labels[operands[-1]], calls=(*frame.calls, frame.at))
@@ -160,18 +167,48 @@ class Walker:
             off = set(frame.off) - {operands[0]} | ({operands[0]} if operands[-1] == "OFF" else set())
             there = frame._replace(at=frame.at + 1, off=tuple(sorted(off)))
             nexts.append(state._replace(frames=(*state.frames[:-1], there)))
-        elif mnemonic not in ("B", "CALLI", "SIGEXCP"):
-            nexts.append(self.move(self.moved_pointer(state, mnemonic, operands), frame.at + 1))
+        elif mnemonic not in ("B", "CALLI", "SIGEXCP") and holds is not True:
+            nexts.append(self.move(self.written(state, mnemonic, operands), frame.at + 1))
         for signalled in may_signal(text):
             taken = self.signal(state, signalled)
             nexts += [taken] if taken else []
             ends |= set() if taken else {signalled}
         return nexts, ends
 
-    def moved_pointer(self, state, mnemonic, operands):
+    def compared(self, state, mnemonic, operands):
+        """Whether a comparison holds, where the log told both values."""
+        if mnemonic not in ("CMPNVB", "CMPBLAB"):
+            return None
+        pair = [self.told(state, word, mnemonic == "CMPNVB") for word in operands[:2]]
+        if None in pair:
+            return None
+        first, second = pair
+        if mnemonic == "CMPBLAB":
+            first, second = (side[:min(map(len, pair))] for side in pair)
+        return {"EQ": first == second, "NE": first != second, "LO": first < second, "HI": first > second,
+                "NL": first >= second, "NH": first <= second}.get(operands[2])
+
+    def told(self, state, word, as_number):
+        """The value of an operand, where the log told it or it is a literal: a number, or bytes."""
+        if is_number(word):
+            return fractions.Fraction(word)
+        if word.endswith("'"):
+            return bytes.fromhex(word[2:-1]) if word.startswith("X") else word[1:-1].encode("cp037")
+        found = dict(state.known).get(self.home(state, word))
+        if not isinstance(found, str):
+            return None
+        data = bytes.fromhex(found)
+        if not as_number:
+            return data
+        shown = scalar(data, attribute_of(self.codes[state.frames[-1].template].declared[word]))
+        return fractions.Fraction(shown) if is_a(r"-?[0-9]+(\.[0-9]+)?", shown) else None
+
+    def written(self, state, mnemonic, operands):
+        """What is known after an instruction without an entry: nothing of its receiver."""
         if mnemonic in ("ADDSPP", "SUBSPP"):
-            return self.with_pointer(state, operands[0], self.object_of(state, operands[1]))
-        return state
+            return self.with_value(state, operands[0], self.object_of(state, operands[1]))
+        gives = pages.rows().get(mnemonic, "")[:1] in tuple(GIVES)
+        return self.with_value(state, operands[0], None) if gives and operands else state
 
     def reach(self, states):
         """From these states on: those at an instruction with an entry, the codes that may end the process, and whether
@@ -244,10 +281,13 @@ class Walker:
 
     def fits(self, mnemonic, attribute, value):
         """Whether a variable of this attribute may get so many bytes."""
-        kind, *size = attribute.split(":")
-        length = int(size[0]) // 2 + 1 if kind == "PKD" else int(size[0]) if size else 0
         most = len(value) // 2
-        return most <= length if mnemonic in ("CPYBLA", "CPYBRA", "XLATE") else most == length
+        return most <= length_of(attribute) if mnemonic in ("CPYBLA", "CPYBRA", "XLATE") else most == length_of(attribute)
+
+    def whole(self, attribute, value):
+        """The bytes that the log told of a variable, where they are all of its bytes."""
+        whole = attribute and attribute != "EXCM" and is_a("([0-9A-F]{2})+", value)
+        return value if whole and len(value) == 2 * length_of(attribute) else None
 
     def after(self, state, entry):
         """The states to which an entry leads that suits."""
@@ -264,8 +304,9 @@ class Walker:
         if mnemonic in ("CALLX", "XCTL"):
             return self.entered(state, mnemonic, operands)
         name, attribute = code.receiver(frame.at)
-        if attribute == "PTR" and entry.value is not None:
-            state = self.with_pointer(state, name, object_in(entry.value))
+        if name is not None and entry.value is not None:
+            value = object_in(entry.value) if attribute == "PTR" else self.whole(attribute, entry.value)
+            state = self.with_value(state, name, value)
         if mnemonic == "CRTPG" and entry.value:
             self.programs[object_in(entry.value)].add(operands[4])
         return [self.move(state, frame.at + 1)]
