@@ -21,7 +21,7 @@ TOGETHER = {
 def bounds_hint(attribute):
     if attribute.startswith("CHAR"):
         return f"{attribute}: 1 to 4096 bytes"
-    return f"{attribute}: 1 to 31 digits, of them at most all behind the point"
+    return f"{attribute}: 1 to 31 digits, of them at most all after the point"
 
 
 class Names:
@@ -60,7 +60,7 @@ class Names:
 
     def base_fault(self, base):
         if base not in self.seen:
-            later = " before it; it stands behind it" if base in self.all else near(base, self.seen)
+            later = " before it; it is declared after it" if base in self.all else near(base, self.seen)
             return f"the pointer {base} is not declared{later}"
         words = self.seen[base][1]
         return None if attribute_of(words) == "PTR" and words[0] != "BASED" else f"{base} is no PTR, or lies in a space itself"
@@ -114,7 +114,7 @@ def undeclared_fault(template, names, text):
 
 
 def item_suits(letter, words):
-    """Whether an item with these words behind its name may stand at this letter."""
+    """Whether an item with these words after its name may be at this letter."""
     attribute = attribute_of(words)
     based, parameter = words[0] == "BASED", words[0] == "PARM"
     if letter in "nN":

@@ -19,7 +19,7 @@ class Fault:
 def bytes_fault(raw, ends):
     """The column and the hint of a line with bytes that a line may not have, or nothing."""
     if raw.startswith((b"\xef\xbb\xbf", b"\xff\xfe", b"\xfe\xff")):
-        return 1, "a byte-order mark stands before the line; save the deck as plain ASCII text without one"
+        return 1, "a byte-order mark is before the line; save the deck as plain ASCII text without one"
     if raw.endswith(b"\r"):
         return len(raw), "a Windows line end (carriage return and line feed); save the deck with line feeds alone"
     odd = [place for place, byte in enumerate(raw, 1) if not 0x20 <= byte <= 0x7E]
@@ -29,7 +29,7 @@ def bytes_fault(raw, ends):
         return odd[0], f"the byte {raw[odd[0] - 1]:02X} at place {odd[0]}; a letter, a dash or a quote that is not ASCII"
     if len(raw) > MOST_LINE:
         return MOST_LINE + 1, f"the line has {len(raw)} bytes, and {MOST_LINE} are the most"
-    return None if ends else (len(raw) + 1, "no line feed stands behind the last line")
+    return None if ends else (len(raw) + 1, "no line feed is after the last line")
 
 
 # ---- code 2: the form of a line
@@ -90,7 +90,7 @@ def word_fault(word):
     if word.startswith("*"):
         return f"{word} is no word{near(word, ['*NONE', '*MACHINE', '*LIST', '*PUBLIC'])}"
     if "+" in word:
-        return f"{word} is no word of rights; they stand in the order {'+'.join(pages.rights())}, and ALL is all eight"
+        return f"{word} is no word of rights; they are in the order {'+'.join(pages.rights())}, and ALL is all eight"
     if re.match(r"[-+.]?[0-9][-+.0-9]*$|[-+.]", word):
         return f"{word} is no number: digits, perhaps with a minus before and a point between them"
     return name_fault(word, True) or f"{word} is no operand"
@@ -100,9 +100,9 @@ def act_fault(text):
     mnemonic, rounds, operands = split_act(text)
     behind = len(mnemonic) + 2
     if rounds and mnemonic not in pages.rounded():
-        return behind, f"(R) can't stand behind {mnemonic}"
+        return behind, f"(R) can't come after {mnemonic}"
     if "(R)" in re.sub("'[^']*'", "", text) and not rounds:
-        return text.index("(R)") + 1, "(R) stands as a word of its own behind the mnemonic"
+        return text.index("(R)") + 1, "(R) is a word of its own after the mnemonic"
     column = behind + (4 if rounds else 0)
     if text == mnemonic + " ":
         return len(text), "a trailing blank"
@@ -113,7 +113,7 @@ def act_fault(text):
     return None
 
 
-DECLARATIONS = ("behind DCL and the name stand an attribute, perhaps with INIT and a literal; or PARM, a number and an "
+DECLARATIONS = ("after DCL and the name comes an attribute, perhaps with INIT and a literal; or PARM, a number and an "
                 "attribute; or BASED, a pointer, an offset and an attribute; or EXCM, a code and a label")
 
 
@@ -140,7 +140,7 @@ def declaration_fault(text):
         return place_of(padded, 3), name_fault(padded[3], True)
     if kind in ("PARM", "BASED") and not is_a(WHOLE, padded[behind - 1]):
         said = padded[behind - 1] or "nothing"
-        return place_of(padded, behind - 1), f"{said} stands where a whole number without a leading zero is wanted"
+        return place_of(padded, behind - 1), f"{said} is written, and a whole number without a leading zero is wanted"
     if not is_a(ATTRIBUTE, padded[behind]):
         return place_of(padded, behind), attribute_fault(padded[behind])
     if behind > 2:
@@ -158,7 +158,7 @@ def description_fault(words, padded):
 
 
 def initial_fault(text, words):
-    """Of a variable: what is wrong behind its attribute."""
+    """Of a variable: what is wrong after its attribute."""
     if len(words) == 3:
         return None
     if words[3] != "INIT" or len(words) == 4:
@@ -183,11 +183,11 @@ def job_fault(text):
     rest = 6
     if padded[6] == "BUDGET":
         if not is_a(WHOLE, padded[7]):
-            return place_of(padded, 7), "behind BUDGET stands no whole number without a leading zero"
+            return place_of(padded, 7), "after BUDGET is no whole number without a leading zero"
         rest = 8
     names = words[rest + 1:]
     if len(words) > rest and (words[rest] != "CONTEXTS" or not names):
-        return place_of(padded, rest), "behind the template may stand BUDGET n, and then CONTEXTS with names; nothing else"
+        return place_of(padded, rest), "after the template may come BUDGET n, and then CONTEXTS with names; nothing else"
     bad = [place for place, name in enumerate(names, rest + 1) if name_fault(name, False)]
     return (place_of(words, bad[0]), name_fault(words[bad[0]], False)) if bad else None
 
@@ -199,10 +199,10 @@ def head_fault(text):
     if fault:
         return len(words[0]) + 2, fault
     if words[0] == "LABEL":
-        return (place_of(words, 2), "behind the label stands another word") if words[2:] else None
+        return (place_of(words, 2), "after the label is another word") if words[2:] else None
     if words[2:] in ([], ["ADOPT"], ["PROPAGATE"], ["ADOPT", "PROPAGATE"]):
         return None
-    return place_of(words, 2), "behind the template's name may stand ADOPT, and then PROPAGATE; nothing else"
+    return place_of(words, 2), "after the template's name may come ADOPT, and then PROPAGATE; nothing else"
 
 
 def form_fault(text):
@@ -210,7 +210,7 @@ def form_fault(text):
     word = text.split(" ")[0]
     known = [*LINES, *pages.rows()]
     if word in ("END", "STAGE"):
-        fault = None if text == word else (len(word) + 1, f"behind {word} stands another word")
+        fault = None if text == word else (len(word) + 1, f"after {word} is another word")
     elif word not in known:
         fault = 1, f"there is no mnemonic {word}{near(word, known)}"
     else:
@@ -238,15 +238,15 @@ class Reading:
             if not inside:
                 return f"END is missing: the template before has not ended when {word} comes"
             late = place == "acting" and word == "DCL"
-            return f"a DCL behind an instruction or a label (line {since}); all DCL stand first in a template" if late else None
+            return f"a DCL after an instruction or a label (line {since}); all DCL come first in a template" if late else None
         if place == "between" and word == "JOB":
             return "STAGE is missing before the first JOB"
         if place == "between" and inside:
-            return "it stands outside a template: PROGRAM is missing, or an END came too early"
+            return "it is outside a template: PROGRAM is missing, or an END came too early"
         if place == "begun" and word != "JOB":
-            return f"behind STAGE (line {since}) no JOB stands"
+            return f"after STAGE (line {since}) comes no JOB"
         if place == "staged" and (inside or word == "PROGRAM"):
-            return "templates stand before the first STAGE; behind it stand jobs and further stages"
+            return "templates come before the first STAGE; after it come jobs and further stages"
         return None
 
     def seen_fault(self, text):
@@ -254,7 +254,7 @@ class Reading:
         word, _, rest = text.partition(" ")
         names = {"PROGRAM": self.templates, "LABEL": self.labels, "JOB": self.jobs}.get(word)
         name = rest.split(" ")[0]
-        return f"the name stands in line {names[name]} already" if names is not None and name in names else None
+        return f"the name is in line {names[name]} already" if names is not None and name in names else None
 
     def room_fault(self, word):
         what = word if word in MOST else None if word in ("LABEL", "END", "STAGE") else "act"
@@ -299,7 +299,7 @@ def range_fault(text):
     place, most, least = at[key]
     if len(words[place]) < 20 and least <= int(words[place]) <= most:
         return None
-    said = {"JOB": f"{words[place]} behind BUDGET is not 1 to 10000000", "PARM": f"{words[place]} behind PARM is not 1 to 16",
+    said = {"JOB": f"{words[place]} after BUDGET is not 1 to 10000000", "PARM": f"{words[place]} after PARM is not 1 to 16",
             "BASED": f"the offset {words[place]} is not 0 to 16777216"}
     return place_of(words, place), said[key]
 
@@ -339,8 +339,8 @@ def line_fault(reading, number, raw, ends):
 
 def end_fault(reading):
     if reading.place == "begun":
-        return f"no JOB stands behind STAGE (line {reading.since})"
-    return "END is missing behind the last template" if reading.place in ("declaring", "acting") else None
+        return f"no JOB is after STAGE (line {reading.since})"
+    return "END is missing after the last template" if reading.place in ("declaring", "acting") else None
 
 
 def deck_faults(deck):
