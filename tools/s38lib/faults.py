@@ -104,7 +104,7 @@ def act_fault(text):
     if "(R)" in re.sub("'[^']*'", "", text) and not rounds:
         return text.index("(R)") + 1, "(R) is a word of its own after the mnemonic"
     column = behind + (4 if rounds else 0)
-    if text == mnemonic + " ":
+    if text.endswith((mnemonic + " ", " (R) ")):
         return len(text), "a trailing blank"
     for word in operands:
         if not has_form(word):
