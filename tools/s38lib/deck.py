@@ -1,6 +1,4 @@
-"""A deck: its lines, its templates and its jobs. It is read whole, also behind a line that is bad."""
-import re
-
+"""A deck: its lines, its templates and its jobs. It is read whole, also after a line that is bad."""
 from . import pages
 from .words import NAME, WHOLE, is_a
 
@@ -91,10 +89,6 @@ class Deck:
         """The job of a number, counted from 1."""
         return self.jobs[number - 1] if 1 <= number <= len(self.jobs) else None
 
-    def template_at(self, line):
-        """The template in which a line is."""
-        return next((one for one in self.templates.values() if one.line <= line <= one.end), None)
-
 
 def take(template, number, text, word, rest):
     """Gives a template one more line."""
@@ -145,10 +139,6 @@ def named_operands(text):
         letter = pages.letter_at(mnemonic, place)
         if letter and letter in "nNcCBpPxXYZUHa" and is_a(NAME, word):
             yield place + 1, letter, word
-
-
-def is_label(text):
-    return re.match("LABEL ", text) is not None
 
 
 # The kind that a row makes.

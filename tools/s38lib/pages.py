@@ -8,7 +8,6 @@ DOCS = TOP / "docs"
 
 # A mnemonic with its operands in words, and behind it the letters of these operands.
 HEAD = re.compile(r"`([A-Z]+)( [^`]*)?`(?:\*\*)? \((?:`([^`]*)`|no operands)\)")
-LIST = re.compile(r"^\| [\w ]+ \| ([A-Z]+(?: [A-Z]+)*) \|$", re.M)
 ENTRY = re.compile(
     r"^### (\w+) (.+)\n\n(.+)\n\n(?:- Signalled by: (.+)\n)?- Usual cause: (.+)\n- Cure: (.+)$", re.M)
 
