@@ -155,7 +155,7 @@ def bad_word(letter, word):
 
 
 def lengths(names, operands):
-    """How many bytes each operand has, 0 where it has no attribute."""
+    """How many bytes each operand has, 0 if it has no attribute."""
     found = []
     for word in operands:
         attribute = attribute_of(names[word][1]) if word in names else None

@@ -16,7 +16,7 @@ class Template:
         self.code = []  # instructions and labels in their order: line, text
 
     def declared(self):
-        """Each name, with its first line and the words behind it."""
+        """Each name, with its first line and the words after it."""
         names = {}
         for line, text in self.declarations:
             words = text.split(" ")
@@ -24,7 +24,7 @@ class Template:
         return names
 
     def attribute(self, name):
-        """The attribute of a name; None where it has none or is not declared."""
+        """The attribute of a name; None if it has none or is not declared."""
         found = self.declared().get(name)
         return attribute_of(found[1]) if found else None
 
@@ -104,7 +104,7 @@ def take(template, number, text, word, rest):
 
 
 def attribute_of(words):
-    """The attribute behind a declared name; EXCM for a description, and None where there is none."""
+    """The attribute after a declared name; EXCM for a description, and None if there is none."""
     if words[:1] == ["EXCM"]:
         return "EXCM"
     place = {"PARM": 2, "BASED": 3}.get("".join(words[:1]), 0)
@@ -112,7 +112,7 @@ def attribute_of(words):
 
 
 def split_act(text):
-    """A line's mnemonic, whether (R) stands behind it, and its operands."""
+    """A line's mnemonic, whether (R) is after it, and its operands."""
     mnemonic, _, rest = text.partition(" ")
     rounds = rest == "(R)" or rest.startswith("(R) ")
     rest = rest[4:] if rounds else rest

@@ -57,7 +57,7 @@ def case_fault(text):
 
 
 def name_fault(name, starts):
-    """Why a word is no name; where it has to start with a letter, that counts."""
+    """Why a word is no name; if it has to start with a letter, that counts."""
     if not name:
         return "a name is left out"
     odd = re.search("[^A-Z0-9]", name)
@@ -222,7 +222,7 @@ def form_fault(text):
 # ---- the place of a line, and codes 3 to 8
 
 class Reading:
-    """Where the reader of a deck stands, and what was there before."""
+    """Where the reader of a deck is, and what was there before."""
 
     def __init__(self):
         self.place, self.since = "between", 0
@@ -231,7 +231,7 @@ class Reading:
         self.size = 0
 
     def place_fault(self, word):
-        """Why a line that begins with this word may not stand here."""
+        """Why a line that begins with this word may not be here."""
         place, since = self.place, self.since
         inside = word not in ("PROGRAM", "STAGE", "JOB")
         if place in ("declaring", "acting"):

@@ -38,7 +38,7 @@ def plain(comment):
 
 
 def pieces(line):
-    """The words, commas and literals of a line; blanks part words, and none stands beside a comma."""
+    """The words, commas and literals of a line; blanks part words, and none is next to a comma."""
     for mark, quoted, comment, blanks, comma, word in (found.groups() for found in PIECE.finditer(line)):
         if comment is not None:
             return

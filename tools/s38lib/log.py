@@ -26,7 +26,7 @@ class Entry:
 
     @property
     def code(self):
-        """The code of an exception that the entry signals; None where it signals none."""
+        """The code of an exception that the entry signals; None if it signals none."""
         first = "".join(self.words[:1])
         return first if self.name != "FINISH" and re.fullmatch("[0-9A-F]{4}", first) else None
 
@@ -61,7 +61,7 @@ class Log:
     def take(self, number, line):
         head, entry, checked = HEAD.fullmatch(line), ENTRY.fullmatch(line), CHECKED.fullmatch(line)
         if self.last is not None:
-            self.fault = self.fault or f"line {number} of the log is behind its last line: {shown(line)}"
+            self.fault = self.fault or f"line {number} of the log is after its last line: {shown(line)}"
         elif END.fullmatch(line):
             self.last = line if line[:4] in ("DONE", "TOTA") or not line.startswith("JOBS") else None
         elif head:

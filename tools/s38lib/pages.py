@@ -6,7 +6,7 @@ import re
 TOP = pathlib.Path(__file__).resolve().parent.parent.parent
 DOCS = TOP / "docs"
 
-# A mnemonic with its operands in words, and behind it the letters of these operands.
+# A mnemonic with its operands in words, and after it the letters of these operands.
 HEAD = re.compile(r"`([A-Z]+)( [^`]*)?`(?:\*\*)? \((?:`([^`]*)`|no operands)\)")
 ENTRY = re.compile(
     r"^### (\w+) (.+)\n\n(.+)\n\n(?:- Signalled by: (.+)\n)?- Usual cause: (.+)\n- Cure: (.+)$", re.M)
@@ -72,7 +72,7 @@ def most_operands(mnemonic):
 
 
 def letter_at(mnemonic, place):
-    """The letter at a place, counted from 0; None behind the last."""
+    """The letter at a place, counted from 0; None after the last."""
     row = rows()[mnemonic]
     if row.endswith("a"):
         return "P" if place == 0 else "a" if place < 17 else None
@@ -97,7 +97,7 @@ def families():
 
 @functools.lru_cache(maxsize=None)
 def rounded():
-    """The mnemonics at which (R) may stand."""
+    """The mnemonics at which (R) may be written."""
     said = re.search(r"It may (?:stand|be written) at ([A-Z, and]+)", section("REFERENCE.md", "Words"))[1]
     return set(re.findall("[A-Z]+", said))
 
@@ -106,7 +106,7 @@ def rounded():
 
 @functools.lru_cache(maxsize=None)
 def words():
-    """The words that may stand at a letter."""
+    """The words that may be written at a letter."""
     found = {}
     for said, places in re.findall(r"^\| ((?:`[^`]+` ?)+)\| ([\w, ]+) \|", section("REFERENCE.md", "Words"), re.M):
         for letter in re.findall(r"\b\w\b", places):

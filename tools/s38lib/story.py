@@ -15,7 +15,7 @@ class Step:
         self.entry, self.job, self.lines, self.result, self.said = entry, job, lines, result, said
         self.text = next(iter(lines.values()))[0] if len(lines) == 1 else None
         self.template = next(iter(lines.values()))[1] if len(lines) == 1 else None
-        self.objects = {}  # the numbers of the objects of the operands, by place, where they are known
+        self.objects = {}  # the numbers of the objects of the operands, by place, if they are known
 
 
 class Story:
@@ -46,7 +46,7 @@ class Story:
         return step
 
     def find_objects(self, step, states):
-        """The objects of the pointers among the operands, where all ways agree."""
+        """The objects of the pointers among the operands, if all ways agree."""
         for place, word in enumerate(split_act(step.text)[2], 1):
             found = {self.walker.object_of(state, word) for state in states}
             if len(found) == 1 and None not in found:
@@ -144,7 +144,7 @@ class Story:
         return values.journal_entry(data, self.name, self.job_name) if mnemonic == "RETJENT" else None
 
     def scalar(self, step, data):
-        """Bytes by the attribute that the receiver declares, where all lines agree."""
+        """Bytes by the attribute that the receiver declares, if all lines agree."""
         found = set()
         for line, (text, template) in step.lines.items():
             operands = split_act(text)[2]

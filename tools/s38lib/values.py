@@ -5,13 +5,13 @@ from . import pages
 
 
 def text_of(data):
-    """Bytes as text in EBCDIC; None where one of them is no character that is printed."""
+    """Bytes as text in EBCDIC; None if one of them is no character that is printed."""
     text = data.decode("cp037")
     return text if all(" " <= char <= "~" for char in text) else None
 
 
 def raw(word):
-    """The bytes of a word in hexadecimal; None where it is none."""
+    """The bytes of a word in hexadecimal; None if it is none."""
     return bytes.fromhex(word) if re.fullmatch("([0-9A-F]{2})*", word) else None
 
 
@@ -43,7 +43,7 @@ def rights_of(bits):
 
 
 def scalar(data, attribute):
-    """The value of bytes by their attribute; the bytes themselves where they have none."""
+    """The value of bytes by their attribute; the bytes themselves if they have none."""
     kind, *size = (attribute or "CHAR").split(":")
     value = None
     if kind == "PKD":

@@ -53,7 +53,7 @@ class Code:
         return family != "computing" or any(self.is_based(word) for word in operands)
 
     def receiver(self, at):
-        """The item that an instruction gives something, and its attribute; nothing where it gives none."""
+        """The item that an instruction gives something, and its attribute; nothing if it gives none."""
         mnemonic, operands = self.items[at][2], self.items[at][4]
         if not operands or mnemonic not in pages.rows() or pages.rows()[mnemonic][:1] not in tuple(GIVES):
             return None, None
@@ -85,12 +85,12 @@ class Walker:
         return dict(frame.homes).get(name, (len(state.frames) - 1, name))
 
     def object_of(self, state, name):
-        """The number of the object of a pointer, where it is known."""
+        """The number of the object of a pointer, if it is known."""
         found = dict(state.known).get(self.home(state, name))
         return found if isinstance(found, int) else None
 
     def with_value(self, state, name, value):
-        """What is known of a variable from now on; nothing where it is None."""
+        """What is known of a variable from now on; nothing if it is None."""
         home = self.home(state, name)
         if home is None:
             return state
@@ -110,7 +110,7 @@ class Walker:
         return state._replace(frames=(*state.frames[:-1], state.frames[-1]._replace(at=at)))
 
     def leave(self, state):
-        """The newest invocation comes back; nothing where it was the first."""
+        """The newest invocation comes back; nothing if it was the first."""
         if len(state.frames) == 1:
             return None
         depth = len(state.frames) - 1
@@ -127,7 +127,7 @@ class Walker:
         return self.leave(state)
 
     def signal(self, state, code):
-        """Where the process goes on behind an exception; nothing where nothing takes it."""
+        """Where the process goes on after an exception; nothing if nothing takes it."""
         for depth in range(len(state.frames) - 1, -1, -1):
             frame = state.frames[depth]
             taken = self.codes[frame.template]
@@ -176,7 +176,7 @@ class Walker:
         return nexts, ends
 
     def compared(self, state, mnemonic, operands):
-        """Whether a comparison holds, where the log told both values."""
+        """Whether a comparison holds, if the log told both values."""
         if mnemonic not in ("CMPNVB", "CMPBLAB"):
             return None
         pair = [self.told(state, word, mnemonic == "CMPNVB") for word in operands[:2]]
@@ -189,7 +189,7 @@ class Walker:
                 "NL": first >= second, "NH": first <= second}.get(operands[2])
 
     def told(self, state, word, as_number):
-        """The value of an operand, where the log told it or it is a literal: a number, or bytes."""
+        """The value of an operand, if the log told it or it is a literal: a number, or bytes."""
         if is_number(word):
             return fractions.Fraction(word)
         if word.endswith("'"):
@@ -261,7 +261,7 @@ class Walker:
     # ---- what has one
 
     def suits(self, state, entry):
-        """Whether an entry may be of the instruction at which a state stands."""
+        """Whether an entry may be of the instruction at which a state is."""
         frame = state.frames[-1]
         code = self.codes[frame.template]
         _, _, mnemonic, _, operands = code.items[frame.at]
@@ -285,7 +285,7 @@ class Walker:
         return most <= length_of(attribute) if mnemonic in ("CPYBLA", "CPYBRA", "XLATE") else most == length_of(attribute)
 
     def whole(self, attribute, value):
-        """The bytes that the log told of a variable, where they are all of its bytes."""
+        """The bytes that the log told of a variable, if they are all of its bytes."""
         whole = attribute and attribute != "EXCM" and is_a("([0-9A-F]{2})+", value)
         return value if whole and len(value) == 2 * length_of(attribute) else None
 
@@ -346,7 +346,7 @@ class Ways:
 
     def __init__(self, walker, job):
         self.walker, self.job = walker, job
-        self.steps = []  # for each entry: the states that suit it, each with those before and behind it
+        self.steps = []  # for each entry: the states that suit it, each with those before and after it
         self.now = []  # where the job may be
 
     def take(self, entry):
@@ -406,7 +406,7 @@ class Ways:
 
 def walk(deck, log):
     """The walker; for each entry of a log, by its position, the states in which its job may have been; and for each job,
-    by its number, those behind its last entry but the end."""
+    by its number, those after its last entry but the end."""
     walker = Walker(deck)
     ways = {job.number: Ways(walker, deck.job(job.number)) for job in log.jobs}
     for entry in log.history():
@@ -419,7 +419,7 @@ def walk(deck, log):
 
 
 def places(walker, states):
-    """The lines at which states stand, each with its text and its template."""
+    """The lines at which states are, each with its text and its template."""
     found = {}
     for state in states:
         frame = state.frames[-1]

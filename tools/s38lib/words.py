@@ -90,7 +90,7 @@ def is_numeric(attribute):
 
 
 def digits_of(attribute):
-    """The digits of a number, and those behind its point."""
+    """The digits of a number, and those after its point."""
     kind, *size = attribute.split(":")
     return ({"2": 5, "4": 10}[size[0]], 0) if kind == "BIN" else (int(size[0]), int(size[1]))
 
