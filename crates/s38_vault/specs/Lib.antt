@@ -1,0 +1,5 @@
+pub mod Content
+pub mod Directory
+pub mod Keyed
+pub mod Keys
+pub mod Vaults
