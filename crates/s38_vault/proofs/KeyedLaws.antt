@@ -1,5 +1,5 @@
 -- Entries that rise by key, as the finite map that contracts see.
-use Rattle.std.proofs.Common.{◌≡◌, ℕ, ◌+◌, ◌-◌, Bool, true, false, cond, not, List, [], ◌∷◌, length, map, set, zero, suc, refl, sym, ◌∙◌, ap, subst, arith}
+use Rattle.std.proofs.Common.{◌≡◌, ℕ, ◌+◌, ◌-◌, Bool, true, false, cond, not, List, [], ◌∷◌, length, map, set, refl, sym, ◌∙◌, ap, subst, arith}
 use lib.Dec.{T}
 use Rattle.std.proofs.lemmas.List.Folds.{find_at}
 use Rattle.std.specs.Prelude.{Option, Some, None, insert, is_some, remove, slice_get}
@@ -83,7 +83,7 @@ module _ {V : Type 0} where
   values_put es key value h =
       let rises = is_sorted-put key_cmp key_cmp_total key value es (sorted es h) in
       same_entries_map _ _ (entries-from_sorted key_cmp _ rises
-          ∙ sym (entries-insert key_cmp_total (map_of es) key value ∙ ap (put key_cmp key value) (entries-from_sorted key_cmp es (sorted es h))))
+      ∙ sym (entries-insert key_cmp_total (map_of es) key value ∙ ap (put key_cmp key value) (entries-from_sorted key_cmp es (sorted es h))))
 
   pub rise_without : (es : List (Key × V)) (key : Key) → Rise es → Rise (without key es)
   rise_without es key h = holds _ (is_sorted-where_key key_cmp (λ k. not (eq_by_cmp key_cmp key k)) es (sorted es h))
@@ -92,12 +92,12 @@ module _ {V : Type 0} where
   values_without es key h =
       let rises = is_sorted-where_key key_cmp (λ k. not (eq_by_cmp key_cmp key k)) es (sorted es h) in
       same_map key_cmp_total key_cmp-IsAntisymmetric _ _ (λ q.
-          get-from_sorted key_cmp (without key es) q rises
-          ∙ find-where_key key_cmp (λ k. not (eq_by_cmp key_cmp key k)) q (λ x t. ap (λ r. not (is_eq r)) (sym (alike_right key_cmp_total q x key t))) es
-          ∙ turned (eq_by_cmp key_cmp key q) (find key_cmp q es) None
-          ∙ ap (λ b. cond b None (find key_cmp q es)) ((eq_by_cmp_equiv key_cmp_total).symm key q)
-          ∙ ap (λ o. cond (eq_by_cmp key_cmp q key) None o) (get_is es q h)
-          ∙ sym (get-remove key_cmp_total (map_of es) key q))
+      get-from_sorted key_cmp (without key es) q rises
+      ∙ find-where_key key_cmp (λ k. not (eq_by_cmp key_cmp key k)) q (λ x t. ap (λ r. not (is_eq r)) (sym (alike_right key_cmp_total q x key t))) es
+      ∙ turned (eq_by_cmp key_cmp key q) (find key_cmp q es) None
+      ∙ ap (λ b. cond b None (find key_cmp q es)) ((eq_by_cmp_equiv key_cmp_total).symm key q)
+      ∙ ap (λ o. cond (eq_by_cmp key_cmp q key) None o) (get_is es q h)
+      ∙ sym (get-remove key_cmp_total (map_of es) key q))
 
   -- ---- what is at the place of a key
 

@@ -1,5 +1,5 @@
 -- What a search finds in entries that rise by key, and what an edit at that place makes of them.
-use Rattle.std.proofs.Common.{◌≡◌, ℕ, ◌+◌, ◌≤◌, ◌<◌, Bool, true, false, cond, not, List, [], ◌∷◌, get_or, length, map, set, zero, suc, refl, sym, ◌∙◌, ap, arith, subst}
+use Rattle.std.proofs.Common.{◌≡◌, ℕ, ◌+◌, ◌≤◌, ◌<◌, Bool, true, false, cond, not, List, [], ◌∷◌, get_or, length, set, zero, suc, refl, sym, ◌∙◌, ap, arith}
 use Rattle.std.proofs.lemmas.List.Sums.{position_or_len_is}
 use Rattle.std.specs.Prelude.{◌&&◌, Option, Some, None, insert, remove, slice_get}
 use Rattle.std.specs.Cmp.{IsTotalOrder}

@@ -1,5 +1,5 @@
 -- What a vault holds: a finite map from keys to pages, and what changes make of it.
-use Rattle.std.specs.Prelude.{◌≤◌, ℕ, Option, Some, None, List, [], ◌∷◌}
+use Rattle.std.specs.Prelude.{◌≤◌, Option, Some, None, List, [], ◌∷◌}
 use Rattle.std.specs.List.{AllByRecursion}
 use Rattle.std.specs.FinMap.{FinMap, insert, remove}
 use Rattle.s38_base.specs.declared.page.Change.{Change}

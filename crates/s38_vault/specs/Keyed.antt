@@ -1,5 +1,5 @@
 -- Values by key, in a list in the order of the keys.
-use Rattle.std.specs.Prelude.{◌≡◌, ℕ, ◌∷◌, [], Bool, false, List, None, Option, Some, not, refl, if◌then◌else◌}
+use Rattle.std.specs.Prelude.{ℕ, Bool, false, List, None, Option, Some, not, refl, if◌then◌else◌}
 use Rattle.std.specs.Coded.{Coded, code_by, coded×, coded_ℕ}
 use Rattle.std.specs.FinMap as map
 use Rattle.std.specs.List.{position_or_len}

@@ -3,21 +3,21 @@
 
 mod fault;
 mod keyed;
-// mod map_vault;
+mod map_vault;
 mod search;
-// mod vault;
+mod vault;
 
 pub use fault::VaultFault;
 pub use keyed::Keyed;
-// pub use map_vault::MapVault;
-// pub use vault::Vault;
+pub use map_vault::MapVault;
+pub use vault::Vault;
 
 /// What is sent between threads.
 fn sends<T: Send + Sync>() {}
 
 /// Each value of this crate may be sent and shared.
 pub fn all_may_be_sent() {
-    // sends::<MapVault>();
+    sends::<MapVault>();
     sends::<Keyed<u32>>();
     sends::<VaultFault>();
 }

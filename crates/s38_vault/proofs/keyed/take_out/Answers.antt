@@ -1,4 +1,4 @@
-use Rattle.std.proofs.Common.{◌∙◌, ap, subst}
+use Rattle.std.proofs.Common.{◌∙◌, ap}
 use Rattle.std.specs.Prelude.{slice_get}
 use Rattle.s38_vault.specs.Keyed.{is_of, place}
 use Rattle.s38_vault.proofs.KeyedLaws.{kept_at, removed_at}

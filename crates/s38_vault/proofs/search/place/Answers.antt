@@ -11,5 +11,5 @@ returns-clause-value g c =
     let xs = c.args.entries.now in
     let n = c.partition_point.result in
     sym (point_is (λ e. is_lt (key_cmp e.0 key)) xs n c.partition_point.ensures.bound
-        (IsPartitionPoint-from_clause (λ e. is_lt (key_cmp e.0 key)) xs n c.partition_point.ensures.partitioned
-            (cut_partition (λ e. is_lt (key_cmp e.0 key)) xs (sorted_cut key_cmp_total key xs c.requires)) (λ a r q k. search rules)))
+    (IsPartitionPoint-from_clause (λ e. is_lt (key_cmp e.0 key)) xs n c.partition_point.ensures.partitioned
+    (cut_partition (λ e. is_lt (key_cmp e.0 key)) xs (sorted_cut key_cmp_total key xs c.requires)) (λ a r q k. search rules)))

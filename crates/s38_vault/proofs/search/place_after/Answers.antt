@@ -11,5 +11,5 @@ returns g c =
     let xs = c.args.entries.now in
     let n = c.partition_point.result in
     sym (point_passed (λ e. is_lt (key_cmp key e.0)) xs n c.partition_point.ensures.bound
-        (IsPartitionPoint-from_clause (λ e. not (is_lt (key_cmp key e.0))) xs n c.partition_point.ensures.partitioned
-            (cut_partition (λ e. not (is_lt (key_cmp key e.0))) xs (sorted_cut_after key_cmp_total key xs c.requires)) (λ a r q k. search rules)))
+    (IsPartitionPoint-from_clause (λ e. not (is_lt (key_cmp key e.0))) xs n c.partition_point.ensures.partitioned
+    (cut_partition (λ e. not (is_lt (key_cmp key e.0))) xs (sorted_cut_after key_cmp_total key xs c.requires)) (λ a r q k. search rules)))

@@ -1,0 +1,131 @@
+ghost use Rattle.std.specs.Prelude.{◌≡◌, ◌+◌, ◌<◌, ◌≤◌, length, OnErr, OnOk};
+ghost use Rattle.std.specs.FinMap as map;
+ghost use Rattle.s38_vault.specs.Content.{Content, changed};
+ghost use Rattle.s38_vault.specs.Directory.{is_new, keys_of, new_keys};
+ghost use Rattle.s38_vault.specs.MapVaults.{map_view};
+
+use crate::fault::VaultFault;
+use crate::keyed::Keyed;
+use crate::vault::Vault;
+use s38_base::{Change, Failed, Key, NoMemory, Page, limits};
+use std::alloc::Global;
+use std::marker::Model;
+
+/// How many changes a put takes at most.
+const MOST: u32 = 2286;
+
+/// A vault in memory, which tells what it holds, never fails, and is gone after a crash. Contracts see its pages, how
+/// many parts it has, for how many changes memory is reserved, and how many puts were made.
+#[derive(Drop)]
+pub struct MapVault {
+    pages: Keyed<Page>,
+    parts: u32,
+    moment: u64,
+}
+
+impl Model for MapVault {
+    ghost use Rattle.std.specs.Prelude.{◌≤◌};
+    ghost use Rattle.std.specs.FinMap as map;
+    ghost use Rattle.s38_vault.specs.Directory.{NameObjects, keys_of};
+    ghost use Rattle.s38_vault.specs.MapVaults.{MapStore, map_store_code};
+
+    ghost Value = { MapStore };
+
+    ghost coded = { map_store_code };
+
+    ghost view = { λ v. record { pages = v.pages.values; parts = v.parts; spare = v.pages.spare; moment = v.moment } };
+
+    ghost invariant = { λ v. record { fits : map.len v.pages.values ≤ v.parts; objects : NameObjects (keys_of v.pages.values) } };
+}
+
+/// Whether a change brings a key that is not there.
+fn is_new(pages: &Keyed<Page>, change: &Change) -> bool
+    ensures { result ≡ is_new (keys_of pages.now.values) change.now }
+{
+    change.page.is_some() && !pages.contains_key(change.key)
+}
+
+/// How many keys the changes bring that are not there.
+fn count_new(pages: &Keyed<Page>, changes: &[Change]) -> u32
+    requires { length changes.now ≤ 2286 }
+    ensures { result ≡ new_keys (keys_of pages.now.values) changes.now }
+{
+    let mut count = 0;
+    for change in changes {
+        if is_new(pages, change) {
+            count += 1;
+        }
+    }
+    count
+}
+
+/// Makes all changes, without memory.
+fn change_all(pages: &mut Keyed<Page>, changes: &[Change])
+    requires { length changes.now ≤ pages.old.spare }
+    ensures values { pages.new.values ≡ changed pages.old.values changes.now }
+    ensures spare { pages.old.spare ≤ pages.new.spare + length changes.now }
+{
+    for change in changes {
+        pages.set(change.key, change.page);
+    }
+}
+
+impl MapVault {
+    /// A vault without a page, for so many; it takes no memory until some is reserved.
+    pub fn new(alloc: Global, parts: u32) -> Self
+        ensures { result ≡ record { pages = map.empty; parts = parts; spare = 0; moment = 0 } }
+    {
+        MapVault {
+            pages: Keyed::new(alloc),
+            parts,
+            moment: 0,
+        }
+    }
+}
+
+impl Vault for MapVault {
+    ghost view = { λ v. map_view v };
+
+    ghost holds = { λ v m. v.pages ≡ m };
+
+    ghost leaves = { λ v t m. ⊥ };
+
+    fn get(&mut self, key: Key) -> Result<Option<Page>, Failed> {
+        Ok(self.pages.get(key))
+    }
+
+    fn next_key(&self, after: Option<Key>) -> Option<Key> {
+        self.pages.next_key(after)
+    }
+
+    fn reserve(&mut self, parts: u32) -> Result<(), NoMemory> {
+        self.pages.reserve(parts as usize)
+    }
+
+    fn put(&mut self, changes: &[Change]) -> Result<(), VaultFault> {
+        let needed = count_new(&self.pages, changes);
+        let free = self.free();
+        if needed > free {
+            return Err(VaultFault::Full { needed, free });
+        }
+        change_all(&mut self.pages, changes);
+        self.moment = self.moment.saturating_add(1);
+        Ok(())
+    }
+
+    fn free(&self) -> u32 {
+        self.parts - self.pages.len() as u32
+    }
+
+    fn moment(&self) -> u64 {
+        self.moment
+    }
+
+    fn most(&self) -> u32 {
+        MOST
+    }
+
+    fn body_limit(&self) -> u32 {
+        limits::BODY_LIMIT
+    }
+}
