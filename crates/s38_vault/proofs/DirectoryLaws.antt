@@ -2,12 +2,11 @@
 use Rattle.std.proofs.Common.{◌≡◌, ℕ, ◌+◌, ◌-◌, ◌<◌, ◌≤◌, Bool, true, false, cond, not, List, [], ◌∷◌, get_or, length, map, take, zero, suc, refl, sym, ◌∙◌, ap, subst, arith}
 use lib.Dec.{T}
 use Rattle.std.proofs.lemmas.List.Sums.{sum_by-cons, sum_by_more}
-use Rattle.std.specs.Prelude.{◌&&◌, ◌||◌, IfSome, Option, Some, None, find, is_none, is_some}
-use Rattle.std.specs.FinMap.{FinMap, contains_key, contains_key-keys, empty, empty_of_len, entries, entries-from_sorted, entries_sorted, get, get-empty, get-entries, get-from_sorted, get-insert, get-remove, insert, is_sorted, keys, len, len-entries, len-insert, len-remove, remove, same_map}
+use Rattle.std.specs.Prelude.{◌&&◌, ◌||◌, Option, Some, None, is_none, is_some}
+use Rattle.std.specs.FinMap.{FinMap, contains_key, empty, empty_of_len, entries, entries-from_sorted, entries_sorted, get, get-empty, get-entries, get-from_sorted, get-insert, get-remove, insert, is_sorted, keys, len, len-entries, len-insert, len-remove, remove, same_map}
 use Rattle.std.specs.FinMap as map_of
 use Rattle.std.specs.FinMap.Entries.{below_all}
-use Rattle.std.specs.List.{AllByRecursion, list_any}
-use Rattle.std.specs.Cmp.{tied_itself}
+use Rattle.std.specs.List.{AllByRecursion}
 use Rattle.std.specs.Option.{option_map}
 use Rattle.std.specs.Ordering.{eq_by_cmp, is_eq, is_lt, ordering_reverse}
 use Rattle.std.specs.declared.cmp.Ordering.TheVariants.{Less, Equal, Greater}
@@ -15,7 +14,7 @@ use Rattle.s38_base.specs.declared.page.Change.{Change}
 use Rattle.s38_base.specs.declared.page.Key.{Key}
 use Rattle.s38_base.specs.declared.page.Page.{Page}
 use Rattle.s38_vault.specs.Content.{AreRising, Content, HaveObjects, changed, with_value}
-use Rattle.s38_vault.specs.Directory.{Keys, NameObjects, changed_keys, gone_keys, is_after, is_gone, is_new, keys_of, new_keys, next_key, with_key}
+use Rattle.s38_vault.specs.Directory.{Keys, NameObjects, changed_keys, gone_keys, is_gone, is_new, keys_of, new_keys, with_key}
 use Rattle.s38_vault.specs.Keys.{IsBefore, key_cmp, key_cmp_total}
 use Rattle.s38_vault.proofs.KeyedLaws.{key_cmp-IsAntisymmetric}
 
@@ -47,6 +46,7 @@ module _ {V : Type 0} where
 
   -- a key of the map is one of its keys
   pub get-keys_of : (m : FinMap key_cmp V) (q : Key) → get (keys_of m) q ≡ option_map (λ _. tt) (get m q)
+  unfolding keys_of
   get-keys_of m q =
       get-from_sorted key_cmp (blank (entries m)) q (sorted_keys m) ∙ found_blank q (entries m)
       ∙ ap (option_map (λ _. tt)) (sym (get-entries m q))
@@ -63,6 +63,7 @@ module _ {V : Type 0} where
   length-blank (e ∷ es) = ap suc (length-blank es)
 
   pub len-keys_of : (m : FinMap key_cmp V) → len (keys_of m) ≡ len m
+  unfolding keys_of
   len-keys_of m =
       len-entries (keys_of m) ∙ ap length (entries-from_sorted key_cmp (blank (entries m)) (sorted_keys m))
       ∙ length-blank (entries m) ∙ sym (len-entries m)
@@ -72,6 +73,7 @@ module _ {V : Type 0} where
   keys-blank (e ∷ es) = ap (λ (ks : List Key). e.0 ∷ ks) (keys-blank es)
 
   pub keys-keys_of : (m : FinMap key_cmp V) → keys (keys_of m) ≡ keys m
+  unfolding keys_of
   keys-keys_of m =
       ap (map (λ e. e.0)) (entries-from_sorted key_cmp (blank (entries m)) (sorted_keys m)) ∙ keys-blank (entries m)
 
@@ -190,30 +192,6 @@ pub named_after : (ks : Keys) (cs : List Change) → NameObjects ks → HaveObje
 named_after ks [] h objects = h
 named_after ks (c ∷ cs) h objects = named_after (with_key ks c.key c.page) cs (named ks c.key c.page h objects.0) objects.1
 
--- what is found is one of the list
-found_any : (p : Key → Bool) (xs : List Key) (k : Key) → find p xs ≡ Some k → list_any (eq_by_cmp key_cmp k) xs ≡ true
-found_any p [] k e = absurd (cc)
-found_any p (x ∷ xs) k e =
-    let rest = found_any p xs k in
-    elim (p x) as (λ b. cond b (Some x) (find p xs) ≡ Some k → (eq_by_cmp key_cmp k x || list_any (eq_by_cmp key_cmp k) xs) ≡ true) [
-      | true ↦ λ q. ap (λ b. b || list_any (eq_by_cmp key_cmp k) xs) (same x q)
-      | false ↦ λ q. later (eq_by_cmp key_cmp k x) _ (rest q)
-    ] e
-  where
-    same : (x : Key) → Some x ≡ Some k → eq_by_cmp key_cmp k x ≡ true
-    same x q = ap (λ (o : Option Key). eq_by_cmp key_cmp k (given o)) q ∙ ap is_eq (tied_itself key_cmp_total k)
-      where
-        given : Option Key → Key
-        given None = k
-        given (Some y) = y
-
-    later : (a b : Bool) → b ≡ true → (a || b) ≡ true
-    later true b e = refl
-    later false b e = e
-
-pub next_there : (ks : Keys) (after : Option Key) (k : Key) → next_key ks after ≡ Some k → contains_key ks k ≡ true
-next_there ks after k e = contains_key-keys ks k ∙ found_any (is_after after) (keys ks) k e
-
 pub none_named : NameObjects (keys_of {V = Page} empty)
 none_named k there = absurd (nothing (sym there ∙ contains-keys_of empty k ∙ ap is_some (get-empty key_cmp k)))
   where
@@ -226,11 +204,6 @@ pub changed_more : (m : Content) (cs : List Change) (i : ℕ) (d : Change) → i
 changed_more m [] i d low = absurd (omega arith)
 changed_more m (c ∷ cs) zero d low = refl
 changed_more m (c ∷ cs) (suc i) d low = changed_more (with_value m c.key c.page) cs i d (omega arith)
-
--- the next key is of an object
-pub next_named : (ks : Keys) (after : Option Key) (next : Option Key) → NameObjects ks → next ≡ next_key ks after → IfSome next (λ key. 1 ≤ key.object)
-next_named ks after None named e = tt
-next_named ks after (Some key) named e = named key (next_there ks after key (sym e))
 
 pub changed_on : (m now new : Content) (cs : List Change) (i : ℕ) (d : Change) → i < length cs → now ≡ changed m (take i cs) → new ≡ with_value now (get_or cs i d).key (get_or cs i d).page → new ≡ changed m (take (i + 1) cs)
 changed_on m now new cs i d low so_far one =

@@ -11,7 +11,7 @@ use Rattle.s38_vault.specs.Keys.{key_cmp}
 abbrev pub Keys : Type 0
 Keys = FinMap key_cmp (Unit {0})
 
-abbrev pub keys_of : {V : Type 0} → FinMap key_cmp V → Keys
+unfoldable pub keys_of : {V : Type 0} → FinMap key_cmp V → Keys
 keys_of values = from_sorted (map (λ entry. (entry.0, tt)) (entries values))
 
 -- a key is there, or is not

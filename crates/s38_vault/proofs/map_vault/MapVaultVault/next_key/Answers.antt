@@ -1,7 +1,8 @@
 use Rattle.std.proofs.Common.{ap, sym, ◌∙◌}
 use Rattle.std.specs.FinMap as map
 use Rattle.s38_vault.specs.Directory.{keys_of, next_among}
-use Rattle.s38_vault.proofs.DirectoryLaws.{keys-keys_of, next_named}
+use Rattle.s38_vault.proofs.DirectoryLaws.{keys-keys_of}
+use Rattle.s38_vault.proofs.NextLaws.{next_named}
 use Rattle.s38_vault.proofs.map_vault.MapVaultVault.next_key.Goals as goal
 
 pub returns-clause-next : goal.returns-clause-next
