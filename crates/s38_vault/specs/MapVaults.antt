@@ -7,7 +7,7 @@ use Rattle.s38_base.specs.declared.page.Page.{Page}
 use Rattle.s38_vault.specs.Content.{Content}
 use Rattle.s38_vault.specs.Directory.{keys_of}
 use Rattle.s38_vault.specs.Keys.{key_code}
-use Rattle.s38_vault.specs.Vaults.{VaultView}
+use Rattle.s38_vault.specs.Vaults.{VaultView, most_changes}
 
 -- its pages, how many parts it has, for how many changes memory is reserved, and how many puts were made
 pub record MapStore : Type 0 where
@@ -40,5 +40,5 @@ map_view store =
       spare = store.spare;
       moment = store.moment;
       faults = 0;
-      shape = record { parts = store.parts; most = 2286; body_limit = body_limit };
+      shape = record { parts = store.parts; most = most_changes; body_limit = body_limit };
     }

@@ -22,9 +22,13 @@ pub record VaultView : Type 0 where
   pub faults : ℕ
   pub shape : VaultShape
 
--- the limits of the one format that there is
+-- how many changes a put takes at most, in the one format that there is
+abbrev pub most_changes : ℕ
+most_changes = 2286
+
+-- the limits of that format
 abbrev pub AreLimits : VaultShape → Type 0
-AreLimits shape = (shape.most ≡ 2286) × (shape.body_limit ≡ body_limit)
+AreLimits shape = (shape.most ≡ most_changes) × (shape.body_limit ≡ body_limit)
 
 -- changes are refused where they bring more keys than there are free parts
 abbrev pub refusal : VaultView → List Change → Option VaultFault

@@ -3,6 +3,7 @@ ghost use Rattle.std.specs.FinMap as map;
 ghost use Rattle.s38_vault.specs.Content.{Content, changed};
 ghost use Rattle.s38_vault.specs.Directory.{is_new, keys_of, new_keys};
 ghost use Rattle.s38_vault.specs.MapVaults.{map_view};
+ghost use Rattle.s38_vault.specs.Vaults.{most_changes};
 
 use crate::fault::VaultFault;
 use crate::keyed::Keyed;
@@ -14,8 +15,8 @@ use std::marker::Model;
 /// How many changes a put takes at most.
 const MOST: u32 = 2286;
 
-/// A vault in memory, which tells what it holds, never fails, and is gone after a crash. Contracts see its pages, how
-/// many parts it has, for how many changes memory is reserved, and how many puts were made.
+/// A vault in memory, which tells what it holds, never fails, and tells nothing of crashes. Contracts see its pages, how
+/// many parts it has, for how many changes memory is reserved, and its moment, which counts the puts that were made.
 #[derive(Drop)]
 pub struct MapVault {
     pages: Keyed<Page>,
@@ -47,7 +48,7 @@ fn is_new(pages: &Keyed<Page>, change: &Change) -> bool
 
 /// How many keys the changes bring that are not there.
 fn count_new(pages: &Keyed<Page>, changes: &[Change]) -> u32
-    requires { length changes.now ≤ 2286 }
+    requires { length changes.now ≤ most_changes }
     ensures { result ≡ new_keys (keys_of pages.now.values) changes.now }
 {
     let mut count = 0;

@@ -1,7 +1,7 @@
 ghost use Rattle.std.specs.Prelude.{◌≡◌, ◌≢◌, ◌↔◌, ◌⊎◌, ◌+◌, ◌<◌, ◌≤◌, ℕ, None, Option, IfErr, IfOk, IfSome, IsErrOf, OnErr, OnOk, is_some, length};
 ghost use Rattle.std.specs.FinMap.{contains_key, get, len};
 ghost use Rattle.std.specs.Option.{unwrap_or};
-ghost use Rattle.s38_base.specs.Faults.{HasCause, HasCauseOf};
+ghost use Rattle.s38_base.specs.Faults.{HasCause, HasCauseOf, Rose};
 ghost use Rattle.s38_vault.specs.Content.{AreRising, Content, HaveObjects, changed};
 ghost use Rattle.s38_vault.specs.Directory.{changed_keys, gone_keys, keys_of, new_keys, next_key};
 ghost use Rattle.s38_vault.specs.Vaults.{AreLimits, VaultView, refusal};
@@ -9,8 +9,8 @@ ghost use Rattle.s38_vault.specs.Vaults.{AreLimits, VaultView, refusal};
 use crate::fault::VaultFault;
 use s38_base::{Change, Failed, Key, NoMemory, Page};
 
-/// Where pages are kept, by key. A put makes all its changes or none, whenever a crash comes. A call that fails is
-/// counted.
+/// Where pages are kept, by key. A put makes all its changes or none; where the vault tells what a crash may leave, that
+/// is so at each moment. A call that fails is counted.
 pub trait Vault {
     /// Which keys are there, how many parts are free, what memory is reserved, the moment, and the faults.
     ghost view: { Self → VaultView };
@@ -21,7 +21,7 @@ pub trait Vault {
     /// The vault tells what a crash at a moment may leave, and this may be left.
     ghost leaves: { Self → ℕ → Content → Type 0 };
 
-    /// The page at a key, None exactly where the key is not there. An error changes nothing.
+    /// The page at a key, None exactly where the key is not there. An error changes only the count of faults.
     fn get(&mut self, key: Key) -> Result<Option<Page>, Failed>
         ensures page { IfOk result (λ page. (m : Content) → holds self.old m → page ≡ get m key) }
         ensures there { IfOk result (λ page. is_some page ≡ contains_key (view self.old).keys key) }
@@ -36,7 +36,7 @@ pub trait Vault {
         ensures next { result ≡ next_key (view self.now).keys after }
         ensures object { IfSome result (λ key. 1 ≤ key.object) };
 
-    /// Reserves memory for puts of so many changes in all. An error changes nothing.
+    /// Reserves memory for puts of so many changes in all. An error leaves all but that memory as it was.
     fn reserve(&mut self, parts: u32) -> Result<(), NoMemory>
         ensures ok { OnOk result (parts ≤ (view self.new).spare) }
         ensures spare { (view self.old).spare ≤ (view self.new).spare }
@@ -45,8 +45,8 @@ pub trait Vault {
         ensures stays { view self.new ≡ record (view self.old) { spare = (view self.new).spare } };
 
     /// Makes all changes, which are of rising keys, or none. They are refused exactly where they bring more keys than
-    /// there are free parts; a part that they free is free afterwards. After `Failed` the vault tells no longer what it
-    /// holds, and is to be mounted again. It takes no memory.
+    /// there are free parts, whatever keys they take away. After `Failed` the vault no longer tells what it holds, and is
+    /// to be mounted again. There is no answer for want of memory: `reserve` takes it before.
     fn put(&mut self, changes: &[Change]) -> Result<(), VaultFault>
         requires some { 1 ≤ length changes.now }
         requires few { length changes.now ≤ (view self.old).shape.most }
@@ -72,7 +72,9 @@ pub trait Vault {
         ensures during { (m : Content) → holds self.old m → (t : ℕ) (n : Content) → (view self.old).moment < t → t ≤ (view self.new).moment → leaves self.new t n → (n ≡ m) ⊎ (n ≡ changed m changes.now) }
         ensures after { OnOk result ((m n : Content) → holds self.old m → leaves self.new (view self.new).moment n → ((view self.old).moment < (view self.new).moment) × (n ≡ changed m changes.now)) }
         ensures later { (view self.old).moment ≤ (view self.new).moment }
+        ensures rises { OnOk result (Rose (view self.old).moment (view self.new).moment) }
 
+        // Memory, faults, and what no call changes.
         ensures spare { (view self.old).spare ≤ (view self.new).spare + length changes.now }
         ensures shape { (view self.new).shape ≡ (view self.old).shape }
         ensures cause { HasCauseOf (view self.old).faults (view self.new).faults result VaultFault.Failed }
