@@ -2,6 +2,7 @@
 
 ghost use Rattle.std.specs.Prelude.{◌≡◌, ◌≤◌};
 
+use crate::failing::FailingVault;
 use s38_base::{Change, Key, Page};
 use s38_vault::{MapVault, Vault, VaultFault};
 use std::test::Fail;
@@ -145,6 +146,20 @@ fn keys_come_in_their_order(rt: HostRuntime) -> Result<(), Fail> {
         );
     }
     assert!(rt; vault.next_key(after) == None);
+    Ok(())
+}
+
+#[test]
+fn a_vault_fails_at_the_listed_calls(rt: HostRuntime) -> Result<(), Fail> {
+    let failing = vec![in rt.alloc(); 1, 3]?;
+    let mut vault = FailingVault::new(MapVault::new(rt.alloc(), 2), failing);
+    assert!(rt; put_one(&mut vault, put_at(1, 0, 7))? == Ok(()));
+    assert!(rt; vault.get(key(1, 0)).is_err());
+    assert!(rt; fill_at(&mut vault, key(1, 0))? == Some(7));
+    assert!(rt; put_one(&mut vault, put_at(1, 1, 8))? == Err(VaultFault::Failed));
+    let full = VaultFault::Full { needed: 1, free: 0 };
+    assert!(rt; put_one(&mut vault, put_at(1, 2, 9))? == Err(full));
+    assert!(rt; put_one(&mut vault, gone_at(1, 2))? == Err(VaultFault::Failed));
     Ok(())
 }
 
