@@ -1,9 +1,10 @@
-ghost use Rattle.std.specs.Prelude.{◌≡◌, ◌+◌, ◌<◌, ◌≤◌, length, OnErr, OnOk};
+ghost use Rattle.std.specs.Prelude.{◌≡◌, ◌+◌, ◌≤◌, None, Some, length, IfErr, OnErr, OnOk};
 ghost use Rattle.std.specs.FinMap as map;
-ghost use Rattle.s38_vault.specs.Content.{Content, changed};
-ghost use Rattle.s38_vault.specs.Directory.{is_new, keys_of, new_keys};
+ghost use Rattle.s38_base.specs.Faults.{counted};
+ghost use Rattle.s38_vault.specs.Content.{AreRising, HaveObjects, changed};
+ghost use Rattle.s38_vault.specs.Directory.{gone_keys, is_new, keys_of, new_keys};
 ghost use Rattle.s38_vault.specs.MapVaults.{map_view};
-ghost use Rattle.s38_vault.specs.Vaults.{most_changes};
+ghost use Rattle.s38_vault.specs.Vaults.{most_changes, refusal};
 
 use crate::fault::VaultFault;
 use crate::keyed::Keyed;
@@ -82,6 +83,33 @@ impl MapVault {
             moment: 0,
         }
     }
+
+    /// Makes all changes, which are of rising keys, and counts the put; or none where they bring more keys than there are
+    /// free parts, and then nothing is changed.
+    pub fn put_all(&mut self, changes: &[Change]) -> Result<(), VaultFault>
+        requires few { length changes.now ≤ most_changes }
+        requires rising { AreRising changes.now }
+        requires objects { HaveObjects changes.now }
+        requires room { length changes.now ≤ self.old.spare }
+        ensures ok { OnOk result (refusal (map_view self.old) changes.now ≡ None) }
+        ensures pages { OnOk result (self.new.pages ≡ changed self.old.pages changes.now) }
+        ensures free { OnOk result ((map_view self.new).free + new_keys (keys_of self.old.pages) changes.now ≡ (map_view self.old).free + gone_keys (keys_of self.old.pages) changes.now) }
+        ensures moment { OnOk result (self.new.moment ≡ counted self.old.moment) }
+        ensures later { self.old.moment ≤ self.new.moment }
+        ensures spare { self.old.spare ≤ self.new.spare + length changes.now }
+        ensures parts { self.new.parts ≡ self.old.parts }
+        ensures full { IfErr result (λ fault. refusal (map_view self.old) changes.now ≡ Some fault) }
+        ensures err { OnErr result (self.new ≡ self.old) }
+    {
+        let needed = count_new(&self.pages, changes);
+        let free = self.free();
+        if needed > free {
+            return Err(VaultFault::Full { needed, free });
+        }
+        change_all(&mut self.pages, changes);
+        self.moment = self.moment.saturating_add(1);
+        Ok(())
+    }
 }
 
 impl Vault for MapVault {
@@ -104,14 +132,10 @@ impl Vault for MapVault {
     }
 
     fn put(&mut self, changes: &[Change]) -> Result<(), VaultFault> {
-        let needed = count_new(&self.pages, changes);
-        let free = self.free();
-        if needed > free {
-            return Err(VaultFault::Full { needed, free });
+        match self.put_all(changes) {
+            Ok(()) => Ok(()),
+            Err(fault) => Err(fault),
         }
-        change_all(&mut self.pages, changes);
-        self.moment = self.moment.saturating_add(1);
-        Ok(())
     }
 
     fn free(&self) -> u32 {

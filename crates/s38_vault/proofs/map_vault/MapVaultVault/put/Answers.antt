@@ -1,36 +1,10 @@
-use Rattle.std.proofs.Common.{◌≡◌, ◌+◌, ◌-◌, ap, refl, subst, sym, ◌∙◌}
-use Rattle.std.specs.FinMap as map
-use Rattle.s38_vault.specs.Content.{changed}
-use Rattle.s38_vault.specs.Directory.{changed_keys, gone_keys, keys_of, new_keys}
-use Rattle.s38_vault.specs.MapVaults.{MapStore}
-use Rattle.s38_vault.proofs.DirectoryLaws.{fits_after, free_after, keys_of-changed, named_by}
+use Rattle.std.proofs.Common.{ap, refl, sym, ◌∙◌}
+use Rattle.s38_vault.specs.Directory.{keys_of}
+use Rattle.s38_vault.proofs.DirectoryLaws.{keys_of-changed}
 use Rattle.s38_vault.proofs.map_vault.MapVaultVault.put.Goals as goal
 
-pub invariant_of-self : goal.invariant_of-self
-invariant_of-self c =
-    let m = c.self.inside.pages.values in
-    let new = c.change_all.new.pages.values in
-    let free = c.free-free.ensures.free ∙ sym (ap (λ s. s.parts - map.len s.pages) c.self.view_is) in
-    record {
-      fits = fits_after m new c.args.changes.now c.self.inside.parts _ _ c.requires.rising c.self.invariant.fits free c.count_new-needed.ensures c.if-needed-free.false c.change_all.ensures.values;
-      objects = named_by m new c.args.changes.now c.self.invariant.objects c.requires.objects c.change_all.ensures.values;
-    }
+pub returns-in-Ok-clause-told : goal.returns-in-Ok-clause-told
+returns-in-Ok-clause-told c = λ n e. (c.args.self.now.pages, (refl, sym e ∙ c.in-Ok.ensures.pages))
 
-pub returns-clause-told : goal.returns-clause-told
-returns-clause-told c =
-    λ n e. (c.args.self.now.pages, (refl, sym e ∙ c.change_all.ensures.values ∙ ap (λ s. changed s.pages c.args.changes.now) c.self.view_is))
-
-pub returns-clause-keys : goal.returns-clause-keys
-returns-clause-keys c =
-    ap keys_of c.change_all.ensures.values ∙ keys_of-changed c.self.inside.pages.values c.args.changes.now
-    ∙ ap (λ s. changed_keys (keys_of s.pages) c.args.changes.now) c.self.view_is
-
-pub returns-clause-free : goal.returns-clause-free
-returns-clause-free c =
-    let m = c.self.inside.pages.values in
-    let new = c.change_all.new.pages.values in
-    let cs = c.args.changes.now in
-    let parts = c.self.inside.parts in
-    let free = c.free-free.ensures.free ∙ sym (ap (λ s. s.parts - map.len s.pages) c.self.view_is) in
-    subst (λ (s : MapStore). (parts - map.len new) + new_keys (keys_of s.pages) cs ≡ (s.parts - map.len s.pages) + gone_keys (keys_of s.pages) cs) c.self.view_is
-    (free_after m new cs parts _ _ c.requires.rising c.self.invariant.fits free c.count_new-needed.ensures c.if-needed-free.false c.change_all.ensures.values)
+pub returns-in-Ok-clause-keys : goal.returns-in-Ok-clause-keys
+returns-in-Ok-clause-keys c = ap keys_of c.in-Ok.ensures.pages ∙ keys_of-changed c.args.self.now.pages c.args.changes.now
