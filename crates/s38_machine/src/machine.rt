@@ -15,7 +15,7 @@ use crate::effects::{apply, parted_values};
 use crate::log::Log;
 use crate::opening::opened;
 use crate::verdicts::{awake_verdict, verdict_of};
-use s38_base::{Exception, NoMemory, TryClone};
+use s38_base::{Exception, NoMemory, TryClone, try_clones};
 use s38_code::{Asked, Checked, Entry, Event, Job, Reply, StepFault, Stepper, Val, Vals};
 use s38_invoke::World;
 use s38_objects::Objects;
@@ -190,7 +190,7 @@ impl Machine {
         ensures err { OnErr result (self.new ≡ self.old) }
     {
         let (values, value) = parted_values(self.alloc, &self.world, process, &event)?;
-        let copy = values.try_clone(self.alloc)?;
+        let copy = try_clones(self.alloc, values.as_slice())?;
         match self.enter_permitted(process, event, values, value) {
             Ok(()) => Ok(Reply::Done(copy)),
             Err(fault) => Err(fault),
