@@ -77,6 +77,16 @@ def literal_fault(word):
     return f"the text literal {word} has {odd[0] if odd else 'a quote'}; it has A to Z, 0 to 9 and blanks, else X'..'"
 
 
+def identification_fault(word):
+    kind, *rest = word.split("/")
+    said = f"{word} is no identification KIND/ss/NAME"
+    if kind not in pages.kinds().values():
+        return said + near(kind, pages.kinds().values())
+    if len(rest) != 2 or not is_a("[0-9A-F]{2}", rest[0]):
+        return f"{said}; ss is two upper-case hexadecimal digits, as 00"
+    return f"{said}; the name has 1 to 30 characters of A to Z and 0 to 9"
+
+
 def word_fault(word):
     """Why a word is the operand of no instruction."""
     if not word:
@@ -86,7 +96,7 @@ def word_fault(word):
     if is_a(NUMBER, word) and digits(word) > 31:
         return f"the number {word} has more than 31 digits"
     if "/" in word:
-        return f"{word} is no identification KIND/ss/NAME{near(word.split('/')[0], pages.kinds().values())}"
+        return identification_fault(word)
     if word.startswith("*"):
         return f"{word} is no word{near(word, ['*NONE', '*MACHINE', '*LIST', '*PUBLIC'])}"
     if "+" in word:
@@ -112,6 +122,10 @@ def act_fault(text):
         column += len(word) + 1
     return None
 
+
+# Words of COBOL and CL with which a beginner's line may begin.
+FOREIGN = set("MOVE ADD SUBTRACT MULTIPLY DIVIDE COMPUTE IF GO GOTO PERFORM READ WRITE OPEN CLOSE DISPLAY CALL STOP DO "
+              "MONMSG CHGVAR SNDPGMMSG RETURN PGM ENDPGM CRTLIB ALCOBJ DLCOBJ".split())
 
 DECLARATIONS = ("after DCL and the name comes an attribute, perhaps with INIT and a literal; or PARM, a number and an "
                 "attribute; or BASED, a pointer, an offset and an attribute; or EXCM, a code and a label")
@@ -212,7 +226,8 @@ def form_fault(text):
     if word in ("END", "STAGE"):
         fault = None if text == word else (len(word) + 1, f"after {word} is another word")
     elif word not in known:
-        fault = 1, f"there is no mnemonic {word}{near(word, known)}"
+        meant = near(word, known) or "; docs/TUTORIAL.md has the words of COBOL and CL" * (word in FOREIGN)
+        fault = 1, f"there is no mnemonic {word}{meant}"
     else:
         own = {"DCL": declaration_fault, "JOB": job_fault, "PROGRAM": head_fault, "LABEL": head_fault}
         fault = own.get(word, act_fault)(text)

@@ -213,6 +213,6 @@ def drawn(story):
     picture.legend()
     picture.draw()
     width, height = max(picture.total, 470), picture.y + 8
-    return (f'<svg xmlns="http://www.w3.org/2000/svg" width="{width:.0f}" height="{height:.0f}" '
+    return (f'<svg xmlns="http://www.w3.org/2000/svg" xml:space="preserve" width="{width:.0f}" height="{height:.0f}" '
             f'viewBox="0 0 {width:.0f} {height:.0f}" font-family="DejaVu Sans Mono, Menlo, Consolas, monospace" '
             f'font-size="10">\n<rect width="100%" height="100%" fill="#ffffff"/>\n' + "\n".join(picture.parts) + "\n</svg>")
