@@ -46,6 +46,10 @@ pub state_after : (m : Run) (p : ℕ) (e : Event) → (after m m.moment p e).sta
 unfolding after
 state_after m p e = refl
 
+pub first_after : (m : Run) (p : ℕ) (e : Event) → (after m m.moment p e).first ≡ m.first
+unfolding after
+first_after m p e = refl
+
 pub origin_after : (m : Run) (p : ℕ) (e : Event) → (after m m.moment p e).origin ≡ m.origin
 unfolding after
 origin_after m p e = refl

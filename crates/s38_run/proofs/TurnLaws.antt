@@ -25,7 +25,7 @@ use Rattle.s38_run.specs.declared.outcome.Outcome.TheVariants.{Finished, Waits, 
 use Rattle.s38_run.specs.Running.{EachStands, IsBetween, OthersStay, Stands, TookTurn, WentOn, doing, left_in_all, left_of, outcome_of, ready_behind, state_behind, turns_left}
 use Rattle.s38_run.proofs.Asking.{behind_more, ends_asking, ends_more, ran_more}
 use Rattle.s38_run.proofs.ReadyLaws.{OtherReady, filter_fewer, listed_ready, none_listed, outline, ready_few, same_ended, same_list, waiting_list, waiting_ready, with_waiting}
-use Rattle.s38_run.proofs.Running.{entries_other, entries_own, fewer_events, fewer_ready, history_more, left_set, origin_after, turn_falls, turn_waits}
+use Rattle.s38_run.proofs.Running.{entries_other, entries_own, fewer_events, fewer_ready, first_after, history_more, left_set, origin_after, turn_falls, turn_waits}
 use Rattle.s38_run.proofs.Stepping.{GoesTo, MovesBy, goes}
 
 -- ---- who is ready behind a turn
@@ -342,7 +342,7 @@ module _ (made : List CreateResult) (jobs : List Job) (m : Run) (all : List JobS
   went_then = record {
     between = between_then;
     origin = origin_after m p e;
-    first = refl;
+    first = first_after m p e;
     entry = entry_then m p e;
     added = history_more m p e to.entered;
     by = turn.listed;
