@@ -33,7 +33,7 @@ use Rattle.s38_top.specs.Commands.{command_of, demo_size}
 use Rattle.s38_top.specs.Decks.{AreMarks, IsRunOf, IsUnstored, checked_of, made_for, opened}
 use Rattle.s38_commitment_laws.proofs.StepLaws.{first_right, history_right, installed_right}
 use Rattle.s38_top.proofs.ConfinedLaws.{installed_in_order, opening_in_order, run_confined}
-use Rattle.s38_top.specs.Outcome.{Ends, HasDeck, Holds, IsChecked, IsComplete, IsDemonstrated, IsGood, IsGoodDeck, IsGoodFor, OfText, Serves, Tells, checked_text, faulted, history_of, marks_of, most, reads_deck, status_of, text_of}
+use Rattle.s38_top.specs.Outcome.{Ends, FromText, HasDeck, Holds, IsChecked, IsComplete, IsDemonstrated, IsGood, IsGoodDeck, IsGoodFor, OfText, RanDeck, RanGenerated, Serves, Takes, Tells, checked_text, faulted, history_of, marks_of, most, reads_deck, status_of, text_of}
 
 there_is : {A : Type 0} (xs : List A) (k : ℕ) → k < length xs → (x : A) × (slice_get xs k ≡ Some x)
 there_is [] k h = absurd (omega arith)
@@ -89,55 +89,50 @@ refused text fault line code is first none = (
     differ : faults.Bad line code ≡ faults.NoMemory → ⊥
     differ e = cc
 
-reads_of : (command : Command) → demo_size command ≡ None → reads_deck (Some command) ≡ true
-reads_of (Serial pick) h = refl
-reads_of Check h = refl
-reads_of (Demo size) h = cc
-
-no_size : (size : ℕ) → Some size ≡ None → ⊥
-no_size size h = cc
-
-same_size : (size number : ℕ) → Demo size ≡ Demo number → size ≡ number
-same_size size number h = cc
-
 pub size_is : (command : Command) (size : ℕ) → demo_size command ≡ Some size → command ≡ Demo size
 size_is (Serial pick) size h = cc
 size_is Check size h = cc
 size_is (Demo number) size h = ap Demo (same_Some number size h)
 
--- what a text comes to holds of the words and the source that it was taken from
-pub text_holds : (words : List (List ℕ)) (old new : Option (List ℕ)) (before now : ℕ) (command : Command) (text : List ℕ) (o : Outcome)
-    → command_of words ≡ Some command → demo_size command ≡ None → ReadsAll most old new text → OfText command text o → Holds words old new before now o
-text_holds words old new before now command text BadWords is reads read of = absurd of
-text_holds words old new before now command text (BadDeck line code) is reads read of =
-    (rw is (reads_of command reads), record { text = text; read = read; first = of.0; none = of.1 })
-text_holds words old new before now command text DeckFault is reads read of = absurd of
-text_holds words old new before now command text NoMemory is reads read of = tt
-text_holds words old new before now command text (Complete pick whole) is reads read of =
-    (is ∙ ap Some of.0, (record { taken = record { text = text; read = read; is = of.1.0 }; run = of.1.1.0 }, of.1.1.1))
-text_holds words old new before now command text (Checked checked) is reads read of =
-    (is ∙ ap Some of.0, record { taken = record { text = text; read = read; is = of.1.0 }; each = of.1.1 })
-text_holds words old new before now command text (Demonstrated size whole) is reads read of = absurd (no_size size (sym (ap demo_size of.0) ∙ reads))
+-- a command that reads a deck takes what the source gives
+reads_of : (command : Command) → demo_size command ≡ None → reads_deck (Some command) ≡ true
+reads_of (Serial pick) h = refl
+reads_of Check h = refl
+reads_of (Demo size) h = cc
 
--- what the generated deck comes to holds of the words, of a source that was not read
-pub generated_holds : (words : List (List ℕ)) (old new : Option (List ℕ)) (before now : ℕ) (command : Command) (size : ℕ) (o : Outcome)
-    → command_of words ≡ Some command → demo_size command ≡ Some size → 1 ≤ size → size ≤ 200 → Keeps old new → OfText (Demo size) (deck_of size) o → Holds words old new before now o
-generated_holds words old new before now command size BadWords is sized first last kept of = absurd of
-generated_holds words old new before now command size (BadDeck line code) is sized first last kept of = absurd (of.1 (generated size) (generated_is_spelled size first last))
-generated_holds words old new before now command size DeckFault is sized first last kept of = absurd of
-generated_holds words old new before now command size NoMemory is sized first last kept of = tt
-generated_holds words old new before now command size (Complete pick whole) is sized first last kept of = absurd (differ of.0)
-  where
-    differ : Demo size ≡ Serial pick → ⊥
-    differ e = cc
-generated_holds words old new before now command size (Checked checked) is sized first last kept of = absurd (differ of.0)
-  where
-    differ : Demo size ≡ Check → ⊥
-    differ e = cc
-generated_holds words old new before now command size (Demonstrated number whole) is sized first last kept of = (
-  is ∙ ap Some (size_is command size sized ∙ of.0),
-  (kept, (record { is = subst (λ n. Spells (deck_of n) whole.deck) (same_size size number of.0) of.1.0; run = of.1.1.0 }, of.1.1.1)),
-)
+takes_read : (command : Command) (old new : Option (List ℕ)) (text : List ℕ) → reads_deck (Some command) ≡ true → ReadsAll most old new text → Takes command old new text
+takes_read (Serial pick) old new text h reads = reads
+takes_read Check old new text h reads = reads
+takes_read (Demo size) old new text h reads = cc
+
+read_taken : (command : Command) (old new : Option (List ℕ)) (text : List ℕ) → reads_deck (Some command) ≡ true → Takes command old new text → ReadsAll most old new text
+read_taken (Serial pick) old new text h takes = takes
+read_taken Check old new text h takes = takes
+read_taken (Demo size) old new text h takes = cc
+
+-- what the text of a command comes to holds; no text that the program makes is a bad deck
+text_holds : (words : List (List ℕ)) (old new : Option (List ℕ)) (before now : ℕ) (command : Command) (text : List ℕ) (o : Outcome)
+    → command_of words ≡ Some command → Takes command old new text → (reads_deck (Some command) ≡ true) ⊎ ((deck : Deck) × Spells text deck) → OfText command text o → Holds words old new before now o
+text_holds words old new before now command text BadWords is takes either of = absurd of
+text_holds words old new before now command text (BadDeck line code) is takes either of = elim either as (λ _. Holds words old new before now (BadDeck line code)) [
+  | inl reads ↦ (ap reads_deck is ∙ reads, record { command = command; is = is; text = text; takes = takes; comes = of })
+  | inr spelled ↦ absurd (of.1 spelled.0 spelled.1)
+]
+text_holds words old new before now command text DeckFault is takes either of = absurd of
+text_holds words old new before now command text NoMemory is takes either of = tt
+text_holds words old new before now command text (Complete pick whole) is takes either of = record { command = command; is = is; text = text; takes = takes; comes = of }
+text_holds words old new before now command text (Checked checked) is takes either of = record { command = command; is = is; text = text; takes = takes; comes = of }
+text_holds words old new before now command text (Demonstrated size whole) is takes either of = record { command = command; is = is; text = text; takes = takes; comes = of }
+
+pub read_holds : (words : List (List ℕ)) (old new : Option (List ℕ)) (before now : ℕ) (command : Command) (text : List ℕ) (o : Outcome)
+    → command_of words ≡ Some command → demo_size command ≡ None → ReadsAll most old new text → OfText command text o → Holds words old new before now o
+read_holds words old new before now command text o is sized reads of =
+    text_holds words old new before now command text o is (takes_read command old new text (reads_of command sized) reads) (inl (reads_of command sized)) of
+
+pub generated_holds : (words : List (List ℕ)) (old new : Option (List ℕ)) (before now : ℕ) (size : ℕ) (o : Outcome)
+    → command_of words ≡ Some (Demo size) → 1 ≤ size → size ≤ 200 → Keeps old new → OfText (Demo size) (deck_of size) o → Holds words old new before now o
+generated_holds words old new before now size o is first last kept of =
+    text_holds words old new before now (Demo size) (deck_of size) o is (kept, refl) (inr (generated size, generated_is_spelled size first last)) of
 
 -- ---- the end of the program
 
@@ -198,36 +193,42 @@ serves_by words left left' taken taken' written written' (BadDeck line code) his
 serves_by words left left' taken taken' written written' DeckFault history holds told s h = absurd (omega arith)
 serves_by words left left' taken taken' written written' NoMemory history holds told s h = absurd (omega arith)
 serves_by words left left' taken taken' written written' (Complete pick whole) history holds told s h =
+    let read : ReadsAll most left left' holds.text = subst (λ (c : Command). Takes c left left' holds.text) holds.comes.0 holds.takes in
+    let ran : RanDeck pick left left' whole.deck whole.history.items = record { taken = record { text = holds.text; read = read; is = holds.comes.1.0 }; run = holds.comes.1.1.0 } in
     let complete : IsComplete pick left left' written written' history =
     subst (λ (es : List Entry). IsComplete pick left left' written written' es) (sym h) (record {
       deck = whole.deck;
-      ran = holds.1.0;
-      confined = run_confined held_first _ whole.deck whole.history.items opening_in_order holds.1.0.run;
-      right = (history_right (opened held_first whole.deck) [] whole.history.items holds.1.0.run.state (first_right (checked_of whole.deck) whole.deck.jobs) holds.1.0.run.legal).0;
+      ran = ran;
+      confined = run_confined held_first _ whole.deck whole.history.items opening_in_order ran.run;
+      right = (history_right (opened held_first whole.deck) [] whole.history.items ran.run.state (first_right (checked_of whole.deck) whole.deck.jobs) ran.run.legal).0;
       told = told;
-      finished = λ xs e. read_out left left' whole.deck xs holds.1.0.taken e;
+      finished = λ xs e. read_out left left' whole.deck xs ran.taken e;
     }) in
-    subst (λ (c : Option Command). Serves c left left' written written' history) (sym holds.0) complete
+    subst (λ (c : Option Command). Serves c left left' written written' history) (sym (holds.is ∙ ap Some holds.comes.0)) complete
 serves_by words left left' taken taken' written written' (Checked checked) history holds told s h =
+    let read : ReadsAll most left left' holds.text = subst (λ (c : Command). Takes c left left' holds.text) holds.comes.0 holds.takes in
+    let taken_is : HasDeck left left' checked.deck = record { text = holds.text; read = read; is = holds.comes.1.0 } in
     let checked_is : IsChecked left left' written written' history = record {
       deck = checked.deck;
-      taken = holds.1.taken;
-      told = subst (λ (ts : List CheckedTemplate). Appends written written' (checked_text ts)) holds.1.each told;
-      finished = λ xs e. read_out left left' checked.deck xs holds.1.taken e;
+      taken = taken_is;
+      told = subst (λ (ts : List CheckedTemplate). Appends written written' (checked_text ts)) holds.comes.1.1 told;
+      finished = λ xs e. read_out left left' checked.deck xs taken_is e;
       still = h;
     } in
-    subst (λ (c : Option Command). Serves c left left' written written' history) (sym holds.0) checked_is
+    subst (λ (c : Option Command). Serves c left left' written written' history) (sym (holds.is ∙ ap Some holds.comes.0)) checked_is
 serves_by words left left' taken taken' written written' (Demonstrated size whole) history holds told s h =
+    let made : Keeps left left' × (holds.text ≡ deck_of size) = subst (λ (c : Command). Takes c left left' holds.text) holds.comes.0 holds.takes in
+    let ran : RanGenerated size whole.deck whole.history.items = record { is = subst (λ (xs : List ℕ). Spells xs whole.deck) made.1 holds.comes.1.0; run = holds.comes.1.1.0 } in
     let demonstrated : IsDemonstrated size left left' written written' history =
     subst (λ (es : List Entry). IsDemonstrated size left left' written written' es) (sym h) (record {
       deck = whole.deck;
-      ran = holds.1.1.0;
-      confined = run_confined held_installed _ whole.deck whole.history.items installed_in_order holds.1.1.0.run;
-      right = (history_right (opened held_installed whole.deck) [] whole.history.items holds.1.1.0.run.state (installed_right (checked_of whole.deck) whole.deck.jobs) holds.1.1.0.run.legal).0;
+      ran = ran;
+      confined = run_confined held_installed _ whole.deck whole.history.items installed_in_order ran.run;
+      right = (history_right (opened held_installed whole.deck) [] whole.history.items ran.run.state (installed_right (checked_of whole.deck) whole.deck.jobs) ran.run.legal).0;
       told = told;
-      unread = holds.1.0;
+      unread = made.0;
     }) in
-    subst (λ (c : Option Command). Serves c left left' written written' history) (sym holds.0) demonstrated
+    subst (λ (c : Option Command). Serves c left left' written written' history) (sym (holds.is ∙ ap Some holds.comes.0)) demonstrated
 
 pub serves_of : (words : List (List ℕ)) (left left' : Option (List ℕ)) (taken taken' : ℕ) (written written' : Option (List ℕ)) (put put' : ℕ) (status : ℕ) (history : List Entry) (marks : List ℕ)
     → Ends words left left' taken taken' written written' put put' status history marks → status ≡ 0 → Serves (command_of words) left left' written written' history
@@ -258,7 +259,9 @@ good_by words left left' taken taken' put put' BadWords good holds = absurd (dif
     differ (Some x) e h = cc
 good_by words left left' taken taken' put put' (BadDeck line code) good holds =
     let deck : IsGoodDeck left = deck_told (command_of words) left holds.0 good.deck in
-    absurd (holds.1.none deck.deck (subst (λ (t : List ℕ). Spells t deck.deck) (sym (read_is left left' deck.text holds.1.text deck.told holds.1.read)) deck.is))
+    let came : FromText words left left' (BadDeck line code) = holds.1 in
+    let read : ReadsAll most left left' came.text = read_taken came.command left left' came.text (sym (ap reads_deck came.is) ∙ holds.0) came.takes in
+    absurd (came.comes.1 deck.deck (subst (λ (t : List ℕ). Spells t deck.deck) (sym (read_is left left' deck.text came.text deck.told read)) deck.is))
 good_by words left left' taken taken' put put' DeckFault good holds = absurd (good.source holds.1)
 good_by words left left' taken taken' put put' NoMemory good holds = inr refl
 good_by words left left' taken taken' put put' (Complete pick whole) good holds = inl refl

@@ -94,13 +94,6 @@ reads_deck (Some (Demo size)) = false
 abbrev pub ReadsDeck : List (List ℕ) → Type 0
 ReadsDeck words = IsTrue (reads_deck (command_of words))
 
--- a line of the text that was taken is the first bad one, with this code, and the text spells no deck
-pub record NoDeck (old new : Option (List ℕ)) (line code : ℕ) : Type 0 where
-  pub text : List ℕ
-  pub read : ReadsAll most old new text
-  pub first : read_of text ≡ Err (faults.Bad line code)
-  pub none : (deck : Deck) → Spells text deck → ⊥
-
 -- the text that was taken spells the deck
 pub record HasDeck (old new : Option (List ℕ)) (deck : Deck) : Type 0 where
   pub text : List ℕ
@@ -118,22 +111,39 @@ pub record RanGenerated (size : ℕ) (deck : Deck) (history : List Entry) : Type
   pub is : Spells (deck_of size) deck
   pub run : IsRunOf held_installed (picks_by size (length history)) deck history
 
--- each of its templates was checked
-pub record CheckedAll (old new : Option (List ℕ)) (deck : Deck) (templates : List CheckedTemplate) : Type 0 where
-  pub taken : HasDeck old new deck
-  pub each : templates ≡ checked_of deck
+-- the text that a command is about: a demonstration makes it and reads nothing, any other command takes it from the source
+abbrev pub Takes : Command → Option (List ℕ) → Option (List ℕ) → List ℕ → Type 0
+Takes (Serial pick) old new text = ReadsAll most old new text
+Takes Check old new text = ReadsAll most old new text
+Takes (Demo size) old new text = Keeps old new × (text ≡ deck_of size)
 
--- each outcome has its cause; want of memory alone is free
+-- what a text comes to under a command; want of memory alone is free
+abbrev pub OfText : Command → List ℕ → Outcome → Type 0
+OfText command text BadWords = ⊥
+OfText command text (BadDeck line code) = (read_of text ≡ Err (faults.Bad line code)) × ((deck : Deck) → Spells text deck → ⊥)
+OfText command text DeckFault = ⊥
+OfText command text NoMemory = Unit {0}
+OfText command text (Complete pick whole) =
+    (command ≡ Serial pick) × (Spells text whole.deck × (IsRunOf held_first (picks_by pick (length whole.history.items)) whole.deck whole.history.items × AreMarks whole.marks.items whole.history.items))
+OfText command text (Checked checked) = (command ≡ Check) × (Spells text checked.deck × (checked.templates ≡ checked_of checked.deck))
+OfText command text (Demonstrated size whole) =
+    (command ≡ Demo size) × (Spells text whole.deck × (IsRunOf held_installed (picks_by size (length whole.history.items)) whole.deck whole.history.items × AreMarks whole.marks.items whole.history.items))
+
+-- the words are a command, and the text that it is about comes to the outcome
+pub record FromText (words : List (List ℕ)) (old new : Option (List ℕ)) (o : Outcome) : Type 0 where
+  pub command : Command
+  pub is : command_of words ≡ Some command
+  pub text : List ℕ
+  pub takes : Takes command old new text
+  pub comes : OfText command text o
+
+-- each outcome has its cause: words that are no command, a source that failed, want of memory, which is free, or the text
 abbrev pub Holds : List (List ℕ) → Option (List ℕ) → Option (List ℕ) → ℕ → ℕ → Outcome → Type 0
 Holds words old new before now BadWords = (command_of words ≡ None) × Keeps old new
-Holds words old new before now (BadDeck line code) = ReadsDeck words × NoDeck old new line code
 Holds words old new before now DeckFault = ReadsDeck words × Rose before now
 Holds words old new before now NoMemory = Unit {0}
-Holds words old new before now (Complete pick whole) =
-    (command_of words ≡ Some (Serial pick)) × (RanDeck pick old new whole.deck whole.history.items × AreMarks whole.marks.items whole.history.items)
-Holds words old new before now (Checked checked) = (command_of words ≡ Some Check) × CheckedAll old new checked.deck checked.templates
-Holds words old new before now (Demonstrated size whole) =
-    (command_of words ≡ Some (Demo size)) × (Keeps old new × (RanGenerated size whole.deck whole.history.items × AreMarks whole.marks.items whole.history.items))
+Holds words old new before now (BadDeck line code) = ReadsDeck words × FromText words old new (BadDeck line code)
+Holds words old new before now o = FromText words old new o
 
 -- ---- how it is told
 
@@ -216,15 +226,3 @@ pub record IsGood (words : List (List ℕ)) (left : Option (List ℕ)) (taken ta
   pub deck : IsGoodFor (command_of words) left
   pub source : Rose taken taken' → ⊥
   pub sink : Rose put put' → ⊥
-
--- what a text comes to under a command
-abbrev pub OfText : Command → List ℕ → Outcome → Type 0
-OfText command text BadWords = ⊥
-OfText command text (BadDeck line code) = (read_of text ≡ Err (faults.Bad line code)) × ((deck : Deck) → Spells text deck → ⊥)
-OfText command text DeckFault = ⊥
-OfText command text NoMemory = Unit {0}
-OfText command text (Complete pick whole) =
-    (command ≡ Serial pick) × (Spells text whole.deck × (IsRunOf held_first (picks_by pick (length whole.history.items)) whole.deck whole.history.items × AreMarks whole.marks.items whole.history.items))
-OfText command text (Checked checked) = (command ≡ Check) × (Spells text checked.deck × (checked.templates ≡ checked_of checked.deck))
-OfText command text (Demonstrated size whole) =
-    (command ≡ Demo size) × (Spells text whole.deck × (IsRunOf held_installed (picks_by size (length whole.history.items)) whole.deck whole.history.items × AreMarks whole.marks.items whole.history.items))
