@@ -1,12 +1,13 @@
 -- The shared formats are formats.
-use Rattle.std.proofs.Common.{◌≡◌, ℕ, zero, suc, ◌^◌, true, eqb, List, [], ◌∷◌, ◌++◌, length, Some, refl, sym, ap, subst, ◌∙◌}
+use Rattle.std.proofs.Common.{◌≡◌, ℕ, zero, suc, ◌+◌, ◌^◌, ◌≤◌, true, eqb, List, [], ◌∷◌, ◌++◌, length, Option, Some, None, refl, sym, ap, subst, ◌∙◌, arith}
 use Rattle.std.specs.Prelude.{◌&&◌, nat_le}
 use Rattle.std.specs.List.{list_all}
 use Rattle.std.specs.Int.{w16, w32, w64}
-use Rattle.std.proofs.lemmas.Bool.{eqb-true, eq-eqb}
-use Rattle.s38_codecs.specs.Codec.{Codec, IsCodec, Spells, ◌>>=◌, AreBytes, behind, byte, bytes, copies, is_zero, only, times}
-use Rattle.s38_codecs.specs.Formats.{IsSpelling, Spelling, counted_by, filling, list_of, short_list, short_text, text, u16, u32, u64, with_count}
-use Rattle.s38_codecs.proofs.CodecLaws.{AreSame, and_true, behind_is, bind_some, both_true, byte_is, bytes_is, bytes_exact, bytes_again, fits_copies, number_is, only_is, seen_is, some_is, times_is, wide16, wide32, wide64, AreBytes-front}
+use Rattle.std.proofs.lemmas.Bool.{eqb-true}
+use Rattle.std.proofs.lemmas.List.{length-append}
+use Rattle.s38_codecs.specs.Codec.{Codec, IsCodec, IsPart, Part, Spells, ◌>>=◌, AreBytes, behind, byte, bytes, copies, is_zero, only, seen, times, whole}
+use Rattle.s38_codecs.specs.Formats.{IsSpelling, Spelling, all_by, case_by, counted_by, filled_by, fits_from, list_of, print_by, print_from, read_from, short_list, short_text, text, u16, u32, u64, with_count}
+use Rattle.s38_codecs.proofs.CodecLaws.{AreBytes-behind, AreSame, and_true, behind_is, bind_some, both_true, byte_is, bytes_is, fits_copies, number_is, only_is, seen_is, some_is, times_is, whole_again, whole_exact, wide16, wide32, wide64}
 
 pub u16_is : IsCodec ℕ u16
 u16_is = number_is w16 (2 ^ 16) wide16
@@ -68,25 +69,69 @@ unfolding copies
 length_copies zero x = refl
 length_copies (suc n) x = ap suc (length_copies n x)
 
--- ---- so many bytes
+-- ---- all bytes
 
-filling_again : {T : Type 0} (n : ℕ) (s : Spelling T) → IsSpelling T s → (x : T) (rest : List ℕ) → (eqb (length (s.print x)) n && s.fits x) ≡ true → (filling n s).read (s.print x ++ rest) ≡ Some (x, rest)
-filling_again n s is x rest h =
-    let b = both_true (eqb (length (s.print x)) n) (s.fits x) h in
-    rw (bytes_again n (s.print x) rest b.0, is.again x b.1) refl
+pub all_by_is : {T : Type 0} (c : Codec T) → IsCodec T c → IsSpelling T (all_by c) (λ x. c.fits x ≡ true)
+all_by_is c is = record { again = whole_again c is; exact = whole_exact c is }
 
-filling_exact : {T : Type 0} (n : ℕ) (s : Spelling T) → IsSpelling T s → (xs : List ℕ) (x : T) (rest : List ℕ) → AreBytes xs → (filling n s).read xs ≡ Some (x, rest) → Spells T (filling n s) xs x rest
-filling_exact {T} n s is xs x rest fine e =
-    let u = bind_some ((bytes n).read xs) (λ x. s.read x.0 >>= λ y. Some (y, x.1)) (x, rest) e in
-    let v = bind_some (s.read u.0.0) (λ y. Some (y, u.0.1)) (x, rest) u.2 in
-    let m = bytes_exact n xs u.0.0 u.0.1 fine u.1 in
-    let w = is.exact u.0.0 v.0 (AreBytes-front u.0.0 u.0.1 xs m.parts fine) v.1 in
-    let made : T × List ℕ = (v.0, u.0.1) in
-    subst (λ (z : T × List ℕ). Spells T (filling n s) xs z.0 z.1) (some_is made (x, rest) v.2)
-    (record {
-      parts = m.parts ∙ ap (λ (t : List ℕ). t ++ u.0.1) w.0;
-      fits = and_true _ _ (eq-eqb _ _ (ap length (sym w.0) ∙ eqb-true _ _ m.fits)) w.1;
-    })
+abbrev some_list : {A : Type 0} → List A → Option (List A)
+some_list xs = Some xs
 
-pub filling_is : {T : Type 0} (n : ℕ) (s : Spelling T) → IsSpelling T s → IsCodec T (filling n s)
-filling_is n s is = record { again = filling_again n s is; exact = filling_exact n s is }
+pub list_is : {A : Type 0} (xs ys : List A) → some_list xs ≡ some_list ys → xs ≡ ys
+list_is xs ys e = cc
+
+-- what a value of the case fits
+abbrev pub FitsCase : {T : Type 0} → (T → Type 0) → Option T → Type 0
+FitsCase Fits None = ⊥
+FitsCase Fits (Some x) = Fits x
+
+case_again : {T B : Type 0} (p : Part T B) (s : Spelling T) (Fits : T → Type 0) → IsPart T B p → IsSpelling T s Fits → (b : B) (o : Option T) → p.of b ≡ o → FitsCase Fits o → (s.read (print_by s o) >>= λ x. Some (p.make x)) ≡ Some b
+case_again p s Fits l q b None e h = absurd h
+case_again p s Fits l q b (Some x) e h = rw (q.again x h, l.back b x e) refl
+
+case_exact : {T B : Type 0} (p : Part T B) (s : Spelling T) (Fits : T → Type 0) → IsPart T B p → IsSpelling T s Fits → (bytes : List ℕ) (b : B) → AreBytes bytes → (case_by p s).read bytes ≡ Some b → (bytes ≡ (case_by p s).print b) × FitsCase Fits (p.of b)
+case_exact {T} {B} p s Fits l q bytes b fine e =
+    let u = bind_some (s.read bytes) (λ x. Some (p.make x)) b e in
+    let m = q.exact bytes u.0 fine u.1 in
+    subst (λ (z : B). (bytes ≡ (case_by p s).print z) × FitsCase Fits (p.of z)) (some_is (p.make u.0) b u.2)
+    (rw (l.got u.0) m.0, rw (l.got u.0) m.1)
+
+pub case_by_is : {T B : Type 0} (p : Part T B) (s : Spelling T) (Fits : T → Type 0) → IsPart T B p → IsSpelling T s Fits → IsSpelling B (case_by p s) (λ b. FitsCase Fits (p.of b))
+case_by_is p s Fits l q = record { again = λ b h. case_again p s Fits l q b (p.of b) refl h; exact = case_exact p s Fits l q }
+
+-- ---- as many as fill the bytes
+
+-- the formats are formats, and each takes a byte at least
+pub record AreLong (A : Type 0) (cs : ℕ → Codec A) : Type 0 where
+  pub each : (k : ℕ) → IsCodec A (cs k)
+  pub some : (k : ℕ) (x : A) → 1 ≤ length ((cs k).print x)
+
+not_nil : (xs rest : List ℕ) → 1 ≤ length xs → (b : ℕ) × (bs : List ℕ) × (xs ++ rest ≡ b ∷ bs)
+not_nil [] rest le = absurd (omega arith)
+not_nil (b ∷ bs) rest le = (b, bs ++ rest, refl)
+
+from_again : {A : Type 0} (cs : ℕ → Codec A) → AreLong A cs → (most k : ℕ) (xs : List A) → length (print_from cs k xs) ≤ most → fits_from cs k xs ≡ true → read_from cs most k (print_from cs k xs) ≡ Some xs
+unfolding print_from read_from fits_from
+from_again cs are most k [] le h = refl
+from_again cs are zero k (x ∷ xs) le h = absurd (omega (arith, are.some k x, length-append ((cs k).print x) (print_from cs (k + 1) xs)))
+from_again {A} cs are (suc most) k (x ∷ xs) le h =
+    let f = both_true ((cs k).fits x) (fits_from cs (k + 1) xs) h in
+    let n = not_nil ((cs k).print x) (print_from cs (k + 1) xs) (are.some k x) in
+    let one : (cs k).read (n.0 ∷ n.1) ≡ Some (x, print_from cs (k + 1) xs) = ap (cs k).read (sym n.2) ∙ (are.each k).again x (print_from cs (k + 1) xs) f.0 in
+    let rest = from_again cs are most (k + 1) xs (omega (arith, are.some k x, length-append ((cs k).print x) (print_from cs (k + 1) xs))) f.1 in
+    ap (read_from cs (suc most) k) n.2 ∙ rw (one, rest) refl
+
+from_exact : {A : Type 0} (cs : ℕ → Codec A) → AreLong A cs → (most k : ℕ) (bs : List ℕ) (xs : List A) → AreBytes bs → read_from cs most k bs ≡ Some xs → (bs ≡ print_from cs k xs) × (fits_from cs k xs ≡ true)
+unfolding print_from read_from fits_from
+from_exact {A} cs are most k [] xs fine e = subst (λ (z : List A). ([] ≡ print_from cs k z) × (fits_from cs k z ≡ true)) (list_is [] xs e) (refl, refl)
+from_exact cs are zero k (b ∷ bs) xs fine e = absurd cc
+from_exact {A} cs are (suc most) k (b ∷ bs) xs fine e =
+    let u = bind_some ((cs k).read (b ∷ bs)) (λ x. read_from cs most (k + 1) x.1 >>= λ ys. Some (x.0 ∷ ys)) xs e in
+    let v = bind_some (read_from cs most (k + 1) u.0.1) (λ ys. Some (u.0.0 ∷ ys)) xs u.2 in
+    let first = (are.each k).exact (b ∷ bs) u.0.0 u.0.1 fine u.1 in
+    let rest = from_exact cs are most (k + 1) u.0.1 v.0 (AreBytes-behind ((cs k).print u.0.0) u.0.1 (b ∷ bs) first.parts fine) v.1 in
+    subst (λ (z : List A). ((b ∷ bs) ≡ print_from cs k z) × (fits_from cs k z ≡ true)) (list_is (u.0.0 ∷ v.0) xs v.2)
+    (first.parts ∙ ap (λ (t : List ℕ). (cs k).print u.0.0 ++ t) rest.0, and_true _ _ first.fits rest.1)
+
+pub filled_by_is : {A : Type 0} (cs : ℕ → Codec A) → AreLong A cs → (first : ℕ) → IsSpelling (List A) (filled_by cs first) (λ xs. fits_from cs first xs ≡ true)
+filled_by_is cs are first = record { again = λ xs h. from_again cs are (length (print_from cs first xs)) first xs (omega arith) h; exact = λ bs xs fine e. from_exact cs are (length bs) first bs xs fine e }

@@ -1,7 +1,7 @@
 -- Formats that many images share: numbers of two, four and eight bytes, and lists and texts after their length.
-use Rattle.std.specs.Prelude.{◌≡◌, ℕ, ◌^◌, Bool, true, ◌==◌, ◌&&◌, List, length, Option, Some, nat_le}
+use Rattle.std.specs.Prelude.{◌≡◌, ℕ, zero, suc, ◌+◌, ◌^◌, Bool, true, ◌&&◌, List, [], ◌∷◌, ◌++◌, length, Option, Some, None, nat_le}
 use Rattle.std.specs.Int.{w16, w32, w64}
-use Rattle.s38_codecs.specs.Codec.{Codec, ◌>>=◌, AreBytes, number, byte, bytes, behind, only, seen, times}
+use Rattle.s38_codecs.specs.Codec.{Codec, Part, ◌>>=◌, AreBytes, number, byte, bytes, behind, only, seen, times, whole}
 
 abbrev pub u16 : Codec ℕ
 u16 = number w16 (2 ^ 16)
@@ -34,22 +34,49 @@ text longest = seen counted_by with_count (behind (only (λ n. nat_le n longest)
 abbrev pub short_text : ℕ → Codec (List ℕ)
 short_text longest = seen counted_by with_count (behind (only (λ n. nat_le n longest) byte) bytes)
 
--- ---- a format of all bytes, as the format of so many bytes
+-- ---- formats of all bytes
 
--- how a value is written, which value all of some bytes are, and what can be written
+-- how a value is written, and which value all of some bytes are
 pub record Spelling (T : Type 0) : Type 0 where
   pub print : T → List ℕ
   pub read : List ℕ → Option T
-  pub fits : T → Bool
 
-pub record IsSpelling (T : Type 0) (s : Spelling T) : Type 0 where
-  pub again : (x : T) → s.fits x ≡ true → s.read (s.print x) ≡ Some x
-  pub exact : (bytes : List ℕ) (x : T) → AreBytes bytes → s.read bytes ≡ Some x → (bytes ≡ s.print x) × (s.fits x ≡ true)
+-- what fits is read again, and what is read is printed so
+pub record IsSpelling (T : Type 0) (s : Spelling T) (Fits : T → Type 0) : Type 0 where
+  pub again : (x : T) → Fits x → s.read (s.print x) ≡ Some x
+  pub exact : (bytes : List ℕ) (x : T) → AreBytes bytes → s.read bytes ≡ Some x → (bytes ≡ s.print x) × Fits x
 
--- the same within a number of bytes, which is known from elsewhere
-abbrev pub filling : {T : Type 0} → ℕ → Spelling T → Codec T
-filling n s = record {
-  print = s.print;
-  read = λ xs. (bytes n).read xs >>= λ x. s.read x.0 >>= λ y. Some (y, x.1);
-  fits = λ x. (length (s.print x) == n) && s.fits x;
+-- all bytes by a format, and nothing left
+abbrev pub all_by : {T : Type 0} → Codec T → Spelling T
+all_by c = record { print = c.print; read = λ bytes. whole c bytes }
+
+-- one case of a type
+abbrev pub print_by : {T : Type 0} → Spelling T → Option T → List ℕ
+print_by s None = []
+print_by s (Some x) = s.print x
+
+abbrev pub case_by : {T B : Type 0} → Part T B → Spelling T → Spelling B
+case_by p s = record {
+  print = λ b. print_by s (p.of b);
+  read = λ bytes. s.read bytes >>= λ x. Some (p.make x);
 }
+
+-- ---- values of formats by their place, as many as fill the bytes
+
+unfoldable pub print_from : {A : Type 0} → (ℕ → Codec A) → ℕ → List A → List ℕ
+print_from cs k [] = []
+print_from cs k (x ∷ xs) = (cs k).print x ++ print_from cs (k + 1) xs
+
+-- at most so many, from a place on
+unfoldable pub read_from : {A : Type 0} → (ℕ → Codec A) → ℕ → ℕ → List ℕ → Option (List A)
+read_from cs most k [] = Some []
+read_from cs zero k (b ∷ bs) = None
+read_from cs (suc most) k (b ∷ bs) = (cs k).read (b ∷ bs) >>= λ x. read_from cs most (k + 1) x.1 >>= λ xs. Some (x.0 ∷ xs)
+
+unfoldable pub fits_from : {A : Type 0} → (ℕ → Codec A) → ℕ → List A → Bool
+fits_from cs k [] = true
+fits_from cs k (x ∷ xs) = (cs k).fits x && fits_from cs (k + 1) xs
+
+-- each takes a byte at least
+abbrev pub filled_by : {A : Type 0} → (ℕ → Codec A) → ℕ → Spelling (List A)
+filled_by cs first = record { print = λ xs. print_from cs first xs; read = λ bs. read_from cs (length bs) first bs }
