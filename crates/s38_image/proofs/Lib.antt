@@ -1,0 +1,7 @@
+pub mod PageLaws
+pub mod HeaderLaws
+pub mod ScalarLaws
+pub mod SpaceLaws
+
+
+pub mod BodyLaws

@@ -45,8 +45,8 @@ abbrev pub ceiling_fields : ℕ → ℕ × (ℕ × (ℕ × List ℕ))
 ceiling_fields n = (ceiling_mark, (0, (n, copies 496 0)))
 
 -- the mark, a zero number and the ceiling; the rest of the page is zero
-abbrev pub ceiling : Spelling ℕ
-ceiling =
+abbrev pub ceiling_page : Spelling ℕ
+ceiling_page =
     all_by (seen ceiling_by ceiling_fields
     (behind (only is_ceiling_mark u32) (λ _. behind (only is_zero u32) (λ _. behind (only is_ceiling u64) (λ _. only (λ xs. list_all is_zero xs) (bytes 496))))))
 
@@ -182,7 +182,7 @@ first_by gs limit (Some n) = first_under gs limit n
 
 -- the ceiling of the store's parts of that number, from part 0 alone
 abbrev pub ceiling_in : List Change → Option ℕ
-ceiling_in parts = read_parts ceiling_key 0 ceiling (no_tags ceiling) 512 (leading rows_part parts)
+ceiling_in parts = read_parts ceiling_key 0 ceiling_page (no_tags ceiling_page) 512 (leading rows_part parts)
 
 -- the first fault of a store: its object and its part; none where the store can be restarted
 unfoldable pub store_fault : ℕ → List Change → List Group → Option (ℕ × ℕ)

@@ -78,7 +78,7 @@ abbrev pub is_mark : ℕ → Bool
 is_mark n = n == mark
 
 
-abbrev HeaderFields : Type 0
+abbrev pub HeaderFields : Type 0
 HeaderFields = ℕ × (Kind × (ℕ × (List ℕ × (ObjNum × (ObjNum × (Rights × (ℕ × (ℕ × (ℕ × List ℕ)))))))))
 
 abbrev pub header_by : HeaderFields → Header
