@@ -17,7 +17,11 @@ use Rattle.s38_codecs.specs.Codec.{Codec, IsCodec, IsPart, Part, ◌>>=◌, AreB
 use Rattle.s38_codecs.specs.Formats.{IsSpelling, Spelling, all_by, case_by, filled_by, fits_from, list_of, short_list, short_text, text, u16, u32, u64}
 use Rattle.s38_codecs.proofs.CodecLaws.{AreSame, and_true, behind_is, bind_some, both_true, byte_is, bytes_is, guard_some, only_is, seen_is, some_is}
 use Rattle.s38_codecs.proofs.FormatLaws.{AreLong, FitsCase, all_by_is, case_by_is, filled_by_is, list_of_is, short_list_is, short_text_is, text_is, u16_is, u32_is, u64_is, zeros_are}
-use Rattle.s38_create.specs.Created.{created}
+use Rattle.s38_create.specs.Created.{created, created_by, no_template, program as made_program, with_code, with_rows}
+use Rattle.s38_create.specs.Instruction.{result_and_then}
+use Rattle.s38_words.specs.declared.program_lines.Head.{Head}
+use Rattle.s38_code.specs.declared.program.Instruction.{Instruction}
+use Rattle.s38_code.specs.declared.program.Row.{Row}
 use Rattle.s38_dataspaces.specs.Entries.{Entry}
 use Rattle.s38_dataspaces.specs.Table.{are_fields, entry_len}
 use Rattle.s38_image.proofs.HeaderLaws.{at_most, object_is}
@@ -32,6 +36,7 @@ use Rattle.s38_image.specs.Journals as journals
 use Rattle.s38_image.specs.Journals.{EntryFields, entry, entry_by, entry_fields, entry_format, entry_kind, is_entry, is_entry_kind, journal}
 use Rattle.s38_image.specs.Pages.{same_list}
 use Rattle.s38_image.specs.Programs.{IsCreated, is_printed, program, program_of, template_in}
+use Rattle.s38_image.specs.Spaces.{space}
 use Rattle.s38_image.specs.Queues.{QueueHead, is_queue_head, message, message_by, message_parts, order, order_by, order_number, queue, queue_by, queue_head, queue_parts}
 use Rattle.s38_indexes.specs.Entries.{EntryIndex}
 use Rattle.s38_journals.specs.Entries as journaled
@@ -45,7 +50,9 @@ use Rattle.s38_queues.specs.declared.message.Order.{Order}
 use Rattle.s38_queues.specs.declared.message.Order.TheVariants as orders
 use Rattle.s38_rules.specs.Parts as parts
 use Rattle.s38_rules.specs.declared.block.Block.{Block}
+use Rattle.s38_journals.specs.Journals.{JournalList}
 use Rattle.s38_rules.specs.declared.cursor.Cursor.{Cursor}
+use Rattle.s38_rules.specs.declared.data_body.DataBody.{DataBody}
 use Rattle.s38_rules.specs.declared.object.Body.{Body}
 use Rattle.s38_rules.specs.declared.object.Body.TheVariants as bodies
 use Rattle.s38_rules.specs.declared.port.Port.{Port}
@@ -211,3 +218,162 @@ program_made (Ok q) p e = cc
 program_again : (p : Program) → IsCreated p → program.read (printed_lines p.template) ≡ Some p
 program_again p is = rw (is.template, lists_same (printed_lines p.template), is.created) refl
 
+-- a program that is created has the template of which it is created
+abbrev ok_program : Program → Result Program CreateFault
+ok_program p = Ok p
+
+same_program : (p q : Program) → ok_program p ≡ ok_program q → p ≡ q
+same_program p q e = cc
+
+template_coded : (lines : List (List ℕ)) (head : Head) (rows : List Row) (r : Result (List Instruction) CreateFault) (p : Program) → with_code lines head rows r ≡ Ok p → p.template ≡ lines
+template_coded lines head rows (Err fault) p e = absurd cc
+template_coded lines head rows (Ok code) p e = ap (λ (q : Program). q.template) (sym (same_program (made_program lines head rows code) p e))
+
+template_rows : (lines : List (List ℕ)) (head : Head) (code : List (List ℕ)) (r : Result (List Row) CreateFault) (p : Program) → result_and_then (with_rows lines head code) r ≡ Ok p → p.template ≡ lines
+template_rows lines head code (Err fault) p e = absurd cc
+template_rows lines head code (Ok rows) p e = template_coded lines head rows _ p e
+
+template_small : (lines : List (List ℕ)) (b : Bool) (head : Head) (code : List (List ℕ)) (r : Result (List Row) CreateFault) (p : Program) → cond b (result_and_then (with_rows lines head code) r) no_template ≡ Ok p → p.template ≡ lines
+template_small lines true head code r p e = template_rows lines head code r p e
+template_small lines false head code r p e = absurd cc
+
+template_by : (lines : List (List ℕ)) (h : Option Head) (p : Program) → created_by lines h ≡ Ok p → p.template ≡ lines
+template_by lines None p e = absurd cc
+template_by lines (Some head) p e = template_small lines _ head _ _ p e
+
+template_if : (lines : List (List ℕ)) (b : Bool) (h : Option Head) (p : Program) → cond b (created_by lines h) no_template ≡ Ok p → p.template ≡ lines
+template_if lines true h p e = template_by lines h p e
+template_if lines false h p e = absurd cc
+
+pub created_template : (lines : List (List ℕ)) (p : Program) → created lines ≡ Ok p → p.template ≡ lines
+unfolding created
+created_template lines p e = template_if lines _ _ p e
+
+program_exact : (text : List ℕ) (p : Program) → AreBytes text → program.read text ≡ Some p → (text ≡ printed_lines p.template) × IsCreated p
+program_exact text p fine e =
+    let u = bind_some (template_in (read_of text)) (λ template. is_printed text template >>= λ template. program_of (created template)) p e in
+    let v = bind_some (is_printed text u.0) (λ template. program_of (created template)) p u.2 in
+    let s = printed_same text u.0 v.0 v.1 in
+    let made = program_made (created v.0) p v.2 in
+    let own : p.template ≡ u.0 = created_template v.0 p made ∙ sym s.1 in
+    let printed : printed_lines p.template ≡ text = ap (λ (t : List (List ℕ)). printed_lines t) own ∙ s.0 in
+    (sym printed, record {
+      template = ap (λ (t : List ℕ). template_in (read_of t)) printed ∙ u.1 ∙ ap (λ (t : List (List ℕ)). Some t) (sym own);
+      created = ap created (created_template v.0 p made) ∙ made;
+    })
+
+pub program_is : IsSpelling Program program IsCreated
+program_is = record { again = program_again; exact = program_exact }
+
+-- ---- the kinds
+
+abbrev held : Body → ℕ → BodyImage
+held b sequence = record { body = b; sequence = sequence }
+
+held_got : {T : Type 0} (p : parts.Part T) → parts.IsPart T p → (x : T) → (held_in p).of ((held_in p).make x) ≡ Some x
+held_got p is x = is.got x
+
+held_back_by : {T : Type 0} (p : parts.Part T) → parts.IsPart T p → (b : Body) (sequence : ℕ) (x : T) → unsequenced p sequence b ≡ Some x → (held b sequence) ≡ (held_in p).make x
+held_back_by p is b zero x e = ap (λ (c : Body). held c 0) (is.back b x e)
+held_back_by p is b (suc n) x e = absurd cc
+
+pub held_is : {T : Type 0} (p : parts.Part T) → parts.IsPart T p → IsPart T BodyImage (held_in p)
+held_is p is = record { got = held_got p is; back = λ i x e. held_back_by p is i.body i.sequence x e }
+
+context_back : (b : Body) (x : Unit {0}) → context_of b ≡ Some x → b ≡ bodies.Context
+context_back bodies.Context x e = refl
+context_back _ x e = absurd cc
+
+context_is_part : parts.IsPart (Unit {0}) context_part
+context_is_part = record { got = λ x. refl; back = context_back }
+
+program_back : (b : Body) (x : Program) → program_in b ≡ Some x → b ≡ bodies.Program x
+program_back (bodies.Program p) x e = cc
+program_back _ x e = absurd cc
+
+program_is_part : parts.IsPart Program program_part
+program_is_part = record { got = λ x. refl; back = program_back }
+
+profile_back : (b : Body) (x : Special × ℕ) → parts.profile_of b ≡ Some x → b ≡ bodies.Profile x.0 x.1
+profile_back (bodies.Profile s limit) x e = cc
+profile_back _ x e = absurd cc
+
+profile_is_part : parts.IsPart (Special × ℕ) parts.profile_part
+profile_is_part = record { got = λ x. refl; back = profile_back }
+
+entries_same : (j : JournalList) (es : List journaled.Entry) → j.spare ≡ 0 → j.unforced ≡ 0 → j.entries ≡ es → j ≡ record { spare = 0; unforced = 0; entries = es }
+entries_same j es a b c = λ i. record { spare = a i; unforced = b i; entries = c i }
+
+entries_back : (b : Body) (x : List journaled.Entry) → entries_in b ≡ Some x → b ≡ entries_part.make x
+entries_back (bodies.Journal j) x e =
+    let g = guard_some (eqb j.spare 0 && eqb j.unforced 0) j.entries x e in
+    let f = both_true (eqb j.spare 0) (eqb j.unforced 0) g.0 in
+    ap (λ (k : JournalList). bodies.Journal k) (entries_same j x (eqb-true j.spare 0 f.0) (eqb-true j.unforced 0 f.1) g.1)
+entries_back _ x e = absurd cc
+
+entries_is_part : parts.IsPart (List journaled.Entry) entries_part
+entries_is_part = record { got = λ x. refl; back = entries_back }
+
+data_same : (d : DataBody) (sequence : ℕ) → d.space.spare ≡ 0 → held (bodies.DataSpace d) sequence ≡ data_part.make (d.port.0, (sequence, (d.space.fields, d.space.entries)))
+data_same d sequence a = λ i. record { body = bodies.DataSpace (record { space = record { fields = d.space.fields; spare = a i; entries = d.space.entries }; port = d.port }); sequence = sequence }
+
+abbrev data_parts : DataBody → ℕ → DataParts
+data_parts d sequence = (d.port.0, (sequence, (d.space.fields, d.space.entries)))
+
+data_back_by : (b : Body) (sequence : ℕ) (x : DataParts) → data_in sequence b ≡ Some x → held b sequence ≡ data_part.make x
+data_back_by (bodies.DataSpace d) sequence x e =
+    let g = guard_some (eqb d.space.spare 0) (data_parts d sequence) x e in
+    data_same d sequence (eqb-true d.space.spare 0 g.0) ∙ ap (λ (y : DataParts). data_part.make y) g.1
+data_back_by _ sequence x e = absurd cc
+
+data_is_part : IsPart DataParts BodyImage data_part
+data_is_part = record { got = λ x. refl; back = λ i x e. data_back_by i.body i.sequence x e }
+
+nothing_exact : (bs : List ℕ) (x : Unit {0}) → AreBytes bs → nothing_of bs ≡ Some x → (bs ≡ []) × Unit {0}
+nothing_exact [] x fine e = (refl, tt)
+nothing_exact (b ∷ bs) x fine e = absurd cc
+
+nothing_is : IsSpelling (Unit {0}) nothing (λ x. Unit {0})
+nothing_is = record { again = λ x h. refl; exact = nothing_exact }
+
+special_is : IsCodec Special special
+special_is = seen_is special_by special_bits _ (record { there = λ y. refl; here = λ x h. refl }) (only_is is_special byte byte_is)
+
+profile_is : IsCodec (Special × ℕ) profile
+profile_is = behind_is special _ special_is (λ _. u32_is)
+
+cursor_is : IsCodec Cursor cursor
+cursor_is = seen_is cursor_by cursor_parts _ (record { there = λ y. refl; here = λ x h. refl }) (behind_is object _ object_is (λ _. behind_is object _ object_is (λ _. u32_is)))
+
+port_is : IsCodec Port port
+port_is = seen_is port_by port_number _ (record { there = λ y. refl; here = λ x h. refl }) object_is
+
+block_is : IsCodec Block block
+block_is = seen_is block_by block_number _ (record { there = λ y. refl; here = λ x h. refl }) object_is
+
+-- what a body of a kind fits, where its pages have these tags
+abbrev pub FitsBody : Kind → List ℕ → BodyImage → Type 0
+FitsBody kinds.Context tags i = FitsCase (λ x. Unit {0}) ((held_in context_part).of i)
+FitsBody kinds.Program tags i = FitsCase IsCreated ((held_in program_part).of i)
+FitsBody kinds.Profile tags i = FitsCase (λ x. profile.fits x ≡ true) ((held_in parts.profile_part).of i)
+FitsBody kinds.Space tags i = FitsCase (FitsSpace tags) ((held_in parts.space_part).of i)
+FitsBody kinds.Queue tags i = FitsCase (λ x. queue.fits x ≡ true) ((held_in parts.queue_part).of i)
+FitsBody kinds.Index tags i = FitsCase (λ x. index.fits x ≡ true) ((held_in parts.index_part).of i)
+FitsBody kinds.DataSpace tags i = FitsCase (λ x. data_space.fits x ≡ true) (data_part.of i)
+FitsBody kinds.Cursor tags i = FitsCase (λ x. cursor.fits x ≡ true) ((held_in parts.cursor_part).of i)
+FitsBody kinds.Port tags i = FitsCase (λ x. port.fits x ≡ true) ((held_in parts.port_part).of i)
+FitsBody kinds.Journal tags i = FitsCase (λ x. fits_from entry 1 x ≡ true) ((held_in entries_part).of i)
+FitsBody kinds.Block tags i = FitsCase (λ x. block.fits x ≡ true) ((held_in parts.block_part).of i)
+
+pub body_is : (k : Kind) (tags : List ℕ) → IsSpelling BodyImage (body k tags) (FitsBody k tags)
+body_is kinds.Context tags = case_by_is (held_in context_part) nothing (λ x. Unit {0}) (held_is context_part context_is_part) nothing_is
+body_is kinds.Program tags = case_by_is (held_in program_part) program IsCreated (held_is program_part program_is_part) program_is
+body_is kinds.Profile tags = case_by_is (held_in parts.profile_part) (all_by profile) (λ x. profile.fits x ≡ true) (held_is parts.profile_part profile_is_part) (all_by_is profile profile_is)
+body_is kinds.Space tags = case_by_is (held_in parts.space_part) (space tags) (FitsSpace tags) (held_is parts.space_part parts.space_lawful) (space_is tags)
+body_is kinds.Queue tags = case_by_is (held_in parts.queue_part) (all_by queue) (λ x. queue.fits x ≡ true) (held_is parts.queue_part parts.queue_lawful) (all_by_is queue queue_is)
+body_is kinds.Index tags = case_by_is (held_in parts.index_part) (all_by index) (λ x. index.fits x ≡ true) (held_is parts.index_part parts.index_lawful) (all_by_is index index_codec_is)
+body_is kinds.DataSpace tags = case_by_is data_part (all_by data_space) (λ x. data_space.fits x ≡ true) data_is_part (all_by_is data_space data_space_is)
+body_is kinds.Cursor tags = case_by_is (held_in parts.cursor_part) (all_by cursor) (λ x. cursor.fits x ≡ true) (held_is parts.cursor_part parts.cursor_lawful) (all_by_is cursor cursor_is)
+body_is kinds.Port tags = case_by_is (held_in parts.port_part) (all_by port) (λ x. port.fits x ≡ true) (held_is parts.port_part parts.port_lawful) (all_by_is port port_is)
+body_is kinds.Journal tags = case_by_is (held_in entries_part) journal (λ x. fits_from entry 1 x ≡ true) (held_is entries_part entries_is_part) journal_is
+body_is kinds.Block tags = case_by_is (held_in parts.block_part) (all_by block) (λ x. block.fits x ≡ true) (held_is parts.block_part parts.block_lawful) (all_by_is block block_is)

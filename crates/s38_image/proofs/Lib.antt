@@ -5,3 +5,4 @@ pub mod SpaceLaws
 
 
 pub mod BodyLaws
+pub mod ImageLaws
