@@ -6,3 +6,4 @@ pub mod SpaceLaws
 
 pub mod BodyLaws
 pub mod ImageLaws
+pub mod AgainLaws

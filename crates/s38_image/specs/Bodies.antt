@@ -149,10 +149,10 @@ body kinds.Block tags = case_by (held_in parts.block_part) (all_by block)
 abbrev pub body_bytes : Kind → BodyImage → List ℕ
 body_bytes k i = (body k []).print i
 
-abbrev pub tags_by : Body → ℕ → List ℕ
-tags_by (bodies.Space cells) pages = space_tags cells
-tags_by _ pages = copies pages 0
+abbrev pub tags_by : Kind → Body → ℕ → List ℕ
+tags_by kinds.Space (bodies.Space cells) pages = space_tags cells
+tags_by _ _ pages = copies pages 0
 
 -- the tags of its pages: of a space they say which cells are pointers, else they are 0
 abbrev pub body_tags : Kind → BodyImage → List ℕ
-body_tags k i = tags_by i.body (needed (length (body_bytes k i)))
+body_tags k i = tags_by k i.body (needed (length (body_bytes k i)))
