@@ -14,6 +14,7 @@ use Rattle.s38_codecs.proofs.CodecLaws.{AreBytes-drop, AreBytes-take}
 use Rattle.s38_codecs.proofs.FormatLaws.{length_copies}
 use Rattle.s38_image.proofs.BodyLaws.{FitsBody, body_is}
 use Rattle.s38_image.proofs.HeaderLaws.{header_codec, header_is, rows_codec, rows_is, rows_long}
+use Rattle.s38_image.proofs.StreamLaws.{stream_append}
 use Rattle.s38_image.proofs.PageLaws.{AreWhole, Reads, parts_again, parts_exact, tags_numbered}
 use Rattle.s38_image.specs.Bodies.{BodyImage, body, body_bytes, body_tags}
 use Rattle.s38_image.specs.Headers.{header, is_within, rows}
@@ -43,10 +44,6 @@ whole_leading : (limit : ℕ) (ps : List Change) → AreWhole ps → AreWhole (l
 unfolding AreWhole
 whole_leading limit [] ok = (tt, tt)
 whole_leading limit (p ∷ ps) ok = whole_leading_by limit p ps _ refl ok (whole_leading limit ps ok.1)
-
-stream_append : (ps qs : List Change) → stream (ps ++ qs) ≡ stream ps ++ stream qs
-stream_append [] qs = refl
-stream_append (p ∷ ps) qs = ap (λ (t : List ℕ). bytes_of p.page ++ t) (stream_append ps qs) ∙ sym (append_assoc (bytes_of p.page) (stream ps) (stream qs))
 
 -- each page has 512 bytes
 pub record AreFine (ps : List Change) : Type 0 where

@@ -1,4 +1,5 @@
 pub mod PageLaws
+pub mod StreamLaws
 pub mod HeaderLaws
 pub mod ScalarLaws
 pub mod SpaceLaws

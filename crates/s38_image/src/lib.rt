@@ -3,8 +3,10 @@
 
 mod fault;
 mod header;
+mod stream;
 mod stored;
 
 pub use fault::ImageFault;
 pub use header::Header;
 pub use stored::Stored;
+pub use stream::{are_untagged, stream_of, tags_in};
