@@ -1,5 +1,5 @@
 //! Numbers and bytes at the front of bytes, and what is left after them. No reader takes memory.
-ghost use Rattle.std.specs.Prelude.{◌≡◌, ◌==◌};
+ghost use Rattle.std.specs.Prelude.{◌≡◌, ◌≤◌, IfOk, length};
 ghost use Rattle.std.specs.List.{list_all};
 ghost use Rattle.s38_codecs.specs.Codec.{byte, bytes, is_zero};
 ghost use Rattle.s38_codecs.specs.Formats.{short_text, text, u16 as half, u32 as word, u64 as long};
@@ -60,7 +60,8 @@ pub fn u64_at(from: &[u8]) -> Result<(u64, &[u8]), ReadFault>
 
 /// So many bytes.
 pub fn bytes_at(count: usize, from: &[u8]) -> Result<(&[u8], &[u8]), ReadFault>
-    ensures { Gives (λ x. (x.0.now, x.1.now)) result ((bytes count).read from.now) }
+    ensures read { Gives (λ x. (x.0.now, x.1.now)) result ((bytes count).read from.now) }
+    ensures len { IfOk result (λ x. length x.0.now ≡ count) }
 {
     if from.len() < count {
         return Err(ReadFault::BadForm);
@@ -70,7 +71,8 @@ pub fn bytes_at(count: usize, from: &[u8]) -> Result<(&[u8], &[u8]), ReadFault>
 
 /// A length of 2 bytes, at most so much, and so many bytes.
 pub fn text_at(longest: u16, from: &[u8]) -> Result<(&[u8], &[u8]), ReadFault>
-    ensures { Gives (λ x. (x.0.now, x.1.now)) result ((text longest).read from.now) }
+    ensures read { Gives (λ x. (x.0.now, x.1.now)) result ((text longest).read from.now) }
+    ensures len { IfOk result (λ x. length x.0.now ≤ longest) }
 {
     let (count, rest) = u16_at(from)?;
     if count > longest {
@@ -81,7 +83,8 @@ pub fn text_at(longest: u16, from: &[u8]) -> Result<(&[u8], &[u8]), ReadFault>
 
 /// A length of one byte, at most so much, and so many bytes.
 pub fn short_text_at(longest: u8, from: &[u8]) -> Result<(&[u8], &[u8]), ReadFault>
-    ensures { Gives (λ x. (x.0.now, x.1.now)) result ((short_text longest).read from.now) }
+    ensures read { Gives (λ x. (x.0.now, x.1.now)) result ((short_text longest).read from.now) }
+    ensures len { IfOk result (λ x. length x.0.now ≤ longest) }
 {
     let (count, rest) = byte_at(from)?;
     if count > longest {
