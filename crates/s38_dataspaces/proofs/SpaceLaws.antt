@@ -1,15 +1,16 @@
 -- Every entry that stands is one of the fields: where one is put, and where one is read.
-use Rattle.std.proofs.Common.{◌≡◌, ℕ, zero, suc, ◌-◌, Bool, true, false, ◌&&◌, Bor, List, [], ◌∷◌, arith, length, set, refl, sym, ◌∙◌, ap, subst}
+use Rattle.std.proofs.Common.{◌≡◌, ℕ, zero, suc, ◌+◌, ◌-◌, ◌*◌, ◌≤◌, Bool, true, false, ◌&&◌, Bor, List, [], ◌∷◌, ◌++◌, arith, length, set, refl, sym, ◌∙◌, ap, subst}
 use Rattle.std.proofs.lemmas.Bool.Decides.{nat_tests}
-use Rattle.std.proofs.lemmas.List.{length-set}
+use Rattle.std.proofs.lemmas.List.{length-append, length-set}
+use Rattle.std.proofs.Math.Nat.{add-mul}
 use Rattle.std.specs.List.{list_all}
 use Rattle.std.specs.Option.{option_copied, option_flatten}
 use Rattle.std.specs.Prelude.{IfSome, IsTrue, Option, Some, None, ◌==◌, if◌then◌else◌, slice_get}
 use Rattle.s38_base.specs.declared.attr.Attr.{Attr}
-use Rattle.s38_dataspaces.specs.Entries.{Entry, Kept, entry_at, put_at}
+use Rattle.s38_dataspaces.specs.Entries.{Entry, Kept, entry_at, put_at, with_entry}
 use Rattle.s38_dataspaces.specs.declared.fault.EntryFault.TheVariants.{BadLength}
 use Rattle.s38_dataspaces.specs.Refusals.{delete_refusal, update_refusal}
-use Rattle.s38_dataspaces.specs.Table.{DataTable, IsDataSpace, entry_len}
+use Rattle.s38_dataspaces.specs.Table.{DataTable, IsDataSpace, entry_len, image_size}
 use Rattle.s38_dataspaces.specs.Values.{have_values, is_proper}
 
 both : (a b : Bool) → a ≡ true → b ≡ true → (a && b) ≡ true
@@ -65,3 +66,39 @@ right_length table at entry none = elim (length entry == entry_len table.fields)
   | true ↦ λ same q. grind (arith, nat_tests)
   | false ↦ λ same q. absurd (cc)
 ] refl none
+
+set_last : (entries : List Entry) (one other : Entry) → set (entries ++ one ∷ []) (length entries) other ≡ entries ++ other ∷ []
+set_last [] one other = refl
+set_last (e ∷ es) one other = ap (λ (xs : List Entry). e ∷ xs) (set_last es one other)
+
+-- the last entry is deleted
+pub last_cleared : (entries : List Entry) (entry : List ℕ) → put_at (with_entry entries entry) (length (with_entry entries entry)) None ≡ entries ++ None ∷ []
+last_cleared entries entry =
+    let len : length (with_entry entries entry) - 1 ≡ length entries = omega (arith, length-append entries (Some entry ∷ [])) in
+    ap (λ (k : ℕ). set (with_entry entries entry) k None) len ∙ set_last entries (Some entry) None
+
+pub proper_deleted : (fields : List Attr) (entries : List Entry) → IsTrue (list_all (is_proper fields) entries) → IsTrue (list_all (is_proper fields) (entries ++ None ∷ []))
+proper_deleted fields [] all = refl
+proper_deleted fields (e ∷ es) all = both (is_proper fields e) _ (first_of (is_proper fields e) _ all) (proper_deleted fields es (second_of (is_proper fields e) _ all))
+
+-- one more ordinal, whose entry is deleted
+pub deleted_is : (fields : List Attr) (width size : ℕ) (entries : List Entry) → IsDataSpace fields width size entries → size + (1 + width) ≤ 16777216 → IsDataSpace fields width (size + (1 + width)) (entries ++ None ∷ [])
+deleted_is fields width size entries is small =
+    let len : length (entries ++ None ∷ []) ≡ length entries + 1 = length-append entries (None ∷ []) in
+    let split : (length entries + 1) * (1 + entry_len fields) ≡ length entries * (1 + entry_len fields) + 1 * (1 + entry_len fields) = add-mul (length entries) 1 (1 + entry_len fields) in
+    let w = is.width_is in
+    let s = is.size_is in
+    let sized : size + (1 + width) ≡ image_size fields (length entries + 1) = omega (arith, split, w, s) in
+    record {
+      fields_fit = is.fields_fit;
+      width_is = is.width_is;
+      size_is = sized ∙ ap (λ (n : ℕ). image_size fields n) (sym len);
+      small = small;
+      proper = proper_deleted fields entries is.proper;
+    }
+
+pub deleted_kept : (fields : List Attr) (size len : ℕ) (old new : Kept) → new ≡ record old { spare = 0; entries = old.entries ++ None ∷ [] } → IsDataSpace fields old.width size old.entries → len ≡ old.width → size + (1 + len) ≤ 16777216 → IsDataSpace fields new.width (size + (1 + len)) new.entries
+deleted_kept fields size len old new is kept same small =
+    subst (λ (k : Kept). IsDataSpace fields k.width (size + (1 + len)) k.entries) (sym is)
+    (subst (λ (n : ℕ). IsDataSpace fields old.width (size + (1 + n)) (old.entries ++ None ∷ [])) (sym same)
+     (deleted_is fields old.width size old.entries kept (omega (arith, same, small))))

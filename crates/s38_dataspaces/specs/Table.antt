@@ -1,5 +1,5 @@
 -- A data space is the attributes of its fields and its entries, all of the fields' length.
-use Rattle.std.specs.Prelude.{◌≡◌, ℕ, ◌+◌, ◌*◌, ◌≤◌, ◌==◌, Bool, true, IsTrue, not, ◌&&◌, nat_le, Some, None, List, length, sum_by, if◌then◌else◌}
+use Rattle.std.specs.Prelude.{◌≡◌, ℕ, ◌+◌, ◌*◌, ◌≤◌, ◌==◌, Bool, true, IsTrue, not, ◌&&◌, nat_le, Some, None, List, [], ◌∷◌, ◌++◌, length, sum_by, if◌then◌else◌}
 use Rattle.std.specs.List.{list_all}
 use Rattle.s38_base.specs.Scalar.{is_bounded, is_pointer_attr, length_of}
 use Rattle.s38_base.specs.declared.attr.Attr.{Attr}
@@ -33,6 +33,10 @@ image_size fields ordinals = 22 + 3 * length fields + ordinals * (1 + entry_len 
 -- one more entry, under the next ordinal; a spare place is used up
 abbrev pub inserted : DataTable → List ℕ → DataTable
 inserted table entry = record table { spare = 0; entries = with_entry table.entries entry }
+
+-- one more ordinal, whose entry is deleted
+abbrev pub inserted_deleted : DataTable → DataTable
+inserted_deleted table = record table { spare = 0; entries = table.entries ++ None ∷ [] }
 
 -- another entry under an ordinal, or None to delete it
 abbrev pub changed : DataTable → ℕ → Entry → DataTable

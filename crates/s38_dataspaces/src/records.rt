@@ -1,4 +1,4 @@
-ghost use Rattle.std.specs.Prelude.{◌≡◌, ◌==◌, ◌≤◌, ◌<◌, [], Some, None, IfSome, IsErr, IsOk, OnOk, OnErr, length, map, is_some, not};
+ghost use Rattle.std.specs.Prelude.{◌≡◌, ◌==◌, ◌≤◌, ◌<◌, ◌++◌, ◌∷◌, [], Some, None, IfSome, IsErr, IsOk, OnOk, OnErr, length, map, is_some, not};
 ghost use Rattle.std.specs.Option.{option_copied};
 ghost use Rattle.s38_dataspaces.specs.Entries.{entry_at, put_at, with_entry};
 
@@ -108,6 +108,29 @@ impl Records {
     {
         slots::push_slot(&mut self.standing, &mut self.bytes, entry);
         self.spare = 0;
+    }
+
+    /// Adds an ordinal whose entry is deleted, without memory; its place holds these bytes.
+    #[tactic(auto, using(crate::proofs::SpaceLaws::last_cleared))]
+    fn push_deleted(&mut self, bytes: &[u8])
+        requires room { 0 < self.old.spare }
+        requires len { length bytes.now ≡ self.old.width }
+        ensures { self.new ≡ record self.old { spare = 0; entries = self.old.entries ++ None ∷ [] } }
+    {
+        self.push(bytes);
+        let last = self.count();
+        self.clear(last);
+    }
+
+    /// Adds an ordinal whose entry is deleted; its place holds these bytes.
+    pub fn insert_deleted(&mut self, bytes: &[u8]) -> Result<(), NoMemory>
+        requires { length bytes.now ≡ self.old.width }
+        ensures ok { OnOk result (self.new ≡ record self.old { spare = 0; entries = self.old.entries ++ None ∷ [] }) }
+        ensures err { OnErr result (self.new ≡ self.old) }
+    {
+        self.reserve()?;
+        self.push_deleted(bytes);
+        Ok(())
     }
 
     /// Puts an entry under an ordinal, without memory.

@@ -1,10 +1,10 @@
 ghost use Rattle.std.specs.Bool.{OnTrue};
-ghost use Rattle.std.specs.Prelude.{◌==◌, ◌&&◌, IsOk, ◌≡◌, ◌+◌, ◌≤◌, ◌<◌, [], Some, None, IfErr, IfNone, IfOk, IfSome, IsErrOf, IsTrue, OnOk, OnErr, length, map, is_some, not};
+ghost use Rattle.std.specs.Prelude.{◌⊎◌, ◌==◌, ◌&&◌, IsOk, ◌≡◌, ◌+◌, ◌≤◌, ◌<◌, [], Some, None, IfErr, IfNone, IfOk, IfSome, IsErrOf, IsTrue, OnOk, OnErr, length, map, is_some, not};
 ghost use Rattle.std.specs.Option.{ForSome, option_copied, unwrap_or};
 ghost use Rattle.s38_dataspaces.specs.Entries.{entry_at};
 ghost use Rattle.s38_dataspaces.specs.Refusals.{delete_refusal, insert_refusal, update_refusal};
 ghost use Rattle.s38_dataspaces.specs.Seeks.{IsNowhere, IsSought, sought};
-ghost use Rattle.s38_dataspaces.specs.Table.{are_fields, changed, entry_len, image_size, inserted, may_restore, restored};
+ghost use Rattle.s38_dataspaces.specs.Table.{are_fields, changed, entry_len, image_size, inserted, inserted_deleted, may_restore, restored};
 ghost use Rattle.s38_dataspaces.specs.Values.{have_values};
 
 use crate::fault::EntryFault;
@@ -18,6 +18,17 @@ use std::marker::Model;
 
 /// The longest image of a data space, in bytes.
 const LARGEST: u32 = 16_777_216;
+
+/// As many zeros as an entry may have bytes.
+static ZEROS: [u8; 4096] = [0; 4096];
+
+/// So many zeros.
+fn zeros(len: usize) -> &'static [u8]
+    requires { len ≤ 4096 }
+    ensures { length result.now ≡ len }
+{
+    &ZEROS[..len]
+}
 
 /// Entries of the same fields, numbered from 1 on by their ordinals. An entry that is deleted keeps its ordinal.
 /// Contracts see it as the fields and the list of the entries, each its bytes or None, and beside it how many
@@ -180,6 +191,27 @@ impl DataSpace {
         self.records.push(entry);
         self.size += 1 + entry.len() as u32;
         Ok(self.records.count() as u32)
+    }
+
+    /// Adds an ordinal whose entry is deleted. It is refused where the image would exceed 16,777,216 bytes; `NoMemory`
+    /// where memory was refused. A refused call changes nothing.
+    pub fn insert_deleted(&mut self) -> Result<(), EntryFault>
+        ensures accepted { OnOk result (image_size self.old.fields (length self.old.entries + 1) ≤ 16777216) }
+        ensures ok { OnOk result (self.new ≡ inserted_deleted self.old) }
+        ensures full { IsErrOf result EntryFault.Full → 16777216 < image_size self.old.fields (length self.old.entries + 1) }
+        ensures fault { IfErr result (λ fault. (fault ≡ EntryFault.Full) ⊎ (fault ≡ EntryFault.NoMemory)) }
+        ensures err { OnErr result (self.new ≡ self.old) }
+    {
+        let width = self.entry_len();
+        if self.size + 1 + width as u32 > LARGEST {
+            return Err(EntryFault::Full);
+        }
+        match self.records.insert_deleted(zeros(width)) {
+            Ok(()) => {}
+            Err(_) => return Err(EntryFault::NoMemory),
+        }
+        self.size += 1 + width as u32;
+        Ok(())
     }
 
     /// Puts an entry in the place of one that stands, without memory. It is refused for its length, then where no

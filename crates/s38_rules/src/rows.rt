@@ -129,6 +129,14 @@ impl RowList {
         Ok(RowList { rows })
     }
 
+    /// The rows of a vector, without a copy.
+    pub fn from_rows(rows: Vec<PrivateRow>) -> RowList
+        requires { AreRows rows.items }
+        ensures { result ≡ rows.items }
+    {
+        RowList { rows }
+    }
+
     /// The rows.
     pub fn as_slice(&self) -> &[PrivateRow]
         ensures value { result.now ≡ self.now }
