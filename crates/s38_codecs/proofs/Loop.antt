@@ -1,9 +1,9 @@
 -- Reading values of one format one after the other, as a loop does: for every format.
-use Rattle.std.proofs.Common.{◌≡◌, ℕ, suc, ◌-◌, ◌+◌, ◌≤◌, ◌<◌, List, [], ◌∷◌, ◌++◌, Option, Some, None, refl, sym, ap, ◌∙◌, append_assoc, arith}
+use Rattle.std.proofs.Common.{◌≡◌, ℕ, suc, ◌-◌, ◌+◌, ◌≤◌, ◌<◌, cond, eqb, List, [], ◌∷◌, ◌++◌, length, Option, Some, None, refl, sym, ap, ◌∙◌, append_assoc, arith}
 use Rattle.std.proofs.lemmas.List.{append-nil}
 use Rattle.s38_codecs.specs.declared.fault.ReadFault.{ReadFault}
 use Rattle.s38_codecs.specs.declared.fault.ReadFault.TheVariants as faults
-use Rattle.s38_codecs.specs.Codec.{Codec, ◌>>=◌, read_each, copies, times}
+use Rattle.s38_codecs.specs.Codec.{Codec, ◌>>=◌, read_each, copies, times, whole}
 use Rattle.s38_codecs.specs.Reading.{Fails}
 
 -- what was read before, and what is still read
@@ -41,3 +41,19 @@ is_done c front count i bytes total le so_far =
 pub begins : {A : Type 0} (read : Option (List A × List ℕ)) → with_front [] read ≡ read
 begins None = refl
 begins (Some x) = refl
+
+-- ---- all bytes by so many values
+
+pub whole_done : {A : Type 0} (c : Codec A) (front : List A) (count i : ℕ) (rest from : List ℕ) → count ≤ i → with_front front ((times (count - i) c).read rest) ≡ (times count c).read from
+    → whole (times count c) from ≡ cond (eqb (length rest) 0) (Some front) None
+whole_done c front count i rest from le so_far =
+    let total = is_done c front count i rest ((times count c).read from) le so_far in
+    rw total refl
+
+fails_whole : {A : Type 0} (e : ReadFault) (o : Option (List A × List ℕ)) → Fails e o → Fails e (o >>= λ x. cond (eqb (length x.1) 0) (Some x.0) None)
+fails_whole faults.NoMemory o h = tt
+fails_whole faults.BadForm o h = rw h refl
+
+pub whole_ends : {A : Type 0} (c : Codec A) (e : ReadFault) (front : List A) (count i : ℕ) (rest from : List ℕ) → i < count → Fails e (c.read rest)
+    → with_front front ((times (count - i) c).read rest) ≡ (times count c).read from → Fails e (whole (times count c) from)
+whole_ends c e front count i rest from lt h so_far = fails_whole e ((times count c).read from) (ends c e front count i rest ((times count c).read from) lt h so_far)

@@ -66,7 +66,7 @@ pub kind_is : IsCodec Kind kind
 kind_is = seen_is kind_by kind_code _ (record { there = kind_there; here = λ x h. kind_here x (both_true (is_kind x) _ h).0 }) (only_is is_kind byte byte_is)
 
 -- zeros as they are written behind a name
-zeros : (m : ℕ) → replicate {A = ℕ} m 0 ≡ copies m 0
+pub zeros : (m : ℕ) → replicate {A = ℕ} m 0 ≡ copies m 0
 unfolding copies
 zeros zero = refl
 zeros (suc m) = ap (λ (t : List ℕ). 0 ∷ t) (zeros m)

@@ -1,5 +1,6 @@
 pub mod PageLaws
 pub mod StreamLaws
+pub mod PrintLaws
 pub mod HeaderLaws
 pub mod ScalarLaws
 pub mod SpaceLaws
