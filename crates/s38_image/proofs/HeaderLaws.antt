@@ -74,7 +74,7 @@ zeros (suc m) = ap (λ (t : List ℕ). 0 ∷ t) (zeros m)
 same_count : (a b : ℕ) → a ≡ b → copies {A = ℕ} a 0 ≡ copies b 0
 same_count a b e = ap (λ (k : ℕ). copies {A = ℕ} k 0) e
 
-drop_zeros : (n m : ℕ) → drop {A = ℕ} n (replicate m 0) ≡ copies (m - n) 0
+pub drop_zeros : (n m : ℕ) → drop {A = ℕ} n (replicate m 0) ≡ copies (m - n) 0
 unfolding copies
 drop_zeros zero m = zeros m ∙ same_count m (m - 0) (omega arith)
 drop_zeros (suc n) zero = same_count 0 (0 - suc n) (omega arith)

@@ -9,3 +9,4 @@ pub mod SpaceLaws
 pub mod BodyLaws
 pub mod ImageLaws
 pub mod AgainLaws
+pub mod CutLaws
