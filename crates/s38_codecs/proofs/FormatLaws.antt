@@ -6,7 +6,7 @@ use Rattle.std.specs.Int.{w16, w32, w64}
 use Rattle.std.proofs.lemmas.Bool.{eqb-true}
 use Rattle.std.proofs.lemmas.List.{length-append}
 use Rattle.s38_codecs.specs.Codec.{Codec, IsCodec, IsPart, Part, Spells, ◌>>=◌, AreBytes, behind, byte, bytes, copies, is_zero, only, seen, times, whole}
-use Rattle.s38_codecs.specs.Formats.{IsSpelling, Spelling, all_by, case_by, counted_by, filled_by, fits_from, list_of, print_by, print_from, read_from, short_list, short_text, text, u16, u32, u64, with_count}
+use Rattle.s38_codecs.specs.Formats.{FitsCase, IsSpelling, Spelling, all_by, case_by, counted_by, filled_by, fits_from, list_of, print_by, print_from, read_from, short_list, short_text, text, u16, u32, u64, with_count}
 use Rattle.s38_codecs.proofs.CodecLaws.{AreBytes-behind, AreSame, and_true, behind_is, bind_some, both_true, byte_is, bytes_is, fits_copies, number_is, only_is, seen_is, some_is, times_is, whole_again, whole_exact, wide16, wide32, wide64}
 
 pub u16_is : IsCodec ℕ u16
@@ -79,11 +79,6 @@ some_list xs = Some xs
 
 pub list_is : {A : Type 0} (xs ys : List A) → some_list xs ≡ some_list ys → xs ≡ ys
 list_is xs ys e = cc
-
--- what a value of the case fits
-abbrev pub FitsCase : {T : Type 0} → (T → Type 0) → Option T → Type 0
-FitsCase Fits None = ⊥
-FitsCase Fits (Some x) = Fits x
 
 case_again : {T B : Type 0} (p : Part T B) (s : Spelling T) (Fits : T → Type 0) → IsPart T B p → IsSpelling T s Fits → (b : B) (o : Option T) → p.of b ≡ o → FitsCase Fits o → (s.read (print_by s o) >>= λ x. Some (p.make x)) ≡ Some b
 case_again p s Fits l q b None e h = absurd h

@@ -61,6 +61,11 @@ case_by p s = record {
   read = λ bytes. s.read bytes >>= λ x. Some (p.make x);
 }
 
+-- what a value of the case fits
+abbrev pub FitsCase : {T : Type 0} → (T → Type 0) → Option T → Type 0
+FitsCase Fits None = ⊥
+FitsCase Fits (Some x) = Fits x
+
 -- ---- values of formats by their place, as many as fill the bytes
 
 unfoldable pub print_from : {A : Type 0} → (ℕ → Codec A) → ℕ → List A → List ℕ

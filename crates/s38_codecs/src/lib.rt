@@ -8,4 +8,7 @@ mod writers;
 
 pub use fault::ReadFault;
 pub use readers::{byte_at, bytes_at, is_zeros, short_text_at, text_at, u16_at, u32_at, u64_at};
-pub use writers::{put, put_byte, put_u16, put_u32, put_u64, u16_bytes, u32_bytes, u64_bytes};
+pub use writers::{
+    put, put_byte, put_count, put_short_count, put_u16, put_u32, put_u64, u16_bytes, u32_bytes,
+    u64_bytes,
+};

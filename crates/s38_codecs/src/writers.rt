@@ -73,3 +73,31 @@ pub fn put_byte(into: &mut Vec<u8>, number: u8)
 {
     put(into, &[number]);
 }
+
+/// Adds the two lowest bytes of a count, for which there is room.
+pub fn put_short_count(into: &mut Vec<u8>, count: usize)
+    requires room { vec_len into.old + 2 ≤ vec_capacity into.old }
+    ensures bytes { into.new.items ≡ into.old.items ++ half.print count }
+    ensures len { vec_len into.new ≡ vec_len into.old + 2 }
+    ensures kept { vec_capacity into.old ≤ vec_capacity into.new }
+{
+    put(into, &[(count / 256 % 256) as u8, (count % 256) as u8]);
+}
+
+/// Adds the four lowest bytes of a count, for which there is room.
+pub fn put_count(into: &mut Vec<u8>, count: usize)
+    requires room { vec_len into.old + 4 ≤ vec_capacity into.old }
+    ensures bytes { into.new.items ≡ into.old.items ++ word.print count }
+    ensures len { vec_len into.new ≡ vec_len into.old + 4 }
+    ensures kept { vec_capacity into.old ≤ vec_capacity into.new }
+{
+    put(
+        into,
+        &[
+            (count / 16_777_216 % 256) as u8,
+            (count / 65_536 % 256) as u8,
+            (count / 256 % 256) as u8,
+            (count % 256) as u8,
+        ],
+    );
+}

@@ -4,6 +4,7 @@ use Rattle.std.specs.Prelude.{◌&&◌, ◌||◌, Result, Ok, Err, is_some}
 use Rattle.std.specs.List.{range_with_len}
 use Rattle.std.proofs.lemmas.Bool.{eqb-true, eq-eqb, lt-ltb, le-ltb}
 use Rattle.std.proofs.lemmas.List.{length-append, append-nil}
+use Rattle.s38_image.specs.Fitting.{FitsBody, FitsSpace, IsImage, header_codec, rows_codec}
 use Rattle.s38_base.specs.Limits.{page_bytes}
 use Rattle.s38_base.specs.NameText.{padded}
 use Rattle.s38_base.specs.declared.id.Kind.{Kind}
@@ -12,12 +13,12 @@ use Rattle.s38_base.specs.declared.page.Change.{Change}
 use Rattle.s38_codecs.specs.Codec.{Codec, behind, byte, bytes, copies, is_zero, only, print_each}
 use Rattle.s38_codecs.specs.Formats.{IsSpelling, Spelling, u16, u32, u64}
 use Rattle.s38_codecs.proofs.CodecLaws.{both_true}
-use Rattle.s38_codecs.proofs.FormatLaws.{FitsCase, length_copies}
-use Rattle.s38_image.proofs.BodyLaws.{FitsBody, body_is}
-use Rattle.s38_image.proofs.HeaderLaws.{at_most, header_codec, header_is, rows_codec, rows_is, rows_long}
-use Rattle.s38_image.proofs.ImageLaws.{IsImage}
+use Rattle.s38_codecs.proofs.FormatLaws.{length_copies}
+use Rattle.s38_image.proofs.BodyLaws.{body_is}
+use Rattle.s38_image.proofs.HeaderLaws.{at_most, header_is, rows_is, rows_long}
+
 use Rattle.s38_image.proofs.PageLaws.{parts_again, tags_numbered}
-use Rattle.s38_image.proofs.SpaceLaws.{FitsSpace, length_cells}
+use Rattle.s38_image.proofs.SpaceLaws.{length_cells}
 use Rattle.s38_image.specs.Bodies.{BodyImage, body, body_bytes, body_tags}
 use Rattle.s38_image.specs.Headers.{header, header_fields, header_format, is_mark, is_within, kind, name, object, rights, row, rows}
 use Rattle.s38_image.specs.Images.{◌>>>◌, after_leading, body_in, body_part, body_parts, first_missing, has_part, header_in, header_of, header_parts, image_of, leading, limited, made, object_of, or_fault, parts_of, row_bytes, rows_in, rows_part, rows_parts, wanted, with_all, with_body, with_rows}

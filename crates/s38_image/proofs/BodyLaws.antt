@@ -5,6 +5,7 @@ use Rattle.std.specs.List.{list_all}
 use Rattle.std.proofs.lemmas.Bool.{eqb-true, eq-eqb}
 use Rattle.std.proofs.lemmas.Bool.Decides.{nat_tests}
 use Rattle.std.proofs.lemmas.List.{length-append}
+use Rattle.s38_image.specs.Fitting.{FitsBody, FitsSpace}
 use Rattle.s38_base.specs.declared.attr.Attr.{Attr}
 use Rattle.s38_base.specs.declared.id.Kind.{Kind}
 use Rattle.s38_base.specs.declared.id.Kind.TheVariants as kinds
@@ -14,9 +15,9 @@ use Rattle.s38_code.specs.declared.deck.Deck.{Deck}
 use Rattle.s38_code.specs.declared.program.CreateFault.{CreateFault}
 use Rattle.s38_code.specs.declared.program.Program.{Program}
 use Rattle.s38_codecs.specs.Codec.{Codec, IsCodec, IsPart, Part, ◌>>=◌, AreBytes, behind, byte, bytes, copies, is_zero, only, seen}
-use Rattle.s38_codecs.specs.Formats.{IsSpelling, Spelling, all_by, case_by, filled_by, fits_from, list_of, short_list, short_text, text, u16, u32, u64}
+use Rattle.s38_codecs.specs.Formats.{FitsCase, IsSpelling, Spelling, all_by, case_by, filled_by, fits_from, list_of, short_list, short_text, text, u16, u32, u64}
 use Rattle.s38_codecs.proofs.CodecLaws.{AreSame, and_true, behind_is, bind_some, both_true, byte_is, bytes_is, guard_some, only_is, seen_is, some_is}
-use Rattle.s38_codecs.proofs.FormatLaws.{AreLong, FitsCase, all_by_is, case_by_is, filled_by_is, list_of_is, short_list_is, short_text_is, text_is, u16_is, u32_is, u64_is, zeros_are}
+use Rattle.s38_codecs.proofs.FormatLaws.{AreLong, all_by_is, case_by_is, filled_by_is, list_of_is, short_list_is, short_text_is, text_is, u16_is, u32_is, u64_is, zeros_are}
 use Rattle.s38_create.specs.Created.{created, created_by, no_template, program as made_program, with_code, with_rows}
 use Rattle.s38_create.specs.Instruction.{result_and_then}
 use Rattle.s38_words.specs.declared.program_lines.Head.{Head}
@@ -27,7 +28,7 @@ use Rattle.s38_dataspaces.specs.Table.{are_fields, entry_len}
 use Rattle.s38_image.proofs.HeaderLaws.{at_most, object_is}
 use Rattle.s38_image.proofs.PageLaws.{lists_same, same_lists}
 use Rattle.s38_image.proofs.ScalarLaws.{attr_is}
-use Rattle.s38_image.proofs.SpaceLaws.{FitsSpace, space_is}
+use Rattle.s38_image.proofs.SpaceLaws.{space_is}
 use Rattle.s38_image.specs.Bodies.{BodyImage, block, block_by, block_number, body, context_of, context_part, cursor, cursor_by, cursor_parts, data_in, data_part, entries_in, entries_part, held_in, is_special, nothing, nothing_of, port, port_by, port_number, profile, program_in, program_part, special, special_bits, special_by, unsequenced}
 use Rattle.s38_image.specs.DataSpaces.{DataParts, data_space, is_sequence, is_slot, slot, slot_by, slot_parts}
 use Rattle.s38_image.specs.Headers.{object}
@@ -350,20 +351,6 @@ port_is = seen_is port_by port_number _ (record { there = λ y. refl; here = λ 
 
 block_is : IsCodec Block block
 block_is = seen_is block_by block_number _ (record { there = λ y. refl; here = λ x h. refl }) object_is
-
--- what a body of a kind fits, where its pages have these tags
-abbrev pub FitsBody : Kind → List ℕ → BodyImage → Type 0
-FitsBody kinds.Context tags i = FitsCase (λ x. Unit {0}) ((held_in context_part).of i)
-FitsBody kinds.Program tags i = FitsCase IsCreated ((held_in program_part).of i)
-FitsBody kinds.Profile tags i = FitsCase (λ x. profile.fits x ≡ true) ((held_in parts.profile_part).of i)
-FitsBody kinds.Space tags i = FitsCase (FitsSpace tags) ((held_in parts.space_part).of i)
-FitsBody kinds.Queue tags i = FitsCase (λ x. queue.fits x ≡ true) ((held_in parts.queue_part).of i)
-FitsBody kinds.Index tags i = FitsCase (λ x. index.fits x ≡ true) ((held_in parts.index_part).of i)
-FitsBody kinds.DataSpace tags i = FitsCase (λ x. data_space.fits x ≡ true) (data_part.of i)
-FitsBody kinds.Cursor tags i = FitsCase (λ x. cursor.fits x ≡ true) ((held_in parts.cursor_part).of i)
-FitsBody kinds.Port tags i = FitsCase (λ x. port.fits x ≡ true) ((held_in parts.port_part).of i)
-FitsBody kinds.Journal tags i = FitsCase (λ x. fits_from entry 1 x ≡ true) ((held_in entries_part).of i)
-FitsBody kinds.Block tags i = FitsCase (λ x. block.fits x ≡ true) ((held_in parts.block_part).of i)
 
 pub body_is : (k : Kind) (tags : List ℕ) → IsSpelling BodyImage (body k tags) (FitsBody k tags)
 body_is kinds.Context tags = case_by_is (held_in context_part) nothing (λ x. Unit {0}) (held_is context_part context_is_part) nothing_is

@@ -5,6 +5,7 @@ use Rattle.std.specs.List.{list_all}
 use Rattle.std.proofs.lemmas.Bool.{eqb-true, eq-eqb}
 use Rattle.std.proofs.lemmas.Bool.Decides.{nat_tests}
 use Rattle.std.proofs.lemmas.List.{length-append, length-take, take_at, drop_at, take-append-drop}
+use Rattle.s38_image.specs.Fitting.{header_codec, rows_codec}
 use Rattle.s38_base.specs.Ids.{kind_code}
 use Rattle.s38_base.specs.NameText.{is_name, padded}
 use Rattle.s38_base.specs.declared.id.Kind.{Kind}
@@ -157,9 +158,6 @@ format_is =
     behind_is _ _ (only_is is_mark u32 u32_is) (λ _. behind_is kind _ kind_is (λ _. behind_is byte _ byte_is (λ _. behind_is name _ name_is (λ _. behind_is object _ object_is (λ _. behind_is object _ object_is (λ _. behind_is rights _ rights_is (λ _.
     behind_is _ _ (only_is is_zero byte byte_is) (λ _. behind_is u32 _ u32_is (λ _. behind_is u32 _ u32_is (λ _. only_is (λ xs. list_all is_zero xs) _ (bytes_is 448)))))))))))
 
-abbrev pub header_codec : Codec Header
-header_codec = seen header_by header_fields header_format
-
 pub header_is : IsSpelling Header header (λ h. header_codec.fits h ≡ true)
 header_is = all_by_is header_codec (seen_is header_by header_fields header_format (record { there = header_there; here = λ x h. fields_same x (says_nothing x h) }) format_is)
 
@@ -167,9 +165,6 @@ header_is = all_by_is header_codec (seen_is header_by header_fields header_forma
 
 pub row_is : IsCodec PrivateRow row
 row_is = seen_is row_by row_parts _ (record { there = λ y. refl; here = λ x h. refl }) (behind_is object _ object_is (λ _. only_is has_rights rights rights_is))
-
-abbrev pub rows_codec : ℕ → Codec (List PrivateRow)
-rows_codec n = only are_rising (times n row)
 
 pub rows_is : (n : ℕ) → IsSpelling (List PrivateRow) (rows n) (λ rs. (rows_codec n).fits rs ≡ true)
 rows_is n = all_by_is (rows_codec n) (only_is are_rising _ (times_is n row row_is))

@@ -4,6 +4,7 @@ use Rattle.std.specs.Prelude.{◌&&◌, ◌||◌, Result, Ok, Err, is_some}
 use Rattle.std.specs.List.{range_with_len}
 use Rattle.std.proofs.lemmas.Bool.{eqb-true, eq-eqb, lt-ltb, le-ltb}
 use Rattle.std.proofs.lemmas.List.{length-append, append-nil, take_at, drop_at}
+use Rattle.s38_image.specs.Fitting.{AreFine, AreWhole, FitsBody, IsImage, header_codec, rows_codec}
 use Rattle.s38_base.specs.Limits.{page_bytes}
 use Rattle.s38_base.specs.declared.id.Kind.{Kind}
 use Rattle.s38_base.specs.declared.id.Kind.TheVariants as kinds
@@ -12,10 +13,10 @@ use Rattle.s38_codecs.specs.Codec.{AreBytes, copies}
 use Rattle.s38_codecs.specs.Formats.{IsSpelling, Spelling}
 use Rattle.s38_codecs.proofs.CodecLaws.{AreBytes-drop, AreBytes-take}
 use Rattle.s38_codecs.proofs.FormatLaws.{length_copies}
-use Rattle.s38_image.proofs.BodyLaws.{FitsBody, body_is}
-use Rattle.s38_image.proofs.HeaderLaws.{header_codec, header_is, rows_codec, rows_is, rows_long}
+use Rattle.s38_image.proofs.BodyLaws.{body_is}
+use Rattle.s38_image.proofs.HeaderLaws.{header_is, rows_is, rows_long}
 use Rattle.s38_image.proofs.StreamLaws.{stream_append}
-use Rattle.s38_image.proofs.PageLaws.{AreWhole, Reads, parts_again, parts_exact, tags_numbered}
+use Rattle.s38_image.proofs.PageLaws.{Reads, parts_again, parts_exact, tags_numbered}
 use Rattle.s38_image.specs.Bodies.{BodyImage, body, body_bytes, body_tags}
 use Rattle.s38_image.specs.Headers.{header, is_within, rows}
 use Rattle.s38_image.specs.Images.{◌>>>◌, after_leading, body_in, body_part, body_parts, first_missing, has_part, header_in, header_of, header_parts, image_of, leading, limited, made, object_of, or_fault, parts_of, row_bytes, rows_in, rows_part, rows_parts, wanted, with_all, with_body, with_rows}
@@ -44,11 +45,6 @@ whole_leading : (limit : ℕ) (ps : List Change) → AreWhole ps → AreWhole (l
 unfolding AreWhole
 whole_leading limit [] ok = (tt, tt)
 whole_leading limit (p ∷ ps) ok = whole_leading_by limit p ps _ refl ok (whole_leading limit ps ok.1)
-
--- each page has 512 bytes
-pub record AreFine (ps : List Change) : Type 0 where
-  pub whole : AreWhole ps
-  pub bytes : AreBytes (stream ps)
 
 fine_leading : (limit : ℕ) (ps : List Change) → AreFine ps → AreFine (leading limit ps) × AreFine (after_leading limit ps)
 fine_leading limit ps fine =
@@ -103,14 +99,6 @@ print_same kinds.Cursor tags i = refl
 print_same kinds.Port tags i = refl
 print_same kinds.Journal tags i = refl
 print_same kinds.Block tags i = refl
-
--- what has parts that are read again: an image within a limit of bodies
-pub record IsImage (limit : ℕ) (s : Stored) : Type 0 where
-  pub on_disk : s.object.on_disk ≡ true
-  pub header : header_codec.fits (header_of s) ≡ true
-  pub within : is_within limit (header_of s) ≡ true
-  pub rows : (rows_codec (length s.object.rows)).fits s.object.rows ≡ true
-  pub body : FitsBody s.object.id.kind (body_tags s.object.id.kind (image_of s)) (image_of s)
 
 -- the last parts are those of the body
 record HasBody (number : ℕ) (h : Header) (last : List Change) (i : BodyImage) : Type 0 where

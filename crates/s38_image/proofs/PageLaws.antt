@@ -4,6 +4,7 @@ use Rattle.std.specs.Prelude.{◌&&◌, is_some}
 use Rattle.std.specs.List.{list_all, concat}
 use Rattle.std.proofs.lemmas.Bool.{eqb-true, eq-eqb}
 use Rattle.std.proofs.lemmas.List.{length-append, length-take, length-drop, take_at, drop_at, take-append-drop, nil_from_length}
+use Rattle.s38_image.specs.Fitting.{AreWhole}
 use Rattle.s38_base.specs.Limits.{page_bytes}
 use Rattle.s38_base.specs.declared.page.Change.{Change}
 use Rattle.s38_base.specs.declared.page.Page.{Page}
@@ -32,11 +33,6 @@ lists_same (x ∷ xs) = rw (eq-eqb x x refl) (lists_same xs)
 pub guard_then : {A : Type 0} (b : Bool) (o : Option A) (x : A) → cond b o None ≡ Some x → (b ≡ true) × (o ≡ Some x)
 guard_then true o x e = (refl, e)
 guard_then false o x e = absurd cc
-
--- each page is whole
-unfoldable pub AreWhole : List Change → Type 0
-AreWhole [] = Unit {0}
-AreWhole (c ∷ parts) = (is_some c.page ≡ true → length (bytes_of c.page) ≡ page_bytes) × AreWhole parts
 
 some_page : (p : Option Page) → is_some p ≡ true → p ≡ Some (record { bytes = bytes_of p; tags = tags_of p })
 some_page None h = absurd cc

@@ -6,6 +6,7 @@ use Rattle.std.proofs.lemmas.Bool.{eqb-true, eq-eqb, ltb-true}
 use Rattle.std.proofs.lemmas.Bool.Decides.{nat_tests}
 use Rattle.std.proofs.lemmas.List.{length-append, length-take, length-map, take-append-drop, append-nil}
 use Rattle.byteorder.specs.Endian.{big_bytes}
+use Rattle.s38_image.specs.Fitting.{FitsSpace}
 use Rattle.s38_base.specs.declared.attr.Attr.{Attr}
 use Rattle.s38_base.specs.declared.id.ObjNum.{ObjNum}
 use Rattle.s38_base.specs.declared.attr.Attr.TheVariants as attrs
@@ -98,11 +99,6 @@ cells_bytes (f ∷ fs) (c ∷ cs) h =
     cc
 
 -- ---- a space
-
--- the cells fit where the tags of their pages are these
-pub record FitsSpace (tags : List ℕ) (cs : List Cell) : Type 0 where
-  pub some : is_some_cell cs ≡ true
-  pub cells : (cells_by (take (length cs) (flags_in tags))).fits cs ≡ true
 
 length_pointer : (p : Pointer) → length (image p) ≡ 16
 unfolding fields

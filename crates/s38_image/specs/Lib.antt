@@ -10,5 +10,6 @@ pub mod Journals
 pub mod Programs
 pub mod Bodies
 pub mod Images
+pub mod Fitting
 pub mod Settled
 pub mod Faults

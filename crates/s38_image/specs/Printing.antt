@@ -1,9 +1,10 @@
 -- The bytes of a header in pieces.
-use Rattle.std.specs.Prelude.{ℕ, List, [], ◌∷◌, ◌++◌}
+use Rattle.std.specs.Prelude.{ℕ, List, [], ◌∷◌, ◌++◌, length}
 use Rattle.s38_base.specs.Ids.{kind_code}
 use Rattle.s38_base.specs.declared.id.Id.{Id}
 use Rattle.s38_codecs.specs.Codec.{copies}
-use Rattle.s38_codecs.specs.Formats.{u32}
+use Rattle.s38_codecs.specs.Formats.{u16, u32}
+use Rattle.s38_queues.specs.declared.message.Message.{Message}
 use Rattle.s38_image.specs.Headers.{name, object, rights}
 use Rattle.s38_image.specs.declared.header.Header.{Header}
 
@@ -22,3 +23,7 @@ lengths_of h = u32.print h.rows ++ (u32.print h.body ++ copies 448 0)
 -- the context, the owner, the rights of everybody, a zero byte, and what follows
 unfoldable pub places_of : Header → List ℕ
 places_of h = object.print h.context ++ (object.print h.owner ++ (rights.print h.public ++ (0 ∷ lengths_of h)))
+
+-- a message: its key, the length of its text, and its text
+unfoldable pub message_bytes : Message → List ℕ
+message_bytes m = m.key ++ (u16.print (length m.text) ++ m.text)

@@ -3,7 +3,9 @@
 
 mod fault;
 mod header;
+mod laws;
 mod heads;
+mod bodies;
 mod pages;
 mod printing;
 mod small_bodies;
@@ -14,6 +16,7 @@ pub use fault::ImageFault;
 pub use header::Header;
 pub use stored::Stored;
 pub use heads::{header_of, object_at, row_at};
+pub use laws::{an_image_is_read_again, parts_are_those_of_their_object};
 pub use printing::{put_block, put_cursor, put_header, put_port, put_profile, put_rows};
 pub use small_bodies::{block_in, cursor_in, port_in, profile_in};
 pub use stream::{are_untagged, stream_of, tags_in};
