@@ -1,6 +1,7 @@
 pub mod PageLaws
 pub mod StreamLaws
 pub mod PrintLaws
+pub mod QueueLaws
 pub mod HeaderLaws
 pub mod ScalarLaws
 pub mod SpaceLaws
