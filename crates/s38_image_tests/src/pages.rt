@@ -1,0 +1,43 @@
+//! A stream of 513 bytes in two parts.
+
+use s38_base::Change;
+use s38_image::{push_pages, stream_of};
+use std::alloc::Global;
+use std::test::Fail;
+
+fn stream(alloc: Global) -> Result<Vec<u8>, Fail> {
+    let mut bytes = Vec::new(alloc);
+    bytes.resize(512, 7)?;
+    bytes.push(9)?;
+    Ok(bytes)
+}
+
+fn parts(alloc: Global) -> Result<Vec<Change>, Fail> {
+    let mut parts = Vec::with_capacity(alloc, 2)?;
+    push_pages(&mut parts, 5, 128, 2, &stream(alloc)?, &[]);
+    Ok(parts)
+}
+
+#[test]
+fn a_stream_is_cut_into_pages(rt: HostRuntime) -> Result<(), Fail> {
+    let parts = parts(rt.alloc())?;
+    let keys = [(5, 128, 7), (5, 129, 9)];
+    for (part, (object, number, first)) in parts.iter().zip(keys) {
+        assert!(rt; part.key.object == object && part.key.part == number);
+        assert!(rt; part.page.is_some_and(|page| page.bytes[0] == first && page.tags == 0));
+    }
+    assert!(rt; parts.len() == 2 && parts[1].page.is_some_and(|page| page.bytes[1..] == [0; 511]));
+    Ok(())
+}
+
+#[test]
+fn a_stream_is_read_of_its_pages_alone(rt: HostRuntime) -> Result<(), Fail> {
+    let parts = parts(rt.alloc())?;
+    let read = stream_of(rt.alloc(), 5, 128, 513, &parts)?;
+    assert!(rt; read.as_slice() == stream(rt.alloc())?.as_slice());
+    assert!(rt; stream_of(rt.alloc(), 6, 128, 513, &parts).is_err());
+    assert!(rt; stream_of(rt.alloc(), 5, 1, 513, &parts).is_err());
+    assert!(rt; stream_of(rt.alloc(), 5, 128, 512, &parts).is_err());
+    assert!(rt; stream_of(rt.alloc(), 5, 128, 513, &parts[..1]).is_err());
+    Ok(())
+}
