@@ -43,13 +43,13 @@ fn a_queue_has_its_image(rt: HostRuntime) -> Result<(), Fail> {
 
 #[test]
 fn each_bit_of_a_queue_is_refused_or_another_queue(rt: HostRuntime) -> Result<(), Fail> {
-    let mut read = 0;
+    let mut read = 0u32;
     for bit in 0..8 * QUEUE.len() {
         let mut changed = Vec::from_slice(rt.alloc(), QUEUE)?;
         changed[bit / 8] ^= 1u8 << (bit % 8);
         if let Ok(other) = queue_in(rt.alloc(), &changed) {
             assert!(rt; printed(rt.alloc(), &other)?.as_slice() == changed.as_slice());
-            read += 1;
+            read = read.saturating_add(1);
         }
     }
     assert_eq!(rt; read, 52);

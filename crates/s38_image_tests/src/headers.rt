@@ -40,7 +40,7 @@ fn a_header_has_its_page(rt: HostRuntime) -> Result<(), Fail> {
 
 #[test]
 fn each_bit_of_a_header_is_refused_or_another_header(rt: HostRuntime) -> Result<(), Fail> {
-    let mut read = 0;
+    let mut read = 0u32;
     for bit in 0..4096usize {
         let mut changed = page(rt.alloc())?;
         if let Some(byte) = changed.get_mut(bit / 8) {
@@ -48,7 +48,7 @@ fn each_bit_of_a_header_is_refused_or_another_header(rt: HostRuntime) -> Result<
         }
         if let Ok(header) = header_of(&changed) {
             assert!(rt; printed(rt.alloc(), &header)?.as_slice() == changed.as_slice());
-            read += 1;
+            read = read.saturating_add(1);
         }
     }
     assert_eq!(rt; read, 238);

@@ -1,5 +1,7 @@
 //! A stream of 513 bytes in two parts.
 
+ghost use Rattle.std.specs.Prelude.{◌≤◌};
+
 use s38_base::Change;
 use s38_image::{push_pages, stream_of};
 use std::alloc::Global;
@@ -12,15 +14,18 @@ fn stream(alloc: Global) -> Result<Vec<u8>, Fail> {
     Ok(bytes)
 }
 
-fn parts(alloc: Global) -> Result<Vec<Change>, Fail> {
-    let mut parts = Vec::with_capacity(alloc, 2)?;
-    push_pages(&mut parts, 5, 128, 2, &stream(alloc)?, &[]);
+/// The first of its pages.
+fn parts(alloc: Global, count: u32) -> Result<Vec<Change>, Fail>
+    requires { count ≤ 2 }
+{
+    let mut parts = Vec::with_capacity(alloc, count as usize)?;
+    push_pages(&mut parts, 5, 128, count, &stream(alloc)?, &[]);
     Ok(parts)
 }
 
 #[test]
 fn a_stream_is_cut_into_pages(rt: HostRuntime) -> Result<(), Fail> {
-    let parts = parts(rt.alloc())?;
+    let parts = parts(rt.alloc(), 2)?;
     let keys = [(5, 128, 7), (5, 129, 9)];
     for (part, (object, number, first)) in parts.iter().zip(keys) {
         assert!(rt; part.key.object == object && part.key.part == number);
@@ -32,12 +37,13 @@ fn a_stream_is_cut_into_pages(rt: HostRuntime) -> Result<(), Fail> {
 
 #[test]
 fn a_stream_is_read_of_its_pages_alone(rt: HostRuntime) -> Result<(), Fail> {
-    let parts = parts(rt.alloc())?;
+    let one = parts(rt.alloc(), 1)?;
+    let parts = parts(rt.alloc(), 2)?;
     let read = stream_of(rt.alloc(), 5, 128, 513, &parts)?;
     assert!(rt; read.as_slice() == stream(rt.alloc())?.as_slice());
     assert!(rt; stream_of(rt.alloc(), 6, 128, 513, &parts).is_err());
     assert!(rt; stream_of(rt.alloc(), 5, 1, 513, &parts).is_err());
     assert!(rt; stream_of(rt.alloc(), 5, 128, 512, &parts).is_err());
-    assert!(rt; stream_of(rt.alloc(), 5, 128, 513, &parts[..1]).is_err());
+    assert!(rt; stream_of(rt.alloc(), 5, 128, 513, &one).is_err());
     Ok(())
 }
