@@ -1,11 +1,11 @@
 -- The shared formats are formats.
 use Rattle.std.proofs.Common.{◌≡◌, ℕ, zero, suc, ◌+◌, ◌^◌, ◌≤◌, true, eqb, List, [], ◌∷◌, ◌++◌, length, Option, Some, None, refl, sym, ap, subst, ◌∙◌, arith}
-use Rattle.std.specs.Prelude.{◌&&◌, nat_le}
+use Rattle.std.specs.Prelude.{nat_le}
 use Rattle.std.specs.List.{list_all}
 use Rattle.std.specs.Int.{w16, w32, w64}
 use Rattle.std.proofs.lemmas.Bool.{eqb-true}
 use Rattle.std.proofs.lemmas.List.{length-append}
-use Rattle.s38_codecs.specs.Codec.{Codec, IsCodec, IsPart, Part, Spells, ◌>>=◌, AreBytes, behind, byte, bytes, copies, is_zero, only, seen, times, whole}
+use Rattle.s38_codecs.specs.Codec.{Codec, IsCodec, IsPart, Part, ◌>>=◌, AreBytes, behind, byte, bytes, copies, is_zero, only, times}
 use Rattle.s38_codecs.specs.Formats.{FitsCase, IsSpelling, Spelling, all_by, case_by, counted_by, filled_by, fits_from, list_of, print_by, print_from, read_from, short_list, short_text, text, u16, u32, u64, with_count}
 use Rattle.s38_codecs.proofs.CodecLaws.{AreBytes-behind, AreSame, and_true, behind_is, bind_some, both_true, byte_is, bytes_is, fits_copies, number_is, only_is, seen_is, some_is, times_is, whole_again, whole_exact, wide16, wide32, wide64}
 

@@ -16,7 +16,6 @@ use Rattle.s38_codecs.proofs.CodecLaws.{both_true}
 use Rattle.s38_codecs.proofs.FormatLaws.{length_copies}
 use Rattle.s38_image.proofs.BodyLaws.{body_is}
 use Rattle.s38_image.proofs.HeaderLaws.{at_most, header_is, rows_is, rows_long}
-
 use Rattle.s38_image.proofs.PageLaws.{parts_again, tags_numbered}
 use Rattle.s38_image.proofs.SpaceLaws.{length_cells}
 use Rattle.s38_image.specs.Bodies.{BodyImage, body, body_bytes, body_tags}
@@ -131,12 +130,14 @@ page_here number first xs t ps = rw (eq-eqb number number refl, eq-eqb first fir
 numbered_has : (n number first : ℕ) (xs tags : List ℕ) → HasAll number (numbered number first (cut n xs) tags) (range_with_len first n)
 unfolding cut numbered HasAll
 numbered_has zero number first xs tags = tt
-numbered_has (suc n) number first xs [] =
-    (page_here number first (take page_bytes xs) 0 (numbered number (first + 1) (cut n (drop page_bytes xs)) []),
-     has_all_more number (page_at number first (take page_bytes xs) 0) (numbered number (first + 1) (cut n (drop page_bytes xs)) []) (range_with_len (first + 1) n) (numbered_has n number (first + 1) (drop page_bytes xs) []))
-numbered_has (suc n) number first xs (t ∷ tags) =
-    (page_here number first (take page_bytes xs) t (numbered number (first + 1) (cut n (drop page_bytes xs)) tags),
-     has_all_more number (page_at number first (take page_bytes xs) t) (numbered number (first + 1) (cut n (drop page_bytes xs)) tags) (range_with_len (first + 1) n) (numbered_has n number (first + 1) (drop page_bytes xs) tags))
+numbered_has (suc n) number first xs [] = (
+  page_here number first (take page_bytes xs) 0 (numbered number (first + 1) (cut n (drop page_bytes xs)) []),
+  has_all_more number (page_at number first (take page_bytes xs) 0) (numbered number (first + 1) (cut n (drop page_bytes xs)) []) (range_with_len (first + 1) n) (numbered_has n number (first + 1) (drop page_bytes xs) []),
+)
+numbered_has (suc n) number first xs (t ∷ tags) = (
+  page_here number first (take page_bytes xs) t (numbered number (first + 1) (cut n (drop page_bytes xs)) tags),
+  has_all_more number (page_at number first (take page_bytes xs) t) (numbered number (first + 1) (cut n (drop page_bytes xs)) tags) (range_with_len (first + 1) n) (numbered_has n number (first + 1) (drop page_bytes xs) tags),
+)
 
 all_behind : (number : ℕ) (ps qs : List Change) (ns : List ℕ) → HasAll number qs ns → HasAll number (ps ++ qs) ns
 unfolding HasAll
@@ -274,16 +275,16 @@ object_again limit s m =
     let wants_rows : HasAll number middle (range_with_len 1 (needed (row_bytes * n))) = subst (λ (q : ℕ). HasAll number middle (range_with_len 1 (needed q))) rows_len (numbered_has (needed (length ((rows n).print rs))) number 1 _ _) in
     let wants_body : HasAll number last (range_with_len 128 (needed len)) = numbered_has (needed len) number 128 _ _ in
     let all : HasAll number (front ++ (middle ++ last)) (wanted h) = has_all_append number _ (range_with_len 1 (needed (row_bytes * n))) (range_with_len 128 (needed len))
-        (all_behind number front (middle ++ last) _ (all_front number middle last _ wants_rows)) (all_behind number front (middle ++ last) _ (all_behind number middle last _ wants_body)) in
+    (all_behind number front (middle ++ last) _ (all_front number middle last _ wants_rows)) (all_behind number front (middle ++ last) _ (all_behind number middle last _ wants_body)) in
     let found : tags_in last ≡ tags = tags_numbered number 128 (needed len) _ tags (tags_long k i m.body) in
     let read_rows : rows_in number n middle ≡ Some rs = read_at number rows_part (rows n) (no_tags (rows n)) (λ r. (rows_codec n).fits r ≡ true) (rows_is n) rs (row_bytes * n) m.rows (length_copies {A = ℕ} (needed (length ((rows n).print rs))) 0 ∙ ap needed rows_len) rows_len in
     let read_header : header_in number front ≡ Some h = read_at number 0 header (no_tags header) (λ g. header_codec.fits g ≡ true) header_is h 512 m.header (length_copies {A = ℕ} (needed (length (header.print h))) 0 ∙ ap needed header_len) header_len in
     let own : read_parts number body_part (body k tags) (body_tags k) len (print_parts number body_part (body k tags) (body_tags k) i) ≡ Some i =
-        read_at number body_part (body k tags) (body_tags k) (FitsBody k tags) (body_is k tags) i len m.body (tags_long k i m.body) (long_body k tags i) in
+    read_at number body_part (body k tags) (body_tags k) (FitsBody k tags) (body_is k tags) i len m.body (tags_long k i m.body) (long_body k tags i) in
     let read_body : body_in number k len last ≡ Some i =
-        ap (λ (t : List ℕ). read_parts number body_part (body k t) (body_tags k) len last) found
-        ∙ ap (λ (q : List Change). read_parts number body_part (body k tags) (body_tags k) len q) (print_body k tags number i)
-        ∙ own in
+    ap (λ (t : List ℕ). read_parts number body_part (body k t) (body_tags k) len last) found
+    ∙ ap (λ (q : List Change). read_parts number body_part (body k tags) (body_tags k) len q) (print_body k tags number i)
+    ∙ own in
     stages limit number (front ++ (middle ++ last)) front (middle ++ last) middle last h rs i
     (leading_all 1 front (middle ++ last) front_below (leading_none 1 (middle ++ last) later_starts)) (after_all 1 front (middle ++ last) front_below (after_none 1 (middle ++ last) later_starts))
     (leading_all 128 middle last middle_below (leading_none 128 last last_starts)) (after_all 128 middle last middle_below (after_none 128 last last_starts))

@@ -257,11 +257,13 @@ program_exact text p fine e =
     let s = printed_same text u.0 v.0 v.1 in
     let made = program_made (created v.0) p v.2 in
     let own : p.template ≡ u.0 = created_template v.0 p made ∙ sym s.1 in
-    let printed : printed_lines p.template ≡ text = ap (λ (t : List (List ℕ)). printed_lines t) own ∙ s.0 in
-    (sym printed, record {
-      template = ap (λ (t : List ℕ). template_in (read_of t)) printed ∙ u.1 ∙ ap (λ (t : List (List ℕ)). Some t) (sym own);
-      created = ap created (created_template v.0 p made) ∙ made;
-    })
+    let printed : printed_lines p.template ≡ text = ap (λ (t : List (List ℕ)). printed_lines t) own ∙ s.0 in (
+      sym printed,
+      record {
+        template = ap (λ (t : List ℕ). template_in (read_of t)) printed ∙ u.1 ∙ ap (λ (t : List (List ℕ)). Some t) (sym own);
+        created = ap created (created_template v.0 p made) ∙ made;
+      },
+    )
 
 pub program_is : IsSpelling Program program IsCreated
 program_is = record { again = program_again; exact = program_exact }

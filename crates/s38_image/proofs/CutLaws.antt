@@ -104,7 +104,7 @@ pub pushed_page : (number first count k : ℕ) (old new : List Change) (bytes : 
 pushed_page number first count k old new bytes cells page more held after tags part total lt p m h a t q n so_far =
     let tags_are : tags ≡ tag_number (map is_tagged (take 32 cells)) = t ∙ ap (λ (cs : List Cell). tag_number (map is_tagged cs)) h in
     let part_is : part ≡ page_at number (first + k) (filled 512 (take 512 bytes)) (tag_number (map is_tagged (take 32 cells))) =
-        q ∙ ap (λ (bs : List ℕ). page_at number (first + k) (filled 512 bs) tags) p ∙ ap (λ (v : ℕ). page_at number (first + k) (filled 512 (take 512 bytes)) v) tags_are in
+    q ∙ ap (λ (bs : List ℕ). page_at number (first + k) (filled 512 bs) tags) p ∙ ap (λ (v : ℕ). page_at number (first + k) (filled 512 (take 512 bytes)) v) tags_are in
     let new_is : new ≡ old ++ page_at number (first + k) (filled 512 (take 512 bytes)) (tag_number (map is_tagged (take 32 cells))) ∷ [] = n ∙ ap (λ (c : Change). old ++ c ∷ []) part_is in
     ap (λ (q : List Change). q ++ cut_pages number (first + (k + 1)) (count - (k + 1)) more after) new_is
     ∙ ap (λ (bs : List ℕ). (old ++ page_at number (first + k) (filled 512 (take 512 bytes)) (tag_number (map is_tagged (take 32 cells))) ∷ []) ++ cut_pages number (first + (k + 1)) (count - (k + 1)) bs after) m

@@ -97,7 +97,7 @@ name_here n xs h long =
     let size : length (take n xs) ≡ n = omega (arith, length-take n xs) in
     let rest : length (drop n xs) ≡ 30 - n = omega (arith, length-append (take n xs) (drop n xs), ap length (take-append-drop n xs)) in
     let zeros : drop (length (take n xs)) (replicate 30 0) ≡ drop n xs =
-        drop_zeros (length (take n xs)) 30 ∙ ap (λ (k : ℕ). copies k 0) (ap (λ (k : ℕ). 30 - k) size ∙ sym rest) ∙ sym (zeros_are (drop n xs) f.1) in
+    drop_zeros (length (take n xs)) 30 ∙ ap (λ (k : ℕ). copies k 0) (ap (λ (k : ℕ). 30 - k) size ∙ sym rest) ∙ sym (zeros_are (drop n xs) f.1) in
     both_are (length (take n xs)) n (padded (take n xs)) xs size (ap (λ (t : List ℕ). take n xs ++ t) zeros ∙ take-append-drop n xs)
 
 name_long : (x : ℕ × List ℕ) → (behind u16 (λ _. bytes 30)).fits x ≡ true → length x.1 ≡ 30

@@ -50,9 +50,10 @@ fine_leading : (limit : ℕ) (ps : List Change) → AreFine ps → AreFine (lead
 fine_leading limit ps fine =
     let w = whole_leading limit ps fine.whole in
     let e : stream ps ≡ stream (leading limit ps) ++ stream (after_leading limit ps) = ap stream (parted limit ps) ∙ stream_append (leading limit ps) (after_leading limit ps) in
-    let both = subst AreBytes e fine.bytes in
-    (record { whole = w.0; bytes = subst AreBytes (take_at (stream (leading limit ps)) (stream (after_leading limit ps)) _ refl) (AreBytes-take (length (stream (leading limit ps))) _ both) },
-     record { whole = w.1; bytes = subst AreBytes (drop_at (stream (leading limit ps)) (stream (after_leading limit ps)) _ refl) (AreBytes-drop (length (stream (leading limit ps))) _ both) })
+    let both = subst AreBytes e fine.bytes in (
+      record { whole = w.0; bytes = subst AreBytes (take_at (stream (leading limit ps)) (stream (after_leading limit ps)) _ refl) (AreBytes-take (length (stream (leading limit ps))) _ both) },
+      record { whole = w.1; bytes = subst AreBytes (drop_at (stream (leading limit ps)) (stream (after_leading limit ps)) _ refl) (AreBytes-drop (length (stream (leading limit ps))) _ both) },
+    )
 
 -- ---- what is read
 
@@ -152,16 +153,17 @@ exact_by limit number ps front middle last h s one two printed fits within m =
     let same : header_of s ≡ h = header_same number h s m.made count len in
     let front_is : front ≡ header_parts s = printed ∙ ap (λ (g : Header). print_parts number 0 header (no_tags header) g) (sym same) ∙ ap (λ (n : ℕ). print_parts n 0 header (no_tags header) (header_of s)) (sym own) in
     let middle_is : middle ≡ rows_parts s = m.printed ∙ ap (λ (n : ℕ). print_parts number rows_part (rows n) (no_tags (rows n)) s.object.rows) (sym count) ∙ ap (λ (n : ℕ). print_parts n rows_part (rows (length s.object.rows)) (no_tags (rows (length s.object.rows))) s.object.rows) (sym own) in
-    let last_is : last ≡ body_parts s = m.body.printed ∙ ap (λ (k : Kind). print_parts number body_part (body k []) (body_tags k) (image_of s)) (sym kind) ∙ ap (λ (n : ℕ). print_parts n body_part (body s.object.id.kind []) (body_tags s.object.id.kind) (image_of s)) (sym own) in
-    (one ∙ joined front (header_parts s) (after_leading rows_part ps) (rows_parts s ++ body_parts s) front_is (two ∙ joined middle (rows_parts s) last (body_parts s) middle_is last_is),
-     own,
-     record {
-       on_disk = ap (λ (t : Stored). t.object.on_disk) m.made;
-       header = ap header_codec.fits same ∙ fits;
-       within = ap (is_within limit) same ∙ within;
-       rows = ap (λ (n : ℕ). (rows_codec n).fits s.object.rows) count ∙ m.fits;
-       body = subst (λ (k : Kind). FitsBody k (body_tags k (image_of s)) (image_of s)) (sym kind) m.body.fits;
-     })
+    let last_is : last ≡ body_parts s = m.body.printed ∙ ap (λ (k : Kind). print_parts number body_part (body k []) (body_tags k) (image_of s)) (sym kind) ∙ ap (λ (n : ℕ). print_parts n body_part (body s.object.id.kind []) (body_tags s.object.id.kind) (image_of s)) (sym own) in (
+      one ∙ joined front (header_parts s) (after_leading rows_part ps) (rows_parts s ++ body_parts s) front_is (two ∙ joined middle (rows_parts s) last (body_parts s) middle_is last_is),
+      own,
+      record {
+        on_disk = ap (λ (t : Stored). t.object.on_disk) m.made;
+        header = ap header_codec.fits same ∙ fits;
+        within = ap (is_within limit) same ∙ within;
+        rows = ap (λ (n : ℕ). (rows_codec n).fits s.object.rows) count ∙ m.fits;
+        body = subst (λ (k : Kind). FitsBody k (body_tags k (image_of s)) (image_of s)) (sym kind) m.body.fits;
+      },
+    )
 
 pub object_exact : (limit number : ℕ) (ps : List Change) (s : Stored) → AreFine ps → object_of limit number ps ≡ Ok s → (ps ≡ parts_of s) × (s.object.number.0 ≡ number) × IsImage limit s
 unfolding object_of

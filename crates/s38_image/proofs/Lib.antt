@@ -5,8 +5,6 @@ pub mod QueueLaws
 pub mod HeaderLaws
 pub mod ScalarLaws
 pub mod SpaceLaws
-
-
 pub mod BodyLaws
 pub mod ImageLaws
 pub mod AgainLaws

@@ -113,11 +113,11 @@ parts_exact {A} object first s tags_of Fits is len ps x ok fine e =
     let long : length (s.print b.0) ≡ len = ap length (sym m.0) ∙ u.1 in
     let tags = same_lists _ _ t.0 in
     let whole_is : ps ≡ numbered object first (cut (needed (length (s.print b.0))) (filled (page_bytes * needed (length (s.print b.0))) (s.print b.0))) (tags_of b.0) =
-        pages_are object ps first (needed len) ok g.0
-        ∙ ap (λ (q : List ℕ). numbered object first (cut (needed len) q) (tags_in ps)) u.0
-        ∙ ap (λ (q : List ℕ). numbered object first (cut (needed len) (filled (page_bytes * needed len) q)) (tags_in ps)) m.0
-        ∙ ap (λ (q : List ℕ). numbered object first (cut (needed len) (filled (page_bytes * needed len) (s.print b.0))) q) (sym tags)
-        ∙ ap (λ (k : ℕ). numbered object first (cut (needed k) (filled (page_bytes * needed k) (s.print b.0))) (tags_of b.0)) (sym long) in
+    pages_are object ps first (needed len) ok g.0
+    ∙ ap (λ (q : List ℕ). numbered object first (cut (needed len) q) (tags_in ps)) u.0
+    ∙ ap (λ (q : List ℕ). numbered object first (cut (needed len) (filled (page_bytes * needed len) q)) (tags_in ps)) m.0
+    ∙ ap (λ (q : List ℕ). numbered object first (cut (needed len) (filled (page_bytes * needed len) (s.print b.0))) q) (sym tags)
+    ∙ ap (λ (k : ℕ). numbered object first (cut (needed k) (filled (page_bytes * needed k) (s.print b.0))) (tags_of b.0)) (sym long) in
     subst (λ (y : A). Reads A object first s tags_of Fits len ps y) t.1 (record { printed = whole_is; fits = m.1; long = long; tagged = tags })
 
 -- ---- what is printed is read

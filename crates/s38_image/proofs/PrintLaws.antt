@@ -1,6 +1,5 @@
 -- Pieces that are printed one after another.
 use Rattle.std.proofs.Common.{◌≡◌, ℕ, zero, suc, ◌+◌, ◌≤◌, List, [], ◌∷◌, length, ◌++◌, arith, refl, sym, ap, ◌∙◌, append_assoc}
-
 use Rattle.std.specs.List.{flat_map}
 use Rattle.s38_codecs.specs.Codec.{Codec, copies, print_each}
 use Rattle.s38_codecs.specs.Formats.{print_from, u16, u32}

@@ -64,4 +64,3 @@ pub record IsImage (limit : ℕ) (s : Stored) : Type 0 where
   pub within : is_within limit (header_of s) ≡ true
   pub rows : (rows_codec (length s.object.rows)).fits s.object.rows ≡ true
   pub body : FitsBody s.object.id.kind (body_tags s.object.id.kind (image_of s)) (image_of s)
-

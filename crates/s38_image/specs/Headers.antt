@@ -77,7 +77,6 @@ mark = 0x53333848
 abbrev pub is_mark : ℕ → Bool
 is_mark n = n == mark
 
-
 abbrev pub HeaderFields : Type 0
 HeaderFields = ℕ × (Kind × (ℕ × (List ℕ × (ObjNum × (ObjNum × (Rights × (ℕ × (ℕ × (ℕ × List ℕ)))))))))
 

@@ -25,7 +25,11 @@ fn tag_number(cells: &[Cell]) -> u32
         [] => 0,
         [cell, rest @ ..] => {
             let tags = tag_number(rest);
-            if is_tagged(cell) { 1 + 2 * tags } else { 2 * tags }
+            if is_tagged(cell) {
+                1 + 2 * tags
+            } else {
+                2 * tags
+            }
         }
     }
 }

@@ -52,11 +52,7 @@ fn queue_head_at(from: &[u8]) -> Result<((Order, u8, u16), &[u8]), ReadFault>
 }
 
 /// A message: its key, and its text after its length.
-fn message_at(
-    key_len: u8,
-    longest: u16,
-    from: &[u8],
-) -> Result<((&[u8], &[u8]), &[u8]), ReadFault>
+fn message_at(key_len: u8, longest: u16, from: &[u8]) -> Result<((&[u8], &[u8]), &[u8]), ReadFault>
     ensures read { Gives (λ x. (message x.0.0.now x.0.1.now, x.1.now)) result ((message_format key_len longest).read from.now) }
     ensures key { IfOk result (λ x. length x.0.0.now ≡ key_len) }
     ensures text { IfOk result (λ x. length x.0.1.now ≤ longest) }

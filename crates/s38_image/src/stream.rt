@@ -5,8 +5,8 @@ ghost use Rattle.s38_codecs.specs.Codec.{is_zero};
 ghost use Rattle.s38_codecs.specs.Reading.{Gives};
 ghost use Rattle.s38_image.specs.Pages.{are_pages, bytes_of, is_page, needed, stream, stream_of, tags_in, tags_of, unfilled};
 
-use s38_base::{Change, Page};
 use s38_base::limits::PAGE_BYTES;
+use s38_base::{Change, Page};
 use s38_codecs::{ReadFault, is_zeros};
 use std::alloc::Global;
 

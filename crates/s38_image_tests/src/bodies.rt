@@ -2,7 +2,8 @@
 
 use s38_base::{ObjNum, Special};
 use s38_image::{
-    block_in, cursor_in, port_in, profile_in, put_block, put_cursor, put_port, put_profile, put_queue, queue_in,
+    block_in, cursor_in, port_in, profile_in, put_block, put_cursor, put_port, put_profile,
+    put_queue, queue_in,
 };
 use s38_queues::{Order, Queue};
 use s38_rules::{Block, Cursor, Port};

@@ -6,7 +6,8 @@ use std::alloc::Global;
 use std::test::Fail;
 
 /// A queue ORDERS of subtype 0 in context 3, of user 2, with no rights of everybody, one row and a body of 17 bytes.
-const FRONT: &[u8] = b"S38H\x05\0\0\x06ORDERS\0\0\0\0\0\0\0\0\0\0\0\0\0\0\0\0\0\0\0\0\0\0\0\0\0\0\0\0\0\0\0\x03\0\0\0\0\0\0\0\x02\0\0\0\0\0\x01\0\0\0\x11";
+const FRONT: &[u8] =
+    b"S38H\x05\0\0\x06ORDERS\0\0\0\0\0\0\0\0\0\0\0\0\0\0\0\0\0\0\0\0\0\0\0\0\0\0\0\0\0\0\0\x03\0\0\0\0\0\0\0\x02\0\0\0\0\0\x01\0\0\0\x11";
 
 fn page(alloc: Global) -> Result<Vec<u8>, Fail> {
     let mut bytes = Vec::from_slice(alloc, FRONT)?;
@@ -34,7 +35,10 @@ fn a_header_has_its_page(rt: HostRuntime) -> Result<(), Fail> {
         rows: 1,
         body: 17,
     };
-    assert!(rt; FRONT.len() == 64 && printed(rt.alloc(), &header)?.as_slice() == page(rt.alloc())?.as_slice());
+    assert!(rt;
+        FRONT.len() == 64
+            && printed(rt.alloc(), &header)?.as_slice() == page(rt.alloc())?.as_slice()
+    );
     Ok(())
 }
 

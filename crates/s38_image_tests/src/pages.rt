@@ -29,9 +29,17 @@ fn a_stream_is_cut_into_pages(rt: HostRuntime) -> Result<(), Fail> {
     let keys = [(5, 128, 7), (5, 129, 9)];
     for (part, (object, number, first)) in parts.iter().zip(keys) {
         assert!(rt; part.key.object == object && part.key.part == number);
-        assert!(rt; part.page.is_some_and(|page| page.bytes[0] == first && page.tags == 0));
+        assert!(rt;
+            part.page
+                .is_some_and(|page| page.bytes[0] == first && page.tags == 0)
+        );
     }
-    assert!(rt; parts.len() == 2 && parts[1].page.is_some_and(|page| page.bytes[1..] == [0; 511]));
+    assert!(rt;
+        parts.len() == 2
+            && parts[1]
+                .page
+                .is_some_and(|page| page.bytes[1..] == [0; 511])
+    );
     Ok(())
 }
 

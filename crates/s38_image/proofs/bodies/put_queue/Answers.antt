@@ -17,6 +17,6 @@ returns-clause-bytes c =
     let f = c.put_messages.new.into.items in
     before old a f (order_number q.order ∷ []) (q.key_len ∷ (u16.print q.longest ++ (u32.print (length q.messages) ++ flat_map message_bytes q.messages))) (c.put_byte.ensures.bytes ∙ ap (λ (n : ℕ). old ++ n ∷ []) (c.order_number.ensures ∙ ap order_number c.order.ensures))
     (before a b f (q.key_len ∷ []) (u16.print q.longest ++ (u32.print (length q.messages) ++ flat_map message_bytes q.messages)) (c.put_byte-2.ensures.bytes ∙ ap (λ (n : ℕ). a ++ n ∷ []) c.key_len.ensures)
-     (before b d f (u16.print q.longest) (u32.print (length q.messages) ++ flat_map message_bytes q.messages) (c.put_u16.ensures.bytes ∙ ap (λ (n : ℕ). b ++ u16.print n) c.longest.ensures)
-      (before d e f (u32.print (length q.messages)) (flat_map message_bytes q.messages) (c.put_count.ensures.bytes ∙ ap (λ (n : ℕ). d ++ u32.print n) c.len.ensures) c.put_messages.ensures.bytes)))
+    (before b d f (u16.print q.longest) (u32.print (length q.messages) ++ flat_map message_bytes q.messages) (c.put_u16.ensures.bytes ∙ ap (λ (n : ℕ). b ++ u16.print n) c.longest.ensures)
+    (before d e f (u32.print (length q.messages)) (flat_map message_bytes q.messages) (c.put_count.ensures.bytes ∙ ap (λ (n : ℕ). d ++ u32.print n) c.len.ensures) c.put_messages.ensures.bytes)))
     ∙ ap (λ (t : List ℕ). old ++ t) (sym (queue_bytes q))
