@@ -1,35 +1,32 @@
 -- The parts of an object are read as that object.
-use Rattle.std.proofs.Common.{◌≡◌, ℕ, zero, suc, ◌+◌, ◌-◌, ◌*◌, ◌/◌, ◌^◌, ◌<◌, ◌≤◌, Bool, true, false, cond, eqb, ltb, List, [], ◌∷◌, ◌++◌, length, map, take, drop, Option, Some, None, refl, sym, ap, subst, ◌∙◌, arith, append_assoc}
-use Rattle.std.specs.Prelude.{◌&&◌, ◌||◌, Result, Ok, Err, is_some}
+use Rattle.std.proofs.Common.{◌≡◌, ℕ, zero, suc, ◌+◌, ◌*◌, ◌<◌, ◌≤◌, Bool, true, false, List, [], ◌∷◌, ◌++◌, length, map, take, drop, Some, refl, sym, ap, subst, ◌∙◌, arith}
+use Rattle.std.specs.Prelude.{◌&&◌, ◌||◌, Ok}
 use Rattle.std.specs.List.{range_with_len}
 use Rattle.std.proofs.lemmas.Bool.{eqb-true, eq-eqb, lt-ltb, le-ltb}
-use Rattle.std.proofs.lemmas.List.{length-append, append-nil}
-use Rattle.s38_image.specs.Fitting.{FitsBody, FitsSpace, IsImage, header_codec, rows_codec}
+use Rattle.std.proofs.lemmas.List.{length-append}
+use Rattle.s38_image.specs.Fitting.{FitsBody, IsImage, header_codec, rows_codec}
 use Rattle.s38_base.specs.Limits.{page_bytes}
 use Rattle.s38_base.specs.NameText.{padded}
 use Rattle.s38_base.specs.declared.id.Kind.{Kind}
 use Rattle.s38_base.specs.declared.id.Kind.TheVariants as kinds
 use Rattle.s38_base.specs.declared.page.Change.{Change}
-use Rattle.s38_codecs.specs.Codec.{Codec, behind, byte, bytes, copies, is_zero, only, print_each}
-use Rattle.s38_codecs.specs.Formats.{IsSpelling, Spelling, u16, u32, u64}
+use Rattle.s38_codecs.specs.Codec.{behind, byte, bytes, copies, only, print_each}
+use Rattle.s38_codecs.specs.Formats.{IsSpelling, Spelling, u16, u32}
 use Rattle.s38_codecs.proofs.CodecLaws.{both_true}
 use Rattle.s38_codecs.proofs.FormatLaws.{length_copies}
 use Rattle.s38_image.proofs.BodyLaws.{body_is}
-use Rattle.s38_image.proofs.HeaderLaws.{at_most, header_is, rows_is, rows_long}
+use Rattle.s38_image.proofs.HeaderLaws.{at_most, header_is, rows_is}
 use Rattle.s38_image.proofs.PageLaws.{parts_again, tags_numbered}
 use Rattle.s38_image.proofs.SpaceLaws.{length_cells}
 use Rattle.s38_image.specs.Bodies.{BodyImage, body, body_bytes, body_tags}
-use Rattle.s38_image.specs.Headers.{header, header_fields, header_format, is_mark, is_within, kind, name, object, rights, row, rows}
-use Rattle.s38_image.specs.Images.{◌>>>◌, after_leading, body_in, body_part, body_parts, first_missing, has_part, header_in, header_of, header_parts, image_of, leading, limited, made, object_of, or_fault, parts_of, row_bytes, rows_in, rows_part, rows_parts, wanted, with_all, with_body, with_rows}
-use Rattle.s38_image.specs.Pages.{bytes_of, cut, filled, is_page, needed, no_tags, numbered, page_at, print_parts, read_parts, stream, tags_in}
-use Rattle.s38_image.specs.Spaces.{flags_in, is_tagged, space_tags, tag_numbers, page_cells}
+use Rattle.s38_image.specs.Headers.{header, header_fields, is_mark, is_within, kind, name, object, rights, row, rows}
+use Rattle.s38_image.specs.Images.{after_leading, body_in, body_part, body_parts, first_missing, has_part, header_in, header_of, header_parts, image_of, leading, made, object_of, parts_of, row_bytes, rows_in, rows_part, rows_parts, wanted}
+use Rattle.s38_image.specs.Pages.{cut, is_page, needed, no_tags, numbered, page_at, print_parts, read_parts, tags_in}
+use Rattle.s38_image.specs.Spaces.{is_tagged, tag_numbers, page_cells}
 use Rattle.s38_image.specs.declared.header.Header.{Header}
 use Rattle.s38_image.specs.declared.stored.Stored.{Stored}
-use Rattle.s38_memory.specs.Tagged.{bytes_in}
-use Rattle.s38_memory.specs.declared.cell.Cell.{Cell}
 use Rattle.s38_rules.specs.declared.object.Body.{Body}
 use Rattle.s38_rules.specs.declared.object.Body.TheVariants as bodies
-use Rattle.s38_rules.specs.declared.object.Object.{Object}
 use Rattle.s38_rules.specs.declared.rows.PrivateRow.{PrivateRow}
 
 -- ---- in three

@@ -1,22 +1,18 @@
 -- The bodies of the eleven kinds are read as they are printed.
-use Rattle.std.proofs.Common.{◌≡◌, ℕ, zero, suc, ◌+◌, ◌-◌, ◌*◌, ◌/◌, ◌^◌, ◌<◌, ◌≤◌, Bool, true, false, cond, eqb, ltb, List, [], ◌∷◌, ◌++◌, length, take, drop, Option, Some, None, refl, sym, ap, subst, ◌∙◌, arith, append_assoc}
-use Rattle.std.specs.Prelude.{◌&&◌, ◌||◌, nat_le, nat_lt, not, Result, Ok, Err}
-use Rattle.std.specs.List.{list_all}
-use Rattle.std.proofs.lemmas.Bool.{eqb-true, eq-eqb}
+use Rattle.std.proofs.Common.{◌≡◌, ℕ, zero, suc, ◌<◌, ◌≤◌, Bool, true, false, cond, eqb, List, [], ◌∷◌, length, Option, Some, None, refl, sym, ap, ◌∙◌, arith}
+use Rattle.std.specs.Prelude.{◌&&◌, nat_le, nat_lt, Result, Ok, Err}
+use Rattle.std.proofs.lemmas.Bool.{eqb-true}
 use Rattle.std.proofs.lemmas.Bool.Decides.{nat_tests}
-use Rattle.std.proofs.lemmas.List.{length-append}
 use Rattle.s38_image.specs.Fitting.{FitsBody, FitsSpace}
 use Rattle.s38_base.specs.declared.attr.Attr.{Attr}
 use Rattle.s38_base.specs.declared.id.Kind.{Kind}
 use Rattle.s38_base.specs.declared.id.Kind.TheVariants as kinds
-use Rattle.s38_base.specs.declared.id.ObjNum.{ObjNum}
 use Rattle.s38_base.specs.declared.rights.Special.{Special}
-use Rattle.s38_code.specs.declared.deck.Deck.{Deck}
 use Rattle.s38_code.specs.declared.program.CreateFault.{CreateFault}
 use Rattle.s38_code.specs.declared.program.Program.{Program}
-use Rattle.s38_codecs.specs.Codec.{Codec, IsCodec, IsPart, Part, ◌>>=◌, AreBytes, behind, byte, bytes, copies, is_zero, only, seen}
-use Rattle.s38_codecs.specs.Formats.{FitsCase, IsSpelling, Spelling, all_by, case_by, filled_by, fits_from, list_of, short_list, short_text, text, u16, u32, u64}
-use Rattle.s38_codecs.proofs.CodecLaws.{AreSame, and_true, behind_is, bind_some, both_true, byte_is, bytes_is, guard_some, only_is, seen_is, some_is}
+use Rattle.s38_codecs.specs.Codec.{Codec, IsCodec, IsPart, ◌>>=◌, AreBytes, behind, byte, bytes, copies, only}
+use Rattle.s38_codecs.specs.Formats.{IsSpelling, all_by, fits_from, list_of, short_text, text, u16, u32, u64}
+use Rattle.s38_codecs.proofs.CodecLaws.{behind_is, bind_some, both_true, byte_is, bytes_is, guard_some, only_is, seen_is}
 use Rattle.s38_codecs.proofs.FormatLaws.{AreLong, all_by_is, case_by_is, filled_by_is, list_of_is, short_list_is, short_text_is, text_is, u16_is, u32_is, u64_is, zeros_are}
 use Rattle.s38_create.specs.Created.{created, created_by, no_template, program as made_program, with_code, with_rows}
 use Rattle.s38_create.specs.Instruction.{result_and_then}
@@ -33,7 +29,6 @@ use Rattle.s38_image.specs.Bodies.{BodyImage, block, block_by, block_number, bod
 use Rattle.s38_image.specs.DataSpaces.{DataParts, data_space, is_sequence, is_slot, slot, slot_by, slot_parts}
 use Rattle.s38_image.specs.Headers.{object}
 use Rattle.s38_image.specs.Indexes.{are_rising, index, index_by, index_parts, is_index}
-use Rattle.s38_image.specs.Journals as journals
 use Rattle.s38_image.specs.Journals.{EntryFields, entry, entry_by, entry_fields, entry_format, entry_kind, is_entry, is_entry_kind, journal}
 use Rattle.s38_image.specs.Pages.{same_list}
 use Rattle.s38_image.specs.Programs.{IsCreated, is_printed, program, program_of, template_in}

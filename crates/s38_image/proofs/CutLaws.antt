@@ -1,14 +1,14 @@
 -- Streams are cut page by page.
-use Rattle.std.proofs.Common.{◌≡◌, ℕ, zero, suc, ◌+◌, ◌-◌, ◌*◌, ◌/◌, ◌%◌, ◌^◌, ◌<◌, ◌≤◌, Bool, true, false, List, [], ◌∷◌, ◌++◌, length, map, take, drop, refl, sym, ap, subst, ◌∙◌, arith, append_assoc, inl, inr}
+use Rattle.std.proofs.Common.{◌≡◌, ℕ, zero, suc, ◌+◌, ◌-◌, ◌*◌, ◌<◌, ◌≤◌, List, [], ◌∷◌, ◌++◌, length, map, take, drop, refl, sym, ap, ◌∙◌, arith, append_assoc, inl, inr}
 use Rattle.std.specs.Prelude.{replicate}
 use Rattle.std.proofs.lemmas.Bool.{cases_lt}
-use Rattle.std.proofs.lemmas.List.{append-nil, drop-append-le, drop_all, length-drop, length-take, length-take-le, take-append-le, take_all, take-map, drop-map}
+use Rattle.std.proofs.lemmas.List.{append-nil, drop-append-le, drop_all, length-drop, length-take-le, take-append-le, take_all, take-map, drop-map}
 use Rattle.std.proofs.Math.Seq.{drop-append-add, take-append-add}
 use Rattle.s38_base.specs.Limits.{page_bytes}
 use Rattle.s38_base.specs.declared.page.Change.{Change}
 use Rattle.s38_codecs.specs.Codec.{copies}
 use Rattle.s38_image.proofs.HeaderLaws.{drop_zeros}
-use Rattle.s38_image.specs.Pages.{cut, filled, needed, numbered, page_at}
+use Rattle.s38_image.specs.Pages.{cut, filled, numbered, page_at}
 use Rattle.s38_image.specs.Spaces.{is_tagged, tag_number, tag_numbers}
 use Rattle.s38_memory.specs.declared.cell.Cell.{Cell}
 

@@ -1,10 +1,10 @@
 -- Headers and rows are read as they are printed.
-use Rattle.std.proofs.Common.{◌≡◌, ℕ, zero, suc, ◌+◌, ◌-◌, ◌*◌, ◌^◌, ◌<◌, ◌≤◌, Bool, true, false, cond, eqb, ltb, List, [], ◌∷◌, ◌++◌, length, map, take, drop, Option, Some, None, refl, sym, ap, subst, ◌∙◌, arith, append_assoc}
-use Rattle.std.specs.Prelude.{◌&&◌, ◌||◌, nat_le, not, replicate}
+use Rattle.std.proofs.Common.{◌≡◌, ℕ, zero, suc, ◌-◌, ◌≤◌, Bool, true, false, eqb, List, ◌∷◌, ◌++◌, length, take, drop, refl, sym, ap, ◌∙◌, arith}
+use Rattle.std.specs.Prelude.{◌&&◌, nat_le, replicate}
 use Rattle.std.specs.List.{list_all}
-use Rattle.std.proofs.lemmas.Bool.{eqb-true, eq-eqb}
+use Rattle.std.proofs.lemmas.Bool.{eqb-true}
 use Rattle.std.proofs.lemmas.Bool.Decides.{nat_tests}
-use Rattle.std.proofs.lemmas.List.{length-append, length-take, take_at, drop_at, take-append-drop}
+use Rattle.std.proofs.lemmas.List.{length-append, length-take, take_at, take-append-drop}
 use Rattle.s38_image.specs.Fitting.{header_codec, rows_codec}
 use Rattle.s38_base.specs.Ids.{kind_code}
 use Rattle.s38_base.specs.NameText.{is_name, padded}
@@ -12,10 +12,10 @@ use Rattle.s38_base.specs.declared.id.Kind.{Kind}
 use Rattle.s38_base.specs.declared.id.Kind.TheVariants as kinds
 use Rattle.s38_base.specs.declared.id.ObjNum.{ObjNum}
 use Rattle.s38_base.specs.declared.rights.Rights.{Rights}
-use Rattle.s38_codecs.specs.Codec.{Codec, IsCodec, behind, byte, bytes, copies, is_zero, only, seen, times}
-use Rattle.s38_codecs.specs.Formats.{IsSpelling, all_by, u16, u32, u64}
-use Rattle.s38_codecs.proofs.CodecLaws.{AreSame, behind_is, both_true, byte_is, bytes_is, fits_copies, only_is, seen_is, times_is}
-use Rattle.s38_codecs.proofs.FormatLaws.{all_by_is, length_copies, u16_is, u32_is, u64_is, zeros_are}
+use Rattle.s38_codecs.specs.Codec.{Codec, IsCodec, behind, byte, bytes, copies, is_zero, only}
+use Rattle.s38_codecs.specs.Formats.{IsSpelling, u16, u32, u64}
+use Rattle.s38_codecs.proofs.CodecLaws.{behind_is, both_true, byte_is, bytes_is, fits_copies, only_is, seen_is, times_is}
+use Rattle.s38_codecs.proofs.FormatLaws.{all_by_is, u16_is, u32_is, u64_is, zeros_are}
 use Rattle.s38_image.specs.Headers.{HeaderFields, are_rising, has_rights, header, header_by, header_fields, header_format, is_kind, is_mark, is_padded, kind, kind_by, mark, name, name_by, name_parts, object, object_by, object_number, rights, rights_by, rights_bits, row, row_by, row_parts, rows}
 use Rattle.s38_image.specs.declared.header.Header.{Header}
 use Rattle.s38_rules.specs.declared.rows.PrivateRow.{PrivateRow}

@@ -1,30 +1,24 @@
 -- An object's parts are read as that object, and nothing else is.
-use Rattle.std.proofs.Common.{◌≡◌, ℕ, zero, suc, ◌+◌, ◌-◌, ◌*◌, ◌/◌, ◌^◌, ◌<◌, ◌≤◌, Bool, true, false, cond, eqb, ltb, List, [], ◌∷◌, ◌++◌, length, map, take, drop, Option, Some, None, refl, sym, ap, subst, ◌∙◌, arith, append_assoc}
-use Rattle.std.specs.Prelude.{◌&&◌, ◌||◌, Result, Ok, Err, is_some}
-use Rattle.std.specs.List.{range_with_len}
-use Rattle.std.proofs.lemmas.Bool.{eqb-true, eq-eqb, lt-ltb, le-ltb}
-use Rattle.std.proofs.lemmas.List.{length-append, append-nil, take_at, drop_at}
+use Rattle.std.proofs.Common.{◌≡◌, ℕ, ◌*◌, Bool, true, false, cond, ltb, List, [], ◌∷◌, ◌++◌, length, Option, Some, None, refl, sym, ap, subst, ◌∙◌}
+use Rattle.std.specs.Prelude.{Result, Ok, Err}
+use Rattle.std.proofs.lemmas.List.{take_at, drop_at}
 use Rattle.s38_image.specs.Fitting.{AreFine, AreWhole, FitsBody, IsImage, header_codec, rows_codec}
 use Rattle.s38_base.specs.Limits.{page_bytes}
 use Rattle.s38_base.specs.declared.id.Kind.{Kind}
 use Rattle.s38_base.specs.declared.id.Kind.TheVariants as kinds
 use Rattle.s38_base.specs.declared.page.Change.{Change}
-use Rattle.s38_codecs.specs.Codec.{AreBytes, copies}
-use Rattle.s38_codecs.specs.Formats.{IsSpelling, Spelling}
+use Rattle.s38_codecs.specs.Codec.{AreBytes}
 use Rattle.s38_codecs.proofs.CodecLaws.{AreBytes-drop, AreBytes-take}
-use Rattle.s38_codecs.proofs.FormatLaws.{length_copies}
 use Rattle.s38_image.proofs.BodyLaws.{body_is}
 use Rattle.s38_image.proofs.HeaderLaws.{header_is, rows_is, rows_long}
 use Rattle.s38_image.proofs.StreamLaws.{stream_append}
-use Rattle.s38_image.proofs.PageLaws.{Reads, parts_again, parts_exact, tags_numbered}
+use Rattle.s38_image.proofs.PageLaws.{parts_exact}
 use Rattle.s38_image.specs.Bodies.{BodyImage, body, body_bytes, body_tags}
 use Rattle.s38_image.specs.Headers.{header, is_within, rows}
-use Rattle.s38_image.specs.Images.{◌>>>◌, after_leading, body_in, body_part, body_parts, first_missing, has_part, header_in, header_of, header_parts, image_of, leading, limited, made, object_of, or_fault, parts_of, row_bytes, rows_in, rows_part, rows_parts, wanted, with_all, with_body, with_rows}
-use Rattle.s38_image.specs.Pages.{bytes_of, cut, filled, is_page, needed, no_tags, numbered, page_at, print_parts, read_parts, stream, tags_in}
+use Rattle.s38_image.specs.Images.{◌>>>◌, after_leading, body_in, body_part, body_parts, first_missing, header_in, header_of, header_parts, image_of, leading, limited, made, object_of, or_fault, parts_of, row_bytes, rows_in, rows_part, rows_parts, wanted, with_all, with_body, with_rows}
+use Rattle.s38_image.specs.Pages.{cut, filled, needed, no_tags, numbered, print_parts, stream, tags_in}
 use Rattle.s38_image.specs.declared.header.Header.{Header}
 use Rattle.s38_image.specs.declared.stored.Stored.{Stored}
-use Rattle.s38_rules.specs.declared.object.Object.{Object}
-use Rattle.s38_rules.specs.declared.rows.PrivateRow.{PrivateRow}
 
 -- ---- parts in three
 

@@ -1,7 +1,7 @@
 -- Parts that are read are those that are printed.
-use Rattle.std.proofs.Common.{◌≡◌, ℕ, zero, suc, ◌+◌, ◌-◌, ◌*◌, ◌/◌, ◌<◌, ◌≤◌, Bool, true, false, cond, eqb, List, [], ◌∷◌, ◌++◌, length, map, take, drop, Option, Some, None, refl, sym, ap, subst, ◌∙◌, arith, append_assoc}
+use Rattle.std.proofs.Common.{◌≡◌, ℕ, zero, suc, ◌+◌, ◌-◌, ◌*◌, ◌≤◌, Bool, true, false, cond, eqb, List, [], ◌∷◌, ◌++◌, length, take, drop, Option, Some, None, refl, sym, ap, subst, ◌∙◌, arith}
 use Rattle.std.specs.Prelude.{◌&&◌, is_some}
-use Rattle.std.specs.List.{list_all, concat}
+use Rattle.std.specs.List.{list_all}
 use Rattle.std.proofs.lemmas.Bool.{eqb-true, eq-eqb}
 use Rattle.std.proofs.lemmas.List.{length-append, length-take, length-drop, take_at, drop_at, take-append-drop, nil_from_length}
 use Rattle.s38_image.specs.Fitting.{AreWhole}
@@ -10,9 +10,9 @@ use Rattle.s38_base.specs.declared.page.Change.{Change}
 use Rattle.s38_base.specs.declared.page.Page.{Page}
 use Rattle.s38_codecs.specs.Codec.{◌>>=◌, AreBytes, copies, is_zero}
 use Rattle.s38_codecs.specs.Formats.{IsSpelling, Spelling}
-use Rattle.s38_codecs.proofs.CodecLaws.{AreBytes-take, bind_some, both_true, guard_some, some_is}
+use Rattle.s38_codecs.proofs.CodecLaws.{AreBytes-take, bind_some, both_true, guard_some}
 use Rattle.s38_codecs.proofs.FormatLaws.{copies_zero, length_copies, zeros_are}
-use Rattle.s38_image.specs.Pages.{are_pages, bytes_of, cut, filled, is_page, needed, numbered, page_at, print_parts, read_parts, same_list, stream, stream_of, stream_parts, tagged_right, tags_in, tags_of, unfilled}
+use Rattle.s38_image.specs.Pages.{are_pages, bytes_of, cut, filled, is_page, needed, numbered, page_at, print_parts, read_parts, same_list, stream, stream_of, tagged_right, tags_in, tags_of, unfilled}
 
 pub same_lists : (xs ys : List ℕ) → same_list xs ys ≡ true → xs ≡ ys
 unfolding same_list

@@ -1,15 +1,14 @@
 -- A queue is its head and its messages.
-use Rattle.std.proofs.Common.{◌≡◌, ℕ, cond, eqb, Bool, true, false, List, length, Option, Some, None, refl, sym, ap, ◌∙◌}
+use Rattle.std.proofs.Common.{◌≡◌, ℕ, cond, eqb, Bool, true, false, List, length, Option, Some, None, refl, sym, ap}
 use Rattle.std.specs.Prelude.{IfOk, Result, Ok, Err}
 use Rattle.s38_codecs.specs.Codec.{◌>>=◌, times, whole}
 use Rattle.s38_codecs.specs.Formats.{u32}
-use Rattle.s38_codecs.specs.Reading.{Fails, Gives}
+use Rattle.s38_codecs.specs.Reading.{Gives}
 use Rattle.s38_codecs.specs.declared.fault.ReadFault.{ReadFault}
 use Rattle.s38_codecs.specs.declared.fault.ReadFault.TheVariants as faults
 use Rattle.s38_image.specs.Queues.{QueueHead, message, queue, queue_by, queue_head}
 use Rattle.s38_queues.specs.MessageQueue.{MessageQueue}
 use Rattle.s38_queues.specs.declared.message.Message.{Message}
-use Rattle.s38_queues.specs.declared.message.Order.{Order}
 
 some_by : (h : QueueHead) (ms : List Message) (b : Bool) → cond b (Some (queue_by (h, ms))) None ≡ (cond b (Some ms) None >>= λ ms. Some (queue_by (h, ms)))
 some_by h ms true = refl

@@ -1,18 +1,18 @@
 -- Attributes and pointers are read as they are printed, and a pointer is printed as its image.
-use Rattle.std.proofs.Common.{◌≡◌, ℕ, zero, suc, ◌+◌, ◌-◌, ◌*◌, ◌/◌, ◌%◌, ◌^◌, ◌<◌, ◌≤◌, Bool, true, false, cond, eqb, ltb, List, [], ◌∷◌, ◌++◌, length, Option, Some, None, refl, sym, ap, subst, ◌∙◌, arith, append_assoc}
-use Rattle.std.specs.Prelude.{◌&&◌, ◌||◌, nat_le, not}
-use Rattle.std.proofs.lemmas.Bool.{eqb-true, eq-eqb}
+use Rattle.std.proofs.Common.{◌≡◌, ℕ, zero, suc, ◌+◌, ◌*◌, ◌/◌, ◌%◌, ◌<◌, Bool, true, false, eqb, refl, sym, ap, arith}
+use Rattle.std.specs.Prelude.{◌&&◌, ◌||◌, nat_le}
+use Rattle.std.proofs.lemmas.Bool.{eqb-true}
 use Rattle.std.proofs.lemmas.Bool.Decides.{nat_tests}
 use Rattle.s38_base.specs.declared.attr.Attr.{Attr}
 use Rattle.s38_base.specs.declared.attr.Attr.TheVariants as attrs
 use Rattle.s38_base.specs.declared.pointer.Pointer.{Pointer}
 use Rattle.s38_base.specs.declared.pointer.Pointer.TheVariants as pointers
-use Rattle.s38_codecs.specs.Codec.{Codec, IsCodec, behind, byte, only, seen}
+use Rattle.s38_codecs.specs.Codec.{Codec, IsCodec, behind, byte}
 use Rattle.s38_codecs.specs.Formats.{u32, u64}
-use Rattle.s38_codecs.proofs.CodecLaws.{AreSame, behind_is, both_true, byte_is, only_is, seen_is}
+use Rattle.s38_codecs.proofs.CodecLaws.{behind_is, both_true, byte_is, only_is, seen_is}
 use Rattle.s38_codecs.proofs.FormatLaws.{u32_is, u64_is}
 use Rattle.s38_image.proofs.HeaderLaws.{at_most}
-use Rattle.s38_image.specs.Scalars.{AttrBytes, PointerBytes, attr, attr_by, attr_bytes, is_attr, is_item, is_pointer, is_space, is_system, pointer, pointer_by, pointer_bytes}
+use Rattle.s38_image.specs.Scalars.{AttrBytes, PointerBytes, attr, attr_by, attr_bytes, is_attr, is_pointer, pointer, pointer_by, pointer_bytes}
 
 -- ---- attributes
 

@@ -1,27 +1,22 @@
 -- The cells of a space are read as they are printed, with the tags of their pages.
-use Rattle.std.proofs.Common.{◌≡◌, ℕ, zero, suc, ◌+◌, ◌-◌, ◌*◌, ◌/◌, ◌%◌, ◌^◌, ◌<◌, ◌≤◌, Bool, true, false, cond, eqb, ltb, List, [], ◌∷◌, ◌++◌, length, map, take, drop, Option, Some, None, refl, sym, ap, subst, ◌∙◌, arith, append_assoc}
-use Rattle.std.specs.Prelude.{◌&&◌, nat_le, is_some}
-use Rattle.std.specs.List.{flat_map}
-use Rattle.std.proofs.lemmas.Bool.{eqb-true, eq-eqb, ltb-true}
-use Rattle.std.proofs.lemmas.Bool.Decides.{nat_tests}
-use Rattle.std.proofs.lemmas.List.{length-append, length-take, length-map, take-append-drop, append-nil}
+use Rattle.std.proofs.Common.{◌≡◌, ℕ, ◌*◌, ◌/◌, ◌%◌, ◌<◌, Bool, true, false, List, [], ◌∷◌, ◌++◌, length, map, take, Some, refl, sym, ap, subst, ◌∙◌, arith}
+use Rattle.std.specs.Prelude.{◌&&◌}
+use Rattle.std.proofs.lemmas.Bool.{eqb-true, ltb-true}
+use Rattle.std.proofs.lemmas.List.{length-append}
 use Rattle.byteorder.specs.Endian.{big_bytes}
 use Rattle.s38_image.specs.Fitting.{FitsSpace}
-use Rattle.s38_base.specs.declared.attr.Attr.{Attr}
 use Rattle.s38_base.specs.declared.id.ObjNum.{ObjNum}
 use Rattle.s38_base.specs.declared.attr.Attr.TheVariants as attrs
 use Rattle.s38_base.specs.declared.pointer.Pointer.{Pointer}
 use Rattle.s38_base.specs.declared.pointer.Pointer.TheVariants as pointers
-use Rattle.s38_codecs.specs.Codec.{Codec, IsCodec, IsPart, Part, AreBytes, bytes, each, fits_each, only, print_each, under, whole, byte}
+use Rattle.s38_codecs.specs.Codec.{Codec, IsCodec, AreBytes, bytes, fits_each, only, print_each, whole, byte}
 use Rattle.s38_codecs.specs.Formats.{IsSpelling, u32, u64}
-use Rattle.s38_codecs.proofs.CodecLaws.{AllCodecs, and_true, behind_is, both_true, bytes_is, each_is, only_is, under_is, whole_again, whole_exact}
-use Rattle.s38_image.proofs.HeaderLaws.{at_most}
+use Rattle.s38_codecs.proofs.CodecLaws.{AllCodecs, and_true, both_true, bytes_is, each_is, only_is, under_is, whole_again, whole_exact}
 use Rattle.s38_image.proofs.ScalarLaws.{pointer_is, sixteen, three_bytes}
-use Rattle.s38_image.specs.Pages.{needed}
-use Rattle.s38_image.specs.Scalars.{attr_bytes, is_pointer, pointer, pointer_bytes}
-use Rattle.s38_image.specs.Spaces.{bit, bits, bytes_held, cell, cells_by, flags_in, is_some_cell, is_tagged, page_cells, plain_part, pointer_in, space, space_tags, tag_number, tag_numbers, tagged_part}
+use Rattle.s38_image.specs.Scalars.{is_pointer, pointer, pointer_bytes}
+use Rattle.s38_image.specs.Spaces.{bytes_held, cell, cells_by, flags_in, is_some_cell, plain_part, pointer_in, space, tagged_part}
 use Rattle.s38_memory.specs.Cell.{bytes_of}
-use Rattle.s38_memory.specs.Image.{attr_image, fields, image}
+use Rattle.s38_memory.specs.Image.{fields, image}
 use Rattle.s38_memory.specs.Tagged.{bytes_in}
 use Rattle.s38_memory.specs.declared.cell.Cell.{Cell}
 use Rattle.s38_memory.specs.declared.cell.Cell.TheVariants as cells

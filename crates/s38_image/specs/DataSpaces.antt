@@ -1,5 +1,5 @@
 -- The body of a data space.
-use Rattle.std.specs.Prelude.{ℕ, zero, suc, ◌*◌, Bool, true, false, ◌&&◌, ◌||◌, ◌==◌, not, List, [], ◌∷◌, length, Option, Some, None, if◌then◌else◌}
+use Rattle.std.specs.Prelude.{ℕ, zero, suc, Bool, false, ◌||◌, ◌==◌, not, List, Some, None}
 use Rattle.std.specs.List.{list_all}
 use Rattle.s38_base.specs.declared.attr.Attr.{Attr}
 use Rattle.s38_codecs.specs.Codec.{Codec, behind, byte, bytes, copies, is_zero, only, seen}

@@ -1,5 +1,5 @@
 -- Faults that show only beside the other objects of a store, and the first fault of all.
-use Rattle.std.specs.Prelude.{ℕ, zero, suc, ◌+◌, ◌-◌, ◌^◌, Bool, true, false, ◌&&◌, ◌||◌, ◌==◌, not, List, [], ◌∷◌, length, Option, Some, None, Result, Ok, Err, find, nat_lt, nat_le, if◌then◌else◌}
+use Rattle.std.specs.Prelude.{ℕ, ◌+◌, ◌-◌, ◌^◌, Bool, false, ◌&&◌, ◌||◌, ◌==◌, not, List, [], ◌∷◌, length, Option, Some, None, Result, Ok, Err, find, nat_lt, nat_le, if◌then◌else◌}
 use Rattle.std.specs.List.{list_all, list_any}
 use Rattle.std.specs.Option.{option_and_then, option_map}
 use Rattle.s38_base.specs.Ids.{same_id, same_kind}
@@ -7,17 +7,13 @@ use Rattle.s38_base.specs.Limits.{ceiling_step, last_number, machine_context}
 use Rattle.s38_base.specs.declared.id.Kind.{Kind}
 use Rattle.s38_base.specs.declared.id.Kind.TheVariants as kinds
 use Rattle.s38_base.specs.declared.page.Change.{Change}
-use Rattle.s38_base.specs.declared.page.Page.{Page}
 use Rattle.s38_codecs.specs.Codec.{behind, bytes, copies, is_zero, only, seen}
 use Rattle.s38_codecs.specs.Formats.{Spelling, all_by, u32, u64}
-use Rattle.s38_image.specs.Headers.{object}
-use Rattle.s38_image.specs.Images.{after_leading, body_part, header_in, leading, object_of, rows_part}
+use Rattle.s38_image.specs.Images.{body_part, header_in, leading, object_of, rows_part}
 use Rattle.s38_image.specs.Pages.{read_parts, no_tags}
 use Rattle.s38_image.specs.declared.header.Header.{Header}
 use Rattle.s38_image.specs.declared.stored.Stored.{Stored}
-use Rattle.s38_journals.specs.Journals.{JournalList}
-use Rattle.s38_rules.specs.Parts.{data_of, journal_of, port_of}
-use Rattle.s38_rules.specs.declared.data_body.DataBody.{DataBody}
+use Rattle.s38_rules.specs.Parts.{journal_of, port_of}
 use Rattle.s38_rules.specs.declared.object.Body.{Body}
 use Rattle.s38_rules.specs.declared.object.Body.TheVariants as bodies
 use Rattle.s38_rules.specs.declared.port.Port.{Port}

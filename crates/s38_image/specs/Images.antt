@@ -1,15 +1,13 @@
 -- The parts of an object, and the object of some parts, or the first part at fault.
-use Rattle.std.specs.Prelude.{◌≡◌, ℕ, ◌*◌, ◌+◌, Bool, true, false, ◌&&◌, List, [], ◌∷◌, ◌++◌, length, Option, Some, None, Result, Ok, Err, nat_lt, if◌then◌else◌}
+use Rattle.std.specs.Prelude.{ℕ, ◌*◌, Bool, true, List, [], ◌∷◌, ◌++◌, length, Option, Some, None, Result, Ok, Err, nat_lt, if◌then◌else◌}
 use Rattle.std.specs.List.{list_any, range_with_len}
 use Rattle.s38_base.specs.declared.id.Kind.{Kind}
 use Rattle.s38_base.specs.declared.page.Change.{Change}
-use Rattle.s38_codecs.specs.Formats.{Spelling}
 use Rattle.s38_image.specs.Bodies.{BodyImage, body, body_bytes, body_tags}
 use Rattle.s38_image.specs.Headers.{header, is_within, rows}
 use Rattle.s38_image.specs.Pages.{is_page, needed, no_tags, print_parts, read_parts, tags_in}
 use Rattle.s38_image.specs.declared.header.Header.{Header}
 use Rattle.s38_image.specs.declared.stored.Stored.{Stored}
-use Rattle.s38_rules.specs.declared.object.Object.{Object}
 use Rattle.s38_rules.specs.declared.rows.PrivateRow.{PrivateRow}
 
 -- ---- the parts of an object

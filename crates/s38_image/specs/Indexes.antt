@@ -2,7 +2,6 @@
 use Rattle.std.specs.Prelude.{ℕ, Bool, true, ◌&&◌, List, [], ◌∷◌, nat_le}
 use Rattle.s38_codecs.specs.Codec.{Codec, behind, byte, only, seen}
 use Rattle.s38_codecs.specs.Formats.{list_of, short_text}
-use Rattle.s38_base.specs.Relations.{holds}
 use Rattle.s38_base.specs.declared.words.Relation.TheVariants.{Lo}
 use Rattle.s38_indexes.specs.Entries.{Entry, EntryIndex, fits}
 

@@ -1,5 +1,5 @@
 -- The body of a journal space: its entries, one after another, as many as fill it.
-use Rattle.std.specs.Prelude.{ℕ, ◌+◌, Bool, ◌&&◌, ◌==◌, List, ◌++◌, length, nat_le, if◌then◌else◌}
+use Rattle.std.specs.Prelude.{ℕ, Bool, ◌&&◌, ◌==◌, List, length, nat_le}
 use Rattle.s38_codecs.specs.Codec.{Codec, behind, byte, bytes, only, seen}
 use Rattle.s38_codecs.specs.Formats.{Spelling, filled_by, u16, u32, u64}
 use Rattle.s38_image.specs.Headers.{object}

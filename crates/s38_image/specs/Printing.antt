@@ -1,5 +1,5 @@
 -- The bytes of a header in pieces.
-use Rattle.std.specs.Prelude.{ℕ, List, [], ◌∷◌, ◌++◌, length}
+use Rattle.std.specs.Prelude.{ℕ, List, ◌∷◌, ◌++◌, length}
 use Rattle.s38_base.specs.Ids.{kind_code}
 use Rattle.s38_base.specs.declared.id.Id.{Id}
 use Rattle.s38_codecs.specs.Codec.{copies}

@@ -1,5 +1,5 @@
 -- The body of a queue.
-use Rattle.std.specs.Prelude.{ℕ, ◌+◌, Bool, true, ◌&&◌, ◌==◌, not, List, [], Option, nat_le, nat_lt, if◌then◌else◌}
+use Rattle.std.specs.Prelude.{ℕ, Bool, ◌&&◌, ◌==◌, List, nat_le, nat_lt, if◌then◌else◌}
 use Rattle.s38_base.specs.Limits.{longest_message}
 use Rattle.s38_codecs.specs.Codec.{Codec, behind, byte, bytes, only, seen}
 use Rattle.s38_codecs.specs.Formats.{list_of, text, u16}

@@ -1,8 +1,8 @@
 -- The body of a space: its cells, sixteen bytes each. Which of them are pointers stands in the tags of the pages.
-use Rattle.std.specs.Prelude.{ℕ, zero, suc, ◌+◌, ◌*◌, ◌/◌, ◌%◌, Bool, true, false, ◌&&◌, ◌==◌, List, [], ◌∷◌, length, take, drop, map, Option, Some, None, is_some, nat_le, if◌then◌else◌}
+use Rattle.std.specs.Prelude.{ℕ, zero, suc, ◌+◌, ◌*◌, ◌/◌, ◌%◌, Bool, true, false, ◌&&◌, ◌==◌, List, [], ◌∷◌, length, take, drop, map, Option, Some, None, is_some, nat_le}
 use Rattle.std.specs.List.{flat_map}
 use Rattle.s38_base.specs.declared.pointer.Pointer.{Pointer}
-use Rattle.s38_codecs.specs.Codec.{Codec, Part, ◌>>=◌, bytes, each, only, under, whole}
+use Rattle.s38_codecs.specs.Codec.{Codec, Part, bytes, each, only, under, whole}
 use Rattle.s38_codecs.specs.Formats.{Spelling}
 use Rattle.s38_image.specs.Pages.{needed}
 use Rattle.s38_image.specs.Scalars.{pointer}

@@ -1,5 +1,5 @@
-use Rattle.std.proofs.Common.{◌≡◌, ◌+◌, sym, ap, ◌∙◌, arith}
-use Rattle.s38_image.proofs.PrintLaws.{found_none, message_left, message_put}
+use Rattle.std.proofs.Common.{sym, arith}
+use Rattle.s38_image.proofs.PrintLaws.{message_left, message_put}
 use Rattle.s38_image.proofs.bodies.put_message_at.Goals as goal
 
 pub put_message-requires : goal.put_message-requires

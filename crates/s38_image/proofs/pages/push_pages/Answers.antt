@@ -1,6 +1,5 @@
-use Rattle.std.proofs.Common.{◌≡◌, ℕ, List, ◌+◌, ◌-◌, ◌++◌, ◌∷◌, [], sym, ap, subst, ◌∙◌, arith}
-use Rattle.s38_base.specs.declared.page.Change.{Change}
-use Rattle.s38_image.proofs.CutLaws.{cut_pages, pages_done, pages_go_on, pushed_page}
+use Rattle.std.proofs.Common.{◌∙◌, arith}
+use Rattle.s38_image.proofs.CutLaws.{pages_done, pushed_page}
 use Rattle.s38_image.proofs.pages.push_pages.Goals as goal
 
 pub loop-k-preserved : goal.loop-k-preserved

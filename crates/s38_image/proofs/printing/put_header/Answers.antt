@@ -1,4 +1,4 @@
-use Rattle.std.proofs.Common.{◌≡◌, ap, sym, ◌∙◌, List, ℕ, ◌++◌}
+use Rattle.std.proofs.Common.{ap, sym, ◌∙◌, List, ℕ, ◌++◌}
 use Rattle.s38_codecs.specs.Formats.{u32}
 use Rattle.s38_image.specs.Headers.{mark}
 use Rattle.s38_image.specs.Printing.{id_bytes, places_of}

@@ -1,4 +1,4 @@
-use Rattle.std.proofs.Common.{◌≡◌, ap, ◌∙◌, List, ℕ, ◌++◌}
+use Rattle.std.proofs.Common.{ap, ◌∙◌, List, ℕ, ◌++◌}
 use Rattle.s38_image.proofs.HeaderLaws.{zeros}
 use Rattle.s38_image.proofs.printing.put_zeros.Goals as goal
 

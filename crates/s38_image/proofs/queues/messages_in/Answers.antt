@@ -1,4 +1,4 @@
-use Rattle.std.proofs.Common.{◌≡◌, ◌-◌, ◌+◌, ◌++◌, ◌∷◌, [], Bool, cond, List, Some, None, ap, sym, ◌∙◌}
+use Rattle.std.proofs.Common.{◌-◌, ◌+◌, Bool, cond, List, Some, None, ap, sym, ◌∙◌}
 use Rattle.std.proofs.lemmas.Result.{err_from_is_err_and}
 use Rattle.s38_codecs.specs.Codec.{times}
 use Rattle.s38_codecs.proofs.Loop.{goes_on, whole_done, whole_ends, with_front}

@@ -1,5 +1,4 @@
-use Rattle.std.proofs.Common.{◌≡◌, sym, subst, Option}
-use Rattle.std.specs.Prelude.{List}
+use Rattle.std.proofs.Common.{sym, subst, Option}
 use Rattle.s38_codecs.specs.Reading.{Gives}
 use Rattle.s38_image.proofs.QueueLaws.{gives_queue, queue_whole}
 use Rattle.s38_image.specs.Queues.{QueueHead}

@@ -1,4 +1,4 @@
-use Rattle.std.proofs.Common.{◌≡◌, sym, ◌∙◌, arith}
+use Rattle.std.proofs.Common.{sym, ◌∙◌, arith}
 use Rattle.s38_image.proofs.StreamLaws.{page_fails, page_holds, pages_apart, pages_end}
 use Rattle.s38_image.proofs.stream.are_pages.Goals as goal
 

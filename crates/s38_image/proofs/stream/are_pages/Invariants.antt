@@ -1,4 +1,4 @@
-use Rattle.std.proofs.Common.{◌≡◌, ◌+◌, ◌-◌, length, drop}
+use Rattle.std.proofs.Common.{◌≡◌, ◌+◌, ◌-◌, drop}
 use Rattle.s38_image.specs.Pages.{are_pages}
 use Rattle.s38_image.proofs.stream.are_pages.Given as goal
 

@@ -1,7 +1,7 @@
-use Rattle.std.proofs.Common.{◌≡◌, drop, take}
+use Rattle.std.proofs.Common.{◌≡◌, drop}
 use Rattle.std.specs.List.{list_all}
 use Rattle.s38_codecs.specs.Codec.{is_zero}
-use Rattle.s38_image.specs.Pages.{stream, tags_in}
+use Rattle.s38_image.specs.Pages.{tags_in}
 use Rattle.s38_image.proofs.stream.are_untagged.Given as goal
 
 abbrev pub invariant-loop-change : goal.invariant-loop-change
