@@ -3,7 +3,7 @@ use Rattle.std.proofs.Common.{◌≡◌, ℕ, ◌-◌, Bool, true, false, cond, 
 use Rattle.s38_base.specs.declared.id.ObjNum.{ObjNum}
 use Rattle.s38_code.specs.declared.operand.Operand.{Operand}
 use Rattle.s38_rules.specs.declared.object.Object.{Object}
-use Rattle.s38_rules.specs.Grants.{grant_changes, retract_changes, rights_of, row_or_public, taker_rule, user_at, with_rights, xfro_fails}
+use Rattle.s38_rules.specs.Grants.{with_granted, with_retracted, rights_of, row_or_public, taker_rule, user_at, with_rights, xfro_fails}
 use Rattle.s38_rules.specs.Held.{Held, change_in, has_number, object, object_in}
 use Rattle.s38_rules.specs.Operands.{is_given, rights_at, target}
 use Rattle.s38_rules.specs.Standing.{restand, standing_of, with_standing}
@@ -37,12 +37,10 @@ rights_changed h n b user f =
 
 -- rights are added to those that there are
 pub rights_added : (h : Held) (ops : List Operand)
-    → restand h (target h ops 1) (with_rights (is_given ops 2) (user_at h ops 2) (bit_or (row_or_public (is_given ops 2) (object h (target h ops 1)) (target h ops 2)) (rights_at ops 3))) ≡ grant_changes h ops
-unfolding grant_changes
+    → restand h (target h ops 1) (with_rights (is_given ops 2) (user_at h ops 2) (bit_or (row_or_public (is_given ops 2) (object h (target h ops 1)) (target h ops 2)) (rights_at ops 3))) ≡ restand h (target h ops 1) (with_granted h ops)
 rights_added h ops = sym (rights_changed h (target h ops 1) (is_given ops 2) (user_at h ops 2) (λ r. bit_or r (rights_at ops 3)))
 
 -- rights are taken from those that there are
 pub rights_taken : (h : Held) (ops : List Operand)
-    → restand h (target h ops 1) (with_rights (is_given ops 2) (user_at h ops 2) (bit_and (row_or_public (is_given ops 2) (object h (target h ops 1)) (target h ops 2)) (255 - rights_at ops 3))) ≡ retract_changes h ops
-unfolding retract_changes
+    → restand h (target h ops 1) (with_rights (is_given ops 2) (user_at h ops 2) (bit_and (row_or_public (is_given ops 2) (object h (target h ops 1)) (target h ops 2)) (255 - rights_at ops 3))) ≡ restand h (target h ops 1) (with_retracted h ops)
 rights_taken h ops = sym (rights_changed h (target h ops 1) (is_given ops 2) (user_at h ops 2) (λ r. bit_and r (255 - rights_at ops 3)))

@@ -1,13 +1,14 @@
 //! Contexts: made and destroyed, their contents listed; the address and the name of an object changed.
+ghost use Rattle.s38_rules.specs.Changes.{done, renamed_by};
 ghost use Rattle.std.specs.Prelude.{◌≡◌, None, Some, IfOk, OnOk, OnErr};
 ghost use Rattle.std.specs.Option.{option_copied};
-ghost use Rattle.s38_rules.specs.Contexts.{contexts_row, crtctx_changes, crtctx_fails, desctx_fails, is_at_home, is_name_beside, is_other_kind, matctx_gives, matctx_needs, modadr_changes, modadr_fails, modadr_needs, new_address, new_context, own_context, rename_changes, rename_fails, rename_needs, rename_rule};
+ghost use Rattle.s38_rules.specs.Contexts.{contexts_row, crtctx_changes, crtctx_fails, desctx_fails, is_at_home, is_name_beside, is_other_kind, matctx_gives, matctx_needs, modadr_fails, modadr_needs, new_address, new_context, own_context, rename_fails, rename_needs, rename_rule};
 ghost use Rattle.s38_base.specs.RightNames as rights;
 ghost use Rattle.s38_base.specs.declared.words.Category.TheVariants.{Change};
 ghost use Rattle.s38_rules.specs.declared.need.Sought.TheVariants.{Any};
-ghost use Rattle.s38_rules.specs.Held.{context_in, object};
+ghost use Rattle.s38_rules.specs.Held.{context_in, home, moved, object};
 ghost use Rattle.s38_rules.specs.Needs.{on_object};
-ghost use Rattle.s38_rules.specs.Operands.{target};
+ghost use Rattle.s38_rules.specs.Operands.{id_at, target};
 
 use crate::listing::names_image;
 use crate::resolving::{context_at, context_read};
@@ -15,7 +16,7 @@ use s38_base::exceptions::{DUPLICATE_IDENTIFICATION, OBJECT_IN_USE, OBJECT_TYPE_
 use s38_base::limits::MACHINE_CONTEXT;
 use s38_base::{Category, Exception, Id, Kind, NoMemory, ObjNum, Op, Rights};
 use s38_changes::{
-    creation_changes, creation_fails, creation_gives, destruction_changes, destruction_needs, home,
+    creation_changes, creation_fails, creation_gives, destroy, destruction_needs, home,
     is_taken_beside, machine_needs, move_to, of_machine, rename_to,
 };
 use s38_code::{Operand, Request, Val};
@@ -44,7 +45,7 @@ fn crtctx_fails(world: &World<Objects>, process: u32, operands: &[Operand]) -> O
     creation_fails(world, world.user_of(process), &created, None)
 }
 
-#[tactic(auto, using(crate::proofs::CreationLaws::crtctx_created, s38_changes::proofs::CreationLaws::home_placed), unfolding(s38_rules::specs::Contexts::crtctx_changes))]
+#[tactic(auto, using(crate::proofs::CreationLaws::crtctx_created, s38_changes::proofs::CreationLaws::home_placed))]
 fn crtctx(
     alloc: Global,
     world: &mut World<Objects>,
@@ -52,7 +53,7 @@ fn crtctx(
     operands: &[Operand],
 ) -> Result<(), NoMemory>
     requires { crtctx_fails world.old process operands.now ≡ None }
-    ensures ok { OnOk result (world.new ≡ crtctx_changes world.old process operands.now) }
+    ensures ok { OnOk result (world.new ≡ done world.old process (crtctx_changes world.old process operands.now)) }
     ensures err { OnErr result (world.new ≡ world.old) }
 {
     let owner = world.user_of(process);
@@ -190,10 +191,10 @@ fn modadr_fails(objects: &Objects, operands: &[Operand]) -> Option<Exception>
 }
 
 /// The object is in the new context, or in none; where memory is refused nothing changes.
-#[tactic(auto, using(crate::proofs::ContextLaws::modadr_free, crate::proofs::ContextLaws::home_free, s38_changes::proofs::CreationLaws::home_placed), unfolding(s38_rules::specs::Contexts::modadr_changes))]
+#[tactic(auto, using(crate::proofs::ContextLaws::modadr_free, crate::proofs::ContextLaws::home_free, s38_changes::proofs::CreationLaws::home_placed))]
 fn modadr(world: &mut World<Objects>, operands: &[Operand]) -> Result<(), NoMemory>
     requires { modadr_fails world.old.held operands.now ≡ None }
-    ensures ok { OnOk result (world.new ≡ record world.old { held = modadr_changes world.old.held operands.now }) }
+    ensures ok { OnOk result (world.new ≡ record world.old { held = moved world.old.held (target world.old.held operands.now 1) (home world.old.held (target world.old.held operands.now 2)) }) }
     ensures err { OnErr result (world.new ≡ world.old) }
 {
     let number = target(&world.objects, operands, 1);
@@ -249,10 +250,9 @@ fn rename_fails(objects: &Objects, operands: &[Operand]) -> Option<Exception>
 }
 
 /// The object has the identification; where memory is refused nothing changes.
-#[tactic(auto, unfolding(s38_rules::specs::Contexts::rename_changes))]
 fn rename(world: &mut World<Objects>, operands: &[Operand]) -> Result<(), NoMemory>
     requires { rename_fails world.old.held operands.now ≡ None }
-    ensures ok { OnOk result (world.new ≡ record world.old { held = rename_changes world.old.held operands.now }) }
+    ensures ok { OnOk result (world.new ≡ record world.old { held = renamed_by world.old.held (target world.old.held operands.now 1) (id_at operands.now 2) }) }
     ensures err { OnErr result (world.new ≡ world.old) }
 {
     let number = target(&world.objects, operands, 1);
@@ -277,7 +277,7 @@ fn matctx_needs(operands: &[Operand]) -> Needs
 }
 
 /// The number of the objects in the context, and their identifications in order.
-#[tactic(auto, unfolding(s38_rules::specs::Contexts::matctx_gives))]
+#[tactic(auto, unfolding(s38_rules::specs::Contexts::matctx_bytes))]
 fn matctx_gives(alloc: Global, objects: &Objects, operands: &[Operand]) -> Result<Val, NoMemory>
     ensures { IfOk result (λ value. value ≡ matctx_gives objects.now operands.now) }
 {
@@ -362,7 +362,7 @@ pub fn apply(
     request: &Request,
 ) -> Result<(), NoMemory>
     requires { (contexts_row request.now.op).fails world.old process depth request.now ≡ None }
-    ensures ok { OnOk result (world.new ≡ (contexts_row request.now.op).changes world.old process depth request.now) }
+    ensures ok { OnOk result (world.new ≡ done world.old process ((contexts_row request.now.op).changes world.old process depth request.now)) }
     ensures err { OnErr result (world.new ≡ world.old) }
 {
     let operands = request.operands.as_slice();
@@ -371,7 +371,7 @@ pub fn apply(
         Op::Modadr => modadr(world, operands),
         Op::Rename => rename(world, operands),
         Op::Desctx => {
-            destruction_changes(world, operands);
+            destroy(world, Kind::Context, operands);
             Ok(())
         }
         _ => Ok(()),

@@ -1,8 +1,9 @@
 //! Authority over objects: granted and retracted, an object given to another owner, and what is available looked at.
+ghost use Rattle.s38_rules.specs.Changes.{done};
 ghost use Rattle.std.specs.Prelude.{◌≡◌, ◌==◌, None, IfOk, OnOk, OnErr, length, map};
 ghost use Rattle.std.specs.List.{list_any};
 ghost use Rattle.std.specs.Option.{option_copied};
-ghost use Rattle.s38_rules.specs.Grants.{grant_changes, grant_fails, grant_needs, grants_row, matau_gives, matau_needs, matauobj_gives, matauobj_needs, matauobj_special, retract_changes, row_or_public, row_rule, testau_gives, testau_needs, truth, user_at, user_needs, with_rights, xfro_changes, xfro_fails, xfro_needs};
+ghost use Rattle.s38_rules.specs.Grants.{given_to, grant_fails, grant_needs, grants_row, matau_gives, matau_needs, matauobj_gives, matauobj_needs, matauobj_special, row_or_public, row_rule, testau_gives, testau_needs, truth, user_at, user_needs, with_granted, with_retracted, with_rights, xfro_fails, xfro_needs};
 ghost use Rattle.s38_rules.specs.Headers.{row_in, rows_in};
 ghost use Rattle.s38_rules.specs.Held.{object};
 ghost use Rattle.s38_rules.specs.Operands.{is_given, target};
@@ -122,7 +123,7 @@ fn set_rights(
 
 /// The rights are added; where memory is refused nothing changes.
 fn grant(world: &mut World<Objects>, operands: &[Operand]) -> Result<(), NoMemory>
-    ensures ok { OnOk result (world.new ≡ record world.old { held = grant_changes world.old.held operands.now }) }
+    ensures ok { OnOk result (world.new ≡ record world.old { held = restand world.old.held (target world.old.held operands.now 1) (with_granted world.old.held operands.now) }) }
     ensures err { OnErr result (world.new ≡ world.old) }
 {
     let present = rights_of(&world.objects, operands, 1, 2);
@@ -132,7 +133,7 @@ fn grant(world: &mut World<Objects>, operands: &[Operand]) -> Result<(), NoMemor
 
 /// The rights are taken away; what pointers carry stays.
 fn retract(world: &mut World<Objects>, operands: &[Operand]) -> Result<(), NoMemory>
-    ensures ok { OnOk result (world.new ≡ record world.old { held = retract_changes world.old.held operands.now }) }
+    ensures ok { OnOk result (world.new ≡ record world.old { held = restand world.old.held (target world.old.held operands.now 1) (with_retracted world.old.held operands.now) }) }
     ensures err { OnErr result (world.new ≡ world.old) }
 {
     let present = rights_of(&world.objects, operands, 1, 2);
@@ -165,10 +166,10 @@ fn xfro_fails(world: &World<Objects>, operands: &[Operand]) -> Option<Exception>
 }
 
 /// The new owner has all eight rights by a row; the row of the one before stays.
-#[tactic(auto, using(crate::proofs::GrantLaws::xfro_taken), unfolding(s38_rules::specs::Grants::xfro_changes))]
+#[tactic(auto, using(crate::proofs::GrantLaws::xfro_taken))]
 fn xfro(world: &mut World<Objects>, operands: &[Operand]) -> Result<(), NoMemory>
     requires { xfro_fails world.old.held operands.now ≡ None }
-    ensures ok { OnOk result (world.new ≡ record world.old { held = xfro_changes world.old.held operands.now }) }
+    ensures ok { OnOk result (world.new ≡ record world.old { held = restand world.old.held (target world.old.held operands.now 1) (given_to (user_at world.old.held operands.now 2)) }) }
     ensures err { OnErr result (world.new ≡ world.old) }
 {
     let number = target(&world.objects, operands, 1);
@@ -186,7 +187,7 @@ fn truth(alloc: Global, holds: bool) -> Result<Bytes, NoMemory>
 }
 
 /// 1 where all the rights are available.
-#[tactic(auto, unfolding(s38_rules::specs::Grants::testau_gives))]
+#[tactic(auto, unfolding(s38_rules::specs::Grants::testau_bytes))]
 fn testau_gives(
     alloc: Global,
     world: &World<Objects>,
@@ -214,7 +215,7 @@ fn matau_needs(operands: &[Operand]) -> Needs
 }
 
 /// The owner, the rights of everybody, and those of the user's row.
-#[tactic(auto, unfolding(s38_rules::specs::Grants::matau_gives))]
+#[tactic(auto, unfolding(s38_rules::specs::Grants::matau_bytes))]
 fn matau_gives(alloc: Global, objects: &Objects, operands: &[Operand]) -> Result<Val, NoMemory>
     ensures { IfOk result (λ value. value ≡ matau_gives objects.now operands.now) }
 {
@@ -255,7 +256,7 @@ fn matauobj_special(
 }
 
 /// The number of the objects that the user owns or has a row on, and each in order of number.
-#[tactic(auto, unfolding(s38_rules::specs::Grants::matauobj_gives))]
+#[tactic(auto, unfolding(s38_rules::specs::Grants::matauobj_bytes))]
 fn matauobj_gives(alloc: Global, objects: &Objects, operands: &[Operand]) -> Result<Val, NoMemory>
     ensures { IfOk result (λ value. value ≡ matauobj_gives objects.now operands.now) }
 {
@@ -351,7 +352,7 @@ pub fn apply(
     request: &Request,
 ) -> Result<(), NoMemory>
     requires { (grants_row request.now.op).fails world.old process depth request.now ≡ None }
-    ensures ok { OnOk result (world.new ≡ (grants_row request.now.op).changes world.old process depth request.now) }
+    ensures ok { OnOk result (world.new ≡ done world.old process ((grants_row request.now.op).changes world.old process depth request.now)) }
     ensures err { OnErr result (world.new ≡ world.old) }
 {
     let _ = alloc;

@@ -1,14 +1,17 @@
 //! User profiles: made, changed and destroyed. Each needs the special authority over profiles.
+ghost use Rattle.s38_rules.specs.Changes.{done};
+ghost use Rattle.s38_rules.specs.Operands.{target};
+ghost use Rattle.s38_rules.specs.Parts.{set_profile};
 ghost use Rattle.std.specs.Prelude.{◌≡◌, None, IfOk, OnOk, OnErr};
 ghost use Rattle.std.specs.List.{list_any};
 ghost use Rattle.std.specs.Option.{option_copied};
-ghost use Rattle.s38_rules.specs.Profiles.{crtup_changes, crtup_fails, desup_fails, is_live, is_needed, is_user, limit_at, modup_changes, modup_fails, modup_needs, new_profile, owns, profile_body, profiles_row, specials_at};
+ghost use Rattle.s38_rules.specs.Profiles.{crtup_changes, crtup_fails, desup_fails, is_live, is_needed, is_user, limit_at, modup_fails, modup_needs, new_profile, owns, profile_body, profiles_row, specials_at};
 
 use s38_base::exceptions::OBJECT_IN_USE;
 use s38_base::{Category, Exception, Kind, NoMemory, Op, Rights, Special, UserNum};
 use s38_changes::{
-    creation_changes, creation_fails, creation_gives, destruction_changes, destruction_needs,
-    is_owner, machine_needs, of_machine, set_profile,
+    creation_changes, creation_fails, creation_gives, destroy, destruction_needs, is_owner,
+    machine_needs, of_machine, set_profile,
 };
 use s38_code::{Operand, Request, Val};
 use s38_invoke::World;
@@ -63,7 +66,7 @@ fn crtup_fails(world: &World<Objects>, process: u32, operands: &[Operand]) -> Op
     creation_fails(world, world.user_of(process), &created, None)
 }
 
-#[tactic(auto, using(crate::proofs::CreationLaws::crtup_created, s38_changes::proofs::CreationLaws::home_placed), unfolding(s38_rules::specs::Profiles::crtup_changes))]
+#[tactic(auto, using(crate::proofs::CreationLaws::crtup_created, s38_changes::proofs::CreationLaws::home_placed))]
 fn crtup(
     alloc: Global,
     world: &mut World<Objects>,
@@ -71,7 +74,7 @@ fn crtup(
     operands: &[Operand],
 ) -> Result<(), NoMemory>
     requires { crtup_fails world.old process operands.now ≡ None }
-    ensures ok { OnOk result (world.new ≡ crtup_changes world.old process operands.now) }
+    ensures ok { OnOk result (world.new ≡ done world.old process (crtup_changes world.old process operands.now)) }
     ensures err { OnErr result (world.new ≡ world.old) }
 {
     let owner = world.user_of(process);
@@ -90,9 +93,8 @@ fn modup_fails(objects: &Objects, operands: &[Operand]) -> Option<Exception>
 }
 
 /// Both special authorities and limit.
-#[tactic(auto, unfolding(s38_rules::specs::Profiles::modup_changes))]
 fn modup(world: &mut World<Objects>, operands: &[Operand])
-    ensures { world.new ≡ record world.old { held = modup_changes world.old.held operands.now } }
+    ensures { world.new ≡ record world.old { held = set_profile world.old.held (target world.old.held operands.now 1) (specials_at operands.now 2) (limit_at operands.now 3) } }
 {
     let number = target(&world.objects, operands, 1);
     set_profile(
@@ -229,7 +231,7 @@ pub fn apply(
     request: &Request,
 ) -> Result<(), NoMemory>
     requires { (profiles_row request.now.op).fails world.old process depth request.now ≡ None }
-    ensures ok { OnOk result (world.new ≡ (profiles_row request.now.op).changes world.old process depth request.now) }
+    ensures ok { OnOk result (world.new ≡ done world.old process ((profiles_row request.now.op).changes world.old process depth request.now)) }
     ensures err { OnErr result (world.new ≡ world.old) }
 {
     let _ = depth;
@@ -241,7 +243,7 @@ pub fn apply(
             Ok(())
         }
         Op::Desup => {
-            destruction_changes(world, operands);
+            destroy(world, Kind::Profile, operands);
             Ok(())
         }
         _ => Ok(()),

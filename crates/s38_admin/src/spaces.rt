@@ -1,15 +1,18 @@
 //! Spaces: made, lengthened or cut, and destroyed; pointers into them; copies of cells with their tags.
+ghost use Rattle.s38_rules.specs.Changes.{done};
+ghost use Rattle.s38_rules.specs.Operands.{cells_put, place, source_cells, target};
+ghost use Rattle.s38_rules.specs.Parts.{on_space};
 ghost use Rattle.std.specs.Prelude.{◌≡◌, ◌≤◌, [], Some, None, IfOk, OnOk, OnErr, true};
 ghost use Rattle.std.specs.Option.{option_copied};
 ghost use Rattle.s38_base.specs.Limits.{furthest};
 ghost use Rattle.s38_memory.specs.Tagged.{resized};
-ghost use Rattle.s38_rules.specs.Spaces.{cpybwp_changes, cpybwp_fails, cpybwp_gives, crts_changes, crts_fails, is_space_length, is_unaligned, length_at, length_rule, mods_changes, mods_fails, new_space, owner_pays, setdp_fails, setdp_gives, setsppfp_gives, spaces_row};
+ghost use Rattle.s38_rules.specs.Spaces.{cpybwp_fails, cpybwp_gives, crts_changes, crts_fails, is_space_length, is_unaligned, length_at, length_rule, mods_fails, new_space, owner_pays, setdp_fails, setdp_gives, setsppfp_gives, spaces_row};
 
 use s38_base::exceptions::{BOUNDARY_ALIGNMENT, DECIMAL_DATA, LENGTH_INVALID, SPACE_ADDRESSING};
 use s38_base::{Category, Exception, HeldPointer, Kind, NoMemory, Op, Pointer, Rights};
 use s38_changes::{
-    creation_changes, creation_fails, creation_gives, creation_needs, destruction_changes,
-    destruction_needs, in_context, owner_pays, pages_for_length, put_cells, resize,
+    creation_changes, creation_fails, creation_gives, creation_needs, destroy, destruction_needs,
+    in_context, owner_pays, pages_for_length, put_cells, resize,
 };
 use s38_code::{Operand, Request, Val};
 use s38_invoke::World;
@@ -107,7 +110,7 @@ fn new_cells(
 }
 
 /// The space of this storage.
-#[tactic(auto, using(crate::proofs::CreationLaws::crts_created, crate::proofs::CreationLaws::space_paid, s38_changes::proofs::CreationLaws::home_placed), unfolding(s38_rules::specs::Spaces::crts_changes))]
+#[tactic(auto, using(crate::proofs::CreationLaws::crts_created, crate::proofs::CreationLaws::space_paid, s38_changes::proofs::CreationLaws::home_placed))]
 fn create_space(
     alloc: Global,
     world: &mut World<Objects>,
@@ -117,7 +120,7 @@ fn create_space(
 ) -> Result<(), NoMemory>
     requires good { crts_fails world.old process operands.now ≡ None }
     requires space { space ≡ resized (length_at world.old operands.now 5) [] }
-    ensures ok { OnOk result (world.new ≡ crts_changes world.old process operands.now) }
+    ensures ok { OnOk result (world.new ≡ done world.old process (crts_changes world.old process operands.now)) }
     ensures err { OnErr result (world.new ≡ world.old) }
 {
     let owner = world.user_of(process);
@@ -134,7 +137,7 @@ fn crts(
     operands: &[Operand],
 ) -> Result<(), NoMemory>
     requires { crts_fails world.old process operands.now ≡ None }
-    ensures ok { OnOk result (world.new ≡ crts_changes world.old process operands.now) }
+    ensures ok { OnOk result (world.new ≡ done world.old process (crts_changes world.old process operands.now)) }
     ensures err { OnErr result (world.new ≡ world.old) }
 {
     match new_cells(alloc, world, operands) {
@@ -159,10 +162,10 @@ fn mods_fails(world: &World<Objects>, operands: &[Operand]) -> Option<Exception>
 }
 
 /// The space is cut, or lengthened by zero bytes.
-#[tactic(auto, using(crate::proofs::CreationLaws::mods_long, crate::proofs::CreationLaws::mods_paid), unfolding(s38_rules::specs::Spaces::mods_changes))]
+#[tactic(auto, using(crate::proofs::CreationLaws::mods_long, crate::proofs::CreationLaws::mods_paid))]
 fn mods(world: &mut World<Objects>, operands: &[Operand]) -> Result<(), NoMemory>
     requires { mods_fails world.old operands.now ≡ None }
-    ensures ok { OnOk result (world.new ≡ record world.old { held = mods_changes world.old operands.now }) }
+    ensures ok { OnOk result (world.new ≡ record world.old { held = on_space world.old.held (target world.old.held operands.now 1) (resized (length_at world.old operands.now 2)) }) }
     ensures err { OnErr result (world.new ≡ world.old) }
 {
     let len = length_at(world, operands, 2);
@@ -254,9 +257,8 @@ fn cpybwp_gives(
 }
 
 /// Cells go with their tags into the space.
-#[tactic(auto, unfolding(s38_rules::specs::Spaces::cpybwp_changes))]
 fn cpybwp(alloc: Global, world: &mut World<Objects>, operands: &[Operand]) -> Result<(), NoMemory>
-    ensures ok { OnOk result (world.new ≡ record world.old { held = cpybwp_changes world.old.held operands.now }) }
+    ensures ok { OnOk result (world.new ≡ record world.old { held = cells_put world.old.held (place operands.now 1) (source_cells world.old.held operands.now 2) }) }
     ensures err { OnErr result (world.new ≡ world.old) }
 {
     match source_cells(alloc, &world.objects, operands, 2) {
@@ -351,7 +353,7 @@ pub fn apply(
     request: &Request,
 ) -> Result<(), NoMemory>
     requires { (spaces_row request.now.op).fails world.old process depth request.now ≡ None }
-    ensures ok { OnOk result (world.new ≡ (spaces_row request.now.op).changes world.old process depth request.now) }
+    ensures ok { OnOk result (world.new ≡ done world.old process ((spaces_row request.now.op).changes world.old process depth request.now)) }
     ensures err { OnErr result (world.new ≡ world.old) }
 {
     let operands = request.operands.as_slice();
@@ -360,7 +362,7 @@ pub fn apply(
         Op::Crts => crts(alloc, world, process, operands),
         Op::Mods => mods(world, operands),
         Op::Dess => {
-            destruction_changes(world, operands);
+            destroy(world, Kind::Space, operands);
             Ok(())
         }
         _ => Ok(()),

@@ -1,13 +1,14 @@
 //! How objects are destroyed, whatever their kind.
 ghost use Rattle.std.specs.Prelude.{◌≡◌};
-ghost use Rattle.s38_rules.specs.Creation.{destruction_changes, destruction_needs};
-ghost use Rattle.s38_rules.specs.Held.{without};
+ghost use Rattle.s38_rules.specs.Creation.{destroyed, destruction_needs, is_of_kind};
+ghost use Rattle.s38_rules.specs.Held.{object, without};
+ghost use Rattle.s38_rules.specs.Operands.{target};
 
 use crate::users::forget;
 use s38_base::{Category, Kind, ObjNum, Rights};
 use s38_code::Operand;
 use s38_invoke::World;
-use s38_objects::Objects;
+use s38_objects::{Objects, kind_of};
 use s38_operands::{Needs, on_object, target};
 use s38_rules::Sought;
 
@@ -31,11 +32,22 @@ fn remove(world: &mut World<Objects>, number: ObjNum)
     forget(&mut world.profiles, &object);
 }
 
-/// The object is there no more.
-#[tactic(auto, unfolding(s38_rules::specs::Creation::destruction_changes))]
-pub fn destruction_changes(world: &mut World<Objects>, operands: &[Operand])
-    ensures { world.new ≡ record world.old { held = destruction_changes world.old.held operands.now } }
+/// Whether the object of a number is there, and of a kind.
+fn is_of_kind(objects: &Objects, number: ObjNum, kind: Kind) -> bool
+    ensures { result ≡ is_of_kind kind (object objects.now number.0) }
+{
+    match objects.get(number) {
+        None => false,
+        Some(object) => kind.code() == kind_of(&object.body).code(),
+    }
+}
+
+/// The object that operand 1 names, if it is of the kind, is there no more.
+pub fn destroy(world: &mut World<Objects>, kind: Kind, operands: &[Operand])
+    ensures { world.new ≡ record world.old { held = destroyed world.old.held kind (target world.old.held operands.now 1) } }
 {
     let number = target(&world.objects, operands, 1);
-    remove(world, number);
+    if is_of_kind(&world.objects, number, kind) {
+        remove(world, number);
+    }
 }

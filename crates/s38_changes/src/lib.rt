@@ -14,6 +14,6 @@ pub use creation::{
     creation_changes, creation_fails, creation_gives, creation_needs, home, in_context,
     is_taken_beside, machine_needs, of_machine,
 };
-pub use destruction::{destruction_changes, destruction_needs};
+pub use destruction::{destroy, destruction_needs};
 pub use spaces::{pages_for_length, put_cells, put_value, resize};
 pub use standing::{give_to, move_to, rename_to, set_profile, set_public, set_row};

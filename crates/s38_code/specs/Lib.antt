@@ -1,3 +1,4 @@
+pub mod Asking
 pub mod History
 pub mod Operations
 pub mod TextLines

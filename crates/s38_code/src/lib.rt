@@ -2,6 +2,7 @@
 //! history; and what stands before a run: programs, templates and decks, and the table of mnemonics.
 #![tactic(auto)]
 
+mod asked;
 mod class;
 mod code;
 mod deck;
@@ -17,6 +18,7 @@ mod reply;
 mod rule;
 mod step;
 
+pub use asked::Asked;
 pub use class::{Class, Constant, Keyword};
 pub use code::Code;
 pub use deck::{Deck, Job, Jobs, Names, Template, Templates};

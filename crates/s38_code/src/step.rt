@@ -1,10 +1,13 @@
-ghost use Rattle.std.specs.Prelude.{◌≡◌, ◌⊎◌, ◌++◌, ◌∷◌, [], ℕ, List, Option, Some, None, Result, IsErrOf, IfOk, OnErr};
+ghost use Rattle.std.specs.Prelude.{◌≡◌, ◌⊎◌, ◌++◌, ◌∷◌, [], ℕ, List, Option, Some, None, Result, IsErrOf, IfOk, IfSome, OnErr, is_some, true};
+ghost use Rattle.std.specs.Option.{option_copied};
+ghost use Rattle.s38_code.specs.Asking.{answer_by, last_reply, reply_by};
 ghost use Rattle.s38_code.specs.declared.entry.Entry.{Entry};
 ghost use Rattle.s38_code.specs.declared.event.Event.{Event};
 ghost use Rattle.s38_code.specs.declared.reply.Reply.{Reply};
 ghost use Rattle.s38_code.specs.declared.step.StepFault.{StepFault};
 ghost use Rattle.s38_code.specs.History.{entries_of, IsAnswered, first_stop};
 
+use crate::asked::Asked;
 use crate::event::Event;
 use crate::reply::Reply;
 use thiserror::Error;
@@ -51,5 +54,26 @@ pub trait Stepper {
         ensures answered { IfOk result (λ reply. IsAnswered process event.now reply (history self.old) (history self.new)) }
         ensures err { OnErr result (history self.new ≡ history self.old) }
         ensures stopped { IsErrOf result StepFault.Stopped → stopped self.new ≡ first_stop (stopped self.old) process event.now }
-        ensures going { IfOk result (λ _. stopped self.new ≡ stopped self.old) };
+        ensures going { IfOk result (λ _. stopped self.new ≡ stopped self.old) }
+        ensures refused { IsErrOf result StepFault.NoMemory → stopped self.new ≡ stopped self.old }
+        ensures over { IfSome (stopped self.old) (λ _. IsErrOf result StepFault.Stopped) };
+
+    /// Answers one event as `step` does, with no copy: the event is handed in, and the answer says where the reply is.
+    fn ask(&mut self, process: u32, event: Event) -> Result<Asked, StepFault>
+        requires sound { is_sound self.old }
+        requires may { may_ask (origin self.old) process event (entries_of process (history self.old)) }
+        ensures origin { origin self.new ≡ origin self.old }
+        ensures sound { is_sound self.new }
+        ensures replied { IfOk result (λ asked. is_some (reply_by asked (history self.new)) ≡ true) }
+        ensures steps { IfSome (answer_by result (history self.new)) (λ answer. steps self.old process event answer self.new) }
+        ensures answered { IfOk result (λ asked. IfSome (reply_by asked (history self.new)) (λ reply. IsAnswered process event reply (history self.old) (history self.new))) }
+        ensures err { OnErr result (history self.new ≡ history self.old) }
+        ensures stopped { IsErrOf result StepFault.Stopped → stopped self.new ≡ first_stop (stopped self.old) process event }
+        ensures going { IfOk result (λ _. stopped self.new ≡ stopped self.old) }
+        ensures refused { IsErrOf result StepFault.NoMemory → stopped self.new ≡ stopped self.old }
+        ensures over { IfSome (stopped self.old) (λ _. IsErrOf result StepFault.Stopped) };
+
+    /// The reply of the last entry of the history.
+    fn last_reply(&self) -> Option<&Reply>
+        ensures { option_copied result ≡ last_reply (history self.now) };
 }

@@ -1,4 +1,5 @@
 -- What making journal spaces, ports and commit blocks has met, entries that are not there, and what is kept of users.
+use Rattle.s38_rules.specs.Changes.{through_port}
 use Rattle.std.proofs.Common.{◌≡◌, ℕ, zero, suc, ◌<◌, ◌≤◌, List, [], ◌∷◌, ap, arith, length, not, refl, sym}
 use Rattle.std.specs.Prelude.{Option, Some, None, is_some, option_map, slice_get}
 use Rattle.s38_base.specs.declared.exception.Exception.{Exception}
@@ -12,7 +13,7 @@ use Rattle.s38_changes.proofs.KeptLaws.{left}
 use Rattle.s38_units.proofs.KeptLaws.{data_kept}
 use Rattle.s38_rules.specs.Creation.{creation_fails}
 use Rattle.s38_rules.specs.Held.{Held, ensured, kept_on_disk}
-use Rattle.s38_rules.specs.Journals.{crtcb_fails, created_block, created_journal, created_port, crtjp_fails, crtjs_fails, is_attached, is_port_on_disk, jrnlobj_fails, through_port}
+use Rattle.s38_rules.specs.Journals.{crtcb_fails, created_block, created_journal, created_port, crtjp_fails, crtjs_fails, is_attached, is_port_on_disk, jrnlobj_fails}
 use Rattle.s38_rules.specs.Journaling.{journal_for}
 use Rattle.s38_rules.specs.Kept.{Mirrors}
 use Rattle.s38_rules.specs.Operands.{target}

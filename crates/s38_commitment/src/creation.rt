@@ -1,4 +1,5 @@
 //! Journal spaces, ports and commit blocks are made.
+ghost use Rattle.s38_rules.specs.Changes.{done};
 ghost use Rattle.std.specs.Prelude.{◌≡◌, ◌≤◌, None, OnErr, OnOk, length};
 ghost use Rattle.s38_rules.specs.Journals.{crtcb_changes, crtcb_fails, crtcb_needs, created_block, created_journal, created_port, crtjp_changes, crtjp_fails, crtjp_needs, crtjs_changes, crtjs_fails, new_block, new_port};
 
@@ -31,7 +32,7 @@ pub fn crtjs_fails(world: &World<Objects>, process: u32, operands: &[Operand]) -
 }
 
 /// A journal space without an entry.
-#[tactic(auto, using(crate::proofs::CommitmentLaws::crtjs_created, s38_changes::proofs::CreationLaws::home_placed), unfolding(s38_rules::specs::Journals::crtjs_changes))]
+#[tactic(auto, using(crate::proofs::CommitmentLaws::crtjs_created, s38_changes::proofs::CreationLaws::home_placed))]
 pub fn crtjs(
     alloc: Global,
     world: &mut World<Objects>,
@@ -39,7 +40,7 @@ pub fn crtjs(
     operands: &[Operand],
 ) -> Result<(), NoMemory>
     requires { crtjs_fails world.old process operands.now ≡ None }
-    ensures ok { OnOk result (world.new ≡ crtjs_changes world.old process operands.now) }
+    ensures ok { OnOk result (world.new ≡ done world.old process (crtjs_changes world.old process operands.now)) }
     ensures err { OnErr result (world.new ≡ world.old) }
 {
     let owner = world.user_of(process);
@@ -86,7 +87,7 @@ fn new_port(objects: &Objects, operands: &[Operand]) -> Port
 }
 
 /// A port to the journal space that operand 5 names.
-#[tactic(auto, using(crate::proofs::CommitmentLaws::crtjp_created, s38_changes::proofs::CreationLaws::home_placed), unfolding(s38_rules::specs::Journals::crtjp_changes))]
+#[tactic(auto, using(crate::proofs::CommitmentLaws::crtjp_created, s38_changes::proofs::CreationLaws::home_placed))]
 pub fn crtjp(
     alloc: Global,
     world: &mut World<Objects>,
@@ -94,7 +95,7 @@ pub fn crtjp(
     operands: &[Operand],
 ) -> Result<(), NoMemory>
     requires { crtjp_fails world.old process operands.now ≡ None }
-    ensures ok { OnOk result (world.new ≡ crtjp_changes world.old process operands.now) }
+    ensures ok { OnOk result (world.new ≡ done world.old process (crtjp_changes world.old process operands.now)) }
     ensures err { OnErr result (world.new ≡ world.old) }
 {
     let owner = world.user_of(process);
@@ -137,7 +138,7 @@ fn new_block(objects: &Objects, operands: &[Operand]) -> Block
 }
 
 /// A commit block over the port that operand 5 names.
-#[tactic(auto, using(crate::proofs::CommitmentLaws::crtcb_created, s38_changes::proofs::CreationLaws::home_placed), unfolding(s38_rules::specs::Journals::crtcb_changes))]
+#[tactic(auto, using(crate::proofs::CommitmentLaws::crtcb_created, s38_changes::proofs::CreationLaws::home_placed))]
 pub fn crtcb(
     alloc: Global,
     world: &mut World<Objects>,
@@ -145,7 +146,7 @@ pub fn crtcb(
     operands: &[Operand],
 ) -> Result<(), NoMemory>
     requires { crtcb_fails world.old process operands.now ≡ None }
-    ensures ok { OnOk result (world.new ≡ crtcb_changes world.old process operands.now) }
+    ensures ok { OnOk result (world.new ≡ done world.old process (crtcb_changes world.old process operands.now)) }
     ensures err { OnErr result (world.new ≡ world.old) }
 {
     let owner = world.user_of(process);

@@ -1,5 +1,6 @@
 //! The family of journals and units: journal spaces, ports and commit blocks made and destroyed; data spaces journaled;
 //! entries of a journal read; units committed and taken back; objects ensured.
+ghost use Rattle.s38_rules.specs.Changes.{done};
 ghost use Rattle.std.specs.Prelude.{◌≡◌, None, IfOk, OnErr, OnOk};
 ghost use Rattle.s38_rules.specs.Journals.{ensobj_needs, journals_row, retjent_needs};
 
@@ -13,7 +14,7 @@ use crate::objects::{
 use crate::reads::{retjent_fails, retjent_gives};
 use crate::units::{commit, decommit, unit_fails, unit_needs};
 use s38_base::{Category, Exception, Kind, NoMemory, Op, Rights};
-use s38_changes::{creation_gives, creation_needs, destruction_changes, destruction_needs};
+use s38_changes::{creation_gives, creation_needs, destroy, destruction_needs};
 use s38_code::{Request, Val};
 use s38_invoke::World;
 use s38_objects::Objects;
@@ -123,7 +124,7 @@ pub fn apply(
     request: &Request,
 ) -> Result<(), NoMemory>
     requires { (journals_row request.now.op).fails world.old process depth request.now ≡ None }
-    ensures ok { OnOk result (world.new ≡ (journals_row request.now.op).changes world.old process depth request.now) }
+    ensures ok { OnOk result (world.new ≡ done world.old process ((journals_row request.now.op).changes world.old process depth request.now)) }
     ensures err { OnErr result (world.new ≡ world.old) }
 {
     let _ = depth;
@@ -132,7 +133,9 @@ pub fn apply(
         Op::Crtjs => return crtjs(alloc, world, process, operands),
         Op::Crtjp => return crtjp(alloc, world, process, operands),
         Op::Crtcb => return crtcb(alloc, world, process, operands),
-        Op::Desjs | Op::Desjp | Op::Descb => destruction_changes(world, operands),
+        Op::Desjs => destroy(world, Kind::Journal, operands),
+        Op::Desjp => destroy(world, Kind::Port, operands),
+        Op::Descb => destroy(world, Kind::Block, operands),
         Op::Jrnlobj => jrnlobj(world, operands),
         Op::Commit => commit(world, process, operands),
         Op::Decommit => decommit(world, process, operands),

@@ -1,8 +1,10 @@
 //! Which ports a journal space has, and which data spaces a port; what destroys, journals and ensures.
+ghost use Rattle.s38_rules.specs.Changes.{through_port};
+ghost use Rattle.s38_rules.specs.Operands.{target};
 ghost use Rattle.std.specs.Prelude.{◌≡◌, is_some};
 ghost use Rattle.std.specs.Option.{option_copied};
 ghost use Rattle.s38_rules.specs.Held.{disk_in, ensured, is_on_disk};
-ghost use Rattle.s38_rules.specs.Journals.{descb_fails, desjp_fails, desjs_fails, ensobj_changes, is_attached, is_port_on_disk, is_used, jrnlobj_changes, jrnlobj_fails, jrnlobj_needs, leads_to, names_port, port_journal, through_port};
+ghost use Rattle.s38_rules.specs.Journals.{descb_fails, desjp_fails, desjs_fails, is_attached, is_port_on_disk, is_used, jrnlobj_fails, jrnlobj_needs, leads_to, names_port, port_journal};
 ghost use Rattle.s38_rules.specs.Journaling.{journal_for};
 ghost use Rattle.s38_rules.specs.Parts.{on_data};
 
@@ -180,9 +182,8 @@ fn journal_at(world: &mut World<Objects>, space: ObjNum, port: ObjNum)
 }
 
 /// The changes of the data space go through the port from now on, and it is on disk.
-#[tactic(auto, unfolding(s38_rules::specs::Journals::jrnlobj_changes))]
 pub fn jrnlobj(world: &mut World<Objects>, operands: &[Operand])
-    ensures { world.new ≡ record world.old { held = jrnlobj_changes world.old.held operands.now } }
+    ensures { world.new ≡ record world.old { held = ensured (on_data world.old.held (target world.old.held operands.now 1) (through_port (target world.old.held operands.now 2))) (target world.old.held operands.now 1) } }
 {
     let space = target(&world.objects, operands, 1);
     let port = target(&world.objects, operands, 2);
@@ -199,9 +200,8 @@ fn ensure_at(world: &mut World<Objects>, number: ObjNum)
 }
 
 /// The object is on disk from now on.
-#[tactic(auto, unfolding(s38_rules::specs::Journals::ensobj_changes))]
 pub fn ensobj(world: &mut World<Objects>, operands: &[Operand])
-    ensures { world.new ≡ record world.old { held = ensobj_changes world.old.held operands.now } }
+    ensures { world.new ≡ record world.old { held = ensured world.old.held (target world.old.held operands.now 1) } }
 {
     let number = target(&world.objects, operands, 1);
     ensure_at(world, number);

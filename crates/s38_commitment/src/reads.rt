@@ -58,7 +58,7 @@ fn bytes_or_empty(entry: Option<&[u8]>) -> &[u8]
 }
 
 /// The entry, cut or filled with zeros.
-#[tactic(auto, unfolding(s38_rules::specs::Journals::retjent_gives))]
+#[tactic(auto, unfolding(s38_rules::specs::Journals::retjent_bytes))]
 pub fn retjent_gives(
     alloc: Global,
     objects: &Objects,

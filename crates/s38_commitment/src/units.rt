@@ -1,4 +1,5 @@
 //! Units are committed and taken back by their commit blocks.
+ghost use Rattle.s38_rules.specs.Changes.{done};
 ghost use Rattle.std.specs.Prelude.{◌≡◌};
 ghost use Rattle.s38_rules.specs.Journals.{commit_changes, decommit_changes, unit_fails, unit_needs};
 
@@ -29,18 +30,16 @@ pub fn unit_fails(world: &World<Objects>, process: u32, operands: &[Operand]) ->
 }
 
 /// What the unit of the commit block changed stays.
-#[tactic(auto, unfolding(s38_rules::specs::Journals::commit_changes))]
 pub fn commit(world: &mut World<Objects>, process: u32, operands: &[Operand])
-    ensures { world.new ≡ commit_changes world.old process operands.now }
+    ensures { world.new ≡ done world.old process (commit_changes world.old.held operands.now) }
 {
     let block = target(&world.objects, operands, 1);
     s38_units::commit(world, process, block);
 }
 
 /// What the unit of the commit block changed is taken back.
-#[tactic(auto, unfolding(s38_rules::specs::Journals::decommit_changes))]
 pub fn decommit(world: &mut World<Objects>, process: u32, operands: &[Operand])
-    ensures { world.new ≡ decommit_changes world.old process operands.now }
+    ensures { world.new ≡ done world.old process (decommit_changes world.old.held operands.now) }
 {
     let block = target(&world.objects, operands, 1);
     s38_units::decommit(world, process, block);

@@ -348,6 +348,32 @@ module _ (s : State) (p block journal : ℕ) (change : UnitChange) (t : DataTabl
       by None table of = absurd of
       by (Some d) table of = (bytes_short d.space.fields change.before table.fields of.before, bytes_short d.space.fields change.after table.fields of.after)
 
+  -- the unit of its block goes to the journal space
+  block_leads : IsKnown → IsBlock s.held block space → journal_for_block s.held block ≡ Some journal
+  block_leads known is =
+      let to : data_port s.held space ≡ block_port s.held block = nat_same _ _ (and_parts (data_port s.held space == block_port s.held block) (is_some (journal_for s.held space)) is.journaled).0 in
+      ap (journal_behind s.held) (sym to) ∙ known.journaled
+
+  -- the number of its unit is that of an entry of the journal space, or of the next one
+  number_low : IsKnown → number ≤ length (journal_at s.held journal).entries + 1
+  number_low known = by (block == 0) refl
+    where
+      of_unit : (r : Option CommitUnit) → (block == 0) ≡ false → unit_of s.units block ≡ r → number_in r (next_sequence (journal_at s.held journal)) ≤ length (journal_at s.held journal).entries + 1
+      of_unit None some is = omega arith
+      of_unit (Some unit) some is =
+          let own = all_found (IsUnit s.held) s.units block unit known.right.each is in
+          let at : journal_of s.held block ≡ journal_at s.held journal = ap (λ (r : Option ℕ). journal_at s.held (unwrap_or r 0)) (block_leads known (known.ruled some)) in
+          let last : unit.number ≤ length (journal_at s.held journal).entries = subst (λ (j : JournalList). unit.number ≤ length j.entries) at own.last in
+          omega (arith, last)
+
+      by : (b : Bool) → (block == 0) ≡ b → cond b 0 (number_in (unit_of s.units block) (next_sequence (journal_at s.held journal))) ≤ length (journal_at s.held journal).entries + 1
+      by true is = omega arith
+      by false is = of_unit (unit_of s.units block) is refl
+
+  -- what the journal says of the change may be written, and has room
+  pub change_written : IsKnown → can_write (with_room (journal_at s.held journal) (journal_bytes change) opened) entry ≡ true
+  change_written known = let few = short known in change_may number p opened change (journal_at s.held journal) (number_low known) few.0 few.1
+
   number_new : (block == 0) ≡ false → unit_of s.units block ≡ None → number ≡ length (journal_at s.held journal).entries + 1
   number_new some none = ap (λ b. cond b 0 (number_in (unit_of s.units block) (next_sequence (journal_at s.held journal)))) some ∙ ap (λ r. number_in r (next_sequence (journal_at s.held journal))) none
 

@@ -8,44 +8,32 @@ use Rattle.std.specs.List.{list_any}
 use Rattle.std.specs.Option.{unwrap_or}
 use Rattle.std.specs.Prelude.{◌||◌, All, None, Option, Some, is_some}
 use Rattle.s38_base.specs.Ids.{same_kind}
-use Rattle.s38_base.specs.Pointers.{object_of, target_of}
-use Rattle.s38_base.specs.RightNames as rights
-use Rattle.s38_base.specs.declared.exception.Exception.{Exception}
 use Rattle.s38_base.specs.declared.id.Kind.TheVariants as kinds
 use Rattle.s38_base.specs.declared.id.Kind.{Kind}
-use Rattle.s38_base.specs.declared.pointer.Pointer.{Pointer}
-use Rattle.s38_base.specs.declared.words.Category.TheVariants.{Control}
 use Rattle.s38_code.specs.declared.event.Request.{Request}
-use Rattle.s38_code.specs.declared.operand.Operand.{Operand}
 use Rattle.s38_commits.proofs.MapLaws.{nat_same}
 use Rattle.s38_commits.specs.Changes.{is_in}
 use Rattle.s38_commits.specs.Units.{UnitMap, is_space_changed, is_unit_in, unit_of}
 use Rattle.s38_commits.specs.declared.change.UnitChange.{UnitChange}
 use Rattle.s38_journals.specs.Journals.{JournalList}
-use Rattle.s38_rules.proofs.RuleLaws.{fails_none, first_none, not_false}
+use Rattle.s38_rules.proofs.RuleLaws.{first_none}
 use Rattle.s38_rules.specs.Authority.{lacks_special}
-use Rattle.s38_rules.specs.Creation.{destruction_changes, destruction_needs}
+use Rattle.s38_rules.specs.Creation.{destroyed, is_of_kind}
 use Rattle.s38_rules.specs.Held.{Held, kind_of, object, object_in, without}
 use Rattle.s38_rules.specs.Instruction.{Instruction}
 use Rattle.s38_rules.specs.Journaling.{block_port, data_port, data_port_in, goes_to, is_journal, is_number, journal_for, journal_for_block, journal_named, open_units}
 use Rattle.s38_rules.specs.Journals.{is_attached, is_data_of, is_port_to, is_used, leads_to, names_port}
-use Rattle.s38_rules.specs.Operands.{pointer_at, target}
 use Rattle.s38_rules.specs.Parts.{Part, block_of, block_part, data_of, data_part, journal_at, journal_of, journal_part, no_journal, part_at, part_in, port_of, port_part}
 use Rattle.s38_rules.specs.State.{State}
 use Rattle.s38_rules.specs.Users.{acting}
-use Rattle.s38_rules.specs.Verdict.{address_rule, address_rules, is_pointer, item_rule, lock_rules, needs_rule, object_rule, pointer_rule, refused_by, rights_rules}
-use Rattle.s38_rules.specs.declared.need.Claim.TheVariants.{Available}
-use Rattle.s38_rules.specs.declared.need.Named.TheVariants.{Written}
-use Rattle.s38_rules.specs.declared.need.Need.{Need}
-use Rattle.s38_rules.specs.declared.need.PointerKind.TheVariants as pointer_kinds
-use Rattle.s38_rules.specs.declared.need.Sought.TheVariants.{Of}
+use Rattle.s38_rules.specs.Verdict.{address_rules, lock_rules, refused_by, rights_rules}
 use Rattle.s38_rules.specs.declared.object.Body.TheVariants as bodies
 use Rattle.s38_rules.specs.declared.object.Body.{Body}
 use Rattle.s38_rules.specs.declared.object.Object.{Object}
 use Rattle.s38_commitment_laws.proofs.HeldLaws.{Follows, IsOther, destroyed_carries, other_gone, part_without, without_unused}
 use Rattle.s38_commitment_laws.proofs.KeptLaws.{LastsAt, Spares, all_by, all_then, grows_by, lasts_by, stays_by, journal_number, right_carried, right_kept}
 use Rattle.s38_commitment_laws.proofs.UnitLaws.{Both, StandsIn, all_stand, count_first, one_if}
-use Rattle.s38_commitment_laws.specs.Right.{AreRight, IsChangeOf, IsData, IsLogged, IsUnit, IsUnused}
+use Rattle.s38_commitment_laws.specs.Right.{AreRight, IsChangeOf, IsData, IsLogged, IsUnit}
 
 -- ---- what a permitted instruction has met
 
@@ -57,38 +45,19 @@ rule_met i s p d t h =
     let three = first_none (rights_rules s p d t.operands (i.needs s p d t)) _ two.1 in
     (first_none (lock_rules s p t (i.needs s p d t)) _ three.1).1
 
-pub address_met : (i : Instruction) (s : State) (p d : ℕ) (t : Request) → refused_by i s p d t ≡ None → address_rules s.held t.operands (i.needs s p d t) ≡ None
-unfolding refused_by
-address_met i s p d t h = (first_none (address_rules s.held t.operands (i.needs s p d t)) _ h).0
-
 -- an object, where it is there, is of a kind
 abbrev pub IsKind : Kind → Option Object → Type 0
 IsKind kind None = Unit {0}
 IsKind kind (Some x) = same_kind kind (kind_of x.body) ≡ true
 
-abbrev destroyed : Kind → Need
-destroyed kind = record { place = 1; named = Written; pointer = pointer_kinds.System; sought = Of kind; rights = record { 0 = rights.objctl }; claim = Available; category = Some Control }
+kind_by : (kind : Kind) (x : Option Object) → is_of_kind kind x ≡ true → IsKind kind x
+kind_by kind None is = tt
+kind_by kind (Some x) is = is
 
-object_kind : (kind : Kind) (x : Option Object) → object_rule (destroyed kind) x ≡ None → IsKind kind x
-object_kind kind None h = tt
-object_kind kind (Some x) h = not_false (same_kind kind (kind_of x.body)) (fails_none _ _ _ h)
-
-pointer_kind : (h : Held) (kind : Kind) (used : Option Pointer) → pointer_rule h (destroyed kind) used ≡ None → IsKind kind (object h (target_of used))
-pointer_kind h kind None rule = cc
-pointer_kind h kind (Some used) rule = object_kind kind (object h (object_of used)) (by _ (is_pointer pointer_kinds.System used) rule)
-  where
-    by : (x : Exception) (b : Bool) → cond b (object_rule (destroyed kind) (object h (object_of used))) (Some x) ≡ None → object_rule (destroyed kind) (object h (object_of used)) ≡ None
-    by x true rule = rule
-    by x false rule = cc
-
--- what is destroyed is of the kind that is said; where no operand stands nothing is there
-pub destroyed_kind : (h : Held) (ops : List Operand) (kind : Kind) → IsUnused h → address_rules h ops (destruction_needs kind) ≡ None → IsKind kind (object h (target h ops 1))
-unfolding address_rules address_rule destruction_needs
-destroyed_kind h [] kind unused rule = subst (IsKind kind) (sym unused.none) tt
-destroyed_kind h (operand ∷ more) kind unused rule =
-    let own = first_none (item_rule h 1 operand) _ rule in
-    let need = first_none (needs_rule (address_rule h (operand ∷ more)) (destruction_needs kind) 1) _ own.1 in
-    pointer_kind h kind (pointer_at h (operand ∷ more) 1) (first_none (pointer_rule h (destroyed kind) (pointer_at h (operand ∷ more) 1)) None need.0).0
+-- what is destroyed is of the kind that is said, and what is not stays
+gone_right : (h : Held) (units : UnitMap) (kind : Kind) (n : ℕ) → AreRight h units → (IsKind kind (object h n) → AreRight (without h n) units) → AreRight (destroyed h kind n) units
+gone_right h units kind n right gone =
+    cond_both (is_of_kind kind (object h n)) (without h n) h (λ (k : Held). AreRight k units) (λ is. gone (kind_by kind (object h n) is)) (λ other. right)
 
 -- ---- objects of other kinds
 
@@ -109,11 +78,9 @@ plain_gone : (kind : Kind) (x : Option Object) → IsPlainKind kind → IsKind k
 plain_gone kind None plain is = nothing_gone
 plain_gone kind (Some x) plain is = other_gone x (plain_body kind x.body plain is)
 
-pub right_destroyed : (h : Held) (units : UnitMap) (ops : List Operand) (kind : Kind) → AreRight h units → IsPlainKind kind → address_rules h ops (destruction_needs kind) ≡ None
-    → AreRight (destruction_changes h ops) units
-unfolding destruction_changes
-right_destroyed h units ops kind right plain rule =
-    right_carried h _ units right (destroyed_carries h (target h ops 1) (plain_gone kind (object h (target h ops 1)) plain (destroyed_kind h ops kind right.unused rule)))
+pub right_gone : (h : Held) (units : UnitMap) (kind : Kind) (n : ℕ) → AreRight h units → IsPlainKind kind → AreRight (destroyed h kind n) units
+right_gone h units kind n right plain =
+    gone_right h units kind n right (λ is. right_carried h _ units right (destroyed_carries h n (plain_gone kind (object h n) plain is)))
 
 -- ---- an object of the four kinds
 
@@ -209,11 +176,8 @@ right_no_block h units n (Some x) right found is none =
     (all_then (StandsIn units) (StandsIn units) (IsUnnamed h n) units (λ e one two. block_unnamed h n x units e found is none one) (all_stand units right.rising) (all_stand units right.rising))
     (unit_free h units n right (part_of journal_part h n x found (block_body x.body is).1))
 
-pub right_block_destroyed : (h : Held) (units : UnitMap) (ops : List Operand) → AreRight h units → address_rules h ops (destruction_needs kinds.Block) ≡ None
-    → is_some (unit_of units (target h ops 1)) ≡ false → AreRight (destruction_changes h ops) units
-unfolding destruction_changes
-right_block_destroyed h units ops right rule none =
-    right_no_block h units (target h ops 1) (object h (target h ops 1)) right refl (destroyed_kind h ops kinds.Block right.unused rule) none
+pub right_block_gone : (h : Held) (units : UnitMap) (n : ℕ) → AreRight h units → is_some (unit_of units n) ≡ false → AreRight (destroyed h kinds.Block n) units
+right_block_gone h units n right none = gone_right h units kinds.Block n right (λ is. right_no_block h units n (object h n) right refl is none)
 
 -- ---- a data space
 
@@ -246,11 +210,8 @@ right_no_space h units n (Some x) right found is none =
     (all_then (λ e. is_unit_in n e ≡ false) (λ e. is_unit_in n e ≡ false) (IsUnnamed h n) units (λ e one two. space_unnamed h n x e found is one) off off)
     (unit_free h units n right (part_of journal_part h n x found (space_body x.body is).2))
 
-pub right_space_destroyed : (h : Held) (units : UnitMap) (ops : List Operand) → AreRight h units → address_rules h ops (destruction_needs kinds.DataSpace) ≡ None
-    → is_space_changed units (target h ops 1) ≡ false → AreRight (destruction_changes h ops) units
-unfolding destruction_changes
-right_space_destroyed h units ops right rule none =
-    right_no_space h units (target h ops 1) (object h (target h ops 1)) right refl (destroyed_kind h ops kinds.DataSpace right.unused rule) none
+pub right_space_gone : (h : Held) (units : UnitMap) (n : ℕ) → AreRight h units → is_space_changed units n ≡ false → AreRight (destroyed h kinds.DataSpace n) units
+right_space_gone h units n right none = gone_right h units kinds.DataSpace n right (λ is. right_no_space h units n (object h n) right refl is none)
 
 -- ---- a port
 
@@ -304,11 +265,8 @@ right_no_port h units n (Some x) right found is none =
     right_without h n units right (all_then (IsUnit h) (IsUnit h) (IsUnnamed h n) units (λ e one two. port_unnamed h n x e found is none one) right.each right.each)
     (unit_free h units n right (part_of journal_part h n x found (port_body x.body is).1))
 
-pub right_port_destroyed : (h : Held) (units : UnitMap) (ops : List Operand) → AreRight h units → address_rules h ops (destruction_needs kinds.Port) ≡ None
-    → is_used h (target h ops 1) ≡ false → AreRight (destruction_changes h ops) units
-unfolding destruction_changes
-right_port_destroyed h units ops right rule none =
-    right_no_port h units (target h ops 1) (object h (target h ops 1)) right refl (destroyed_kind h ops kinds.Port right.unused rule) none
+pub right_port_gone : (h : Held) (units : UnitMap) (n : ℕ) → AreRight h units → is_used h n ≡ false → AreRight (destroyed h kinds.Port n) units
+right_port_gone h units n right none = gone_right h units kinds.Port n right (λ is. right_no_port h units n (object h n) right refl is none)
 
 -- ---- a journal space
 
@@ -366,8 +324,5 @@ right_no_journal h units n (Some x) right found is none =
     right_without h n units right (all_then (IsUnit h) (IsUnit h) (IsUnnamed h n) units (λ e one two. journal_unnamed h n x e found is none one) right.each right.each)
     (none_open h n units none)
 
-pub right_journal_destroyed : (h : Held) (units : UnitMap) (ops : List Operand) → AreRight h units → address_rules h ops (destruction_needs kinds.Journal) ≡ None
-    → is_attached h (target h ops 1) ≡ false → AreRight (destruction_changes h ops) units
-unfolding destruction_changes
-right_journal_destroyed h units ops right rule none =
-    right_no_journal h units (target h ops 1) (object h (target h ops 1)) right refl (destroyed_kind h ops kinds.Journal right.unused rule) none
+pub right_journal_gone : (h : Held) (units : UnitMap) (n : ℕ) → AreRight h units → is_attached h n ≡ false → AreRight (destroyed h kinds.Journal n) units
+right_journal_gone h units n right none = gone_right h units kinds.Journal n right (λ is. right_no_journal h units n (object h n) right refl is none)

@@ -4,7 +4,7 @@ use Rattle.std.proofs.lemmas.Bool.{and_parts, cond_both, true≢false}
 use Rattle.std.proofs.lemmas.List.Elements.{All-append, All-cons, All-head, All-nil, All-set, All-tail}
 use Rattle.std.proofs.lemmas.List.{length-append, length-set}
 use Rattle.std.specs.Option.{option_flatten, option_map, unwrap_or}
-use Rattle.std.specs.Prelude.{All, None, Option, Some, is_none, is_some, slice_get}
+use Rattle.std.specs.Prelude.{All, IsTrue, None, Option, Some, is_none, is_some, slice_get}
 use Rattle.s38_base.specs.declared.attr.Attr.{Attr}
 use Rattle.s38_code.specs.declared.event.Request.{Request}
 use Rattle.s38_code.specs.declared.operand.Operand.{Operand}
@@ -17,45 +17,58 @@ use Rattle.s38_dataspaces.specs.Table.{DataTable}
 use Rattle.s38_journals.specs.Journals.{JournalList}
 use Rattle.s38_rules.proofs.RuleLaws.{fails_none, first_none, not_false}
 use Rattle.s38_rules.specs.Changing.{change_of, held_rule, logged, logged_in}
-use Rattle.s38_rules.specs.DataSpaces.{at_position, change_at, change_rules, current_changes, current_fails, cursor_of, deldsen, entry_rule, insdsen, insdsen_changes, insdsen_fails, insertion, insertion_limits, journal_room, next_ordinal, position_rule, table_of, updsen, updsen_fails, with_changed, with_inserted}
+use Rattle.s38_rules.specs.DataSpaces.{change_at, change_rules, current_fails, cursor_of, deldsen, entry_rule, insdsen, insdsen_fails, insertion, insertion_limits, journal_room, next_ordinal, position_rule, table_of, updsen, updsen_fails, with_changed, with_inserted}
 use Rattle.s38_rules.specs.Held.{Held}
 use Rattle.s38_rules.specs.Journaling.{data_port, journal_for, open_units}
-use Rattle.s38_rules.specs.Journals.{through_port}
-use Rattle.s38_rules.specs.Operands.{bytes_at, target}
-use Rattle.s38_rules.specs.Parts.{cursor_lawful, cursor_part, data_lawful, data_part, no_journal, on_cursor, on_data, on_table, over_table, part_at, table_in}
+use Rattle.s38_rules.specs.Changes.{through_port}
+use Rattle.s38_rules.specs.Operands.{bytes_at}
+use Rattle.s38_rules.specs.Parts.{data_lawful, data_part, no_journal, on_data, on_table, over_table, part_at, table_in}
 use Rattle.s38_rules.specs.State.{State}
 use Rattle.s38_rules.specs.Verdict.{refused_by}
 use Rattle.s38_rules.specs.declared.data_body.DataBody.{DataBody}
-use Rattle.s38_commitment_laws.proofs.ChangeLaws.{IsBlock, block_met, holding_free, journaled_there, right_logged}
+use Rattle.s38_commitment_laws.proofs.ChangeLaws.{IsBlock, IsKnown, block_met, change_written, holding_free, journaled_there, right_logged}
 use Rattle.s38_commitment_laws.proofs.DestroyLaws.{rule_met}
 use Rattle.s38_commitment_laws.proofs.EndLaws.{block_by_data, data_tables, journal_by_data, port_by_data, right_data}
-use Rattle.s38_commitment_laws.proofs.HeldLaws.{cursor_other, other_carries, over_unused, part_over}
+use Rattle.s38_commitment_laws.proofs.HeldLaws.{over_unused, part_over}
 use Rattle.s38_commitment_laws.proofs.JoinLaws.{IsFree}
-use Rattle.s38_commitment_laws.proofs.KeptLaws.{IsLater, Lasts, LastsAt, Spares, all_then, both_hold, grows_by, stays_by, journal_number, lasts_same, right_carried, right_kept}
+use Rattle.s38_commitment_laws.proofs.KeptLaws.{IsLater, Lasts, LastsAt, Spares, all_then, both_hold, grows_by, stays_by, journal_number, lasts_same, right_kept}
 use Rattle.s38_commitment_laws.proofs.UnitLaws.{Both}
-use Rattle.s38_commitment_laws.specs.Right.{AreRight, IsChangeOf, IsData, IsEntryOf, IsLogged, IsRight, IsUnit}
+use Rattle.s38_commitment_laws.specs.Right.{is_change_written, AreRight, IsChangeOf, IsData, IsEntryOf, IsLogged, IsRight, IsUnit}
 
 -- ---- an entry is changed, journaled or not
 
-changed_right : (s : State) (p block : ℕ) (change : UnitChange) (t : DataTable → DataTable) → IsRight s → ((d : DataBody) → IsLater d (over_table t d))
-    → IsData (option_map (over_table t) (part_at data_part s.held change.space.0))
-    → (is_some (part_at data_part s.held change.space.0) ≡ true → IsChangeOf change (option_map (over_table t) (part_at data_part s.held change.space.0)))
-    → IsFree s.units block change.space.0 change.at → ((block == 0) ≡ false → IsBlock s.held block change.space.0)
+-- an entry of a data space may be another one
+pub record MayEnter (s : State) (block : ℕ) (change : UnitChange) (t : DataTable → DataTable) : Type 0 where
+  pub later : (d : DataBody) → IsLater d (over_table t d)
+  pub table : IsData (option_map (over_table t) (part_at data_part s.held change.space.0))
+  pub of : is_some (part_at data_part s.held change.space.0) ≡ true → IsChangeOf change (option_map (over_table t) (part_at data_part s.held change.space.0))
+  pub free : IsFree s.units block change.space.0 change.at
+  pub ruled : (block == 0) ≡ false → IsBlock s.held block change.space.0
+
+known_of : (s : State) (p block journal : ℕ) (change : UnitChange) (t : DataTable → DataTable) → IsRight s → MayEnter s block change t → journal_for s.held change.space.0 ≡ Some journal → IsKnown s p block journal change t
+known_of s p block journal change t right may is = record {
+  right = right;
+  journaled = is;
+  later = may.later;
+  table = may.table;
+  of = may.of (journaled_there s.held change.space.0 journal right.unused is);
+  free = may.free;
+  ruled = may.ruled;
+}
+
+pub entered_right : (s : State) (p block : ℕ) (change : UnitChange) (t : DataTable → DataTable) → IsRight s → MayEnter s block change t
     → AreRight (on_table (logged s p block change).held change.space.0 t) (logged s p block change).units
 unfolding logged
-changed_right s p block change t right later table of free ruled = by (journal_for s.held change.space.0) refl
+entered_right s p block change t right may = by (journal_for s.held change.space.0) refl
   where
     by : (r : Option ℕ) → journal_for s.held change.space.0 ≡ r → AreRight (on_table (logged_in s p block change r).held change.space.0 t) (logged_in s p block change r).units
-    by None is = right_data s.held s.units change.space.0 (over_table t) right later table
-    by (Some journal) is = right_logged s p block journal change t (record {
-      right = right;
-      journaled = is;
-      later = later;
-      table = table;
-      of = of (journaled_there s.held change.space.0 journal right.unused is);
-      free = free;
-      ruled = ruled;
-    })
+    by None is = right_data s.held s.units change.space.0 (over_table t) right may.later may.table
+    by (Some journal) is = right_logged s p block journal change t (known_of s p block journal change t right may is)
+
+-- what the journal says of the change may be written
+pub entered_written : (s : State) (p block journal : ℕ) (change : UnitChange) (t : DataTable → DataTable) → IsRight s → MayEnter s block change t → journal_for s.held change.space.0 ≡ Some journal
+    → IsTrue (is_change_written s p block change journal)
+entered_written s p block journal change t right may is = change_written s p block journal change t (known_of s p block journal change t right may is)
 
 -- what the rules of a change say of its entry and its block
 rules_free : (s : State) (p block space at : ℕ) → IsRight s → held_rule s.units p block space at ≡ None → IsFree s.units block space at
@@ -84,14 +97,10 @@ inserted_change : (space : ℕ) (bytes : List ℕ) (x : Option DataBody) → IsE
 inserted_change space bytes None entry there = cc
 inserted_change space bytes (Some d) entry there = record { first = omega arith; last = omega (arith, length-append d.space.entries (Some bytes ∷ [])); before = refl; after = entry }
 
--- the cursor is none of what units name
-cursor_right : (h : Held) (units : UnitMap) (n position : ℕ) → AreRight h units → AreRight (on_cursor h n (at_position position)) units
-cursor_right h units n position right =
-    right_carried h _ units right (other_carries cursor_part cursor_lawful cursor_other h n (at_position position))
-
-pub insdsen_right : (s : State) (p d : ℕ) (t : Request) → IsRight s → refused_by insdsen s p d t ≡ None → IsRight (insdsen_changes s p t.operands)
-unfolding insdsen_fails insdsen_changes
-insdsen_right s p d t right e =
+pub insdsen_may : (s : State) (p d : ℕ) (t : Request) → IsRight s → refused_by insdsen s p d t ≡ None
+    → MayEnter s (cursor_of s.held t.operands 1).block.0 (insertion s.held t.operands) (with_inserted (bytes_at s.held t.operands 2))
+unfolding insdsen_fails
+insdsen_may s p d t right e =
     let ops = t.operands in
     let cursor = cursor_of s.held ops 1 in
     let space = cursor.space.0 in
@@ -101,9 +110,13 @@ insdsen_right s p d t right e =
     let rule = first_none (entry_rule (table_of s.held ops 1).fields s.held ops) _ (rule_met insdsen s p d t e) in
     let entry = entry_met (table_of s.held ops 1).fields s.held ops rule.0 in
     let rules = first_none (held_rule s.units p cursor.block.0 space at) _ (first_none (change_rules s p cursor at) (insertion_limits s ops) rule.1).0 in
-    cursor_right _ _ (target s.held ops 1) at
-    (changed_right s p cursor.block.0 (insertion s.held ops) (with_inserted bytes) right (inserted_later bytes) (inserted_table bytes x (right.tables space) entry)
-    (inserted_change space bytes x entry) (rules_free s p cursor.block.0 space at right rules.0) (λ some. block_met s p cursor.block.0 space some rules.1))
+    record {
+      later = inserted_later bytes;
+      table = inserted_table bytes x (right.tables space) entry;
+      of = inserted_change space bytes x entry;
+      free = rules_free s p cursor.block.0 space at right rules.0;
+      ruled = λ some. block_met s p cursor.block.0 space some rules.1;
+    }
 
 -- ---- UPDSEN and DELDSEN
 
@@ -141,9 +154,10 @@ changed_change space at entry (Some d) is new stands there =
     let place = within d.space.entries at stands in
     record { first = place.0; last = omega (arith, place.1, length-set d.space.entries (at - 1) entry); before = found_entry d.space.fields d.space.entries at is.entries; after = new }
 
-current_right : (s : State) (p : ℕ) (ops : List Operand) (entry : spaces.Entry) → IsRight s → IsEntryOf (table_of s.held ops 1).fields entry → current_fails s p ops entry ≡ None → IsRight (current_changes s p ops entry)
-unfolding current_fails current_changes
-current_right s p ops entry right new e =
+current_may : (s : State) (p : ℕ) (ops : List Operand) (entry : spaces.Entry) → IsRight s → IsEntryOf (table_of s.held ops 1).fields entry → current_fails s p ops entry ≡ None
+    → MayEnter s (cursor_of s.held ops 1).block.0 (change_at s.held ops entry) (with_changed (cursor_of s.held ops 1).position entry)
+unfolding current_fails
+current_may s p ops entry right new e =
     let cursor = cursor_of s.held ops 1 in
     let space = cursor.space.0 in
     let x = part_at data_part s.held space in
@@ -151,17 +165,24 @@ current_right s p ops entry right new e =
     let rule = first_none (position_rule s.held ops 1) _ e in
     let stands = fails_none _ _ _ rule.0 in
     let rules = first_none (held_rule s.units p cursor.block.0 space at) _ (first_none (change_rules s p cursor at) (journal_room s cursor (change_at s.held ops entry)) rule.1).0 in
-    changed_right s p cursor.block.0 (change_at s.held ops entry) (with_changed at entry) right (changed_later at entry) (changed_table at entry x (right.tables space) new)
-    (changed_change space at entry x (right.tables space) new stands) (rules_free s p cursor.block.0 space at right rules.0) (λ some. block_met s p cursor.block.0 space some rules.1)
+    record {
+      later = changed_later at entry;
+      table = changed_table at entry x (right.tables space) new;
+      of = changed_change space at entry x (right.tables space) new stands;
+      free = rules_free s p cursor.block.0 space at right rules.0;
+      ruled = λ some. block_met s p cursor.block.0 space some rules.1;
+    }
 
-pub updsen_right : (s : State) (p d : ℕ) (t : Request) → IsRight s → refused_by updsen s p d t ≡ None → IsRight (current_changes s p t.operands (Some (bytes_at s.held t.operands 2)))
+pub updsen_may : (s : State) (p d : ℕ) (t : Request) → IsRight s → refused_by updsen s p d t ≡ None
+    → MayEnter s (cursor_of s.held t.operands 1).block.0 (change_at s.held t.operands (Some (bytes_at s.held t.operands 2))) (with_changed (cursor_of s.held t.operands 1).position (Some (bytes_at s.held t.operands 2)))
 unfolding updsen_fails
-updsen_right s p d t right e =
+updsen_may s p d t right e =
     let rule = first_none (entry_rule (table_of s.held t.operands 1).fields s.held t.operands) _ (rule_met updsen s p d t e) in
-    current_right s p t.operands (Some (bytes_at s.held t.operands 2)) right (entry_met (table_of s.held t.operands 1).fields s.held t.operands rule.0) rule.1
+    current_may s p t.operands (Some (bytes_at s.held t.operands 2)) right (entry_met (table_of s.held t.operands 1).fields s.held t.operands rule.0) rule.1
 
-pub deldsen_right : (s : State) (p d : ℕ) (t : Request) → IsRight s → refused_by deldsen s p d t ≡ None → IsRight (current_changes s p t.operands None)
-deldsen_right s p d t right e = current_right s p t.operands None right refl (rule_met deldsen s p d t e)
+pub deldsen_may : (s : State) (p d : ℕ) (t : Request) → IsRight s → refused_by deldsen s p d t ≡ None
+    → MayEnter s (cursor_of s.held t.operands 1).block.0 (change_at s.held t.operands None) (with_changed (cursor_of s.held t.operands 1).position None)
+deldsen_may s p d t right e = current_may s p t.operands None right refl (rule_met deldsen s p d t e)
 
 -- ---- JRNLOBJ
 

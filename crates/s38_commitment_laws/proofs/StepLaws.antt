@@ -7,14 +7,19 @@ use Rattle.std.specs.Prelude.{IsTrue, None, Option, Some}
 use Rattle.s38_code.specs.declared.deck.Job.{Job}
 use Rattle.s38_code.specs.declared.entry.Entry.{Entry}
 use Rattle.s38_code.specs.declared.event.Event.TheVariants.{Act, Finish, Start}
+use Rattle.s38_code.specs.Operations.{family_of}
 use Rattle.s38_code.specs.declared.event.Event.{Event}
+use Rattle.s38_code.specs.declared.event.Request.{Request}
 use Rattle.s38_code.specs.declared.made.CheckedTemplate.{CheckedTemplate}
+use Rattle.s38_commits.specs.declared.change.UnitChange.{UnitChange}
 use Rattle.s38_commits.specs.Unit.{CommitUnit}
 use Rattle.s38_commits.specs.Units.{unit_of}
 use Rattle.s38_journals.specs.Journals.{can_write}
 use Rattle.s38_journals.specs.declared.entry.EntryKind.{EntryKind}
 use Rattle.s38_rules.specs.Units.{all_undone, end_entry}
 use Rattle.s38_rules.proofs.VerdictLaws.{permitted_none}
+use Rattle.s38_rules.specs.Changes.{Changes, Entered, Then}
+use Rattle.s38_rules.specs.Journaling.{journal_for}
 use Rattle.s38_rules.specs.Effect.{effect_of, end_at, start_at}
 use Rattle.s38_rules.specs.Held.{Held, has_number, object, object_in}
 use Rattle.s38_rules.specs.Legal.{Leads}
@@ -29,9 +34,10 @@ use Rattle.s38_rules.specs.declared.process.ProcessEntry.{ProcessEntry}
 use Rattle.s38_rules.specs.declared.verdict.Verdict.TheVariants.{Permit}
 use Rattle.s38_rules.specs.declared.verdict.Verdict.{Verdict}
 use Rattle.s38_commitment_laws.proofs.EndLaws.{all_decommitted_right, can_end, undone_right, unit_put_back}
-use Rattle.s38_commitment_laws.proofs.RowLaws.{effect_right}
+use Rattle.s38_commitment_laws.proofs.EntryLaws.{entered_written}
+use Rattle.s38_commitment_laws.proofs.RowLaws.{May, effect_right, row_may}
 use Rattle.s38_commitment_laws.proofs.UnitLaws.{all_stand, rising_none}
-use Rattle.s38_commitment_laws.specs.Right.{AllPutBack, AllRight, AreRight, IsData, IsRight, IsUnit, journal_of}
+use Rattle.s38_commitment_laws.specs.Right.{is_change_written, AllPutBack, AllRight, AreRight, Enters, IsData, IsRight, IsUnit, journal_of}
 
 -- ---- the beginning
 
@@ -106,3 +112,17 @@ end_after s block unit kind p right found = can_end (all_undone s.held unit.chan
 
 pub all_back : (s : State) (block : ℕ) (unit : CommitUnit) → IsRight s → unit_of s.units block ≡ Some unit → AllPutBack s.held unit.changes
 all_back s block unit right found = unit_put_back s.held s.units block unit right found
+
+-- ---- how a change is written
+
+entry_here : (x : Changes) (s : State) (p block journal : ℕ) (change : UnitChange) → IsRight s → May s p x → Enters x block change → journal_for s.held change.space.0 ≡ Some journal
+    → IsTrue (is_change_written s p block change journal)
+entry_here (Entered b c f) s p block journal change right may enters is =
+    subst (λ (n : ℕ). IsTrue (is_change_written s p n change journal)) enters.0
+    (subst (λ (d : UnitChange). journal_for s.held d.space.0 ≡ Some journal → IsTrue (is_change_written s p b d journal)) enters.1 (entered_written s p b journal c f right may) is)
+entry_here (Then x y) s p block journal change right may enters is = entry_here x s p block journal change right may.0 enters is
+entry_here _ s p block journal change right may enters is = absurd enters
+
+pub change_here : (s : State) (p d : ℕ) (t : Request) (block : ℕ) (change : UnitChange) (journal : ℕ) → IsRight s → refused_by (row t.op) s p d t ≡ None → Enters ((row t.op).changes s p d t) block change
+    → journal_for s.held change.space.0 ≡ Some journal → IsTrue (is_change_written s p block change journal)
+change_here s p d t block change journal right e enters is = entry_here ((row t.op).changes s p d t) s p block journal change right (row_may (family_of t.op) t.op s p d t right e) enters is

@@ -1,18 +1,21 @@
 -- When the units of changes of a state are right: the end of each can be written in its journal space, and each of its
 -- changes can be taken back.
-use Rattle.std.specs.Prelude.{◌≡◌, ◌≤◌, ◌*◌, ℕ, All, IsTrue, List, [], ◌∷◌, Option, Some, None, is_some, length}
+use Rattle.std.specs.Prelude.{◌≡◌, ◌≤◌, ◌*◌, ℕ, Bool, All, IsTrue, List, [], ◌∷◌, Option, Some, None, is_some, length}
 use Rattle.std.specs.Option.{unwrap_or}
 use Rattle.s38_base.specs.declared.attr.Attr.{Attr}
 use Rattle.s38_code.specs.declared.entry.Entry.{Entry}
 use Rattle.s38_commits.specs.declared.change.UnitChange.{UnitChange}
+use Rattle.s38_commits.specs.Changes.{journal_bytes}
 use Rattle.s38_commits.specs.Unit.{CommitUnit}
 use Rattle.s38_commits.specs.Units.{AreApart, IsRising, UnitMap}
 use Rattle.s38_dataspaces.specs.Entries as spaces
 use Rattle.s38_dataspaces.specs.Table.{DataTable, are_fields, is_entry_of, may_restore}
-use Rattle.s38_journals.specs.Journals.{JournalList}
+use Rattle.s38_journals.specs.Journals.{JournalList, can_write, with_room}
 use Rattle.s38_rules.specs.declared.data_body.DataBody.{DataBody}
+use Rattle.s38_rules.specs.Changes.{Changes, Entered, Then}
+use Rattle.s38_rules.specs.Changing.{change_entry, next_sequence, number_for}
 use Rattle.s38_rules.specs.Held.{Held, object}
-use Rattle.s38_rules.specs.Journaling.{block_port, is_journaled_to, journal_for_block, open_units}
+use Rattle.s38_rules.specs.Journaling.{block_port, is_journaled_to, journal_for_block, open_behind, open_units}
 use Rattle.s38_rules.specs.Parts.{block_part, data_part, journal_at, part_at, table_at}
 use Rattle.s38_rules.specs.State.{State}
 use Rattle.s38_rules.specs.Step.{step}
@@ -102,3 +105,17 @@ abbrev pub AllPutBack : Held → List UnitChange → Type 0
 AllPutBack h [] = Unit {0}
 AllPutBack h (change ∷ newer) =
     IsTrue (may_restore (table_at (all_undone h newer) change.space.0) change.at change.before) × AllPutBack h newer
+
+-- ---- what is written
+
+-- what the journal is to say of a change may be written there, and there is room for it
+abbrev pub is_change_written : State → ℕ → ℕ → UnitChange → ℕ → Bool
+is_change_written s p block change journal =
+    can_write (with_room (journal_at s.held journal) (journal_bytes change) (open_behind s.held s.units journal block))
+    (change_entry (number_for s.units block (next_sequence (journal_at s.held journal))) p change)
+
+-- a change is first of all that of an entry of a data space, under a commit block
+abbrev pub Enters : Changes → ℕ → UnitChange → Type 0
+Enters (Entered b c f) block change = (b ≡ block) × (c ≡ change)
+Enters (Then first second) block change = Enters first block change
+Enters _ block change = ⊥

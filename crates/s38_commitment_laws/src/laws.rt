@@ -2,18 +2,23 @@
 ghost use Rattle.s38_code.specs.declared.deck.Job.{Job};
 ghost use Rattle.s38_code.specs.declared.entry.Entry.{Entry};
 ghost use Rattle.s38_code.specs.declared.event.Event.{Event};
+ghost use Rattle.s38_code.specs.declared.event.Request.{Request};
 ghost use Rattle.s38_code.specs.declared.made.CheckedTemplate.{CheckedTemplate};
+ghost use Rattle.s38_commits.specs.declared.change.UnitChange.{UnitChange};
 ghost use Rattle.s38_commits.specs.Unit.{CommitUnit};
 ghost use Rattle.s38_commits.specs.Units.{unit_of};
-ghost use Rattle.s38_commitment_laws.specs.Right.{AllPutBack, AllRight, IsRight, journal_of};
+ghost use Rattle.s38_commitment_laws.specs.Right.{is_change_written, AllPutBack, AllRight, Enters, IsRight, journal_of};
 ghost use Rattle.s38_journals.specs.Journals.{can_write};
 ghost use Rattle.s38_journals.specs.declared.entry.EntryKind.{EntryKind};
+ghost use Rattle.s38_rules.specs.Journaling.{journal_for};
 ghost use Rattle.s38_rules.specs.Legal.{Leads};
+ghost use Rattle.s38_rules.specs.Rows.{row};
+ghost use Rattle.s38_rules.specs.Verdict.{refused_by};
 ghost use Rattle.s38_rules.specs.Opening.{held_first, held_installed, state_of};
 ghost use Rattle.s38_rules.specs.State.{State};
 ghost use Rattle.s38_rules.specs.Step.{step};
 ghost use Rattle.s38_rules.specs.Units.{all_undone, end_entry};
-ghost use Rattle.std.specs.Prelude.{◌≡◌, ℕ, IsTrue, List, Some};
+ghost use Rattle.std.specs.Prelude.{◌≡◌, ℕ, IsTrue, List, None, Some};
 
 /// The machine begins with units that are right: it has none, as it is opened first and as it is installed.
 pub fn units_begin_right()
@@ -41,4 +46,11 @@ pub fn ends_are_written()
 /// ordinal, and what stood there before is an entry of its fields, or none.
 pub fn changes_are_put_back()
     ensures back { (s : State) (block : ℕ) (unit : CommitUnit) → IsRight s → unit_of s.units block ≡ Some unit → AllPutBack s.held unit.changes }
+{}
+
+/// Where the units are right, what the journal is to say of each change of an entry that no rule refuses may be written
+/// in the journal space of its data space, and has room there, if it is journaled.
+pub fn changes_are_written()
+    ensures written { (s : State) (p : ℕ) (d : ℕ) (t : Request) (block : ℕ) (change : UnitChange) (journal : ℕ) → IsRight s → refused_by (row t.op) s p d t ≡ None
+        → Enters ((row t.op).changes s p d t) block change → journal_for s.held change.space.0 ≡ Some journal → IsTrue (is_change_written s p block change journal) }
 {}

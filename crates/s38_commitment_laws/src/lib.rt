@@ -3,4 +3,7 @@
 
 mod laws;
 
-pub use laws::{changes_are_put_back, ends_are_written, units_begin_right, units_stay_right};
+pub use laws::{
+    changes_are_put_back, changes_are_written, ends_are_written, units_begin_right,
+    units_stay_right,
+};

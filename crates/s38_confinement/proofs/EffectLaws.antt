@@ -7,7 +7,7 @@ use Rattle.std.proofs.lemmas.List.Folds.{list_any_none}
 use Rattle.std.proofs.lemmas.Nat.Bits.{bit_at_and}
 use Rattle.std.specs.Int.{bit_at}
 use Rattle.std.specs.Option.{option_map}
-use Rattle.std.specs.Prelude.{◌-◌, ◌^◌, All, IfSome, None, Option, Some, bit_and, not}
+use Rattle.std.specs.Prelude.{◌-◌, ◌^◌, All, ◌&&◌, IfSome, None, Option, Some, bit_and, not}
 use Rattle.s38_base.specs.Exceptions as exceptions
 use Rattle.s38_base.specs.Pointers.{carried_in, offset_of, target_of}
 use Rattle.s38_base.specs.RightNames as rights
@@ -26,8 +26,11 @@ use Rattle.s38_code.specs.declared.program.Program.{Program}
 use Rattle.s38_rules.proofs.RowLaws.{row_read, rows_kept}
 use Rattle.s38_rules.proofs.RuleLaws.{fails_none, first_none, not_false}
 use Rattle.s38_rules.specs.Authority.{available, has_special, is_governed, is_special, lacks_special, missing}
+use Rattle.s38_rules.specs.Changes.{done, made_by}
 use Rattle.s38_rules.specs.Computing.{receiver_at, shift_at}
-use Rattle.s38_rules.specs.Contexts.{contexts_row, crtctx_changes}
+use Rattle.s38_rules.specs.Locking.{locks_row}
+use Rattle.s38_rules.specs.declared.object.Body.TheVariants as bodies
+use Rattle.s38_rules.specs.Contexts.{contexts_row}
 use Rattle.s38_rules.specs.Creation.{creation_gives, new_pointer}
 use Rattle.s38_rules.specs.Effect.{effect}
 use Rattle.s38_rules.specs.Grants.{grant, grant_changes, grant_needs, grants_row, retract_changes, rights_of, user_at, user_needs, with_rights, xfro, xfro_changes, xfro_needs}
@@ -37,14 +40,14 @@ use Rattle.s38_rules.specs.Needs.{on_object}
 use Rattle.s38_rules.specs.Operands.{attr_at, is_given, pointer_at, rights_at, target}
 use Rattle.s38_rules.specs.PrivateRows.{row_of}
 use Rattle.s38_rules.specs.Profiles.{crtup, modup, profiles_row}
-use Rattle.s38_rules.specs.Programs.{created_program, crtpg_changes, program_in, programs_row, template_at}
-use Rattle.s38_rules.specs.DataSpaces.{crtcr_changes, crtds_changes, data_spaces_row}
-use Rattle.s38_rules.specs.Indexes.{crtinx_changes, indexes_row}
-use Rattle.s38_rules.specs.Journals.{crtcb_changes, crtjp_changes, crtjs_changes, journals_row}
-use Rattle.s38_rules.specs.Queues.{crtq_changes, queues_row}
+use Rattle.s38_rules.specs.Programs.{program_in, programs_row, template_at}
+use Rattle.s38_rules.specs.DataSpaces.{data_spaces_row}
+use Rattle.s38_rules.specs.Indexes.{indexes_row}
+use Rattle.s38_rules.specs.Journals.{journals_row}
+use Rattle.s38_rules.specs.Queues.{queues_row}
 use Rattle.s38_rules.specs.Resolving.{carried_rights, num_of, pointer_to, resolved, resolving_row, rslvsp, rslvsp_fails, rslvsp_gives, setspfp_gives}
 use Rattle.s38_rules.specs.Rows.{row, row_in}
-use Rattle.s38_rules.specs.Spaces.{crts_changes, length_at, setdp, setdp_gives, setdp_needs, setsppfp, setsppfp_gives, setsppfp_needs, spaces_row}
+use Rattle.s38_rules.specs.Spaces.{length_at, setdp, setdp_gives, setdp_needs, setsppfp, setsppfp_gives, setsppfp_needs, spaces_row}
 use Rattle.s38_rules.specs.Standing.{granted, owned_by, restand, standing_of, with_standing}
 use Rattle.s38_rules.specs.State.{State}
 use Rattle.s38_rules.specs.Users.{acting}
@@ -57,13 +60,13 @@ use Rattle.s38_rules.specs.declared.need.Need.{Need}
 use Rattle.s38_rules.specs.declared.need.PointerKind.TheVariants as pointer_kinds
 use Rattle.s38_rules.specs.declared.need.Sought.TheVariants.{Of}
 use Rattle.s38_rules.specs.declared.object.Object.{Object}
-use Rattle.s38_confinement.proofs.PlainLaws.{delivered_keeps, destruction_keeps, row_plain}
+use Rattle.s38_confinement.proofs.PlainLaws.{delivered_keeps, plain_keeps}
 use Rattle.s38_confinement.proofs.PointerLaws.{pointer_kept, resized_of}
 use Rattle.s38_confinement.proofs.RightLaws.{IsPermitted, has_or, lacking, lacks_both, lacks_by, lacks_none, not_lacking, passed, permitted, subject_lacks, ungoverned, used_parts}
-use Rattle.s38_confinement.proofs.StandingLaws.{GivesNoMore, Lessens, creation_lessens, kept_lessens, lessens_same, lessens_then, nat_same, restand_lessens}
+use Rattle.s38_confinement.proofs.StandingLaws.{GivesNoMore, Lessens, creation_lessens, destroyed_lessens, kept_lessens, lessens_same, lessens_then, nat_same, restand_lessens}
 use Rattle.s38_confinement.specs.NoWay.{HasNoWay, IsHarmless, Lacks, NoWay, space_right}
 use Rattle.s38_confinement.specs.OfPointers.{IsClosed, OfCell, OfOperand, OfPointer, OfVal, OfVals}
-use Rattle.s38_confinement.specs.Plain.{makes_or_gives}
+use Rattle.s38_confinement.specs.Plain.{asks_plainly, is_plain, makes_pointer}
 
 -- ---- a new object
 
@@ -172,8 +175,8 @@ rights_lessens h n given user new o r lacks =
     restand_lessens h n (λ z. with_rights given user (new (rights_of given user z)) z) o r (λ same x found. rights_more r given user new x (lacks same x found))
 
 grant_lessens : (s : State) (p d : ℕ) (t : Request) (o r : ℕ) → NoWay s.held (acting s p d) o r → All (OfOperand (IsHarmless o r)) t.operands → IsPermitted grant s p d t
-    → Lessens s.held (grant_changes s.held t.operands) o r
-unfolding grant_changes grant_needs rights_rule
+    → Lessens s.held (done s p (grant_changes s.held t.operands)).held o r
+unfolding grant_needs rights_rule
 grant_lessens s p d t o r closed asked may =
     let ops = t.operands in
     let n = target s.held ops 1 in
@@ -187,14 +190,13 @@ grant_lessens s p d t o r closed asked may =
 lacks_common : (r a b : ℕ) → Lacks r a → Lacks r (bit_and a b)
 lacks_common r a b none = omega (arith, bit_at_and a b r, none)
 
-retract_lessens : (h : Held) (ops : List Operand) (o r : ℕ) → Lessens h (retract_changes h ops) o r
-unfolding retract_changes
-retract_lessens h ops o r = rights_lessens h (target h ops 1) (is_given ops 2) (user_at h ops 2) (λ n. bit_and n (2 ^ 8 - 1 - rights_at ops 3)) o r
+retract_lessens : (s : State) (p : ℕ) (ops : List Operand) (o r : ℕ) → Lessens s.held (done s p (retract_changes s.held ops)).held o r
+retract_lessens s p ops o r = rights_lessens s.held (target s.held ops 1) (is_given ops 2) (user_at s.held ops 2) (λ n. bit_and n (2 ^ 8 - 1 - rights_at ops 3)) o r
     (λ same x found n none. lacks_common r n (2 ^ 8 - 1 - rights_at ops 3) none)
 
 -- who does not govern the object does not give it away
-xfro_lessens : (s : State) (p d : ℕ) (t : Request) (o r : ℕ) → NoWay s.held (acting s p d) o r → IsPermitted xfro s p d t → Lessens s.held (xfro_changes s.held t.operands) o r
-unfolding xfro_changes xfro_needs rights_rule
+xfro_lessens : (s : State) (p d : ℕ) (t : Request) (o r : ℕ) → NoWay s.held (acting s p d) o r → IsPermitted xfro s p d t → Lessens s.held (done s p (xfro_changes s.held t.operands)).held o r
+unfolding xfro_needs rights_rule
 xfro_lessens s p d t o r closed may =
     let ops = t.operands in
     let n = target s.held ops 1 in
@@ -219,50 +221,52 @@ profile_lacked h acting o r closed e =
 -- an instruction opens no way where no rule refuses it
 abbrev KeepsShut : Instruction → Type 0
 KeepsShut i = (s : State) (p d : ℕ) (t : Request) (o r : ℕ) → NoWay s.held (acting s p d) o r → All (OfOperand (IsHarmless o r)) t.operands → refused_by i s p d t ≡ None
-    → Lessens s.held (i.changes s p d t).held o r × IfSome (i.gives s p d t) (OfVal (IsHarmless o r))
+    → Lessens s.held (done s p (i.changes s p d t)).held o r × IfSome (i.gives s p d t) (OfVal (IsHarmless o r))
 
 -- harm does not hang on the byte to which a space pointer points
 pub harmless_closed : (o r : ℕ) → IsClosed (IsHarmless o r)
 harmless_closed o r object offset other harmless = record { carries = harmless.carries; lies = harmless.lies }
 
-program_lessens : (s : State) (p : ℕ) (ops : List Operand) (program : Option Program) (o r : ℕ) → o < s.held.next → Lessens s.held (created_program s p ops program).held o r
-program_lessens s p ops None o r given = lessens_same s.held o r
-program_lessens s p ops (Some program) o r given = creation_lessens s.held _ _ _ o r given refl tt
+program_lessens : (h : Held) (owner : ℕ) (made : Creating) (program : Option Program) (o r : ℕ) → o < h.next → Lessens h (made_by h owner made (option_map bodies.Program program)) o r
+program_lessens h owner made None o r given = lessens_same h o r
+program_lessens h owner made (Some program) o r given = creation_lessens h owner made (bodies.Program program) o r given refl tt
 
--- those that are not plain
-listed_shut : (op : Op) → makes_or_gives op ≡ true → KeepsShut (row op)
-unfolding row_in family_of contexts_row profiles_row grants_row resolving_row programs_row spaces_row queues_row indexes_row data_spaces_row journals_row crtctx_changes crtpg_changes crts_changes crtq_changes crtinx_changes crtds_changes crtcr_changes crtjs_changes crtjp_changes crtcb_changes setspfp_gives
-listed_shut Crtctx makes s p d t o r closed asked e = (creation_lessens s.held _ _ _ o r closed.given refl tt, created_harmless s.held _ o r)
-listed_shut Crtpg makes s p d t o r closed asked e = (program_lessens s p t.operands (program_in (template_at s t.operands)) o r closed.given, created_harmless s.held _ o r)
-listed_shut Crts makes s p d t o r closed asked e =
+-- those that make an object or a pointer, destroy a user, or change who may do what
+others_shut : (op : Op) (s : State) (p d : ℕ) (t : Request) (o r : ℕ) → (not (makes_pointer op) && is_plain ((row op).changes s p d t)) ≡ false → NoWay s.held (acting s p d) o r
+    → All (OfOperand (IsHarmless o r)) t.operands → refused_by (row op) s p d t ≡ None → Lessens s.held (done s p ((row op).changes s p d t)).held o r × IfSome ((row op).gives s p d t) (OfVal (IsHarmless o r))
+unfolding row_in family_of contexts_row profiles_row grants_row resolving_row programs_row spaces_row queues_row indexes_row data_spaces_row journals_row locks_row setspfp_gives
+others_shut Crtctx s p d t o r other closed asked e = (creation_lessens s.held _ _ _ o r closed.given refl tt, created_harmless s.held _ o r)
+others_shut Crtpg s p d t o r other closed asked e = (program_lessens s.held _ _ (program_in (template_at s t.operands)) o r closed.given, created_harmless s.held _ o r)
+others_shut Crts s p d t o r other closed asked e =
     (creation_lessens s.held _ _ _ o r closed.given refl (resized_of (IsHarmless o r) (length_at s t.operands 5) [] (All-nil (OfCell (IsHarmless o r)))), created_harmless s.held _ o r)
-listed_shut Crtq makes s p d t o r closed asked e = (creation_lessens s.held _ _ _ o r closed.given refl tt, created_harmless s.held _ o r)
-listed_shut Crtinx makes s p d t o r closed asked e = (creation_lessens s.held _ _ _ o r closed.given refl tt, created_harmless s.held _ o r)
-listed_shut Crtds makes s p d t o r closed asked e = (creation_lessens s.held _ _ _ o r closed.given refl tt, created_harmless s.held _ o r)
-listed_shut Crtcr makes s p d t o r closed asked e = (creation_lessens s.held _ _ _ o r closed.given refl tt, created_harmless s.held _ o r)
-listed_shut Crtjs makes s p d t o r closed asked e = (creation_lessens s.held _ _ _ o r closed.given refl tt, created_harmless s.held _ o r)
-listed_shut Crtjp makes s p d t o r closed asked e = (creation_lessens s.held _ _ _ o r closed.given refl tt, created_harmless s.held _ o r)
-listed_shut Crtcb makes s p d t o r closed asked e = (creation_lessens s.held _ _ _ o r closed.given refl tt, created_harmless s.held _ o r)
-listed_shut Crtup makes s p d t o r closed asked e = absurd (profile_lacked s.held (acting s p d) o r closed (permitted crtup s p d t e).special)
-listed_shut Modup makes s p d t o r closed asked e = absurd (profile_lacked s.held (acting s p d) o r closed (permitted modup s p d t e).special)
-listed_shut Desup makes s p d t o r closed asked e = (kept_lessens s.held _ o r (destruction_keeps (IsHarmless o r) s.held t.operands), tt)
-listed_shut Grant makes s p d t o r closed asked e = (grant_lessens s p d t o r closed asked (permitted grant s p d t e), tt)
-listed_shut Retract makes s p d t o r closed asked e = (retract_lessens s.held t.operands o r, tt)
-listed_shut Xfro makes s p d t o r closed asked e = (xfro_lessens s p d t o r closed (permitted xfro s p d t e), tt)
-listed_shut Rslvsp makes s p d t o r closed asked e = (lessens_same s.held o r, resolved_harmless s p d t.operands o r closed (permitted rslvsp s p d t e).fails)
-listed_shut Setspfp makes s p d t o r closed asked e = (lessens_same s.held o r, plain_harmless o r (pointer_at s.held t.operands 2))
-listed_shut Setsppfp makes s p d t o r closed asked e = (lessens_same s.held o r, space_harmless s p d t o r closed asked (permitted setsppfp s p d t e))
-listed_shut Setdp makes s p d t o r closed asked e = (lessens_same s.held o r, item_harmless s p d t o r closed asked (permitted setdp s p d t e))
-listed_shut _ makes s p d t o r closed asked e = cc
+others_shut Crtq s p d t o r other closed asked e = (creation_lessens s.held _ _ _ o r closed.given refl tt, created_harmless s.held _ o r)
+others_shut Crtinx s p d t o r other closed asked e = (creation_lessens s.held _ _ _ o r closed.given refl tt, created_harmless s.held _ o r)
+others_shut Crtds s p d t o r other closed asked e = (creation_lessens s.held _ _ _ o r closed.given refl tt, created_harmless s.held _ o r)
+others_shut Crtcr s p d t o r other closed asked e = (creation_lessens s.held _ _ _ o r closed.given refl tt, created_harmless s.held _ o r)
+others_shut Crtjs s p d t o r other closed asked e = (creation_lessens s.held _ _ _ o r closed.given refl tt, created_harmless s.held _ o r)
+others_shut Crtjp s p d t o r other closed asked e = (creation_lessens s.held _ _ _ o r closed.given refl tt, created_harmless s.held _ o r)
+others_shut Crtcb s p d t o r other closed asked e = (creation_lessens s.held _ _ _ o r closed.given refl tt, created_harmless s.held _ o r)
+others_shut Crtup s p d t o r other closed asked e = absurd (profile_lacked s.held (acting s p d) o r closed (permitted crtup s p d t e).special)
+others_shut Modup s p d t o r other closed asked e = absurd (profile_lacked s.held (acting s p d) o r closed (permitted modup s p d t e).special)
+others_shut Desup s p d t o r other closed asked e = (destroyed_lessens s.held kinds.Profile (target s.held t.operands 1) o r, tt)
+others_shut Grant s p d t o r other closed asked e = (grant_lessens s p d t o r closed asked (permitted grant s p d t e), tt)
+others_shut Retract s p d t o r other closed asked e = (retract_lessens s p t.operands o r, tt)
+others_shut Xfro s p d t o r other closed asked e = (xfro_lessens s p d t o r closed (permitted xfro s p d t e), tt)
+others_shut Rslvsp s p d t o r other closed asked e = (lessens_same s.held o r, resolved_harmless s p d t.operands o r closed (permitted rslvsp s p d t e).fails)
+others_shut Setspfp s p d t o r other closed asked e = (lessens_same s.held o r, plain_harmless o r (pointer_at s.held t.operands 2))
+others_shut Setsppfp s p d t o r other closed asked e = (lessens_same s.held o r, space_harmless s p d t o r closed asked (permitted setsppfp s p d t e))
+others_shut Setdp s p d t o r other closed asked e = (lessens_same s.held o r, item_harmless s p d t o r closed asked (permitted setdp s p d t e))
+others_shut _ s p d t o r other closed asked e = cc
 
--- and a plain one
-row_shut : (op : Op) → KeepsShut (row op)
-row_shut op s p d t o r closed asked e = by (makes_or_gives op) refl
+-- and what is asked plainly
+row_shut : (s : State) (p d : ℕ) (t : Request) (o r : ℕ) → NoWay s.held (acting s p d) o r → All (OfOperand (IsHarmless o r)) t.operands → refused_by (row t.op) s p d t ≡ None
+    → Lessens s.held (done s p ((row t.op).changes s p d t)).held o r × IfSome ((row t.op).gives s p d t) (OfVal (IsHarmless o r))
+row_shut s p d t o r closed asked e = by (asks_plainly s p d t) refl
   where
-    by : (b : Bool) → makes_or_gives op ≡ b → Lessens s.held ((row op).changes s p d t).held o r × IfSome ((row op).gives s p d t) (OfVal (IsHarmless o r))
-    by true makes = listed_shut op makes s p d t o r closed asked e
-    by false other =
-        let kept = row_plain (IsHarmless o r) (harmless_closed o r) (family_of op) op other s p d t closed.spaces asked in
+    by : (b : Bool) → asks_plainly s p d t ≡ b → Lessens s.held (done s p ((row t.op).changes s p d t)).held o r × IfSome ((row t.op).gives s p d t) (OfVal (IsHarmless o r))
+    by false other = others_shut t.op s p d t o r other closed asked e
+    by true plainly =
+        let kept = plain_keeps (IsHarmless o r) (harmless_closed o r) s p d t plainly closed.spaces asked in
         (kept_lessens s.held _ o r kept.0, kept.1)
 
 -- what an effect leaves opens no way, and neither does what it gives
@@ -270,7 +274,7 @@ pub effect_lessens : (s : State) (p d : ℕ) (t : Request) (o r : ℕ) → NoWay
     → Lessens s.held (effect (row t.op) s p d t).state.held o r × OfVals (IsHarmless o r) (effect (row t.op) s p d t).values
 unfolding effect
 effect_lessens s p d t o r closed asked e =
-    let after = (row t.op).changes s p d t in
-    let shut = row_shut t.op s p d t o r closed asked e in
-    let done = delivered_keeps (IsHarmless o r) after (shift_at s.held t.op t.operands) (receiver_at t.op t.operands) ((row t.op).gives s p d t) shut.1 in
-    (lessens_then s.held after.held _ o r shut.0 (kept_lessens after.held _ o r done.0), done.1)
+    let after = done s p ((row t.op).changes s p d t) in
+    let shut = row_shut s p d t o r closed asked e in
+    let last = delivered_keeps (IsHarmless o r) after (shift_at s.held t.op t.operands) (receiver_at t.op t.operands) ((row t.op).gives s p d t) shut.1 in
+    (lessens_then s.held after.held _ o r shut.0 (kept_lessens after.held _ o r last.0), last.1)

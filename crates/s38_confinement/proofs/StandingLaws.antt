@@ -3,18 +3,19 @@
 use Rattle.std.proofs.Common.{◌++◌, ◌<◌, ◌==◌, ◌∙◌, ◌∷◌, ◌≡◌, ◌≢◌, ◌≤◌, List, [], ap, arith, cond, false, refl, subst, sym, true, ℕ}
 use Rattle.std.proofs.lemmas.Bool.Decides.{nat_tests}
 use Rattle.std.proofs.lemmas.Bool.{cond_both}
-use Rattle.std.proofs.lemmas.List.Elements.{All-append, All-cons, All-nil, All-weaker}
+use Rattle.std.proofs.lemmas.List.Elements.{All-append, All-cons, All-filter, All-nil, All-weaker}
 use Rattle.std.proofs.lemmas.List.Folds.{find-append}
 use Rattle.std.proofs.lemmas.Nat.Bits.{bit_at-zero}
 use Rattle.std.specs.Option.{option_map, option_or}
-use Rattle.std.specs.Prelude.{None, Option, Some}
+use Rattle.std.specs.Prelude.{None, Option, Some, not}
 use Rattle.s38_base.specs.RightNames as rights
 use Rattle.s38_base.specs.declared.id.Id.{Id}
-use Rattle.s38_rules.proofs.ChargeLaws.{object_changed}
+use Rattle.s38_base.specs.declared.id.Kind.{Kind}
+use Rattle.s38_rules.proofs.ChargeLaws.{object_changed, object_without}
 use Rattle.s38_rules.specs.Authority.{has_rights}
-use Rattle.s38_rules.specs.Creation.{created, creation_changes, new_object}
+use Rattle.s38_rules.specs.Creation.{created, creation_changes, destroyed, is_of_kind, new_object}
 use Rattle.s38_rules.specs.Headers.{public_in, row_in, rows_in, special_in, special_of}
-use Rattle.s38_rules.specs.Held.{Held, has_number, object, object_in, with_object}
+use Rattle.s38_rules.specs.Held.{Held, has_number, object, object_in, with_object, without}
 use Rattle.s38_rules.specs.PrivateRows.{AreRows, row_of}
 use Rattle.s38_rules.specs.Standing.{Standing, restand, standing_of, with_standing}
 use Rattle.s38_rules.specs.declared.creating.Creating.{Creating}
@@ -158,6 +159,20 @@ restand_lessens h n g o r here =
       special = λ user. subst (SpecialStays (object h user)) (sym (object_changed n user f h.objects (λ x. refl)))
           (cond_both (n == user) (option_map f (object h user)) (object h user) (SpecialStays (object h user)) (λ q. restood_special g (object h user)) (λ q needed some lacks. lacks));
       pointers = λ of. change_kept (IsHarmless o r) n f h.objects (λ x here. here) of;
+    }
+
+-- an object of whatever kind is gone
+pub destroyed_lessens : (h : Held) (kind : Kind) (n o r : ℕ) → Lessens h (destroyed h kind n) o r
+destroyed_lessens h kind n o r = cond_both (is_of_kind kind (object h n)) (without h n) h (λ (k : Held). Lessens h k o r) (λ is. gone) (λ stays. lessens_same h o r)
+  where
+    gone : Lessens h (without h n) o r
+    gone = record {
+      next = omega arith;
+      standing = subst (GivesNoMore r (object h o)) (sym (object_without n o h.objects))
+          (cond_both (n == o) None (object h o) (GivesNoMore r (object h o)) (λ q. gives_none r (object h o)) (λ q. gives_same r (object h o)));
+      special = λ user. subst (SpecialStays (object h user)) (sym (object_without n user h.objects))
+          (cond_both (n == user) None (object h user) (SpecialStays (object h user)) (λ q. none_special (object h user) None refl) (λ q needed some lacks. lacks));
+      pointers = λ of. All-filter (λ x. not (has_number n x)) (OfObject (IsHarmless o r)) h.objects of;
     }
 
 -- ---- new objects

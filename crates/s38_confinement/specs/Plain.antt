@@ -1,48 +1,54 @@
--- When what an instruction does is plain: it makes no object, changes nothing of who may do what with one, and brings no
--- pointer that did not stand in a space and was not asked with.
-use Rattle.std.specs.Prelude.{◌≡◌, ℕ, Bool, true, false, Option, Some, None}
+-- When what an instruction does is plain: it makes no object, changes nothing of who may do what with one, destroys no
+-- user, and brings no pointer that did not stand in a space and was not asked with.
+use Rattle.std.specs.Prelude.{◌≡◌, ◌&&◌, ℕ, Bool, true, false, not, Option, Some, None}
+use Rattle.s38_base.specs.Ids.{same_kind}
+use Rattle.s38_base.specs.declared.id.Kind.TheVariants as kinds
 use Rattle.s38_base.specs.declared.op.Op.{Op}
-use Rattle.s38_base.specs.declared.op.Op.TheVariants.{Crtctx, Crtup, Modup, Desup, Grant, Retract, Xfro, Rslvsp, Setsppfp, Setspfp, Setdp, Crtcb, Crtcr, Crtds, Crtinx, Crtjp, Crtjs, Crtpg, Crtq, Crts}
+use Rattle.s38_base.specs.declared.op.Op.TheVariants.{Rslvsp, Setsppfp, Setspfp, Setdp}
 use Rattle.s38_base.specs.declared.pointer.Pointer.{Pointer}
+use Rattle.s38_code.specs.declared.event.Request.{Request}
 use Rattle.s38_rules.specs.declared.object.Object.{Object}
+use Rattle.s38_rules.specs.Authority.{is_profile}
+use Rattle.s38_rules.specs.Changes.{Changes, Gone, Made, Profiled, Stands, Then}
 use Rattle.s38_rules.specs.Headers.{special_of}
 use Rattle.s38_rules.specs.Held.{Held, object}
 use Rattle.s38_rules.specs.Operands.{Done}
+use Rattle.s38_rules.specs.Rows.{row}
 use Rattle.s38_rules.specs.Standing.{standing_of}
+use Rattle.s38_rules.specs.State.{State}
 use Rattle.s38_confinement.specs.OfPointers.{OfObjects, OfVals}
 
--- it makes an object or a pointer, destroys a user, or changes who may do what
-abbrev pub makes_or_gives : Op → Bool
-makes_or_gives Crtctx = true
-makes_or_gives Crtup = true
-makes_or_gives Crtpg = true
-makes_or_gives Crts = true
-makes_or_gives Crtq = true
-makes_or_gives Crtinx = true
-makes_or_gives Crtds = true
-makes_or_gives Crtcr = true
-makes_or_gives Crtjs = true
-makes_or_gives Crtjp = true
-makes_or_gives Crtcb = true
-makes_or_gives Rslvsp = true
-makes_or_gives Setspfp = true
-makes_or_gives Setsppfp = true
-makes_or_gives Setdp = true
-makes_or_gives Modup = true
-makes_or_gives Desup = true
-makes_or_gives Grant = true
-makes_or_gives Retract = true
-makes_or_gives Xfro = true
-makes_or_gives _ = false
+-- a change makes no object, changes nothing of who may do what with one, and destroys no user
+abbrev pub is_plain : Changes → Bool
+is_plain (Stands n f) = false
+is_plain (Profiled n special limit) = false
+is_plain (Made owner made body) = false
+is_plain (Gone kind n) = not (same_kind kind kinds.Profile)
+is_plain (Then a b) = is_plain a && is_plain b
+is_plain _ = true
 
--- owner, rights of everybody, rows and special authorities are those of the other one
+-- the instructions that make a pointer to what is there
+abbrev pub makes_pointer : Op → Bool
+makes_pointer Rslvsp = true
+makes_pointer Setspfp = true
+makes_pointer Setsppfp = true
+makes_pointer Setdp = true
+makes_pointer _ = false
+
+-- what is asked makes no pointer, and its change is plain
+abbrev pub asks_plainly : State → ℕ → ℕ → Request → Bool
+asks_plainly s p d t = not (makes_pointer t.op) && is_plain ((row t.op).changes s p d t)
+
+-- owner, rights of everybody, rows and special authorities are those of the other one, and so is whether it is a user
 pub record StandsSo (x y : Object) : Type 0 where
   pub standing : standing_of y ≡ standing_of x
   pub special : special_of y.body ≡ special_of x.body
+  pub user : is_profile y.body ≡ is_profile x.body
 
--- the object of a number is gone, or stands as it stood; none is new
+-- the object of a number stands as it stood, or is gone and was no user; none is new
 abbrev pub IsAsBefore : Option Object → Option Object → Type 0
-IsAsBefore x None = Unit {0}
+IsAsBefore None None = Unit {0}
+IsAsBefore (Some x) None = is_profile x.body ≡ false
 IsAsBefore None (Some y) = ⊥
 IsAsBefore (Some x) (Some y) = StandsSo x y
 

@@ -1,16 +1,18 @@
 //! What every history promises to those who keep others out, and what most instructions leave as it is.
 ghost use Rattle.s38_base.specs.declared.pointer.Pointer.{Pointer};
 ghost use Rattle.s38_code.specs.declared.entry.Entry.{Entry};
+ghost use Rattle.s38_code.specs.declared.event.EndCause.{EndCause};
+ghost use Rattle.s38_code.specs.declared.event.Event.TheVariants.{Finish, Start};
 ghost use Rattle.s38_code.specs.declared.event.Request.{Request};
 ghost use Rattle.s38_confinement.specs.Confined.{AllWithin, AreRun, BeginsClosed, NeverUsed, StaysClosed};
 ghost use Rattle.s38_confinement.specs.OfPointers.{IsClosed, OfObjects, OfOperand};
-ghost use Rattle.s38_confinement.specs.Plain.{IsPlain, Passes, makes_or_gives};
+ghost use Rattle.s38_confinement.specs.Plain.{IsPlain, Passes, asks_plainly};
 ghost use Rattle.s38_process.specs.Process.{ProcessState};
-ghost use Rattle.s38_rules.specs.Effect.{effect};
+ghost use Rattle.s38_rules.specs.Effect.{effect, effect_of};
 ghost use Rattle.s38_rules.specs.Legal.{Leads};
 ghost use Rattle.s38_rules.specs.Rows.{row};
 ghost use Rattle.s38_rules.specs.State.{State};
-ghost use Rattle.std.specs.Prelude.{◌≡◌, ℕ, All, Bool, List, [], false};
+ghost use Rattle.std.specs.Prelude.{◌≡◌, ℕ, All, Bool, List, [], true};
 
 /// A history of the one-thread machine, made by processes from where no way to a right on an object was open for some
 /// users, and in which these users alone act: none of its entries uses the right, and no way is open at its end.
@@ -20,9 +22,13 @@ pub fn no_way_opens()
         → NeverUsed first history o r × StaysClosed processes history end users o r }
 {}
 
-/// The effect of an instruction that neither makes an object or a pointer, nor destroys a user, nor changes who may do
-/// what: no object is new, each that is there stands as it stood, and no pointer is new, whatever the state is.
+/// The effect of an instruction whose change is plain and which makes no pointer, and that of a start or an end: no
+/// object is new, each that is there stands as it stood, each that is gone was no user, and no pointer is new, whatever
+/// the state is.
 pub fn effects_are_plain()
-    ensures plain { (test : Pointer → Bool) (s : State) (p : ℕ) (d : ℕ) (t : Request) → makes_or_gives t.op ≡ false → IsClosed (Passes test)
+    ensures plain { (test : Pointer → Bool) (s : State) (p : ℕ) (d : ℕ) (t : Request) → asks_plainly s p d t ≡ true → IsClosed (Passes test)
         → OfObjects (Passes test) s.held.objects → All (OfOperand (Passes test)) t.operands → IsPlain test s.held (effect (row t.op) s p d t) }
+    ensures starts { (test : Pointer → Bool) (s : State) (p : ℕ) → OfObjects (Passes test) s.held.objects → IsPlain test s.held (effect_of s p Start) }
+    ensures ends { (test : Pointer → Bool) (s : State) (p : ℕ) (cause : EndCause) → OfObjects (Passes test) s.held.objects
+        → IsPlain test s.held (effect_of s p (Finish cause)) }
 {}

@@ -1,8 +1,9 @@
 //! Data spaces and cursors are made.
+ghost use Rattle.s38_rules.specs.Changes.{done};
 ghost use Rattle.std.specs.Prelude.{◌≡◌, ◌≤◌, [], None, IfOk, IsTrue, OnErr, OnOk, length};
 ghost use Rattle.std.specs.Option.{option_copied};
 ghost use Rattle.s38_dataspaces.specs.Table.{are_fields};
-ghost use Rattle.s38_rules.specs.DataSpaces.{attributes_of, block_needs, created_cursor, created_data_space, crtcr_changes, crtcr_fails, crtcr_needs, crtds_changes, crtds_fails, fields_at, new_cursor, new_data_space, proper_fields};
+ghost use Rattle.s38_rules.specs.DataSpaces.{attributes_of, block_needs, created_cursor, created_data_space, crtcr_changes, crtcr_fails, crtcr_needs, crtds_changes, crtds_fails, new_cursor, new_data_space, proper_fields};
 
 use s38_base::{Attr, AttrList, Exception, Kind, NoMemory, ObjNum, Rights, Seq};
 use s38_changes::{creation_changes, creation_fails, creation_needs, in_context};
@@ -62,7 +63,7 @@ fn new_data_space(alloc: Global, operands: &[Operand]) -> Result<DataBody, NoMem
     })
 }
 
-#[tactic(auto, using(crate::proofs::CursorLaws::crtds_created, s38_changes::proofs::CreationLaws::home_placed), unfolding(s38_rules::specs::DataSpaces::crtds_changes))]
+#[tactic(auto, using(crate::proofs::CursorLaws::crtds_created, s38_changes::proofs::CreationLaws::home_placed))]
 pub fn crtds(
     alloc: Global,
     world: &mut World<Objects>,
@@ -70,7 +71,7 @@ pub fn crtds(
     operands: &[Operand],
 ) -> Result<(), NoMemory>
     requires { crtds_fails world.old process operands.now ≡ None }
-    ensures ok { OnOk result (world.new ≡ crtds_changes world.old process operands.now) }
+    ensures ok { OnOk result (world.new ≡ done world.old process (crtds_changes world.old process operands.now)) }
     ensures err { OnErr result (world.new ≡ world.old) }
 {
     let owner = world.user_of(process);
@@ -130,7 +131,7 @@ fn new_cursor(objects: &Objects, operands: &[Operand]) -> Cursor
     }
 }
 
-#[tactic(auto, using(crate::proofs::CursorLaws::crtcr_created, s38_changes::proofs::CreationLaws::home_placed), unfolding(s38_rules::specs::DataSpaces::crtcr_changes))]
+#[tactic(auto, using(crate::proofs::CursorLaws::crtcr_created, s38_changes::proofs::CreationLaws::home_placed))]
 pub fn crtcr(
     alloc: Global,
     world: &mut World<Objects>,
@@ -138,7 +139,7 @@ pub fn crtcr(
     operands: &[Operand],
 ) -> Result<(), NoMemory>
     requires { crtcr_fails world.old process operands.now ≡ None }
-    ensures ok { OnOk result (world.new ≡ crtcr_changes world.old process operands.now) }
+    ensures ok { OnOk result (world.new ≡ done world.old process (crtcr_changes world.old process operands.now)) }
     ensures err { OnErr result (world.new ≡ world.old) }
 {
     let owner = world.user_of(process);

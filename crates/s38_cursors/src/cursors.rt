@@ -1,5 +1,6 @@
 //! The family of data spaces and cursors: made and destroyed; a cursor set; entries inserted, read, updated and deleted
 //! where it stands.
+ghost use Rattle.s38_rules.specs.Changes.{done};
 ghost use Rattle.std.specs.Prelude.{◌≡◌, None, IfOk, OnErr, OnOk};
 ghost use Rattle.s38_rules.specs.DataSpaces.{data_spaces_row, through_cursor};
 
@@ -11,7 +12,7 @@ use crate::entry_rules::{current_fails, desds_fails, insdsen_fails, retdsen_fail
 use crate::reads::cursor_of;
 use crate::seeking::{setcr, setcr_fails};
 use s38_base::{Category, Exception, Kind, NoMemory, Op, Rights};
-use s38_changes::{creation_gives, creation_needs, destruction_changes, destruction_needs};
+use s38_changes::{creation_gives, creation_needs, destroy, destruction_needs};
 use s38_code::{Operand, Request, Val};
 use s38_invoke::World;
 use s38_objects::Objects;
@@ -151,15 +152,19 @@ pub fn apply(
     request: &Request,
 ) -> Result<(), NoMemory>
     requires { (data_spaces_row request.now.op).fails world.old process depth request.now ≡ None }
-    ensures ok { OnOk result (world.new ≡ (data_spaces_row request.now.op).changes world.old process depth request.now) }
+    ensures ok { OnOk result (world.new ≡ done world.old process ((data_spaces_row request.now.op).changes world.old process depth request.now)) }
     ensures err { OnErr result (world.new ≡ world.old) }
 {
     let operands = request.operands.as_slice();
     match request.op {
         Op::Crtds => crtds(alloc, world, process, operands),
         Op::Crtcr => crtcr(alloc, world, process, operands),
-        Op::Desds | Op::Descr => {
-            destruction_changes(world, operands);
+        Op::Desds => {
+            destroy(world, Kind::DataSpace, operands);
+            Ok(())
+        }
+        Op::Descr => {
+            destroy(world, Kind::Cursor, operands);
             Ok(())
         }
         Op::Setcr => {

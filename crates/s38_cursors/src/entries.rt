@@ -1,4 +1,5 @@
 //! Entries inserted, read, updated and deleted where a cursor stands.
+ghost use Rattle.s38_rules.specs.Changes.{done};
 ghost use Rattle.std.specs.Prelude.{◌≡◌, None, Some, IfOk, OnErr, OnOk};
 ghost use Rattle.std.specs.Option.{option_copied};
 ghost use Rattle.s38_compute.specs.Piece.{piece_bytes};
@@ -124,7 +125,6 @@ fn insert_entry(
 }
 
 /// The entry stands under the next ordinal, and so does the cursor; where memory is refused nothing changes.
-#[tactic(auto, unfolding(s38_rules::specs::DataSpaces::insdsen_changes))]
 pub fn insdsen(
     alloc: Global,
     world: &mut World<Objects>,
@@ -132,7 +132,7 @@ pub fn insdsen(
     operands: &[Operand],
 ) -> Result<(), NoMemory>
     requires { insdsen_fails world.old process operands.now ≡ None }
-    ensures ok { OnOk result (world.new ≡ insdsen_changes world.old process operands.now) }
+    ensures ok { OnOk result (world.new ≡ done world.old process (insdsen_changes world.old.held operands.now)) }
     ensures err { OnErr result (world.new ≡ world.old) }
 {
     let number = target_in(world, operands);
@@ -161,7 +161,7 @@ fn entry_or_none(entry: Option<&[u8]>) -> &[u8]
 }
 
 /// The entry, cut or filled with zeros.
-#[tactic(auto, unfolding(s38_rules::specs::DataSpaces::retdsen_gives))]
+#[tactic(auto, unfolding(s38_rules::specs::DataSpaces::retdsen_bytes))]
 pub fn retdsen_gives(
     alloc: Global,
     objects: &Objects,
@@ -248,7 +248,6 @@ fn log_current(
 // ---- UPDSEN
 
 /// The change is logged, and another entry stands where the cursor does; where memory is refused nothing changes.
-#[tactic(auto, unfolding(s38_rules::specs::DataSpaces::current_changes))]
 fn update_entry(
     alloc: Global,
     world: &mut World<Objects>,
@@ -258,7 +257,7 @@ fn update_entry(
 ) -> Result<(), NoMemory>
     requires fails { updsen_fails world.old process operands.now ≡ None }
     requires entry { entry.now ≡ bytes_at world.old.held operands.now 2 }
-    ensures ok { OnOk result (world.new ≡ current_changes world.old process operands.now (Some entry.now)) }
+    ensures ok { OnOk result (world.new ≡ done world.old process (current_changes world.old.held operands.now (Some entry.now))) }
     ensures err { OnErr result (world.new ≡ world.old) }
 {
     let cursor = cursor_in(world, operands, 1);
@@ -279,7 +278,7 @@ pub fn updsen(
     operands: &[Operand],
 ) -> Result<(), NoMemory>
     requires { updsen_fails world.old process operands.now ≡ None }
-    ensures ok { OnOk result (world.new ≡ current_changes world.old process operands.now (Some (bytes_at world.old.held operands.now 2))) }
+    ensures ok { OnOk result (world.new ≡ done world.old process (current_changes world.old.held operands.now (Some (bytes_at world.old.held operands.now 2)))) }
     ensures err { OnErr result (world.new ≡ world.old) }
 {
     let entry = match piece_in(alloc, world, operands) {
@@ -292,7 +291,6 @@ pub fn updsen(
 // ---- DELDSEN
 
 /// The entry at which the cursor stands is there no more; where memory is refused nothing changes.
-#[tactic(auto, unfolding(s38_rules::specs::DataSpaces::current_changes))]
 pub fn deldsen(
     alloc: Global,
     world: &mut World<Objects>,
@@ -300,7 +298,7 @@ pub fn deldsen(
     operands: &[Operand],
 ) -> Result<(), NoMemory>
     requires { current_fails world.old process operands.now None ≡ None }
-    ensures ok { OnOk result (world.new ≡ current_changes world.old process operands.now None) }
+    ensures ok { OnOk result (world.new ≡ done world.old process (current_changes world.old.held operands.now None)) }
     ensures err { OnErr result (world.new ≡ world.old) }
 {
     let cursor = cursor_in(world, operands, 1);

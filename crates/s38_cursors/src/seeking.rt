@@ -1,6 +1,8 @@
 //! Where a cursor goes.
+ghost use Rattle.s38_rules.specs.Operands.{target};
+ghost use Rattle.s38_rules.specs.Parts.{on_cursor};
 ghost use Rattle.std.specs.Prelude.{◌≡◌};
-ghost use Rattle.s38_rules.specs.DataSpaces.{is_at, ordinal_rule, seek_fails, seek_of, setcr_changes, setcr_fails, sought_ordinal};
+ghost use Rattle.s38_rules.specs.DataSpaces.{at_sought, is_at, ordinal_rule, seek_fails, seek_of, setcr_fails, sought_ordinal};
 
 use crate::changes::stand_at;
 use crate::reads::{cursor_of, ordinal_in, sought_in, table_of};
@@ -77,9 +79,8 @@ pub fn setcr_fails(objects: &Objects, operands: &[Operand]) -> Option<Exception>
 }
 
 /// The cursor stands where the entry that is sought does.
-#[tactic(auto, unfolding(s38_rules::specs::DataSpaces::setcr_changes))]
 pub fn setcr(world: &mut World<Objects>, operands: &[Operand])
-    ensures { world.new ≡ record world.old { held = setcr_changes world.old.held operands.now } }
+    ensures { world.new ≡ record world.old { held = on_cursor world.old.held (target world.old.held operands.now 1) (at_sought world.old.held operands.now) } }
 {
     let number = target(&world.objects, operands, 1);
     let ordinal = sought_ordinal(seek_of(word_at(operands, 2)), &world.objects, operands);

@@ -1,16 +1,17 @@
 //! Independent indexes: made and destroyed; entries put in, found and taken out.
+ghost use Rattle.s38_rules.specs.Changes.{done};
 ghost use Rattle.std.specs.Prelude.{◌≡◌, ◌≤◌, [], Some, None, IfOk, OnOk, OnErr, is_some, length};
 ghost use Rattle.std.specs.Option.{option_copied, unwrap_or};
-ghost use Rattle.s38_indexes.specs.Entries.{found, image_size, is_held, largest};
-ghost use Rattle.s38_rules.specs.Indexes.{created_index, crtinx_changes, crtinx_fails, entered, entry_len_at, entry_or_none, fndinxen_fails, fndinxen_gives, fndinxen_needs, indexes_row, insinxen_changes, insinxen_fails, insinxen_needs, new_index, removed, rmvinxen_changes, rmvinxen_fails, rmvinxen_needs};
-ghost use Rattle.s38_rules.specs.Operands.{bytes_at};
+ghost use Rattle.s38_indexes.specs.Entries.{found, image_size, largest};
+ghost use Rattle.s38_rules.specs.Indexes.{created_index, crtinx_changes, crtinx_fails, entered, entry_len_at, entry_or_none, fndinxen_fails, fndinxen_gives, fndinxen_needs, indexes_row, insinxen_fails, insinxen_needs, new_index, removed, rmvinxen_fails, rmvinxen_needs};
+ghost use Rattle.s38_rules.specs.Operands.{bytes_at, target};
 ghost use Rattle.s38_rules.specs.Parts.{index_at, no_index, on_index};
 
 use s38_base::exceptions::{DUPLICATE_ENTRY, LENGTH_INVALID, LIMIT_EXCEEDED, NO_INDEX_ENTRY};
 use s38_base::{Category, Exception, Kind, NoMemory, ObjNum, Op, Relation, Rights};
 use s38_changes::{
-    creation_changes, creation_fails, creation_gives, creation_needs, destruction_changes,
-    destruction_needs, in_context,
+    creation_changes, creation_fails, creation_gives, creation_needs, destroy, destruction_needs,
+    in_context,
 };
 use s38_code::{Operand, Request, Val};
 use s38_indexes::Index;
@@ -55,7 +56,7 @@ fn new_index(alloc: Global, operands: &[Operand]) -> Index
     Index::new(alloc, entry_len_at(operands))
 }
 
-#[tactic(auto, using(crate::proofs::IndexLaws::crtinx_created, s38_changes::proofs::CreationLaws::home_placed), unfolding(s38_rules::specs::Indexes::crtinx_changes))]
+#[tactic(auto, using(crate::proofs::IndexLaws::crtinx_created, s38_changes::proofs::CreationLaws::home_placed))]
 fn crtinx(
     alloc: Global,
     world: &mut World<Objects>,
@@ -63,7 +64,7 @@ fn crtinx(
     operands: &[Operand],
 ) -> Result<(), NoMemory>
     requires { crtinx_fails world.old process operands.now ≡ None }
-    ensures ok { OnOk result (world.new ≡ crtinx_changes world.old process operands.now) }
+    ensures ok { OnOk result (world.new ≡ done world.old process (crtinx_changes world.old process operands.now)) }
     ensures err { OnErr result (world.new ≡ world.old) }
 {
     let owner = world.user_of(process);
@@ -183,9 +184,8 @@ fn enter_at(world: &mut World<Objects>, number: ObjNum, entry: &[u8]) -> Result<
 }
 
 /// The entry stands in its place; where memory is refused nothing changes.
-#[tactic(auto, unfolding(s38_rules::specs::Indexes::insinxen_changes))]
 fn insinxen(alloc: Global, world: &mut World<Objects>, operands: &[Operand]) -> Result<(), NoMemory>
-    ensures ok { OnOk result (world.new ≡ record world.old { held = insinxen_changes world.old.held operands.now }) }
+    ensures ok { OnOk result (world.new ≡ record world.old { held = on_index world.old.held (target world.old.held operands.now 1) (entered (bytes_at world.old.held operands.now 2)) }) }
     ensures err { OnErr result (world.new ≡ world.old) }
 {
     let number = target(&world.objects, operands, 1);
@@ -227,7 +227,7 @@ fn found_entry<'a>(objects: &'a Objects, number: ObjNum, relation: Relation, key
 }
 
 /// The entry, cut or filled with zeros.
-#[tactic(auto, unfolding(s38_rules::specs::Indexes::fndinxen_gives))]
+#[tactic(auto, unfolding(s38_rules::specs::Indexes::fndinxen_bytes))]
 fn fndinxen_gives(alloc: Global, objects: &Objects, operands: &[Operand]) -> Result<Val, NoMemory>
     ensures { IfOk result (λ value. value ≡ fndinxen_gives objects.now operands.now) }
 {
@@ -277,9 +277,8 @@ fn remove_at(world: &mut World<Objects>, number: ObjNum, entry: &[u8])
 }
 
 /// The entry is there no more; where memory is refused nothing changes.
-#[tactic(auto, unfolding(s38_rules::specs::Indexes::rmvinxen_changes))]
 fn rmvinxen(alloc: Global, world: &mut World<Objects>, operands: &[Operand]) -> Result<(), NoMemory>
-    ensures ok { OnOk result (world.new ≡ record world.old { held = rmvinxen_changes world.old.held operands.now }) }
+    ensures ok { OnOk result (world.new ≡ record world.old { held = on_index world.old.held (target world.old.held operands.now 1) (removed (bytes_at world.old.held operands.now 2)) }) }
     ensures err { OnErr result (world.new ≡ world.old) }
 {
     let number = target(&world.objects, operands, 1);
@@ -365,14 +364,14 @@ pub fn apply(
     request: &Request,
 ) -> Result<(), NoMemory>
     requires { (indexes_row request.now.op).fails world.old process depth request.now ≡ None }
-    ensures ok { OnOk result (world.new ≡ (indexes_row request.now.op).changes world.old process depth request.now) }
+    ensures ok { OnOk result (world.new ≡ done world.old process ((indexes_row request.now.op).changes world.old process depth request.now)) }
     ensures err { OnErr result (world.new ≡ world.old) }
 {
     let operands = request.operands.as_slice();
     match request.op {
         Op::Crtinx => crtinx(alloc, world, process, operands),
         Op::Desinx => {
-            destruction_changes(world, operands);
+            destroy(world, Kind::Index, operands);
             Ok(())
         }
         Op::Insinxen => insinxen(alloc, world, operands),

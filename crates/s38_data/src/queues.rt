@@ -1,16 +1,17 @@
 //! Queues: made and destroyed; messages put and taken.
+ghost use Rattle.s38_rules.specs.Changes.{done};
 ghost use Rattle.std.specs.Prelude.{◌≡◌, ◌≤◌, ℕ, [], Some, None, IfOk, OnOk, OnErr, is_some, length};
 ghost use Rattle.std.specs.Option.{option_copied, unwrap_or};
 ghost use Rattle.s38_queues.specs.MessageQueue.{MessageQueue, found, found_message, image_size, is_any, longest_key, message, with_message};
 ghost use Rattle.s38_rules.specs.Operands.{bytes_at, is_given, target};
 ghost use Rattle.s38_rules.specs.Parts.{no_queue, on_queue, queue_at};
-ghost use Rattle.s38_rules.specs.Queues.{ask_fails, created_queue, crtq_changes, crtq_fails, deq_changes, deq_fails, deq_gives, deq_needs, enq_changes, enq_fails, enq_needs, key_len_at, left_by, longest_at, new_queue, order_of, put_fails, queues_row, relation_at, suits_keys, suits_order, take_fails, text_of};
+ghost use Rattle.s38_rules.specs.Queues.{ask_fails, created_queue, crtq_changes, crtq_fails, deq_fails, deq_gives, deq_needs, enq_fails, enq_needs, key_len_at, left_by, longest_at, new_queue, order_of, put_fails, queues_row, relation_at, suits_keys, suits_order, take_fails, text_of, with_put};
 
 use s38_base::exceptions::{LENGTH_INVALID, LIMIT_EXCEEDED, NO_MESSAGE};
 use s38_base::{Category, Exception, Kind, NoMemory, ObjNum, Op, Relation, Rights};
 use s38_changes::{
-    creation_changes, creation_fails, creation_gives, creation_needs, destruction_changes,
-    destruction_needs, in_context,
+    creation_changes, creation_fails, creation_gives, creation_needs, destroy, destruction_needs,
+    in_context,
 };
 use s38_code::{Operand, Request, Val};
 use s38_invoke::World;
@@ -84,7 +85,7 @@ fn new_queue(alloc: Global, operands: &[Operand]) -> Queue
     )
 }
 
-#[tactic(auto, using(crate::proofs::QueueLaws::crtq_created, s38_changes::proofs::CreationLaws::home_placed), unfolding(s38_rules::specs::Queues::crtq_changes))]
+#[tactic(auto, using(crate::proofs::QueueLaws::crtq_created, s38_changes::proofs::CreationLaws::home_placed))]
 fn crtq(
     alloc: Global,
     world: &mut World<Objects>,
@@ -92,7 +93,7 @@ fn crtq(
     operands: &[Operand],
 ) -> Result<(), NoMemory>
     requires { crtq_fails world.old process operands.now ≡ None }
-    ensures ok { OnOk result (world.new ≡ crtq_changes world.old process operands.now) }
+    ensures ok { OnOk result (world.new ≡ done world.old process (crtq_changes world.old process operands.now)) }
     ensures err { OnErr result (world.new ≡ world.old) }
 {
     let owner = world.user_of(process);
@@ -171,9 +172,8 @@ fn put(world: &mut World<Objects>, number: ObjNum, key: &[u8], text: &[u8]) -> R
 
 /// The message stands last in the queue, where its key or its text lies in a space.
 #[inline(never)]
-#[tactic(auto, unfolding(s38_rules::specs::Queues::enq_changes))]
 fn enq_read(alloc: Global, world: &mut World<Objects>, operands: &[Operand]) -> Result<(), NoMemory>
-    ensures ok { OnOk result (world.new ≡ record world.old { held = enq_changes world.old.held operands.now }) }
+    ensures ok { OnOk result (world.new ≡ record world.old { held = on_queue world.old.held (target world.old.held operands.now 1) (with_put world.old.held operands.now) }) }
     ensures err { OnErr result (world.new ≡ world.old) }
 {
     let number = target(&world.objects, operands, 1);
@@ -187,9 +187,8 @@ fn enq_read(alloc: Global, world: &mut World<Objects>, operands: &[Operand]) -> 
 }
 
 /// The message stands last in the queue.
-#[tactic(auto, unfolding(s38_rules::specs::Queues::enq_changes))]
 fn enq(alloc: Global, world: &mut World<Objects>, operands: &[Operand]) -> Result<(), NoMemory>
-    ensures ok { OnOk result (world.new ≡ record world.old { held = enq_changes world.old.held operands.now }) }
+    ensures ok { OnOk result (world.new ≡ record world.old { held = on_queue world.old.held (target world.old.held operands.now 1) (with_put world.old.held operands.now) }) }
     ensures err { OnErr result (world.new ≡ world.old) }
 {
     let Some(key) = lent_at(operands, 2) else {
@@ -337,7 +336,7 @@ fn sought_text<'a>(objects: &'a Objects, operands: &[Operand], key: &[u8]) -> &'
 
 /// The text of the message that is taken, where the key lies in a space.
 #[inline(never)]
-#[tactic(auto, unfolding(s38_rules::specs::Queues::deq_gives))]
+#[tactic(auto, unfolding(s38_rules::specs::Queues::deq_bytes))]
 fn deq_reads(alloc: Global, objects: &Objects, operands: &[Operand]) -> Result<Val, NoMemory>
     ensures { IfOk result (λ value. value ≡ deq_gives objects.now operands.now) }
 {
@@ -347,7 +346,7 @@ fn deq_reads(alloc: Global, objects: &Objects, operands: &[Operand]) -> Result<V
 }
 
 /// The text of the message that is taken, cut or filled with blanks.
-#[tactic(auto, unfolding(s38_rules::specs::Queues::deq_gives))]
+#[tactic(auto, unfolding(s38_rules::specs::Queues::deq_bytes))]
 fn deq_gives(alloc: Global, objects: &Objects, operands: &[Operand]) -> Result<Val, NoMemory>
     ensures { IfOk result (λ value. value ≡ deq_gives objects.now operands.now) }
 {
@@ -384,9 +383,8 @@ fn take(world: &mut World<Objects>, number: ObjNum, relation: Relation, key: &[u
 
 /// The message leaves the queue, where the key lies in a space; where memory is refused nothing changes.
 #[inline(never)]
-#[tactic(auto, unfolding(s38_rules::specs::Queues::deq_changes))]
 fn deq_read(alloc: Global, world: &mut World<Objects>, operands: &[Operand]) -> Result<(), NoMemory>
-    ensures ok { OnOk result (world.new ≡ record world.old { held = deq_changes world.old.held operands.now }) }
+    ensures ok { OnOk result (world.new ≡ record world.old { held = on_queue world.old.held (target world.old.held operands.now 2) (left_by (relation_at operands.now 3) (bytes_at world.old.held operands.now 4)) }) }
     ensures err { OnErr result (world.new ≡ world.old) }
 {
     let number = target(&world.objects, operands, 2);
@@ -399,9 +397,8 @@ fn deq_read(alloc: Global, world: &mut World<Objects>, operands: &[Operand]) -> 
 }
 
 /// The message leaves the queue; where memory is refused nothing changes.
-#[tactic(auto, unfolding(s38_rules::specs::Queues::deq_changes))]
 fn deq(alloc: Global, world: &mut World<Objects>, operands: &[Operand]) -> Result<(), NoMemory>
-    ensures ok { OnOk result (world.new ≡ record world.old { held = deq_changes world.old.held operands.now }) }
+    ensures ok { OnOk result (world.new ≡ record world.old { held = on_queue world.old.held (target world.old.held operands.now 2) (left_by (relation_at operands.now 3) (bytes_at world.old.held operands.now 4)) }) }
     ensures err { OnErr result (world.new ≡ world.old) }
 {
     let Some(key) = lent_at(operands, 4) else {
@@ -484,14 +481,14 @@ pub fn apply(
     request: &Request,
 ) -> Result<(), NoMemory>
     requires { (queues_row request.now.op).fails world.old process depth request.now ≡ None }
-    ensures ok { OnOk result (world.new ≡ (queues_row request.now.op).changes world.old process depth request.now) }
+    ensures ok { OnOk result (world.new ≡ done world.old process ((queues_row request.now.op).changes world.old process depth request.now)) }
     ensures err { OnErr result (world.new ≡ world.old) }
 {
     let operands = request.operands.as_slice();
     match request.op {
         Op::Crtq => crtq(alloc, world, process, operands),
         Op::Desq => {
-            destruction_changes(world, operands);
+            destroy(world, Kind::Queue, operands);
             Ok(())
         }
         Op::Enq => enq(alloc, world, operands),

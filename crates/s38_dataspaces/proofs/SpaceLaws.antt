@@ -101,4 +101,4 @@ pub deleted_kept : (fields : List Attr) (size len : ℕ) (old new : Kept) → ne
 deleted_kept fields size len old new is kept same small =
     subst (λ (k : Kept). IsDataSpace fields k.width (size + (1 + len)) k.entries) (sym is)
     (subst (λ (n : ℕ). IsDataSpace fields old.width (size + (1 + n)) (old.entries ++ None ∷ [])) (sym same)
-     (deleted_is fields old.width size old.entries kept (omega (arith, same, small))))
+    (deleted_is fields old.width size old.entries kept (omega (arith, same, small))))

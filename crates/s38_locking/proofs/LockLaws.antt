@@ -1,8 +1,6 @@
 -- What an instruction of locks that does not fail has met.
 use Rattle.std.proofs.Common.{◌≡◌, ℕ, Bool, true, false, List, None, Some, refl, cond}
 use Rattle.std.specs.Prelude.{Option}
-use Rattle.s38_base.specs.declared.words.LockState.{LockState}
-use Rattle.s38_locks.specs.declared.fault.LockFault.{LockFault}
 use Rattle.s38_locks.specs.declared.fault.LockFault.TheVariants as faults
 use Rattle.s38_locks.specs.Locks.{Lock, hindrance, is_held, without_lock}
 use Rattle.s38_locks.specs.Refusals.{in_the_way, transfer_refusal, unlock_refusal}

@@ -1,4 +1,5 @@
 //! Locks: granted, given up, handed on to another job, listed.
+ghost use Rattle.s38_rules.specs.Changes.{done};
 ghost use Rattle.std.specs.Prelude.{◌≡◌, None, Some, IfOk, OnOk, OnErr};
 ghost use Rattle.s38_base.specs.Signals.{first};
 ghost use Rattle.s38_locks.specs.Refusals.{transfer_refusal, unlock_refusal};
@@ -93,10 +94,9 @@ fn lock_fails(world: &World<Objects>, process: u32, operands: &[Operand]) -> Opt
 }
 
 /// The process holds one more lock.
-#[tactic(auto, unfolding(s38_rules::specs::Locking::lock_changes))]
 fn lock(world: &mut World<Objects>, process: u32, operands: &[Operand]) -> Result<(), NoMemory>
     requires { lock_fails world.old process operands.now ≡ None }
-    ensures ok { OnOk result (world.new ≡ lock_changes world.old process operands.now) }
+    ensures ok { OnOk result (world.new ≡ done world.old process (lock_changes world.old process operands.now)) }
     ensures err { OnErr result (world.new ≡ world.old) }
 {
     let object = target(&world.objects, operands, 1);
@@ -139,10 +139,10 @@ fn unlock_fails(world: &World<Objects>, process: u32, operands: &[Operand]) -> O
 }
 
 /// The process holds one lock less; it takes no memory.
-#[tactic(auto, using(crate::proofs::LockLaws::unlock_met), unfolding(s38_rules::specs::Locking::unlock_changes))]
+#[tactic(auto, using(crate::proofs::LockLaws::unlock_met))]
 fn unlock(world: &mut World<Objects>, process: u32, operands: &[Operand])
     requires { unlock_fails world.old process operands.now ≡ None }
-    ensures { world.new ≡ unlock_changes world.old process operands.now }
+    ensures { world.new ≡ done world.old process (unlock_changes world.old process operands.now) }
 {
     let object = target(&world.objects, operands, 1);
     match world.locks.unlock(object, process, state_asked(operands)) {
@@ -188,10 +188,10 @@ fn xfrlock_fails(world: &World<Objects>, process: u32, operands: &[Operand]) -> 
 }
 
 /// The other process holds the lock; it takes no memory.
-#[tactic(auto, using(crate::proofs::LockLaws::xfrlock_met), unfolding(s38_rules::specs::Locking::xfrlock_changes))]
+#[tactic(auto, using(crate::proofs::LockLaws::xfrlock_met))]
 fn xfrlock(world: &mut World<Objects>, process: u32, operands: &[Operand])
     requires { xfrlock_fails world.old process operands.now ≡ None }
-    ensures { world.new ≡ xfrlock_changes world.old process operands.now }
+    ensures { world.new ≡ done world.old process (xfrlock_changes world.old process operands.now) }
 {
     let object = target(&world.objects, operands, 1);
     let taker = taker(world, operands);
@@ -215,7 +215,7 @@ fn matobjlk_needs() -> Needs
 }
 
 /// The object's locks, cut or filled.
-#[tactic(auto, unfolding(s38_rules::specs::Locking::matobjlk_gives))]
+#[tactic(auto, unfolding(s38_rules::specs::Locking::matobjlk_bytes))]
 fn matobjlk_gives(
     alloc: Global,
     world: &World<Objects>,
@@ -295,7 +295,7 @@ pub fn apply(
     request: &Request,
 ) -> Result<(), NoMemory>
     requires { (locks_row request.now.op).fails world.old process depth request.now ≡ None }
-    ensures ok { OnOk result (world.new ≡ (locks_row request.now.op).changes world.old process depth request.now) }
+    ensures ok { OnOk result (world.new ≡ done world.old process ((locks_row request.now.op).changes world.old process depth request.now)) }
     ensures err { OnErr result (world.new ≡ world.old) }
 {
     let operands = request.operands.as_slice();

@@ -118,8 +118,11 @@ impl LockTable {
     ) -> Result<(), LockFault>
         ensures ok { OnOk result (transfer_refusal from to state (locks_of self.now object.0) ≡ None) }
         ensures fault { IfErr result (λ fault. transfer_refusal from to state (locks_of self.now object.0) ≡ Some fault) }
+        ensures least { IfSome (hindrance to state (without_lock (from, state) (locks_of self.now object.0)))
+            (λ lock. IsLeast (hinders to state) lock (without_lock (from, state) (locks_of self.now object.0))) }
     {
-        match refusals::transfer_refusal(map::locks_of(&self.objects, object.0), from, to, state) {
+        let locks = map::locks_of(&self.objects, object.0);
+        match refusals::transfer_refusal(locks, from, to, state) {
             Some(fault) => Err(fault),
             None => Ok(()),
         }

@@ -9,13 +9,9 @@ use Rattle.s38_rules.specs.State.{State}
 use Rattle.s38_rules.specs.Computing.{receiver_at}
 use Rattle.s38_rules.specs.Operands.{delivered}
 use Rattle.s38_rules.specs.Rows.{row}
-use Rattle.s38_machine.specs.Events.{receiver_of, value_of_event}
-
--- the kept part of an event's value
-abbrev pub Keeps : State → ℕ → Event → Option Val → Type 0
-Keeps w p event value = (s : State) (shift : ℕ) → (delivered s shift (receiver_of event) value).state ≡ (delivered s shift (receiver_of event) (value_of_event w p event)).state
+use Rattle.s38_machine.specs.Events.{GoesAsThatOf}
 
 pub of_act : (w : State) (p depth : ℕ) (request : Request) (event : Event) (value : Option Val)
-    → event ≡ Act depth request → Keeps w p event value
+    → event ≡ Act depth request → GoesAsThatOf w p event value
     → (s : State) (shift : ℕ) → (delivered s shift (receiver_at request.op request.operands) value).state ≡ (delivered s shift (receiver_at request.op request.operands) ((row request.op).gives w p depth request)).state
-of_act w p depth request event value same keeps = subst (λ (e : Event). Keeps w p e value) same keeps
+of_act w p depth request event value same keeps = subst (λ (e : Event). GoesAsThatOf w p e value) same keeps

@@ -9,7 +9,7 @@ ghost use Rattle.s38_rules.specs.Rows.{row};
 ghost use Rattle.s38_rules.specs.State.{State};
 ghost use Rattle.s38_rules.specs.Step.{awake};
 ghost use Rattle.s38_rules.specs.Verdict.{awake_verdict};
-ghost use Rattle.s38_machine.specs.Events.{receiver_of, value_of_event};
+ghost use Rattle.s38_machine.specs.Events.{GoesAsThatOf};
 
 use crate::deliveries::{parted, put};
 use crate::rows;
@@ -51,8 +51,7 @@ pub fn parted_values(
     event: &Event,
 ) -> Result<(Vals, Option<Val>), NoMemory>
     ensures values { IfOk result (λ parts. parts.0 ≡ (effect_of world.now process event.now).values) }
-    ensures kept { IfOk result (λ parts. (s : State) (shift : ℕ) → (delivered s shift (receiver_of event.now) parts.1).state
-        ≡ (delivered s shift (receiver_of event.now) (value_of_event world.now process event.now)).state) }
+    ensures kept { IfOk result (λ parts. GoesAsThatOf world.now process event.now parts.1) }
 {
     match event {
         Event::Act { depth, request } => act_values(alloc, world, process, *depth, request),
@@ -96,7 +95,7 @@ fn take_effect(
     value: Option<Val>,
 ) -> Result<(), NoMemory>
     requires permit { awake_verdict world.old process event.now ≡ Verdict.Permit }
-    requires value { (s : State) (shift : ℕ) → (delivered s shift (receiver_of event.now) value).state ≡ (delivered s shift (receiver_of event.now) (value_of_event world.old process event.now)).state }
+    requires value { GoesAsThatOf world.old process event.now value }
     ensures ok { OnOk result (world.new ≡ (effect_of world.old process event.now).state) }
     ensures err { OnErr result (world.new ≡ world.old) }
 {
@@ -121,7 +120,7 @@ pub fn apply(
     value: Option<Val>,
 ) -> Result<(), NoMemory>
     requires permit { awake_verdict world.old process event.now ≡ Verdict.Permit }
-    requires value { (s : State) (shift : ℕ) → (delivered s shift (receiver_of event.now) value).state ≡ (delivered s shift (receiver_of event.now) (value_of_event world.old process event.now)).state }
+    requires value { GoesAsThatOf world.old process event.now value }
     ensures ok { OnOk result (world.new ≡ awake (effect_of world.old process event.now).state) }
     ensures err { OnErr result (world.new ≡ world.old) }
     ensures kept { length world.new.processes ≡ length world.old.processes }

@@ -2,7 +2,6 @@
 #![tactic(auto)]
 
 mod addresses;
-mod asked;
 mod blocking;
 mod by_operand;
 mod deliveries;
@@ -15,7 +14,6 @@ mod rows;
 mod sole;
 mod verdicts;
 
-pub use asked::Asked;
 use log::Log;
 pub use machine::{Machine, State};
 pub use opening::{general_opening, installed};
@@ -32,4 +30,9 @@ pub fn all_may_be_sent() {
     sends::<World<Objects>>();
     sends::<Log>();
     sends::<Snapshot<World<Objects>>>();
+}
+
+/// A machine may be sent and shared.
+pub fn machine_may_be_sent() {
+    sends::<Machine>();
 }

@@ -1,7 +1,7 @@
 ghost use Rattle.std.specs.Prelude.{◌≡◌, ◌++◌, ◌∷◌, ◌+◌, ◌<◌, ◌≤◌, ◌^◌, [], ℕ, IfOk, OnOk, length, slice_index, slice_set, vec_capacity, vec_len};
 ghost use Rattle.std.specs.Option.{option_copied};
 ghost use Rattle.s38_code.specs.History.{entry_after};
-ghost use Rattle.s38_machine.specs.Asking.{last_reply};
+ghost use Rattle.s38_code.specs.Asking.{last_reply};
 
 use s38_base::NoMemory;
 use s38_code::{Entry, Event, Reply};
@@ -80,7 +80,7 @@ impl Log {
     }
 
     /// The reply of the last entry.
-    #[tactic(auto, unfolding(crate::specs::Asking::last_reply))]
+    #[tactic(auto, unfolding(s38_code::specs::Asking::last_reply))]
     pub fn last_reply(&self) -> Option<&Reply>
         ensures { option_copied result ≡ last_reply self.now.history }
     {

@@ -1,7 +1,9 @@
 ghost use Rattle.std.specs.Prelude.{◌≡◌, ◌-◌, ◌<◌, ◌≤◌, ◌==◌, ◌^◌, not, IfOk, IsErrOf, OnErr, OnOk, Some, length};
 ghost use Rattle.std.specs.Option.{option_copied};
-ghost use Rattle.s38_machine.specs.Asking.{last_reply, reply_by};
+ghost use Rattle.s38_code.specs.Asking.{last_reply, reply_by};
 ghost use Rattle.s38_rules.specs.declared.verdict.Verdict.{Verdict};
+ghost use Rattle.s38_machine.specs.Events.{GoesAsThatOf};
+ghost use Rattle.s38_rules.specs.Effect.{effect_of};
 ghost use Rattle.s38_rules.specs.Kept.{CanBeKept};
 ghost use Rattle.s38_rules.specs.Legal.{IsProcess, IsSound, after, after_by, begun, no_moment};
 ghost use Rattle.s38_rules.specs.Opening.{state_of};
@@ -9,13 +11,12 @@ ghost use Rattle.s38_rules.specs.State.{ready, ready_list};
 ghost use Rattle.s38_rules.specs.Step.{by_verdict, step};
 ghost use Rattle.s38_rules.specs.Verdict.{awake_verdict, verdict_of};
 
-use crate::asked::Asked;
 use crate::effects::{apply, parted_values};
 use crate::log::Log;
 use crate::opening::opened;
 use crate::verdicts::{awake_verdict, verdict_of};
-use s38_base::{Exception, NoMemory, TryClone};
-use s38_code::{Checked, Entry, Event, Job, Reply, StepFault, Stepper};
+use s38_base::{Exception, NoMemory, TryClone, try_clones};
+use s38_code::{Asked, Checked, Entry, Event, Job, Reply, StepFault, Stepper, Val, Vals};
 use s38_invoke::World;
 use s38_objects::Objects;
 use s38_rules::Verdict;
@@ -26,11 +27,11 @@ use std::snapshot::Snapshot;
 /// The objects and the processes of a machine.
 pub type State = World<Objects>;
 
-/// The moment at which each entry is answered while there is no store.
+/// The moment at which each entry is answered if there is no store.
 const NO_MOMENT: u64 = 0;
 
 /// The machine: its objects and processes, and the history of its answers. Contracts see what it was started
-/// with, its state, its history and its marks.
+/// with, its state, its history and its marks, and the moments of its store, of which it has none yet.
 #[derive(Drop)]
 pub struct Machine {
     alloc: Global,
@@ -41,11 +42,11 @@ pub struct Machine {
 
 impl Model for Machine {
     ghost use Rattle.std.specs.Prelude.{◌≡◌, length};
-    ghost use Rattle.s38_rules.specs.Legal.{Run};
+    ghost use Rattle.s38_rules.specs.Legal.{Run, no_moment};
 
     ghost Value = { Run };
 
-    ghost view = { λ m. record { origin = m.origin.value; state = m.world; history = m.log.history; marks = m.log.marks } };
+    ghost view = { λ m. record { origin = m.origin.value; state = m.world; history = m.log.history; marks = m.log.marks; first = no_moment; moment = no_moment } };
 
     ghost invariant = { λ m. m.log.processes ≡ length m.world.processes };
 }
@@ -59,7 +60,7 @@ impl Machine {
         jobs: &[Job],
     ) -> Result<Machine, NoMemory>
         requires kept { CanBeKept objects }
-        ensures { IfOk result (λ machine. machine ≡ begun (state_of objects templates jobs.now)) }
+        ensures { IfOk result (λ machine. machine ≡ begun no_moment (state_of objects templates jobs.now)) }
     {
         let world = opened(alloc, objects, templates, jobs)?;
         let log = Log::new(alloc, jobs.len())?;
@@ -131,24 +132,6 @@ impl Machine {
         verdict_of(&self.world, process, event)
     }
 
-    /// The reply that an event gets.
-    #[tactic(auto, unfolding(s38_rules::specs::Step::step))]
-    fn reply_to(&self, process: u32, event: &Event) -> Result<Reply, NoMemory>
-        ensures { IfOk result (λ r. r ≡ (step self.now.state process event.now).reply) }
-    {
-        if self.world.waits(process) {
-            return Ok(Reply::MustWait);
-        }
-        match awake_verdict(&self.world, process, event) {
-            Verdict::Permit => {
-                let (values, _value) = parted_values(self.alloc, &self.world, process, event)?;
-                Ok(Reply::Done(values))
-            }
-            Verdict::Wait => Ok(Reply::MustWait),
-            Verdict::Refuse(exception) => Ok(Reply::Signal(exception)),
-        }
-    }
-
     /// The reply of the last entry of the history.
     pub fn last_reply(&self) -> Option<&Reply>
         ensures { option_copied result ≡ last_reply self.now.history }
@@ -156,16 +139,24 @@ impl Machine {
         self.log.last_reply()
     }
 
-    /// A permitted event takes effect and is entered.
+    /// A permitted event takes effect and is entered, with the values of its reply, and the value that goes into the
+    /// space of its receiver.
     #[inline(always)]
-    fn permit(&mut self, process: u32, event: Event) -> Result<(), NoMemory>
+    fn enter_permitted(
+        &mut self,
+        process: u32,
+        event: Event,
+        values: Vals,
+        value: Option<Val>,
+    ) -> Result<(), NoMemory>
         requires first { 0 < process }
         requires last { process ≤ length self.old.state.processes }
         requires permit { awake_verdict self.old.state process event ≡ Verdict.Permit }
-        ensures ok { OnOk result (self.new ≡ after_by self.old no_moment process event (by_verdict self.old.state process event Verdict.Permit)) }
+        requires values { values ≡ (effect_of self.old.state process event).values }
+        requires value { GoesAsThatOf self.old.state process event value }
+        ensures ok { OnOk result (self.new ≡ after_by self.old self.old.moment process event (by_verdict self.old.state process event Verdict.Permit)) }
         ensures err { OnErr result (self.new ≡ self.old) }
     {
-        let (values, value) = parted_values(self.alloc, &self.world, process, &event)?;
         self.log.reserve()?;
         match apply(self.alloc, &mut self.world, process, &event, value) {
             Ok(()) => {}
@@ -176,11 +167,41 @@ impl Machine {
         Ok(())
     }
 
+    /// A permitted event takes effect and is entered.
+    #[inline(always)]
+    fn permit(&mut self, process: u32, event: Event) -> Result<(), NoMemory>
+        requires first { 0 < process }
+        requires last { process ≤ length self.old.state.processes }
+        requires permit { awake_verdict self.old.state process event ≡ Verdict.Permit }
+        ensures ok { OnOk result (self.new ≡ after_by self.old self.old.moment process event (by_verdict self.old.state process event Verdict.Permit)) }
+        ensures err { OnErr result (self.new ≡ self.old) }
+    {
+        let (values, value) = parted_values(self.alloc, &self.world, process, &event)?;
+        self.enter_permitted(process, event, values, value)
+    }
+
+    /// The same, with a copy of the reply.
+    fn permit_copied(&mut self, process: u32, event: Event) -> Result<Reply, NoMemory>
+        requires first { 0 < process }
+        requires last { process ≤ length self.old.state.processes }
+        requires permit { awake_verdict self.old.state process event ≡ Verdict.Permit }
+        ensures ok { IfOk result (λ r. (r ≡ (by_verdict self.old.state process event Verdict.Permit).reply)
+            × (self.new ≡ after_by self.old self.old.moment process event (by_verdict self.old.state process event Verdict.Permit))) }
+        ensures err { OnErr result (self.new ≡ self.old) }
+    {
+        let (values, value) = parted_values(self.alloc, &self.world, process, &event)?;
+        let copy = try_clones(self.alloc, values.as_slice())?;
+        match self.enter_permitted(process, event, values, value) {
+            Ok(()) => Ok(Reply::Done(copy)),
+            Err(fault) => Err(fault),
+        }
+    }
+
     /// An event that is not permitted is entered with its reply.
     fn refuse(&mut self, process: u32, event: Event, exception: Exception) -> Result<(), NoMemory>
         requires first { 0 < process }
         requires last { process ≤ length self.old.state.processes }
-        ensures ok { OnOk result (self.new ≡ after_by self.old no_moment process event (by_verdict self.old.state process event (Verdict.Refuse exception))) }
+        ensures ok { OnOk result (self.new ≡ after_by self.old self.old.moment process event (by_verdict self.old.state process event (Verdict.Refuse exception))) }
         ensures err { OnErr result (self.new ≡ self.old) }
     {
         self.log.reserve()?;
@@ -193,7 +214,7 @@ impl Machine {
     fn wait(&mut self, process: u32, event: Event) -> Result<(), NoMemory>
         requires first { 0 < process }
         requires last { process ≤ length self.old.state.processes }
-        ensures ok { OnOk result (self.new ≡ after_by self.old no_moment process event (by_verdict self.old.state process event Verdict.Wait)) }
+        ensures ok { OnOk result (self.new ≡ after_by self.old self.old.moment process event (by_verdict self.old.state process event Verdict.Wait)) }
         ensures err { OnErr result (self.new ≡ self.old) }
     {
         self.log.reserve()?;
@@ -209,7 +230,7 @@ impl Machine {
         requires first { 0 < process }
         requires last { process ≤ length self.old.state.processes }
         requires verdict { awake_verdict self.old.state process event ≡ verdict }
-        ensures ok { OnOk result (self.new ≡ after_by self.old no_moment process event (by_verdict self.old.state process event verdict)) }
+        ensures ok { OnOk result (self.new ≡ after_by self.old self.old.moment process event (by_verdict self.old.state process event verdict)) }
         ensures err { OnErr result (self.new ≡ self.old) }
     {
         match verdict {
@@ -223,7 +244,7 @@ impl Machine {
     fn ask_or(&mut self, process: u32, event: Event) -> Result<Asked, NoMemory>
         requires first { 0 < process }
         requires last { process ≤ length self.old.state.processes }
-        ensures ok { OnOk result (self.new ≡ after self.old no_moment process event) }
+        ensures ok { OnOk result (self.new ≡ after self.old self.old.moment process event) }
         ensures reply { IfOk result (λ asked. reply_by asked self.new.history ≡ Some (step self.old.state process event).reply) }
         ensures err { OnErr result (self.new ≡ self.old) }
     {
@@ -244,7 +265,7 @@ impl Machine {
     pub fn ask(&mut self, process: u32, event: Event) -> Result<Asked, StepFault>
         requires sound { IsSound self.old }
         requires may { IsProcess self.old.origin process }
-        ensures ok { OnOk result (self.new ≡ after self.old no_moment process event) }
+        ensures ok { OnOk result (self.new ≡ after self.old self.old.moment process event) }
         ensures reply { IfOk result (λ asked. reply_by asked self.new.history ≡ Some (step self.old.state process event).reply) }
         ensures err { OnErr result (self.new ≡ self.old) }
         ensures sound { IsSound self.new }
@@ -256,16 +277,45 @@ impl Machine {
         }
     }
 
+    fn answer_copied(
+        &mut self,
+        process: u32,
+        event: Event,
+        verdict: Verdict,
+    ) -> Result<Reply, NoMemory>
+        requires first { 0 < process }
+        requires last { process ≤ length self.old.state.processes }
+        requires verdict { awake_verdict self.old.state process event ≡ verdict }
+        ensures ok { IfOk result (λ r. (r ≡ (by_verdict self.old.state process event verdict).reply) × (self.new ≡ after_by self.old self.old.moment process event (by_verdict self.old.state process event verdict))) }
+        ensures err { OnErr result (self.new ≡ self.old) }
+    {
+        match verdict {
+            Verdict::Permit => self.permit_copied(process, event),
+            Verdict::Wait => match self.wait(process, event) {
+                Ok(()) => Ok(Reply::MustWait),
+                Err(fault) => Err(fault),
+            },
+            Verdict::Refuse(exception) => match self.refuse(process, event, exception) {
+                Ok(()) => Ok(Reply::Signal(exception)),
+                Err(fault) => Err(fault),
+            },
+        }
+    }
+
+    #[tactic(auto, unfolding(s38_rules::specs::Step::step, s38_rules::specs::Legal::after))]
     fn step_or(&mut self, process: u32, event: &Event) -> Result<Reply, NoMemory>
         requires first { 0 < process }
         requires last { process ≤ length self.old.state.processes }
-        ensures ok { IfOk result (λ r. (r ≡ (step self.old.state process event.now).reply) × (self.new ≡ after self.old no_moment process event.now)) }
+        ensures ok { IfOk result (λ r. (r ≡ (step self.old.state process event.now).reply) × (self.new ≡ after self.old self.old.moment process event.now)) }
         ensures err { OnErr result (self.new ≡ self.old) }
     {
+        if self.world.waits(process) {
+            return Ok(Reply::MustWait);
+        }
+        let verdict = awake_verdict(&self.world, process, event);
         let own = event.try_clone(self.alloc)?;
-        let reply = self.reply_to(process, event)?;
-        match self.ask_or(process, own) {
-            Ok(_) => Ok(reply),
+        match self.answer_copied(process, own, verdict) {
+            Ok(reply) => Ok(reply),
             Err(fault) => Err(fault),
         }
     }
@@ -274,7 +324,7 @@ impl Machine {
     pub fn step(&mut self, process: u32, event: &Event) -> Result<Reply, StepFault>
         requires sound { IsSound self.old }
         requires may { IsProcess self.old.origin process }
-        ensures ok { IfOk result (λ r. (r ≡ (step self.old.state process event.now).reply) × (self.new ≡ after self.old no_moment process event.now)) }
+        ensures ok { IfOk result (λ r. (r ≡ (step self.old.state process event.now).reply) × (self.new ≡ after self.old self.old.moment process event.now)) }
         ensures err { OnErr result (self.new ≡ self.old) }
         ensures sound { IsSound self.new }
         ensures going { IsErrOf result StepFault.Stopped → ⊥ }
@@ -308,5 +358,13 @@ impl Stepper for Machine {
 
     fn step(&mut self, process: u32, event: &Event) -> Result<Reply, StepFault> {
         Machine::step(self, process, event)
+    }
+
+    fn ask(&mut self, process: u32, event: Event) -> Result<Asked, StepFault> {
+        Machine::ask(self, process, event)
+    }
+
+    fn last_reply(&self) -> Option<&Reply> {
+        Machine::last_reply(self)
     }
 }

@@ -1,5 +1,6 @@
 //! The row of an instruction, by its family.
 ghost use Rattle.std.specs.Prelude.{◌≡◌, None, IfOk, OnOk, OnErr};
+ghost use Rattle.s38_rules.specs.Changes.{done};
 ghost use Rattle.s38_rules.specs.Rows.{row};
 
 use s38_admin::{contexts, grants, profiles, resolving, spaces};
@@ -115,7 +116,7 @@ pub fn apply(
     request: &Request,
 ) -> Result<(), NoMemory>
     requires { (row request.now.op).fails world.old process depth request.now ≡ None }
-    ensures ok { OnOk result (world.new ≡ (row request.now.op).changes world.old process depth request.now) }
+    ensures ok { OnOk result (world.new ≡ done world.old process ((row request.now.op).changes world.old process depth request.now)) }
     ensures err { OnErr result (world.new ≡ world.old) }
 {
     match family_of(request.op) {

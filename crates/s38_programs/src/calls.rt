@@ -1,5 +1,6 @@
 //! A process calls a program, or goes on in one in place of its own: the arguments suit its parameters, and its
 //! number stands among the process's invocations.
+ghost use Rattle.s38_rules.specs.Changes.{done};
 ghost use Rattle.std.specs.Prelude.{◌≡◌, List, IfNone, IfOk, IfSome, None, OnErr, OnOk, drop, false};
 ghost use Rattle.std.specs.Option.{option_copied, option_map};
 ghost use Rattle.s38_base.specs.declared.attr.Attr.{Attr};
@@ -184,7 +185,7 @@ pub fn call_gives(
 }
 
 /// The program stands behind the frames that count; where memory is refused nothing changes.
-#[tactic(auto, using(crate::proofs::CallLaws::frame_left), unfolding(s38_rules::specs::Programs::callx_changes))]
+#[tactic(auto, using(crate::proofs::CallLaws::frame_left))]
 pub fn callx(
     world: &mut World<Objects>,
     process: u32,
@@ -192,7 +193,7 @@ pub fn callx(
     operands: &[Operand],
 ) -> Result<(), NoMemory>
     requires { callx_fails world.old process depth operands.now ≡ None }
-    ensures ok { OnOk result (world.new ≡ callx_changes world.old process depth operands.now) }
+    ensures ok { OnOk result (world.new ≡ done world.old process (callx_changes world.old.held depth operands.now)) }
     ensures err { OnErr result (world.new ≡ world.old) }
 {
     let program = target(&world.objects, operands, 1);
@@ -200,9 +201,8 @@ pub fn callx(
 }
 
 /// The program stands in place of the last frame that counts.
-#[tactic(auto, unfolding(s38_rules::specs::Programs::xctl_changes))]
 pub fn xctl(world: &mut World<Objects>, process: u32, depth: u16, operands: &[Operand])
-    ensures { world.new ≡ xctl_changes world.old process depth operands.now }
+    ensures { world.new ≡ done world.old process (xctl_changes world.old.held depth operands.now) }
 {
     let program = target(&world.objects, operands, 1);
     world.replace(process, depth, program);

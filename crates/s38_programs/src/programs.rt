@@ -1,4 +1,5 @@
 //! Programs as objects: made of the deck's templates, called, and destroyed.
+ghost use Rattle.s38_rules.specs.Changes.{done};
 ghost use Rattle.std.specs.Prelude.{◌≡◌, None, IfOk, OnOk, OnErr};
 ghost use Rattle.std.specs.Option.{option_copied};
 ghost use Rattle.s38_rules.specs.Programs.{crtpg_changes, crtpg_fails, new_program, program_in, programs_row, template_at};
@@ -8,8 +9,8 @@ use crate::templates::{is_larger, program_in, template_in, template_rule};
 use s38_base::exceptions::LIMIT_EXCEEDED;
 use s38_base::{Exception, Kind, NoMemory, Op, TryClone};
 use s38_changes::{
-    creation_changes, creation_fails, creation_gives, creation_needs, destruction_changes,
-    destruction_needs, in_context,
+    creation_changes, creation_fails, creation_gives, creation_needs, destroy, destruction_needs,
+    in_context,
 };
 use s38_code::{CheckedTemplate, Code, Operand, Request, Val};
 use s38_invoke::World;
@@ -63,7 +64,7 @@ fn program_copy(
 }
 
 /// An object of the program that a template makes.
-#[tactic(auto, using(crate::proofs::CreationLaws::crtpg_created, s38_changes::proofs::CreationLaws::home_placed), unfolding(s38_rules::specs::Programs::crtpg_changes))]
+#[tactic(auto, using(crate::proofs::CreationLaws::crtpg_created, s38_changes::proofs::CreationLaws::home_placed))]
 fn crtpg(
     alloc: Global,
     world: &mut World<Objects>,
@@ -71,7 +72,7 @@ fn crtpg(
     operands: &[Operand],
 ) -> Result<(), NoMemory>
     requires { crtpg_fails world.old process operands.now ≡ None }
-    ensures ok { OnOk result (world.new ≡ crtpg_changes world.old process operands.now) }
+    ensures ok { OnOk result (world.new ≡ done world.old process (crtpg_changes world.old process operands.now)) }
     ensures err { OnErr result (world.new ≡ world.old) }
 {
     let owner = world.user_of(process);
@@ -152,7 +153,7 @@ pub fn apply(
     request: &Request,
 ) -> Result<(), NoMemory>
     requires { (programs_row request.now.op).fails world.old process depth request.now ≡ None }
-    ensures ok { OnOk result (world.new ≡ (programs_row request.now.op).changes world.old process depth request.now) }
+    ensures ok { OnOk result (world.new ≡ done world.old process ((programs_row request.now.op).changes world.old process depth request.now)) }
     ensures err { OnErr result (world.new ≡ world.old) }
 {
     let operands = request.operands.as_slice();
@@ -164,7 +165,7 @@ pub fn apply(
             Ok(())
         }
         Op::Despg => {
-            destruction_changes(world, operands);
+            destroy(world, Kind::Program, operands);
             Ok(())
         }
         _ => Ok(()),

@@ -1,52 +1,46 @@
 -- Laws of the definitions that the crates above rest on.
-use Rattle.std.proofs.Common.{◌≡◌, ℕ, ◌+◌, ◌-◌, ◌==◌, Bool, true, false, List, [], ◌∷◌, ◌++◌, length, map, refl, sym, ◌∙◌, ap, subst, inl, inr, append_assoc, length-append, length-set, get_or-set_other, zero, suc}
+use Rattle.std.proofs.Common.{◌≡◌, ℕ, ◌+◌, ◌-◌, ◌==◌, Bool, true, false, List, [], ◌∷◌, ◌++◌, length, map, refl, sym, ◌∙◌, ap, subst, inl, inr, append_assoc, length-append, length-set, get_or-set_other, arith, zero, suc}
 use Rattle.std.proofs.lemmas.List.{append-nil, length-map}
-use Rattle.std.proofs.lemmas.List.Elements.{All-nil, All-push}
-use Rattle.std.specs.Prelude.{Option, Some, None, slice_get, slice_set}
+use Rattle.std.proofs.lemmas.List.Elements.{All-cons, All-nil}
+use Rattle.std.specs.Prelude.{All, ◌≤◌, Option, Some, None, slice_get, slice_set}
 use Rattle.s38_base.specs.declared.id.ObjNum.{ObjNum}
 use Rattle.s38_base.specs.declared.op.Op.{Op}
-use Rattle.s38_base.specs.declared.op.Op.TheVariants.{Crtctx, Modadr, Rename, Matctx, Desctx, Crtup, Modup, Desup, Grant, Retract, Xfro, Testau, Matau, Matauobj, Rslvsp, Setsppfp, Setspfp, Setdp, Cpybwp, Crtpg, Callx, Xctl, Lock, Unlock, Xfrlock, Matobjlk, Crtq, Crts, Mods, Despg, Dess, Crtinx, Crtds, Crtcr, Insdsen, Updsen, Deldsen, Crtjs, Crtjp, Crtcb, Commit, Decommit}
+use Rattle.s38_base.specs.declared.op.Op.TheVariants.{Crtctx, Rslvsp, Setsppfp, Crtpg, Lock, Crtq, Crtinx, Crtds, Crtjs}
 use Rattle.s38_code.specs.declared.entry.Entry.{Entry}
 use Rattle.s38_code.specs.declared.event.Event.{Event}
 use Rattle.s38_code.specs.declared.event.Event.TheVariants.{Start, Act, Finish}
 use Rattle.s38_code.specs.declared.event.Request.{Request}
-use Rattle.s38_code.specs.declared.family.Family.{Family}
-use Rattle.s38_code.specs.declared.family.Family.TheVariants as families
 use Rattle.s38_code.specs.declared.operand.Operand.{Operand}
 use Rattle.s38_code.specs.declared.operand.Operand.TheVariants.{InSpace}
-use Rattle.s38_code.specs.declared.program.Program.{Program}
 use Rattle.s38_code.specs.declared.reply.Reply.TheVariants.{MustWait}
 use Rattle.s38_code.specs.declared.reply.Val.{Val}
-use Rattle.s38_code.specs.Operations.{family_of}
 use Rattle.s38_code.specs.History.{IsAnswered, entry_after}
 use Rattle.s38_commits.specs.declared.change.UnitChange.{UnitChange}
 use Rattle.s38_commits.specs.Unit.{CommitUnit}
 use Rattle.s38_commits.specs.Units.{UnitMap, unit_of}
-use Rattle.s38_dataspaces.specs.Entries as data_spaces
 use Rattle.s38_rules.specs.declared.process.ProcessEntry.{ProcessEntry}
 use Rattle.s38_rules.specs.declared.process.Started.{Started}
 use Rattle.s38_rules.specs.declared.verdict.Verdict.{Verdict}
 use Rattle.s38_rules.specs.declared.verdict.Verdict.TheVariants.{Permit, Wait, Refuse}
+use Rattle.s38_rules.specs.Changes.{Changes, Stays, Entered, Framed, Committed, Decommitted, Then, done}
 use Rattle.s38_rules.specs.Computing.{receiver_at, shift_at}
-use Rattle.s38_rules.specs.Contexts.{contexts_row, crtctx_changes}
+use Rattle.s38_rules.specs.Contexts.{contexts_row}
 use Rattle.s38_rules.specs.Changing.{logged, logged_in}
-use Rattle.s38_rules.specs.DataSpaces.{change_at, crtcr_changes, crtds_changes, current_changes, cursor_of, data_spaces_row, insdsen_changes, insertion}
-use Rattle.s38_rules.specs.Grants.{grants_row}
+use Rattle.s38_rules.specs.DataSpaces.{data_spaces_row}
 use Rattle.s38_rules.specs.Journaling.{journal_for}
-use Rattle.s38_rules.specs.Journals.{commit_changes, crtcb_changes, crtjp_changes, crtjs_changes, decommit_changes, journals_row}
-use Rattle.s38_rules.specs.Locking.{lock_changes, locks_row, unlock_changes, xfrlock_changes}
-use Rattle.s38_rules.specs.Profiles.{crtup_changes, profiles_row}
+use Rattle.s38_rules.specs.Journals.{journals_row}
+use Rattle.s38_rules.specs.Locking.{locks_row}
 use Rattle.s38_rules.specs.Effect.{effect, effect_of, start_at, end_at}
-use Rattle.s38_rules.specs.Instruction.{AreKept, Instruction, KeepsProcesses, inert, unstacked}
-use Rattle.s38_rules.specs.Invocations.{pushed, replaced, restack, restack_at, restacked, with_stack}
-use Rattle.s38_rules.specs.Legal.{IsEntry, IsProcess, IsSound, IsUnstored, Leads, Run, after, after_by, begun, history_after}
-use Rattle.s38_rules.specs.Operands.{bytes_at, deliver, delivered, target}
-use Rattle.s38_rules.specs.Programs.{callx_changes, created_program, crtpg_changes, program_in, programs_row, template_at, xctl_changes}
-use Rattle.s38_rules.specs.Indexes.{crtinx_changes, indexes_row}
-use Rattle.s38_rules.specs.Queues.{crtq_changes, queues_row}
+use Rattle.s38_rules.specs.Instruction.{AreKept, Instruction, unstacked}
+use Rattle.s38_rules.specs.Invocations.{restack, restack_at, restacked, with_stack}
+use Rattle.s38_rules.specs.Legal.{AreMoments, IsEntry, IsProcess, IsSound, Leads, Run, after, after_by, begun, history_after}
+use Rattle.s38_rules.specs.Operands.{deliver, delivered}
+use Rattle.s38_rules.specs.Programs.{programs_row}
+use Rattle.s38_rules.specs.Indexes.{indexes_row}
+use Rattle.s38_rules.specs.Queues.{queues_row}
 use Rattle.s38_rules.specs.Resolving.{resolving_row}
-use Rattle.s38_rules.specs.Rows.{row, row_in}
-use Rattle.s38_rules.specs.Spaces.{crts_changes, spaces_row}
+use Rattle.s38_rules.specs.Rows.{row}
+use Rattle.s38_rules.specs.Spaces.{spaces_row}
 use Rattle.s38_rules.specs.State.{State, process_entry, waits}
 use Rattle.s38_rules.specs.Step.{step, by_verdict, by_waiting}
 use Rattle.s38_rules.specs.Units.{all_decommitted, committed, decommitted, decommitted_of}
@@ -120,8 +114,7 @@ delivered_keeps : (s : State) (shift : ℕ) (receiver : Option Operand) (v : Opt
 delivered_keeps s shift receiver None = refl
 delivered_keeps s shift receiver (Some v) = deliver_keeps s shift receiver v
 
--- ---- an instruction neither makes a process nor takes one away, and changes of its own the frames alone: one line
--- for each row
+-- ---- no change makes a process or takes one away, and of its own a process has at most other frames: one case a word
 
 same_kept : (p : ℕ) (xs : List ProcessEntry) → AreKept p xs xs
 same_kept p xs = record { stays = refl; others = λ k d h. refl }
@@ -155,50 +148,9 @@ restack_kept f s p (Some x) h = record {
 restacks : (f : List ObjNum → List ObjNum) (s : State) (p : ℕ) → AreKept p s.processes (restack f s p).processes
 restacks f s p = restack_kept f s p (process_entry s p) refl
 
-created_program_keeps : (s : State) (p : ℕ) (ops : List Operand) (program : Option Program) → (created_program s p ops program).processes ≡ s.processes
-created_program_keeps s p ops None = refl
-created_program_keeps s p ops (Some program) = refl
-
-keeps_programs : (op : Op) → KeepsProcesses (programs_row op)
-unfolding programs_row crtpg_changes callx_changes xctl_changes
-keeps_programs Crtpg = record { kept = λ s p d r. still p s.processes _ (created_program_keeps s p r.operands (program_in (template_at s r.operands))) }
-keeps_programs Callx = record { kept = λ s p d r. restacks (pushed d (record { 0 = target s.held r.operands 1 })) s p }
-keeps_programs Xctl = record { kept = λ s p d r. restacks (replaced d (record { 0 = target s.held r.operands 1 })) s p }
-keeps_programs Despg = record { kept = λ s p d r. same_kept p s.processes }
-keeps_programs _ = record { kept = λ s p d r. same_kept p s.processes }
-
-keeps_resolving : (op : Op) → KeepsProcesses (resolving_row op)
-unfolding resolving_row
-keeps_resolving Rslvsp = record { kept = λ s p d r. same_kept p s.processes }
-keeps_resolving Setspfp = record { kept = λ s p d r. same_kept p s.processes }
-keeps_resolving _ = record { kept = λ s p d r. same_kept p s.processes }
-
--- and resolving changes nothing at all
-pub resolving_still : (op : Op) (s : State) (p d : ℕ) (r : Request) → (resolving_row op).changes s p d r ≡ s
-unfolding resolving_row
-resolving_still Rslvsp s p d r = refl
-resolving_still Setspfp s p d r = refl
-resolving_still _ s p d r = refl
-
-keeps_spaces : (op : Op) → KeepsProcesses (spaces_row op)
-unfolding spaces_row crts_changes
-keeps_spaces Setsppfp = record { kept = λ s p d r. same_kept p s.processes }
-keeps_spaces Setdp = record { kept = λ s p d r. same_kept p s.processes }
-keeps_spaces Cpybwp = record { kept = λ s p d r. same_kept p s.processes }
-keeps_spaces Crts = record { kept = λ s p d r. same_kept p s.processes }
-keeps_spaces Mods = record { kept = λ s p d r. same_kept p s.processes }
-keeps_spaces Dess = record { kept = λ s p d r. same_kept p s.processes }
-keeps_spaces _ = record { kept = λ s p d r. same_kept p s.processes }
-
-keeps_queues : (op : Op) → KeepsProcesses (queues_row op)
-unfolding queues_row crtq_changes
-keeps_queues Crtq = record { kept = λ s p d r. same_kept p s.processes }
-keeps_queues _ = record { kept = λ s p d r. same_kept p s.processes }
-
-keeps_indexes : (op : Op) → KeepsProcesses (indexes_row op)
-unfolding indexes_row crtinx_changes
-keeps_indexes Crtinx = record { kept = λ s p d r. same_kept p s.processes }
-keeps_indexes _ = record { kept = λ s p d r. same_kept p s.processes }
+-- one change behind another
+kept_then : (p : ℕ) (xs ys zs : List ProcessEntry) → AreKept p xs ys → AreKept p ys zs → AreKept p xs zs
+kept_then p xs ys zs a b = record { stays = b.stays ∙ a.stays; others = λ k d away. b.others k d away ∙ a.others k d away }
 
 logged_in_keeps : (s : State) (p block : ℕ) (change : UnitChange) (journal : Option ℕ) → (logged_in s p block change journal).processes ≡ s.processes
 logged_in_keeps s p block change None = refl
@@ -209,130 +161,49 @@ pub logged_keeps : (s : State) (p block : ℕ) (change : UnitChange) → (logged
 unfolding logged
 logged_keeps s p block change = logged_in_keeps s p block change (journal_for s.held change.space.0)
 
-inserted_keeps : (s : State) (p : ℕ) (ops : List Operand) → (insdsen_changes s p ops).processes ≡ s.processes
-unfolding insdsen_changes
-inserted_keeps s p ops = logged_keeps s p (cursor_of s.held ops 1).block.0 (insertion s.held ops)
-
-changed_keeps : (s : State) (p : ℕ) (ops : List Operand) (entry : data_spaces.Entry) → (current_changes s p ops entry).processes ≡ s.processes
-unfolding current_changes
-changed_keeps s p ops entry = logged_keeps s p (cursor_of s.held ops 1).block.0 (change_at s.held ops entry)
-
-keeps_data_spaces : (op : Op) → KeepsProcesses (data_spaces_row op)
-unfolding data_spaces_row crtds_changes crtcr_changes
-keeps_data_spaces Crtds = record { kept = λ s p d r. same_kept p s.processes }
-keeps_data_spaces Crtcr = record { kept = λ s p d r. same_kept p s.processes }
-keeps_data_spaces Insdsen = record { kept = λ s p d r. still p s.processes _ (inserted_keeps s p r.operands) }
-keeps_data_spaces Updsen = record { kept = λ s p d r. still p s.processes _ (changed_keeps s p r.operands (Some (bytes_at s.held r.operands 2))) }
-keeps_data_spaces Deldsen = record { kept = λ s p d r. still p s.processes _ (changed_keeps s p r.operands None) }
-keeps_data_spaces _ = record { kept = λ s p d r. same_kept p s.processes }
-
 committed_keeps : (s : State) (p block : ℕ) (unit : Option CommitUnit) → (committed s p block unit).processes ≡ s.processes
 committed_keeps s p block None = refl
 committed_keeps s p block (Some unit) = refl
 
-keeps_journals : (op : Op) → KeepsProcesses (journals_row op)
-unfolding journals_row crtjs_changes crtjp_changes crtcb_changes commit_changes decommit_changes
-keeps_journals Crtjs = record { kept = λ s p d r. same_kept p s.processes }
-keeps_journals Crtjp = record { kept = λ s p d r. same_kept p s.processes }
-keeps_journals Crtcb = record { kept = λ s p d r. same_kept p s.processes }
-keeps_journals Commit = record { kept = λ s p d r. still p s.processes _ (committed_keeps s p (target s.held r.operands 1) (unit_of s.units (target s.held r.operands 1))) }
-keeps_journals Decommit = record { kept = λ s p d r. still p s.processes _ (decommitted_keeps s p (target s.held r.operands 1) (unit_of s.units (target s.held r.operands 1))) }
-keeps_journals _ = record { kept = λ s p d r. same_kept p s.processes }
+pub done_keeps : (x : Changes) (s : State) (p : ℕ) → AreKept p s.processes (done s p x).processes
+done_keeps (Entered block change f) s p = still p s.processes _ (logged_keeps s p block change)
+done_keeps (Framed f) s p = restacks f s p
+done_keeps (Committed block) s p = still p s.processes _ (committed_keeps s p block (unit_of s.units block))
+done_keeps (Decommitted block) s p = still p s.processes _ (decommitted_keeps s p block (unit_of s.units block))
+done_keeps (Then a b) s p = kept_then p s.processes (done s p a).processes _ (done_keeps a s p) (done_keeps b (done s p a) p)
+done_keeps _ s p = same_kept p s.processes
 
-keeps_contexts : (op : Op) → KeepsProcesses (contexts_row op)
-unfolding contexts_row crtctx_changes
-keeps_contexts Crtctx = record { kept = λ s p d r. same_kept p s.processes }
-keeps_contexts Desctx = record { kept = λ s p d r. same_kept p s.processes }
-keeps_contexts Modadr = record { kept = λ s p d r. same_kept p s.processes }
-keeps_contexts Rename = record { kept = λ s p d r. same_kept p s.processes }
-keeps_contexts Matctx = record { kept = λ s p d r. same_kept p s.processes }
-keeps_contexts _ = record { kept = λ s p d r. same_kept p s.processes }
-
-keeps_locks : (op : Op) → KeepsProcesses (locks_row op)
-unfolding locks_row lock_changes unlock_changes xfrlock_changes
-keeps_locks Lock = record { kept = λ s p d r. same_kept p s.processes }
-keeps_locks Unlock = record { kept = λ s p d r. same_kept p s.processes }
-keeps_locks Xfrlock = record { kept = λ s p d r. same_kept p s.processes }
-keeps_locks Matobjlk = record { kept = λ s p d r. same_kept p s.processes }
-keeps_locks _ = record { kept = λ s p d r. same_kept p s.processes }
-
-keeps_profiles : (op : Op) → KeepsProcesses (profiles_row op)
-unfolding profiles_row crtup_changes
-keeps_profiles Crtup = record { kept = λ s p d r. same_kept p s.processes }
-keeps_profiles Modup = record { kept = λ s p d r. same_kept p s.processes }
-keeps_profiles Desup = record { kept = λ s p d r. same_kept p s.processes }
-keeps_profiles _ = record { kept = λ s p d r. same_kept p s.processes }
-
-keeps_grants : (op : Op) → KeepsProcesses (grants_row op)
-unfolding grants_row
-keeps_grants Grant = record { kept = λ s p d r. same_kept p s.processes }
-keeps_grants Retract = record { kept = λ s p d r. same_kept p s.processes }
-keeps_grants Xfro = record { kept = λ s p d r. same_kept p s.processes }
-keeps_grants Testau = record { kept = λ s p d r. same_kept p s.processes }
-keeps_grants Matau = record { kept = λ s p d r. same_kept p s.processes }
-keeps_grants Matauobj = record { kept = λ s p d r. same_kept p s.processes }
-keeps_grants _ = record { kept = λ s p d r. same_kept p s.processes }
-
-keeps_inert : KeepsProcesses inert
-keeps_inert = record { kept = λ s p d r. same_kept p s.processes }
-
-pub keeps_row : (f : Family) (op : Op) → KeepsProcesses (row_in f op)
-unfolding row_in
-keeps_row families.Computing op = record { kept = λ s p d r. same_kept p s.processes }
-keeps_row families.Resolving op = keeps_resolving op
-keeps_row families.Contexts op = keeps_contexts op
-keeps_row families.Profiles op = keeps_profiles op
-keeps_row families.Grants op = keeps_grants op
-keeps_row families.Programs op = keeps_programs op
-keeps_row families.Locks op = keeps_locks op
-keeps_row families.Spaces op = keeps_spaces op
-keeps_row families.Queues op = keeps_queues op
-keeps_row families.Indexes op = keeps_indexes op
-keeps_row families.DataSpaces op = keeps_data_spaces op
-keeps_row families.Journals op = keeps_journals op
-keeps_row _ op = keeps_inert
+-- resolving changes nothing at all
+pub resolving_still : (op : Op) (s : State) (p d : ℕ) (r : Request) → (resolving_row op).changes s p d r ≡ Stays
+unfolding resolving_row
+resolving_still Rslvsp s p d r = refl
+resolving_still _ s p d r = refl
 
 -- ---- no row of these families needs a special authority
 
 pub unspecial_contexts : (op : Op) (s : State) (p d : ℕ) (r : Request) → (contexts_row op).special s p d r ≡ 0
 unfolding contexts_row
 unspecial_contexts Crtctx s p d r = refl
-unspecial_contexts Desctx s p d r = refl
-unspecial_contexts Modadr s p d r = refl
-unspecial_contexts Rename s p d r = refl
-unspecial_contexts Matctx s p d r = refl
 unspecial_contexts _ s p d r = refl
 
 pub unspecial_resolving : (op : Op) (s : State) (p d : ℕ) (r : Request) → (resolving_row op).special s p d r ≡ 0
 unfolding resolving_row
 unspecial_resolving Rslvsp s p d r = refl
-unspecial_resolving Setspfp s p d r = refl
 unspecial_resolving _ s p d r = refl
 
 pub unspecial_programs : (op : Op) (s : State) (p d : ℕ) (r : Request) → (programs_row op).special s p d r ≡ 0
 unfolding programs_row
 unspecial_programs Crtpg s p d r = refl
-unspecial_programs Callx s p d r = refl
-unspecial_programs Xctl s p d r = refl
-unspecial_programs Despg s p d r = refl
 unspecial_programs _ s p d r = refl
 
 pub unspecial_locks : (op : Op) (s : State) (p d : ℕ) (r : Request) → (locks_row op).special s p d r ≡ 0
 unfolding locks_row
 unspecial_locks Lock s p d r = refl
-unspecial_locks Unlock s p d r = refl
-unspecial_locks Xfrlock s p d r = refl
-unspecial_locks Matobjlk s p d r = refl
 unspecial_locks _ s p d r = refl
 
 pub unspecial_spaces : (op : Op) (s : State) (p d : ℕ) (r : Request) → (spaces_row op).special s p d r ≡ 0
 unfolding spaces_row
 unspecial_spaces Setsppfp s p d r = refl
-unspecial_spaces Setdp s p d r = refl
-unspecial_spaces Cpybwp s p d r = refl
-unspecial_spaces Crts s p d r = refl
-unspecial_spaces Mods s p d r = refl
-unspecial_spaces Dess s p d r = refl
 unspecial_spaces _ s p d r = refl
 
 pub unspecial_queues : (op : Op) (s : State) (p d : ℕ) (r : Request) → (queues_row op).special s p d r ≡ 0
@@ -348,24 +219,22 @@ unspecial_indexes _ s p d r = refl
 pub unspecial_data_spaces : (op : Op) (s : State) (p d : ℕ) (r : Request) → (data_spaces_row op).special s p d r ≡ 0
 unfolding data_spaces_row
 unspecial_data_spaces Crtds s p d r = refl
-unspecial_data_spaces Crtcr s p d r = refl
 unspecial_data_spaces _ s p d r = refl
 
 pub unspecial_journals : (op : Op) (s : State) (p d : ℕ) (r : Request) → (journals_row op).special s p d r ≡ 0
 unfolding journals_row
 unspecial_journals Crtjs s p d r = refl
-unspecial_journals Crtjp s p d r = refl
 unspecial_journals _ s p d r = refl
 
 -- ---- effects
 
--- an effect keeps the processes as its row does
-pub act_keeps : (i : Instruction) (s : State) (p d : ℕ) (r : Request) → KeepsProcesses i → AreKept p s.processes (effect i s p d r).state.processes
+-- an effect keeps the processes
+pub act_keeps : (i : Instruction) (s : State) (p d : ℕ) (r : Request) → AreKept p s.processes (effect i s p d r).state.processes
 unfolding effect
-act_keeps i s p d r keeps =
+act_keeps i s p d r =
     subst (λ (ys : List ProcessEntry). AreKept p s.processes ys)
-    (sym (delivered_keeps (i.changes s p d r) (shift_at s.held r.op r.operands) (receiver_at r.op r.operands) (i.gives s p d r)))
-    (keeps.kept s p d r)
+    (sym (delivered_keeps (done s p (i.changes s p d r)) (shift_at s.held r.op r.operands) (receiver_at r.op r.operands) (i.gives s p d r)))
+    (done_keeps (i.changes s p d r) s p)
 
 -- as many processes as before
 pub kept_count : (p : ℕ) (xs ys : List ProcessEntry) → AreKept p xs ys → length ys ≡ length xs
@@ -375,7 +244,7 @@ kept_count p xs ys kept = sym (length-map ys unstacked) ∙ ap length kept.stays
 pub effect_keeps : (s : State) (p : ℕ) (e : Event) → length (effect_of s p e).state.processes ≡ length s.processes
 unfolding effect_of
 effect_keeps s p Start = start_keeps s p (process_entry s p)
-effect_keeps s p (Act depth request) = kept_count p s.processes _ (act_keeps (row request.op) s p depth request (keeps_row (family_of request.op) request.op))
+effect_keeps s p (Act depth request) = kept_count p s.processes _ (act_keeps (row request.op) s p depth request)
 effect_keeps s p (Finish cause) = end_keeps s p (process_entry s p)
 
 verdict_keeps : (s : State) (p : ℕ) (e : Event) (v : Verdict) → length (by_verdict s p e v).state.processes ≡ length s.processes
@@ -392,33 +261,54 @@ pub step_keeps : (s : State) (p : ℕ) (e : Event) → length (step s p e).state
 unfolding step
 step_keeps s p e = waiting_keeps (waits s p) s p e
 
-sound_by : (m : Run) (mark p : ℕ) (e : Event) (b : Bool) → (step m.state p e).enters ≡ b → IsSound m → IsProcess m.origin p → IsUnstored mark → IsSound (after_by m mark p e (step m.state p e))
-sound_by m mark p e true h sound may unstored =
+-- ---- moments
+
+moments_later : (first : ℕ) (marks : List ℕ) (now later : ℕ) → AreMoments first marks now → now ≤ later → AreMoments first marks later
+moments_later first [] now later moments after = omega (arith, moments, after)
+moments_later first (mark ∷ marks) now later moments after = (moments.0, moments_later mark marks now later moments.1 after)
+
+moments_more : (first : ℕ) (marks : List ℕ) (now mark : ℕ) → AreMoments first marks now → now ≤ mark → AreMoments first (marks ++ mark ∷ []) mark
+moments_more first [] now mark moments after = (omega (arith, moments, after), omega arith)
+moments_more first (m ∷ marks) now mark moments after = (moments.0, moments_more m marks now mark moments.1 after)
+
+moments_rise : (first : ℕ) (marks : List ℕ) (now : ℕ) → AreMoments first marks now → first ≤ now
+moments_rise first [] now moments = moments
+moments_rise first (mark ∷ marks) now moments = omega (arith, moments.0, moments_rise mark marks now moments.1)
+
+-- where the moment stayed, all marks are that moment
+pub moments_stay : (first : ℕ) (marks : List ℕ) → AreMoments first marks first → All (λ mark. mark ≡ first) marks
+moments_stay first [] moments = All-nil (λ mark. mark ≡ first)
+moments_stay first (mark ∷ marks) moments =
+    let same : mark ≡ first = omega (arith, moments.0, moments_rise mark marks first moments.1) in
+    All-cons (λ m. m ≡ first) mark marks same (moments_stay first marks (subst (λ (m : ℕ). AreMoments m marks first) same moments.1))
+
+sound_by : (m : Run) (mark p : ℕ) (e : Event) (b : Bool) → (step m.state p e).enters ≡ b → IsSound m → IsProcess m.origin p → m.moment ≤ mark → IsSound (after_by m mark p e (step m.state p e))
+sound_by m mark p e true h sound may later =
     let here : IsProcess m.state p = record { first = may.first; last = rw sound.kept may.last } in
     let one : IsEntry m.state ([] ++ m.history) (entry_after m.history p e (step m.state p e).reply) =
     record { process = here; entered = h; reply = refl; seq = refl } in
     record {
       legal = rw h (leads_more m.origin [] m.history m.state _ sound.legal one);
       marked = rw h (simp length-append (ap (λ n. n + 1) sound.marked));
-      stamped = rw h (All-push IsUnstored m.marks mark sound.stamped unstored);
+      stamped = rw h (moments_more m.first m.marks m.moment mark sound.stamped later);
       kept = step_keeps m.state p e ∙ sound.kept;
     }
-sound_by m mark p e false h sound may unstored =
+sound_by m mark p e false h sound may later =
     record {
       legal = rw h (subst (λ t. Leads m.origin [] m.history t) (sym (silent m.state p e h)) sound.legal);
       marked = rw h sound.marked;
-      stamped = rw h sound.stamped;
+      stamped = rw h (moments_later m.first m.marks m.moment mark sound.stamped later);
       kept = step_keeps m.state p e ∙ sound.kept;
     }
 
 -- a step of a job's process keeps a machine sound
-pub sound_after : (m : Run) (mark p : ℕ) (e : Event) → IsSound m → IsProcess m.origin p → IsUnstored mark → IsSound (after m mark p e)
+pub sound_after : (m : Run) (mark p : ℕ) (e : Event) → IsSound m → IsProcess m.origin p → m.moment ≤ mark → IsSound (after m mark p e)
 unfolding after
-sound_after m mark p e sound may unstored = sound_by m mark p e (step m.state p e).enters refl sound may unstored
+sound_after m mark p e sound may later = sound_by m mark p e (step m.state p e).enters refl sound may later
 
 -- a machine that has just begun is sound
-pub sound_begun : (s : State) → IsSound (begun s)
-sound_begun s = record { legal = refl; marked = refl; stamped = All-nil IsUnstored; kept = refl }
+pub sound_begun : (moment : ℕ) (s : State) → IsSound (begun moment s)
+sound_begun moment s = record { legal = refl; marked = refl; stamped = omega arith; kept = refl }
 
 answered_by : (m : Run) (p : ℕ) (e : Event) (b : Bool) → (step m.state p e).enters ≡ b → IsAnswered p e (step m.state p e).reply m.history (history_after m.history p e (step m.state p e))
 answered_by m p e true h = rw h (inl refl)

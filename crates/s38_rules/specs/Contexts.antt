@@ -28,8 +28,9 @@ use Rattle.s38_rules.specs.declared.need.Need.{Need}
 use Rattle.s38_rules.specs.declared.need.Sought.TheVariants.{Any, Of}
 use Rattle.s38_rules.specs.declared.object.Body.TheVariants as bodies
 use Rattle.s38_rules.specs.declared.object.Object.{Object}
-use Rattle.s38_rules.specs.Creation.{creation_changes, creation_fails, creation_gives, destruction_changes, destruction_needs, is_taken_beside, machine_needs, of_machine}
-use Rattle.s38_rules.specs.Held.{Held, contents, context_in, home, is_there, kind_of, moved, object, renamed}
+use Rattle.s38_rules.specs.Changes.{Changes, Gone, Made, Moved, Named}
+use Rattle.s38_rules.specs.Creation.{creation_fails, creation_gives, destruction_needs, is_taken_beside, machine_needs, of_machine}
+use Rattle.s38_rules.specs.Held.{Held, contents, context_in, home, is_there, kind_of, object}
 use Rattle.s38_rules.specs.Instruction.{Instruction, inert}
 use Rattle.s38_rules.specs.Needs.{on_implied, on_object}
 use Rattle.s38_rules.specs.Operands.{blank, count_image, fitted, id_at, is_given, is_machine, rights_at, room_at, target}
@@ -45,8 +46,8 @@ new_context h ops = of_machine kinds.Context (rights_at ops 3) h ops
 unfoldable pub crtctx_fails : State → ℕ → List Operand → Option Exception
 crtctx_fails s p ops = creation_fails s.held (user_of s p) (new_context s.held ops) None
 
-unfoldable pub crtctx_changes : State → ℕ → List Operand → State
-crtctx_changes s p ops = record s { held = creation_changes s.held (user_of s p) (new_context s.held ops) bodies.Context }
+abbrev pub crtctx_changes : State → ℕ → List Operand → Changes
+crtctx_changes s p ops = Made (user_of s p) (new_context s.held ops) (Some bodies.Context)
 
 abbrev pub crtctx : Instruction
 crtctx = record inert {
@@ -66,7 +67,7 @@ abbrev pub desctx : Instruction
 desctx = record inert {
   needs = λ s p d r. destruction_needs kinds.Context;
   fails = λ s p d r. desctx_fails s.held r.operands;
-  changes = λ s p d r. record s { held = destruction_changes s.held r.operands };
+  changes = λ s p d r. Gone kinds.Context (target s.held r.operands 1);
 }
 
 -- ---- the context that an object is in
@@ -104,14 +105,14 @@ modadr_fails h ops =
     (fails (is_name_beside h (target h ops 1) (target h ops 2) (object h (target h ops 1))) exceptions.duplicate_identification 1))
 
 -- the object is in the new context, or in none
-unfoldable pub modadr_changes : Held → List Operand → Held
-modadr_changes h ops = moved h (target h ops 1) (home h (target h ops 2))
+abbrev pub modadr_changes : Held → List Operand → Changes
+modadr_changes h ops = Moved (target h ops 1) (home h (target h ops 2))
 
 abbrev pub modadr : Instruction
 modadr = record inert {
   needs = λ s p d r. modadr_needs s.held r.operands;
   fails = λ s p d r. modadr_fails s.held r.operands;
-  changes = λ s p d r. record s { held = modadr_changes s.held r.operands };
+  changes = λ s p d r. modadr_changes s.held r.operands;
 }
 
 -- ---- RENAME
@@ -135,18 +136,14 @@ rename_rule h n (Some id) =
 unfoldable pub rename_fails : Held → List Operand → Option Exception
 rename_fails h ops = rename_rule h (target h ops 1) (id_at ops 2)
 
-abbrev pub renamed_by : Held → ℕ → Option Id → Held
-renamed_by h n None = h
-renamed_by h n (Some id) = renamed h n id
-
-unfoldable pub rename_changes : Held → List Operand → Held
-rename_changes h ops = renamed_by h (target h ops 1) (id_at ops 2)
+abbrev pub rename_changes : Held → List Operand → Changes
+rename_changes h ops = Named (target h ops 1) (id_at ops 2)
 
 abbrev pub rename : Instruction
 rename = record inert {
   needs = λ s p d r. rename_needs s.held r.operands;
   fails = λ s p d r. rename_fails s.held r.operands;
-  changes = λ s p d r. record s { held = rename_changes s.held r.operands };
+  changes = λ s p d r. rename_changes s.held r.operands;
 }
 
 -- ---- MATCTX
@@ -180,8 +177,11 @@ abbrev pub names_image : List (Listed × ObjNum) → List ℕ
 names_image names = count_image (length names) ++ flat_map (λ (x : Listed × ObjNum). name_image x.0) names
 
 -- the number of the objects in the context, and their identifications in order
-unfoldable pub matctx_gives : Held → List Operand → Val
-matctx_gives h ops = vals.Bytes (fitted (room_at ops 1) 0 (names_image (entered [] (contents h (context_at h ops)))))
+unfoldable pub matctx_bytes : Held → List Operand → List ℕ
+matctx_bytes h ops = fitted (room_at ops 1) 0 (names_image (entered [] (contents h (context_at h ops))))
+
+abbrev pub matctx_gives : Held → List Operand → Val
+matctx_gives h ops = vals.Bytes (matctx_bytes h ops)
 
 abbrev pub matctx : Instruction
 matctx = record inert {

@@ -9,6 +9,7 @@ use Rattle.s38_base.specs.declared.pointer.Pointer.{Pointer}
 use Rattle.s38_base.specs.declared.pointer.Pointer.TheVariants as pointers
 use Rattle.s38_base.specs.declared.words.Category.TheVariants.{Change, Control}
 use Rattle.s38_base.specs.Exceptions as exceptions
+use Rattle.s38_base.specs.Ids.{same_kind}
 use Rattle.s38_base.specs.Limits.{last_number, machine_context, most_objects}
 use Rattle.s38_base.specs.RightNames as rights
 use Rattle.s38_base.specs.Signals.{fails, first}
@@ -23,7 +24,7 @@ use Rattle.s38_rules.specs.declared.object.Object.{Object}
 use Rattle.s38_rules.specs.declared.rows.PrivateRow.{PrivateRow}
 use Rattle.s38_rules.specs.Authority.{is_profile}
 use Rattle.s38_rules.specs.Headers.{limit_of}
-use Rattle.s38_rules.specs.Held.{Held, charge_in, found, has_number, home, object, with_object, without}
+use Rattle.s38_rules.specs.Held.{Held, charge_in, found, has_number, home, kind_of, object, with_object, without}
 use Rattle.s38_rules.specs.Needs.{on_implied, on_object}
 use Rattle.s38_rules.specs.PrivateRows.{row_for}
 use Rattle.s38_rules.specs.Operands.{id_at, is_given, rights_at, target}
@@ -144,6 +145,10 @@ creation_changes h owner made body = created h owner made body made.id
 unfoldable pub destruction_needs : Kind → List Need
 destruction_needs kind = on_object 1 (Of kind) rights.objctl (Some Control)
 
--- the object is there no more
-unfoldable pub destruction_changes : Held → List Operand → Held
-destruction_changes h ops = without h (target h ops 1)
+abbrev pub is_of_kind : Kind → Option Object → Bool
+is_of_kind kind None = false
+is_of_kind kind (Some o) = same_kind kind (kind_of o.body)
+
+-- the object of a number, where it is of the kind, is there no more
+abbrev pub destroyed : Held → Kind → ℕ → Held
+destroyed h kind n = if is_of_kind kind (object h n) then without h n else h

@@ -32,14 +32,15 @@ use Rattle.s38_rules.specs.declared.data_body.DataBody.{DataBody}
 use Rattle.s38_rules.specs.declared.need.Need.{Need}
 use Rattle.s38_rules.specs.declared.need.Sought.TheVariants.{Of}
 use Rattle.s38_rules.specs.declared.object.Body.TheVariants as bodies
-use Rattle.s38_rules.specs.Changing.{block_rules, change_of, held_rule, journal_rule, logged, read_rule}
-use Rattle.s38_rules.specs.Creation.{creation_changes, creation_fails, creation_gives, creation_needs, destruction_changes, destruction_needs, in_context}
+use Rattle.s38_rules.specs.Changes.{Changes, Entered, Gone, Made, OnCursor, Then}
+use Rattle.s38_rules.specs.Changing.{block_rules, change_of, held_rule, journal_rule, read_rule}
+use Rattle.s38_rules.specs.Creation.{creation_fails, creation_gives, creation_needs, destruction_needs, in_context}
 use Rattle.s38_rules.specs.Held.{Held}
 use Rattle.s38_rules.specs.Instruction.{Instruction, inert}
 use Rattle.s38_rules.specs.Journaling.{journal_for}
 use Rattle.s38_rules.specs.Needs.{on_implied, on_object}
 use Rattle.s38_rules.specs.Operands.{bytes_at, fitted, is_given, number_at, place, room_at, scalar_attr, size_at, target, word_at}
-use Rattle.s38_rules.specs.Parts.{cursor_at, on_cursor, on_table, table_at}
+use Rattle.s38_rules.specs.Parts.{cursor_at, table_at}
 use Rattle.s38_rules.specs.State.{State}
 use Rattle.s38_rules.specs.Users.{user_of}
 
@@ -66,9 +67,8 @@ fields_at ops k = proper_fields (attributes_of (place ops k))
 abbrev pub new_data_space : List Operand → DataBody
 new_data_space ops = record { space = record { fields = fields_at ops 5; spare = 0; entries = [] }; port = record { 0 = 0 } }
 
-unfoldable pub crtds_changes : State → ℕ → List Operand → State
-crtds_changes s p ops =
-    record s { held = creation_changes s.held (user_of s p) (created_data_space s.held ops) (bodies.DataSpace (new_data_space ops)) }
+abbrev pub crtds_changes : State → ℕ → List Operand → Changes
+crtds_changes s p ops = Made (user_of s p) (created_data_space s.held ops) (Some (bodies.DataSpace (new_data_space ops)))
 
 abbrev pub crtds : Instruction
 crtds = record inert {
@@ -88,7 +88,7 @@ abbrev pub desds : Instruction
 desds = record inert {
   needs = λ s p d r. destruction_needs kinds.DataSpace;
   fails = λ s p d r. desds_fails s r.operands;
-  changes = λ s p d r. record s { held = destruction_changes s.held r.operands };
+  changes = λ s p d r. Gone kinds.DataSpace (target s.held r.operands 1);
 }
 
 -- ---- CRTCR
@@ -111,9 +111,8 @@ crtcr_fails s p ops = creation_fails s.held (user_of s p) (created_cursor s.held
 abbrev pub new_cursor : Held → List Operand → Cursor
 new_cursor h ops = record { space = record { 0 = target h ops 5 }; block = record { 0 = target h ops 6 }; position = 0 }
 
-unfoldable pub crtcr_changes : State → ℕ → List Operand → State
-crtcr_changes s p ops =
-    record s { held = creation_changes s.held (user_of s p) (created_cursor s.held ops) (bodies.Cursor (new_cursor s.held ops)) }
+abbrev pub crtcr_changes : State → ℕ → List Operand → Changes
+crtcr_changes s p ops = Made (user_of s p) (created_cursor s.held ops) (Some (bodies.Cursor (new_cursor s.held ops)))
 
 abbrev pub crtcr : Instruction
 crtcr = record inert {
@@ -128,7 +127,7 @@ crtcr = record inert {
 abbrev pub descr : Instruction
 descr = record inert {
   needs = λ s p d r. destruction_needs kinds.Cursor;
-  changes = λ s p d r. record s { held = destruction_changes s.held r.operands };
+  changes = λ s p d r. Gone kinds.Cursor (target s.held r.operands 1);
 }
 
 -- ---- a cursor and its data space
@@ -205,15 +204,18 @@ abbrev pub moved_to : Option ℕ → Cursor → Cursor
 moved_to None c = c
 moved_to (Some position) c = at_position position c
 
--- the cursor stands there
-unfoldable pub setcr_changes : Held → List Operand → Held
-setcr_changes h ops = on_cursor h (target h ops 1) (moved_to (sought_ordinal (seek_of (word_at ops 2)) h ops))
+-- the cursor is at the entry that is sought
+unfoldable pub at_sought : Held → List Operand → (Cursor → Cursor)
+at_sought h ops = moved_to (sought_ordinal (seek_of (word_at ops 2)) h ops)
+
+abbrev pub setcr_changes : Held → List Operand → Changes
+setcr_changes h ops = OnCursor (target h ops 1) (at_sought h ops)
 
 abbrev pub setcr : Instruction
 setcr = record inert {
   needs = λ s p d r. through_cursor s.held r.operands 1 Change rights.retrieve Read;
   fails = λ s p d r. setcr_fails s.held r.operands;
-  changes = λ s p d r. record s { held = setcr_changes s.held r.operands };
+  changes = λ s p d r. setcr_changes s.held r.operands;
 }
 
 -- ---- what an entry must be
@@ -265,19 +267,17 @@ insdsen_fails s p ops =
 abbrev pub with_inserted : List ℕ → DataTable → DataTable
 with_inserted entry table = inserted table entry
 
--- the change is logged, and the entry stands under the next ordinal, as the cursor does
-unfoldable pub insdsen_changes : State → ℕ → List Operand → State
-insdsen_changes s p ops = record (logged s p (cursor_of s.held ops 1).block.0 (insertion s.held ops)) {
-  held = on_cursor
-      (on_table (logged s p (cursor_of s.held ops 1).block.0 (insertion s.held ops)).held (cursor_of s.held ops 1).space.0 (with_inserted (bytes_at s.held ops 2)))
-      (target s.held ops 1) (at_position (next_ordinal (table_of s.held ops 1)));
-}
+-- the entry is under the next ordinal, and so is the cursor
+abbrev pub insdsen_changes : Held → List Operand → Changes
+insdsen_changes h ops =
+    Then (Entered (cursor_of h ops 1).block.0 (insertion h ops) (with_inserted (bytes_at h ops 2)))
+    (OnCursor (target h ops 1) (at_position (next_ordinal (table_of h ops 1))))
 
 abbrev pub insdsen : Instruction
 insdsen = record inert {
   needs = λ s p d r. through_cursor s.held r.operands 1 Change rights.insert Change;
   fails = λ s p d r. insdsen_fails s p r.operands;
-  changes = λ s p d r. insdsen_changes s p r.operands;
+  changes = λ s p d r. insdsen_changes s.held r.operands;
 }
 
 -- ---- RETDSEN
@@ -292,8 +292,11 @@ entry_or_none None = []
 entry_or_none (Some bytes) = bytes
 
 -- the entry, cut or filled with zeros
-unfoldable pub retdsen_gives : Held → List Operand → Val
-retdsen_gives h ops = vals.Bytes (fitted (room_at ops 1) 0 (entry_or_none (current h ops 2)))
+unfoldable pub retdsen_bytes : Held → List Operand → List ℕ
+retdsen_bytes h ops = fitted (room_at ops 1) 0 (entry_or_none (current h ops 2))
+
+abbrev pub retdsen_gives : Held → List Operand → Val
+retdsen_gives h ops = vals.Bytes (retdsen_bytes h ops)
 
 abbrev pub retdsen : Instruction
 retdsen = record inert {
@@ -317,12 +320,10 @@ current_fails s p ops entry =
 abbrev pub with_changed : ℕ → Entry → DataTable → DataTable
 with_changed at entry table = changed table at entry
 
--- the change is logged, and another entry is under the cursor's ordinal, or none
-unfoldable pub current_changes : State → ℕ → List Operand → Entry → State
-current_changes s p ops entry = record (logged s p (cursor_of s.held ops 1).block.0 (change_at s.held ops entry)) {
-  held = on_table (logged s p (cursor_of s.held ops 1).block.0 (change_at s.held ops entry)).held
-      (cursor_of s.held ops 1).space.0 (with_changed (cursor_of s.held ops 1).position entry);
-}
+-- another entry is under the cursor's ordinal, or none
+abbrev pub current_changes : Held → List Operand → Entry → Changes
+current_changes h ops entry =
+    Entered (cursor_of h ops 1).block.0 (change_at h ops entry) (with_changed (cursor_of h ops 1).position entry)
 
 -- ---- UPDSEN
 
@@ -334,7 +335,7 @@ abbrev pub updsen : Instruction
 updsen = record inert {
   needs = λ s p d r. through_cursor s.held r.operands 1 Change rights.update Change;
   fails = λ s p d r. updsen_fails s p r.operands;
-  changes = λ s p d r. current_changes s p r.operands (Some (bytes_at s.held r.operands 2));
+  changes = λ s p d r. current_changes s.held r.operands (Some (bytes_at s.held r.operands 2));
 }
 
 -- ---- DELDSEN
@@ -344,7 +345,7 @@ abbrev pub deldsen : Instruction
 deldsen = record inert {
   needs = λ s p d r. through_cursor s.held r.operands 1 Change rights.delete Change;
   fails = λ s p d r. current_fails s p r.operands None;
-  changes = λ s p d r. current_changes s p r.operands None;
+  changes = λ s p d r. current_changes s.held r.operands None;
 }
 
 -- ---- the family

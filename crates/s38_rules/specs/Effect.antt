@@ -11,6 +11,7 @@ use Rattle.s38_code.specs.declared.event.Event.TheVariants.{Start, Act, Finish}
 use Rattle.s38_code.specs.declared.event.Request.{Request}
 use Rattle.s38_rules.specs.declared.process.ProcessEntry.{ProcessEntry}
 use Rattle.s38_rules.specs.declared.process.Started.{Started}
+use Rattle.s38_rules.specs.Changes.{done}
 use Rattle.s38_rules.specs.Computing.{receiver_at, shift_at}
 use Rattle.s38_rules.specs.Held.{Held, number_found}
 use Rattle.s38_rules.specs.Instruction.{Instruction}
@@ -23,7 +24,7 @@ use Rattle.s38_rules.specs.Verdict.{context_id, profile_id}
 -- the value is that of the state before the change, and goes to its receiver after it
 unfoldable pub effect : Instruction → State → ℕ → ℕ → Request → Done
 effect i s p d r =
-    delivered (i.changes s p d r) (shift_at s.held r.op r.operands) (receiver_at r.op r.operands) (i.gives s p d r)
+    delivered (done s p (i.changes s p d r)) (shift_at s.held r.op r.operands) (receiver_at r.op r.operands) (i.gives s p d r)
 
 -- ---- start and end
 

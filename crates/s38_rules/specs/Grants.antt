@@ -21,6 +21,7 @@ use Rattle.s38_rules.specs.declared.need.Need.{Need}
 use Rattle.s38_rules.specs.declared.need.Sought.TheVariants.{Any, Of}
 use Rattle.s38_rules.specs.declared.object.Object.{Object}
 use Rattle.s38_rules.specs.Authority.{available, has_rights}
+use Rattle.s38_rules.specs.Changes.{Changes, Stands}
 use Rattle.s38_rules.specs.Creation.{pages_rule}
 use Rattle.s38_rules.specs.Headers.{public_in, row_in, rows_in}
 use Rattle.s38_rules.specs.Held.{Held, charge_in, object, owner_in, pages_of, without_in}
@@ -28,7 +29,7 @@ use Rattle.s38_rules.specs.Instruction.{Instruction, inert}
 use Rattle.s38_rules.specs.Needs.{governed, on_object}
 use Rattle.s38_rules.specs.Operands.{count_image, fitted, is_given, number_image, pointer_at, rights_at, room_at, target}
 use Rattle.s38_rules.specs.PrivateRows.{row_of}
-use Rattle.s38_rules.specs.Standing.{Standing, granted, open_to_all, owned_by, restand}
+use Rattle.s38_rules.specs.Standing.{Standing, granted, open_to_all, owned_by}
 use Rattle.s38_rules.specs.State.{State}
 use Rattle.s38_rules.specs.Users.{acting}
 
@@ -67,26 +68,32 @@ unfoldable pub grant_fails : Held → List Operand → Option Exception
 grant_fails h ops = if is_given ops 2 then row_rule h (target h ops 1) (target h ops 2) (rights_at ops 3) else None
 
 -- the rights are added
-unfoldable pub grant_changes : Held → List Operand → Held
-grant_changes h ops =
-    restand h (target h ops 1) (λ s. with_rights (is_given ops 2) (user_at h ops 2) (bit_or (rights_of (is_given ops 2) (user_at h ops 2) s) (rights_at ops 3)) s)
+abbrev pub with_granted : Held → List Operand → (Standing → Standing)
+with_granted h ops =
+    λ s. with_rights (is_given ops 2) (user_at h ops 2) (bit_or (rights_of (is_given ops 2) (user_at h ops 2) s) (rights_at ops 3)) s
+
+abbrev pub grant_changes : Held → List Operand → Changes
+grant_changes h ops = Stands (target h ops 1) (with_granted h ops)
 
 -- the rights are taken away; what pointers carry stays
-unfoldable pub retract_changes : Held → List Operand → Held
-retract_changes h ops =
-    restand h (target h ops 1) (λ s. with_rights (is_given ops 2) (user_at h ops 2) (without 8 (rights_of (is_given ops 2) (user_at h ops 2) s) (rights_at ops 3)) s)
+abbrev pub with_retracted : Held → List Operand → (Standing → Standing)
+with_retracted h ops =
+    λ s. with_rights (is_given ops 2) (user_at h ops 2) (without 8 (rights_of (is_given ops 2) (user_at h ops 2) s) (rights_at ops 3)) s
+
+abbrev pub retract_changes : Held → List Operand → Changes
+retract_changes h ops = Stands (target h ops 1) (with_retracted h ops)
 
 abbrev pub grant : Instruction
 grant = record inert {
   needs = λ s p d r. grant_needs r.operands;
   fails = λ s p d r. grant_fails s.held r.operands;
-  changes = λ s p d r. record s { held = grant_changes s.held r.operands };
+  changes = λ s p d r. grant_changes s.held r.operands;
 }
 
 abbrev pub retract : Instruction
 retract = record inert {
   needs = λ s p d r. grant_needs r.operands;
-  changes = λ s p d r. record s { held = retract_changes s.held r.operands };
+  changes = λ s p d r. retract_changes s.held r.operands;
 }
 
 -- ---- XFRO
@@ -107,15 +114,17 @@ xfro_fails h ops =
     (row_rule h (target h ops 1) (target h ops 2) rights.all_rights)
 
 -- the new owner has all eight rights by a row; the row of the one before stays
-unfoldable pub xfro_changes : Held → List Operand → Held
-xfro_changes h ops =
-    restand h (target h ops 1) (λ s. owned_by (user_at h ops 2) (granted (user_at h ops 2) (record { 0 = rights.all_rights }) s))
+abbrev pub given_to : ObjNum → (Standing → Standing)
+given_to user = λ s. owned_by user (granted user (record { 0 = rights.all_rights }) s)
+
+abbrev pub xfro_changes : Held → List Operand → Changes
+xfro_changes h ops = Stands (target h ops 1) (given_to (user_at h ops 2))
 
 abbrev pub xfro : Instruction
 xfro = record inert {
   needs = λ s p d r. xfro_needs;
   fails = λ s p d r. xfro_fails s.held r.operands;
-  changes = λ s p d r. record s { held = xfro_changes s.held r.operands };
+  changes = λ s p d r. xfro_changes s.held r.operands;
 }
 
 -- ---- TESTAU
@@ -129,9 +138,11 @@ abbrev pub truth : Bool → List ℕ
 truth b = 0 ∷ (if b then 1 else 0) ∷ []
 
 -- 1 where all the rights are available
-unfoldable pub testau_gives : State → ℕ → ℕ → List Operand → Val
-testau_gives s p d ops =
-    vals.Bytes (truth (has_rights (rights_at ops 3) (available s.held (acting s p d) (target s.held ops 2) (carried_in (pointer_at s.held ops 2)))))
+unfoldable pub testau_bytes : State → ℕ → ℕ → List Operand → List ℕ
+testau_bytes s p d ops = truth (has_rights (rights_at ops 3) (available s.held (acting s p d) (target s.held ops 2) (carried_in (pointer_at s.held ops 2))))
+
+abbrev pub testau_gives : State → ℕ → ℕ → List Operand → Val
+testau_gives s p d ops = vals.Bytes (testau_bytes s p d ops)
 
 abbrev pub testau : Instruction
 testau = record inert {
@@ -153,9 +164,11 @@ abbrev pub authority_image : Option Object → ℕ → List ℕ
 authority_image o r = number_image (owner_in o) ++ public_in o ∷ r ∷ []
 
 -- the owner, the rights of everybody, and those of the user's row
-unfoldable pub matau_gives : Held → List Operand → Val
-matau_gives h ops =
-    vals.Bytes (fitted (room_at ops 1) 0 (authority_image (object h (target h ops 2)) (row_or_public (is_given ops 3) (object h (target h ops 2)) (target h ops 3))))
+unfoldable pub matau_bytes : Held → List Operand → List ℕ
+matau_bytes h ops = fitted (room_at ops 1) 0 (authority_image (object h (target h ops 2)) (row_or_public (is_given ops 3) (object h (target h ops 2)) (target h ops 3)))
+
+abbrev pub matau_gives : Held → List Operand → Val
+matau_gives h ops = vals.Bytes (matau_bytes h ops)
 
 abbrev pub matau : Instruction
 matau = record inert {
@@ -186,9 +199,11 @@ abbrev pub concerns_image : ℕ → List Object → List ℕ
 concerns_image user os = count_image (length os) ++ flat_map (concern_image user) os
 
 -- the number of these objects, and each in order of number
-unfoldable pub matauobj_gives : Held → List Operand → Val
-matauobj_gives h ops =
-    vals.Bytes (fitted (room_at ops 1) 0 (concerns_image (target h ops 2) (filter (concerns (target h ops 2)) h.objects)))
+unfoldable pub matauobj_bytes : Held → List Operand → List ℕ
+matauobj_bytes h ops = fitted (room_at ops 1) 0 (concerns_image (target h ops 2) (filter (concerns (target h ops 2)) h.objects))
+
+abbrev pub matauobj_gives : Held → List Operand → Val
+matauobj_gives h ops = vals.Bytes (matauobj_bytes h ops)
 
 abbrev pub matauobj : Instruction
 matauobj = record inert {

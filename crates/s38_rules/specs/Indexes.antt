@@ -16,12 +16,13 @@ use Rattle.s38_rules.specs.declared.creating.Creating.{Creating}
 use Rattle.s38_rules.specs.declared.need.Need.{Need}
 use Rattle.s38_rules.specs.declared.need.Sought.TheVariants.{Of}
 use Rattle.s38_rules.specs.declared.object.Body.TheVariants as bodies
-use Rattle.s38_rules.specs.Creation.{creation_changes, creation_fails, creation_gives, creation_needs, destruction_changes, destruction_needs, in_context}
+use Rattle.s38_rules.specs.Changes.{Changes, Gone, Made, OnIndex}
+use Rattle.s38_rules.specs.Creation.{creation_fails, creation_gives, creation_needs, destruction_needs, in_context}
 use Rattle.s38_rules.specs.Held.{Held}
 use Rattle.s38_rules.specs.Instruction.{Instruction, inert}
 use Rattle.s38_rules.specs.Needs.{on_object}
 use Rattle.s38_rules.specs.Operands.{bytes_at, fitted, room_at, target, whole_at}
-use Rattle.s38_rules.specs.Parts.{index_at, on_index}
+use Rattle.s38_rules.specs.Parts.{index_at}
 use Rattle.s38_rules.specs.Queues.{relation_at}
 use Rattle.s38_rules.specs.State.{State}
 use Rattle.s38_rules.specs.Users.{user_of}
@@ -45,9 +46,8 @@ entry_len_at ops = max 1 (min longest_entry (whole_at ops 5))
 abbrev pub new_index : List Operand → EntryIndex
 new_index ops = record { longest = entry_len_at ops; entries = [] }
 
-unfoldable pub crtinx_changes : State → ℕ → List Operand → State
-crtinx_changes s p ops =
-    record s { held = creation_changes s.held (user_of s p) (created_index s.held ops) (bodies.Index (new_index ops)) }
+abbrev pub crtinx_changes : State → ℕ → List Operand → Changes
+crtinx_changes s p ops = Made (user_of s p) (created_index s.held ops) (Some (bodies.Index (new_index ops)))
 
 abbrev pub crtinx : Instruction
 crtinx = record inert {
@@ -62,7 +62,7 @@ crtinx = record inert {
 abbrev pub desinx : Instruction
 desinx = record inert {
   needs = λ s p d r. destruction_needs kinds.Index;
-  changes = λ s p d r. record s { held = destruction_changes s.held r.operands };
+  changes = λ s p d r. Gone kinds.Index (target s.held r.operands 1);
 }
 
 -- ---- INSINXEN
@@ -84,15 +84,15 @@ insinxen_fails s ops = insert_fails s.limit (index_at s.held (target s.held ops 
 abbrev pub entered : Entry → EntryIndex → EntryIndex
 entered entry index = record index { entries = with_entry entry index.entries }
 
--- the entry stands in its place
-unfoldable pub insinxen_changes : Held → List Operand → Held
-insinxen_changes h ops = on_index h (target h ops 1) (entered (bytes_at h ops 2))
+-- the entry is in its place
+abbrev pub insinxen_changes : Held → List Operand → Changes
+insinxen_changes h ops = OnIndex (target h ops 1) (entered (bytes_at h ops 2))
 
 abbrev pub insinxen : Instruction
 insinxen = record inert {
   needs = λ s p d r. insinxen_needs;
   fails = λ s p d r. insinxen_fails s r.operands;
-  changes = λ s p d r. record s { held = insinxen_changes s.held r.operands };
+  changes = λ s p d r. insinxen_changes s.held r.operands;
 }
 
 -- ---- FNDINXEN
@@ -114,8 +114,11 @@ entry_or_none None = []
 entry_or_none (Some entry) = entry
 
 -- the entry, cut or filled with zeros
-unfoldable pub fndinxen_gives : Held → List Operand → Val
-fndinxen_gives h ops = vals.Bytes (fitted (room_at ops 1) 0 (entry_or_none (sought_entry h ops)))
+unfoldable pub fndinxen_bytes : Held → List Operand → List ℕ
+fndinxen_bytes h ops = fitted (room_at ops 1) 0 (entry_or_none (sought_entry h ops))
+
+abbrev pub fndinxen_gives : Held → List Operand → Val
+fndinxen_gives h ops = vals.Bytes (fndinxen_bytes h ops)
 
 abbrev pub fndinxen : Instruction
 fndinxen = record inert {
@@ -139,14 +142,14 @@ abbrev pub removed : Entry → EntryIndex → EntryIndex
 removed entry index = record index { entries = without_entry entry index.entries }
 
 -- the entry is there no more
-unfoldable pub rmvinxen_changes : Held → List Operand → Held
-rmvinxen_changes h ops = on_index h (target h ops 1) (removed (bytes_at h ops 2))
+abbrev pub rmvinxen_changes : Held → List Operand → Changes
+rmvinxen_changes h ops = OnIndex (target h ops 1) (removed (bytes_at h ops 2))
 
 abbrev pub rmvinxen : Instruction
 rmvinxen = record inert {
   needs = λ s p d r. rmvinxen_needs;
   fails = λ s p d r. rmvinxen_fails s.held r.operands;
-  changes = λ s p d r. record s { held = rmvinxen_changes s.held r.operands };
+  changes = λ s p d r. rmvinxen_changes s.held r.operands;
 }
 
 -- ---- the family

@@ -7,6 +7,7 @@ use Rattle.s38_code.specs.declared.event.Request.{Request}
 use Rattle.s38_code.specs.declared.reply.Val.{Val}
 use Rattle.s38_rules.specs.declared.need.Need.{Need}
 use Rattle.s38_rules.specs.declared.process.ProcessEntry.{ProcessEntry}
+use Rattle.s38_rules.specs.Changes.{Changes, Stays}
 use Rattle.s38_rules.specs.Invocations.{with_stack}
 use Rattle.s38_rules.specs.State.{State}
 
@@ -19,7 +20,8 @@ pub record Instruction : Type 0 where
   pub fails : State → ℕ → ℕ → Request → Option Exception
   -- the value for its receiver
   pub gives : State → ℕ → ℕ → Request → Option Val
-  pub changes : State → ℕ → ℕ → Request → State
+  -- what it changes, in the words of changes
+  pub changes : State → ℕ → ℕ → Request → Changes
 
 -- what an instruction leaves of each process: all but its frames
 abbrev pub unstacked : ProcessEntry → ProcessEntry
@@ -30,10 +32,6 @@ pub record AreKept (p : ℕ) (xs ys : List ProcessEntry) : Type 0 where
   pub stays : map unstacked ys ≡ map unstacked xs
   pub others : (k : ℕ) (d : ProcessEntry) → k ≢ p - 1 → slice_index_or ys k d ≡ slice_index_or xs k d
 
--- a change neither makes a process nor takes one away, and changes no more of one than its own frames
-pub record KeepsProcesses (i : Instruction) : Type 0 where
-  pub kept : (s : State) (p d : ℕ) (r : Request) → AreKept p s.processes (i.changes s p d r).processes
-
 -- an instruction that needs nothing and does nothing
 abbrev pub inert : Instruction
-inert = record { needs = λ s p d r. []; special = λ s p d r. rights.no_rights; fails = λ s p d r. None; gives = λ s p d r. None; changes = λ s p d r. s }
+inert = record { needs = λ s p d r. []; special = λ s p d r. rights.no_rights; fails = λ s p d r. None; gives = λ s p d r. None; changes = λ s p d r. Stays }

@@ -17,24 +17,23 @@ use Rattle.s38_commits.specs.Units.{unit_of}
 use Rattle.s38_journals.specs.Journals.{bytes_at}
 use Rattle.s38_rules.specs.declared.block.Block.{Block}
 use Rattle.s38_rules.specs.declared.creating.Creating.{Creating}
-use Rattle.s38_rules.specs.declared.data_body.DataBody.{DataBody}
 use Rattle.s38_rules.specs.declared.need.Need.{Need}
 use Rattle.s38_rules.specs.declared.need.Sought.TheVariants.{Any, Of}
 use Rattle.s38_rules.specs.declared.object.Body.{Body}
 use Rattle.s38_rules.specs.declared.object.Body.TheVariants as bodies
 use Rattle.s38_rules.specs.declared.object.Object.{Object}
 use Rattle.s38_rules.specs.declared.port.Port.{Port}
+use Rattle.s38_rules.specs.Changes.{Changes, Committed, Decommitted, Ensured, Gone, Journaled, Made, Then}
 use Rattle.s38_rules.specs.Changing.{unit_rule}
-use Rattle.s38_rules.specs.Creation.{creation_changes, creation_fails, creation_gives, creation_needs, destruction_changes, destruction_needs, in_context}
+use Rattle.s38_rules.specs.Creation.{creation_fails, creation_gives, creation_needs, destruction_needs, in_context}
 use Rattle.s38_rules.specs.DataSpaces.{ordinal_at}
-use Rattle.s38_rules.specs.Held.{Held, ensured, is_on_disk}
+use Rattle.s38_rules.specs.Held.{Held, is_on_disk}
 use Rattle.s38_rules.specs.Instruction.{Instruction, inert}
 use Rattle.s38_rules.specs.Journaling.{journal_for}
 use Rattle.s38_rules.specs.Needs.{on_object}
 use Rattle.s38_rules.specs.Operands.{fitted, number_at, room_at, target}
-use Rattle.s38_rules.specs.Parts.{journal_at, no_journal, on_data, part_at, port_part}
+use Rattle.s38_rules.specs.Parts.{journal_at, no_journal, part_at, port_part}
 use Rattle.s38_rules.specs.State.{State}
-use Rattle.s38_rules.specs.Units.{committed, decommitted}
 use Rattle.s38_rules.specs.Users.{user_of}
 
 -- ---- CRTJS
@@ -46,9 +45,8 @@ unfoldable pub crtjs_fails : State → ℕ → List Operand → Option Exception
 crtjs_fails s p ops = creation_fails s.held (user_of s p) (created_journal s.held ops) None
 
 -- a journal space without an entry
-unfoldable pub crtjs_changes : State → ℕ → List Operand → State
-crtjs_changes s p ops =
-    record s { held = creation_changes s.held (user_of s p) (created_journal s.held ops) (bodies.Journal no_journal) }
+abbrev pub crtjs_changes : State → ℕ → List Operand → Changes
+crtjs_changes s p ops = Made (user_of s p) (created_journal s.held ops) (Some (bodies.Journal no_journal))
 
 abbrev pub crtjs : Instruction
 crtjs = record inert {
@@ -92,7 +90,7 @@ abbrev pub desjs : Instruction
 desjs = record inert {
   needs = λ s p d r. destruction_needs kinds.Journal;
   fails = λ s p d r. desjs_fails s.held r.operands;
-  changes = λ s p d r. record s { held = destruction_changes s.held r.operands };
+  changes = λ s p d r. Gone kinds.Journal (target s.held r.operands 1);
 }
 
 -- ---- CRTJP
@@ -113,9 +111,8 @@ crtjp_fails s p ops =
 abbrev pub new_port : Held → List Operand → Port
 new_port h ops = record { journal = record { 0 = target h ops 5 } }
 
-unfoldable pub crtjp_changes : State → ℕ → List Operand → State
-crtjp_changes s p ops =
-    record s { held = creation_changes s.held (user_of s p) (created_port s.held ops) (bodies.Port (new_port s.held ops)) }
+abbrev pub crtjp_changes : State → ℕ → List Operand → Changes
+crtjp_changes s p ops = Made (user_of s p) (created_port s.held ops) (Some (bodies.Port (new_port s.held ops)))
 
 abbrev pub crtjp : Instruction
 crtjp = record inert {
@@ -135,7 +132,7 @@ abbrev pub desjp : Instruction
 desjp = record inert {
   needs = λ s p d r. destruction_needs kinds.Port;
   fails = λ s p d r. desjp_fails s.held r.operands;
-  changes = λ s p d r. record s { held = destruction_changes s.held r.operands };
+  changes = λ s p d r. Gone kinds.Port (target s.held r.operands 1);
 }
 
 -- ---- JRNLOBJ
@@ -163,18 +160,15 @@ jrnlobj_fails h ops =
     first (fails (is_some (journal_for h (target h ops 1))) exceptions.object_in_use 1)
     (fails (not (is_port_on_disk h (target h ops 2))) exceptions.object_not_on_disk 2)
 
-abbrev pub through_port : ℕ → DataBody → DataBody
-through_port port d = record d { port = record { 0 = port } }
-
 -- its changes go through the port from now on, and it is on disk
-unfoldable pub jrnlobj_changes : Held → List Operand → Held
-jrnlobj_changes h ops = ensured (on_data h (target h ops 1) (through_port (target h ops 2))) (target h ops 1)
+abbrev pub jrnlobj_changes : Held → List Operand → Changes
+jrnlobj_changes h ops = Then (Journaled (target h ops 1) (target h ops 2)) (Ensured (target h ops 1))
 
 abbrev pub jrnlobj : Instruction
 jrnlobj = record inert {
   needs = λ s p d r. jrnlobj_needs;
   fails = λ s p d r. jrnlobj_fails s.held r.operands;
-  changes = λ s p d r. record s { held = jrnlobj_changes s.held r.operands };
+  changes = λ s p d r. jrnlobj_changes s.held r.operands;
 }
 
 -- ---- RETJENT
@@ -197,8 +191,11 @@ bytes_or_empty None = []
 bytes_or_empty (Some bytes) = bytes
 
 -- the entry, cut or filled with zeros
-unfoldable pub retjent_gives : Held → List Operand → Val
-retjent_gives h ops = vals.Bytes (fitted (room_at ops 1) 0 (bytes_or_empty (entry_bytes h ops)))
+unfoldable pub retjent_bytes : Held → List Operand → List ℕ
+retjent_bytes h ops = fitted (room_at ops 1) 0 (bytes_or_empty (entry_bytes h ops))
+
+abbrev pub retjent_gives : Held → List Operand → Val
+retjent_gives h ops = vals.Bytes (retjent_bytes h ops)
 
 abbrev pub retjent : Instruction
 retjent = record inert {
@@ -222,9 +219,8 @@ crtcb_fails s p ops = creation_fails s.held (user_of s p) (created_block s.held 
 abbrev pub new_block : Held → List Operand → Block
 new_block h ops = record { port = record { 0 = target h ops 5 } }
 
-unfoldable pub crtcb_changes : State → ℕ → List Operand → State
-crtcb_changes s p ops =
-    record s { held = creation_changes s.held (user_of s p) (created_block s.held ops) (bodies.Block (new_block s.held ops)) }
+abbrev pub crtcb_changes : State → ℕ → List Operand → Changes
+crtcb_changes s p ops = Made (user_of s p) (created_block s.held ops) (Some (bodies.Block (new_block s.held ops)))
 
 abbrev pub crtcb : Instruction
 crtcb = record inert {
@@ -244,7 +240,7 @@ abbrev pub descb : Instruction
 descb = record inert {
   needs = λ s p d r. destruction_needs kinds.Block;
   fails = λ s p d r. descb_fails s r.operands;
-  changes = λ s p d r. record s { held = destruction_changes s.held r.operands };
+  changes = λ s p d r. Gone kinds.Block (target s.held r.operands 1);
 }
 
 -- ---- COMMIT and DECOMMIT
@@ -258,24 +254,24 @@ unfoldable pub unit_fails : State → ℕ → List Operand → Option Exception
 unit_fails s p ops = unit_rule p (unit_of s.units (target s.held ops 1))
 
 -- without a unit nothing happens
-unfoldable pub commit_changes : State → ℕ → List Operand → State
-commit_changes s p ops = committed s p (target s.held ops 1) (unit_of s.units (target s.held ops 1))
+abbrev pub commit_changes : Held → List Operand → Changes
+commit_changes h ops = Committed (target h ops 1)
 
-unfoldable pub decommit_changes : State → ℕ → List Operand → State
-decommit_changes s p ops = decommitted s p (target s.held ops 1) (unit_of s.units (target s.held ops 1))
+abbrev pub decommit_changes : Held → List Operand → Changes
+decommit_changes h ops = Decommitted (target h ops 1)
 
 abbrev pub commit : Instruction
 commit = record inert {
   needs = λ s p d r. unit_needs;
   fails = λ s p d r. unit_fails s p r.operands;
-  changes = λ s p d r. commit_changes s p r.operands;
+  changes = λ s p d r. commit_changes s.held r.operands;
 }
 
 abbrev pub decommit : Instruction
 decommit = record inert {
   needs = λ s p d r. unit_needs;
   fails = λ s p d r. unit_fails s p r.operands;
-  changes = λ s p d r. decommit_changes s p r.operands;
+  changes = λ s p d r. decommit_changes s.held r.operands;
 }
 
 -- ---- ENSOBJ
@@ -285,13 +281,13 @@ unfoldable pub ensobj_needs : List Need
 ensobj_needs = on_object 1 Any rights.retrieve (Some Read)
 
 -- its number is one of those on disk
-unfoldable pub ensobj_changes : Held → List Operand → Held
-ensobj_changes h ops = ensured h (target h ops 1)
+abbrev pub ensobj_changes : Held → List Operand → Changes
+ensobj_changes h ops = Ensured (target h ops 1)
 
 abbrev pub ensobj : Instruction
 ensobj = record inert {
   needs = λ s p d r. ensobj_needs;
-  changes = λ s p d r. record s { held = ensobj_changes s.held r.operands };
+  changes = λ s p d r. ensobj_changes s.held r.operands;
 }
 
 -- ---- the family

@@ -1,5 +1,5 @@
 -- Which histories are the machine's: each entry is a step from the state to which those before it lead.
-use Rattle.std.specs.Prelude.{◌≡◌, ◌<◌, ◌≤◌, ℕ, All, IfOk, IsTrue, OnErr, List, [], ◌∷◌, ◌++◌, length, Result, if◌then◌else◌}
+use Rattle.std.specs.Prelude.{◌≡◌, ◌<◌, ◌≤◌, ℕ, IfOk, IsTrue, OnErr, List, [], ◌∷◌, ◌++◌, length, Result, if◌then◌else◌}
 use Rattle.s38_code.specs.declared.entry.Entry.{Entry}
 use Rattle.s38_code.specs.declared.event.Event.{Event}
 use Rattle.s38_code.specs.declared.reply.Reply.{Reply}
@@ -32,20 +32,25 @@ pub record Run : Type 0 where
   pub history : List Entry
   -- the store's moment as each entry was answered
   pub marks : List ℕ
+  -- the store's moment at the start, and now
+  pub first : ℕ
+  pub moment : ℕ
 
--- there is no store yet, and each entry is answered at this moment
+-- marks are moments between two others, in their order
+abbrev pub AreMoments : ℕ → List ℕ → ℕ → Type 0
+AreMoments first [] moment = first ≤ moment
+AreMoments first (mark ∷ marks) moment = (first ≤ mark) × AreMoments mark marks moment
+
+-- the moment at which a machine without a store starts; it stays there
 abbrev pub no_moment : ℕ
 no_moment = 0
 
-abbrev pub IsUnstored : ℕ → Type 0
-IsUnstored mark = mark ≡ no_moment
-
--- the history is legal and leads from the origin to the state; each entry has a mark; the processes are those
--- of the origin's jobs
+-- the history is legal and leads from the origin to the state; each entry has a mark, and the marks are moments from the
+-- start to now; the processes are those of the origin's jobs
 pub record IsSound (m : Run) : Type 0 where
   pub legal : Leads m.origin [] m.history m.state
   pub marked : length m.marks ≡ length m.history
-  pub stamped : All IsUnstored m.marks
+  pub stamped : AreMoments m.first m.marks m.moment
   pub kept : length m.state.processes ≡ length m.origin.processes
 
 abbrev pub history_after : List Entry → ℕ → Event → Stepped → List Entry
@@ -55,26 +60,29 @@ history_after history process event x = if x.enters then history ++ entry_after 
 abbrev pub marks_after : List ℕ → ℕ → Stepped → List ℕ
 marks_after marks mark x = if x.enters then marks ++ mark ∷ [] else marks
 
--- the machine behind an outcome of an event
+-- the machine after an outcome of an event, at a moment
 abbrev pub after_by : Run → ℕ → ℕ → Event → Stepped → Run
-after_by m mark process event x =
+after_by m moment process event x =
     record {
       origin = m.origin;
       state = x.state;
       history = history_after m.history process event x;
-      marks = marks_after m.marks mark x;
+      marks = marks_after m.marks moment x;
+      first = m.first;
+      moment = moment;
     }
 
--- the machine behind one more step, answered at a moment
+-- the machine after one more step, answered at a moment
 unfoldable pub after : Run → ℕ → ℕ → Event → Run
-after m mark process event = after_by m mark process event (step m.state process event)
+after m moment process event = after_by m moment process event (step m.state process event)
 
--- an answer is that of one step, and without an answer nothing is changed
+-- an answer is that of one step, at no earlier moment, and without an answer nothing is changed
 pub record IsStep (old : Run) (process : ℕ) (event : Event) (answer : Result Reply StepFault) (new : Run) : Type 0 where
   pub reply : IfOk answer (λ r. (step old.state process event).reply ≡ r)
-  pub moved : IfOk answer (λ _. new ≡ after old no_moment process event)
+  pub moved : IfOk answer (λ _. new ≡ after old new.moment process event)
+  pub later : old.moment ≤ new.moment
   pub kept : OnErr answer (new ≡ old)
 
--- a machine that has just begun
-abbrev pub begun : State → Run
-begun s = record { origin = s; state = s; history = []; marks = [] }
+-- a machine that has just begun, at a moment
+abbrev pub begun : ℕ → State → Run
+begun moment s = record { origin = s; state = s; history = []; marks = []; first = moment; moment = moment }

@@ -1,6 +1,7 @@
 pub mod Authority
 pub mod Blocking
 pub mod Cells
+pub mod Changes
 pub mod Changing
 pub mod Computing
 pub mod Contexts

@@ -16,7 +16,7 @@ use Rattle.s38_locks.specs.declared.fault.LockFault.TheVariants as faults
 use Rattle.s38_locks.specs.Locks as locks
 use Rattle.s38_locks.specs.Refusals.{lock_refusal, transfer_refusal, unlock_refusal}
 use Rattle.s38_locks.specs.States.{rank}
-use Rattle.s38_locks.specs.Table.{locks_of, with_locks}
+use Rattle.s38_locks.specs.Table.{locks_of}
 use Rattle.s38_code.specs.declared.operand.Operand.{Operand}
 use Rattle.s38_code.specs.declared.operand.Operand.TheVariants as operands
 use Rattle.s38_code.specs.declared.reply.Val.{Val}
@@ -24,6 +24,7 @@ use Rattle.s38_code.specs.declared.reply.Val.TheVariants as vals
 use Rattle.s38_rules.specs.declared.need.Need.{Need}
 use Rattle.s38_rules.specs.declared.need.Sought.TheVariants.{Any}
 use Rattle.s38_rules.specs.declared.process.ProcessEntry.{ProcessEntry}
+use Rattle.s38_rules.specs.Changes.{Changes, Locked}
 use Rattle.s38_rules.specs.Instruction.{Instruction, inert}
 use Rattle.s38_rules.specs.Needs.{on_object}
 use Rattle.s38_rules.specs.Operands.{count_image, fitted, place, room_at, target, word_at}
@@ -43,10 +44,6 @@ state_asked ops = state_of (word_at ops 2)
 -- the locks of the object that the pointer at a place names
 abbrev pub locks_at : State → List Operand → ℕ → List locks.Lock
 locks_at s ops k = locks_of s.locks (target s.held ops k)
-
--- the object has these locks instead
-abbrev pub with_locks_at : State → List Operand → List locks.Lock → State
-with_locks_at s ops held = record s { locks = with_locks s.locks (target s.held ops 1) held }
 
 -- why the table of locks refuses, about operand 1
 abbrev pub of_lock_fault : Option LockFault → Option Exception
@@ -71,8 +68,8 @@ lock_needs ops = on_object 1 Any (lock_right (state_asked ops)) None
 unfoldable pub lock_fails : State → ℕ → List Operand → Option Exception
 lock_fails s p ops = of_lock_fault (lock_refusal p (state_asked ops) (locks_at s ops 1))
 
-unfoldable pub lock_changes : State → ℕ → List Operand → State
-lock_changes s p ops = with_locks_at s ops (locks.with_lock (p, state_asked ops) (locks_at s ops 1))
+abbrev pub lock_changes : State → ℕ → List Operand → Changes
+lock_changes s p ops = Locked (target s.held ops 1) (locks.with_lock (p, state_asked ops) (locks_at s ops 1))
 
 abbrev pub lock : Instruction
 lock = record inert {
@@ -90,8 +87,8 @@ unlock_needs = on_object 1 Any rights.no_rights None
 unfoldable pub unlock_fails : State → ℕ → List Operand → Option Exception
 unlock_fails s p ops = of_lock_fault (unlock_refusal p (state_asked ops) (locks_at s ops 1))
 
-unfoldable pub unlock_changes : State → ℕ → List Operand → State
-unlock_changes s p ops = with_locks_at s ops (locks.without_lock (p, state_asked ops) (locks_at s ops 1))
+abbrev pub unlock_changes : State → ℕ → List Operand → Changes
+unlock_changes s p ops = Locked (target s.held ops 1) (locks.without_lock (p, state_asked ops) (locks_at s ops 1))
 
 abbrev pub unlock : Instruction
 unlock = record inert {
@@ -133,9 +130,9 @@ xfrlock_fails s p ops =
     (first (fails (not (may_take s p (taker s ops))) exceptions.process_not_found 3)
     (of_lock_fault (transfer_refusal p (taker s ops) (state_asked ops) (locks_at s ops 1))))
 
-unfoldable pub xfrlock_changes : State → ℕ → List Operand → State
+abbrev pub xfrlock_changes : State → ℕ → List Operand → Changes
 xfrlock_changes s p ops =
-    with_locks_at s ops (locks.with_lock (taker s ops, state_asked ops) (locks.without_lock (p, state_asked ops) (locks_at s ops 1)))
+    Locked (target s.held ops 1) (locks.with_lock (taker s ops, state_asked ops) (locks.without_lock (p, state_asked ops) (locks_at s ops 1)))
 
 abbrev pub xfrlock : Instruction
 xfrlock = record inert {
@@ -157,8 +154,11 @@ abbrev pub locks_image : List locks.Lock → List ℕ
 locks_image held = count_image (length held) ++ flat_map lock_image held
 
 -- the number of the object's locks, and each in order of process and state
-unfoldable pub matobjlk_gives : State → List Operand → Val
-matobjlk_gives s ops = vals.Bytes (fitted (room_at ops 1) 0 (locks_image (locks_at s ops 2)))
+unfoldable pub matobjlk_bytes : State → List Operand → List ℕ
+matobjlk_bytes s ops = fitted (room_at ops 1) 0 (locks_image (locks_at s ops 2))
+
+abbrev pub matobjlk_gives : State → List Operand → Val
+matobjlk_gives s ops = vals.Bytes (matobjlk_bytes s ops)
 
 abbrev pub matobjlk : Instruction
 matobjlk = record inert {

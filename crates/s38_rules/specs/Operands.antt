@@ -17,7 +17,7 @@ use Rattle.s38_code.specs.declared.reply.Val.TheVariants as vals
 use Rattle.s38_rules.specs.Held.{Held}
 use Rattle.s38_rules.specs.Parts.{cells_at, on_space}
 use Rattle.s38_rules.specs.State.{State}
-use Rattle.s38_rules.specs.Cells.{bytes_there, cell_for, cells_there, pointer_there, with_bytes, with_pointer}
+use Rattle.s38_rules.specs.Cells.{bytes_there, cell_for, cells_there, pointer_there, with_bytes, with_cells, with_pointer}
 
 abbrev pub place : List Operand → ℕ → Option Operand
 place ops k = slice_get ops (k - 1)
@@ -147,6 +147,11 @@ cells_of h _ = []
 -- the cells that are read, a pointer of a variable as one cell
 abbrev pub source_cells : Held → List Operand → ℕ → List Cell
 source_cells h ops k = cells_of h (place ops k)
+
+-- cells go with their tags into the space in which an operand lies
+abbrev pub cells_put : Held → Option Operand → List Cell → Held
+cells_put h (Some (operands.InSpace base offset attr)) piece = on_space h (target_of base) (with_cells (start_of base offset) piece)
+cells_put h _ piece = h
 
 -- ---- values of a receiver's length
 

@@ -20,12 +20,12 @@ use Rattle.s38_rules.specs.declared.object.Object.{Object}
 use Rattle.s38_rules.specs.declared.process.ProcessEntry.{ProcessEntry}
 use Rattle.s38_rules.specs.declared.process.Started.{Started}
 use Rattle.s38_rules.specs.Authority.{is_profile}
-use Rattle.s38_rules.specs.Creation.{creation_changes, creation_fails, creation_gives, destruction_changes, destruction_needs, machine_needs, of_machine}
+use Rattle.s38_rules.specs.Changes.{Changes, Gone, Made, Profiled}
+use Rattle.s38_rules.specs.Creation.{creation_fails, creation_gives, destruction_needs, machine_needs, of_machine}
 use Rattle.s38_rules.specs.Held.{Held, object}
 use Rattle.s38_rules.specs.Instruction.{Instruction, inert}
 use Rattle.s38_rules.specs.Needs.{on_object}
 use Rattle.s38_rules.specs.Operands.{target, whole_at, word_at}
-use Rattle.s38_rules.specs.Parts.{set_profile}
 use Rattle.s38_rules.specs.State.{State}
 use Rattle.s38_rules.specs.Users.{user_of}
 
@@ -54,8 +54,8 @@ profile_body ops = bodies.Profile (specials_at ops 3) (limit_at ops 4)
 unfoldable pub crtup_fails : State → ℕ → List Operand → Option Exception
 crtup_fails s p ops = creation_fails s.held (user_of s p) (new_profile s.held ops) None
 
-unfoldable pub crtup_changes : State → ℕ → List Operand → State
-crtup_changes s p ops = record s { held = creation_changes s.held (user_of s p) (new_profile s.held ops) (profile_body ops) }
+abbrev pub crtup_changes : State → ℕ → List Operand → Changes
+crtup_changes s p ops = Made (user_of s p) (new_profile s.held ops) (Some (profile_body ops))
 
 abbrev pub crtup : Instruction
 crtup = record inert {
@@ -77,15 +77,15 @@ unfoldable pub modup_fails : Held → List Operand → Option Exception
 modup_fails h ops = fails (target h ops 1 == officer) exceptions.object_in_use 1
 
 -- both special authorities and limit
-unfoldable pub modup_changes : Held → List Operand → Held
-modup_changes h ops = set_profile h (target h ops 1) (specials_at ops 2) (limit_at ops 3)
+abbrev pub modup_changes : Held → List Operand → Changes
+modup_changes h ops = Profiled (target h ops 1) (specials_at ops 2) (limit_at ops 3)
 
 abbrev pub modup : Instruction
 modup = record inert {
   needs = λ s p d r. modup_needs;
   special = λ s p d r. rights.profile;
   fails = λ s p d r. modup_fails s.held r.operands;
-  changes = λ s p d r. record s { held = modup_changes s.held r.operands };
+  changes = λ s p d r. modup_changes s.held r.operands;
 }
 
 -- ---- DESUP
@@ -121,7 +121,7 @@ desup = record inert {
   needs = λ s p d r. destruction_needs kinds.Profile;
   special = λ s p d r. rights.profile;
   fails = λ s p d r. desup_fails s r.operands;
-  changes = λ s p d r. record s { held = destruction_changes s.held r.operands };
+  changes = λ s p d r. Gone kinds.Profile (target s.held r.operands 1);
 }
 
 -- ---- the family

@@ -32,10 +32,11 @@ use Rattle.s38_rules.specs.declared.need.Sought.TheVariants.{Of}
 use Rattle.s38_rules.specs.declared.object.Body.{Body}
 use Rattle.s38_rules.specs.declared.object.Body.TheVariants as bodies
 use Rattle.s38_rules.specs.declared.object.Object.{Object}
-use Rattle.s38_rules.specs.Creation.{creation_changes, creation_fails, creation_gives, creation_needs, destruction_changes, destruction_needs, in_context}
+use Rattle.s38_rules.specs.Changes.{Changes, Framed, Gone, Made}
+use Rattle.s38_rules.specs.Creation.{creation_fails, creation_gives, creation_needs, destruction_needs, in_context}
 use Rattle.s38_rules.specs.Held.{Held, object}
 use Rattle.s38_rules.specs.Instruction.{Instruction, inert}
-use Rattle.s38_rules.specs.Invocations.{frames_used, most_frames, pushed, replaced, restack, stack_of}
+use Rattle.s38_rules.specs.Invocations.{frames_used, most_frames, pushed, replaced, stack_of}
 use Rattle.s38_rules.specs.Needs.{on_object}
 use Rattle.s38_rules.specs.Operands.{place, target}
 use Rattle.s38_rules.specs.State.{State}
@@ -96,14 +97,10 @@ crtpg_fails s p ops =
     first (creation_fails s.held (user_of s p) (new_program s.held ops) (template_rule (template_at s ops)))
     (fails (nat_lt s.limit (size_in (template_at s ops))) exceptions.limit_exceeded 0)
 
-abbrev pub created_program : State → ℕ → List Operand → Option Program → State
-created_program s p ops None = s
-created_program s p ops (Some program) =
-    record s { held = creation_changes s.held (user_of s p) (new_program s.held ops) (bodies.Program program) }
-
 -- the program of the template that is named
-unfoldable pub crtpg_changes : State → ℕ → List Operand → State
-crtpg_changes s p ops = created_program s p ops (program_in (template_at s ops))
+abbrev pub crtpg_changes : State → ℕ → List Operand → Changes
+crtpg_changes s p ops =
+    Made (user_of s p) (new_program s.held ops) (option_map bodies.Program (program_in (template_at s ops)))
 
 abbrev pub crtpg : Instruction
 crtpg = record inert {
@@ -118,7 +115,7 @@ crtpg = record inert {
 abbrev pub despg : Instruction
 despg = record inert {
   needs = λ s p d r. destruction_needs kinds.Program;
-  changes = λ s p d r. record s { held = destruction_changes s.held r.operands };
+  changes = λ s p d r. Gone kinds.Program (target s.held r.operands 1);
 }
 
 -- ---- CALLX and XCTL
@@ -183,19 +180,19 @@ unfoldable pub call_gives : Held → List Operand → Option Val
 call_gives h ops = option_map vals.Code (program_at h ops)
 
 -- the program stands behind the frames that count
-unfoldable pub callx_changes : State → ℕ → ℕ → List Operand → State
-callx_changes s p d ops = restack (pushed d (record { 0 = target s.held ops 1 })) s p
+abbrev pub callx_changes : Held → ℕ → List Operand → Changes
+callx_changes h d ops = Framed (pushed d (record { 0 = target h ops 1 }))
 
 -- the program stands in place of the last frame that counts
-unfoldable pub xctl_changes : State → ℕ → ℕ → List Operand → State
-xctl_changes s p d ops = restack (replaced d (record { 0 = target s.held ops 1 })) s p
+abbrev pub xctl_changes : Held → ℕ → List Operand → Changes
+xctl_changes h d ops = Framed (replaced d (record { 0 = target h ops 1 }))
 
 abbrev pub callx : Instruction
 callx = record inert {
   needs = λ s p d r. call_needs;
   fails = λ s p d r. callx_fails s p d r.operands;
   gives = λ s p d r. call_gives s.held r.operands;
-  changes = λ s p d r. callx_changes s p d r.operands;
+  changes = λ s p d r. callx_changes s.held d r.operands;
 }
 
 abbrev pub xctl : Instruction
@@ -203,7 +200,7 @@ xctl = record inert {
   needs = λ s p d r. call_needs;
   fails = λ s p d r. xctl_fails s.held r.operands;
   gives = λ s p d r. call_gives s.held r.operands;
-  changes = λ s p d r. xctl_changes s p d r.operands;
+  changes = λ s p d r. xctl_changes s.held d r.operands;
 }
 
 -- ---- the family

@@ -24,12 +24,13 @@ use Rattle.s38_rules.specs.declared.creating.Creating.{Creating}
 use Rattle.s38_rules.specs.declared.need.Need.{Need}
 use Rattle.s38_rules.specs.declared.need.Sought.TheVariants.{Of}
 use Rattle.s38_rules.specs.declared.object.Body.TheVariants as bodies
-use Rattle.s38_rules.specs.Creation.{creation_changes, creation_fails, creation_gives, creation_needs, destruction_changes, destruction_needs, in_context}
+use Rattle.s38_rules.specs.Changes.{Changes, Gone, Made, OnQueue}
+use Rattle.s38_rules.specs.Creation.{creation_fails, creation_gives, creation_needs, destruction_needs, in_context}
 use Rattle.s38_rules.specs.Held.{Held}
 use Rattle.s38_rules.specs.Instruction.{Instruction, inert}
 use Rattle.s38_rules.specs.Needs.{on_object}
 use Rattle.s38_rules.specs.Operands.{blank, bytes_at, fitted, is_given, room_at, size_at, target, whole_at, word_at}
-use Rattle.s38_rules.specs.Parts.{on_queue, queue_at}
+use Rattle.s38_rules.specs.Parts.{queue_at}
 use Rattle.s38_rules.specs.State.{State}
 use Rattle.s38_rules.specs.Users.{user_of}
 
@@ -56,9 +57,8 @@ longest_at ops = max 1 (min longest_message (whole_at ops 7))
 abbrev pub new_queue : List Operand → MessageQueue
 new_queue ops = record { order = order_of (word_at ops 5); key_len = key_len_at ops; longest = longest_at ops; messages = [] }
 
-unfoldable pub crtq_changes : State → ℕ → List Operand → State
-crtq_changes s p ops =
-    record s { held = creation_changes s.held (user_of s p) (created_queue s.held ops) (bodies.Queue (new_queue ops)) }
+abbrev pub crtq_changes : State → ℕ → List Operand → Changes
+crtq_changes s p ops = Made (user_of s p) (created_queue s.held ops) (Some (bodies.Queue (new_queue ops)))
 
 abbrev pub crtq : Instruction
 crtq = record inert {
@@ -73,7 +73,7 @@ crtq = record inert {
 abbrev pub desq : Instruction
 desq = record inert {
   needs = λ s p d r. destruction_needs kinds.Queue;
-  changes = λ s p d r. record s { held = destruction_changes s.held r.operands };
+  changes = λ s p d r. Gone kinds.Queue (target s.held r.operands 1);
 }
 
 -- ---- ENQ
@@ -93,15 +93,18 @@ put_fails limit q key text =
 unfoldable pub enq_fails : State → List Operand → Option Exception
 enq_fails s ops = put_fails s.limit (queue_at s.held (target s.held ops 1)) (size_at s.held ops 2) (size_at s.held ops 3)
 
--- the message stands last in the queue
-unfoldable pub enq_changes : Held → List Operand → Held
-enq_changes h ops = on_queue h (target h ops 1) (λ q. with_message q (message (bytes_at h ops 2) (bytes_at h ops 3)))
+-- the message is the last of the queue
+abbrev pub with_put : Held → List Operand → (MessageQueue → MessageQueue)
+with_put h ops = λ q. with_message q (message (bytes_at h ops 2) (bytes_at h ops 3))
+
+abbrev pub enq_changes : Held → List Operand → Changes
+enq_changes h ops = OnQueue (target h ops 1) (with_put h ops)
 
 abbrev pub enq : Instruction
 enq = record inert {
   needs = λ s p d r. enq_needs;
   fails = λ s p d r. enq_fails s r.operands;
-  changes = λ s p d r. record s { held = enq_changes s.held r.operands };
+  changes = λ s p d r. enq_changes s.held r.operands;
 }
 
 -- ---- DEQ
@@ -140,23 +143,25 @@ text_of None = []
 text_of (Some m) = m.text
 
 -- the text of the message that is taken, cut or filled with blanks
-unfoldable pub deq_gives : Held → List Operand → Val
-deq_gives h ops =
-    vals.Bytes (fitted (room_at ops 1) blank (text_of (found_message (queue_at h (target h ops 2)) (relation_at ops 3) (bytes_at h ops 4))))
+unfoldable pub deq_bytes : Held → List Operand → List ℕ
+deq_bytes h ops = fitted (room_at ops 1) blank (text_of (found_message (queue_at h (target h ops 2)) (relation_at ops 3) (bytes_at h ops 4)))
+
+abbrev pub deq_gives : Held → List Operand → Val
+deq_gives h ops = vals.Bytes (deq_bytes h ops)
 
 abbrev pub left_by : Relation → List ℕ → MessageQueue → MessageQueue
 left_by relation key q = without_found q relation key
 
 -- it leaves the queue
-unfoldable pub deq_changes : Held → List Operand → Held
-deq_changes h ops = on_queue h (target h ops 2) (left_by (relation_at ops 3) (bytes_at h ops 4))
+abbrev pub deq_changes : Held → List Operand → Changes
+deq_changes h ops = OnQueue (target h ops 2) (left_by (relation_at ops 3) (bytes_at h ops 4))
 
 abbrev pub deq : Instruction
 deq = record inert {
   needs = λ s p d r. deq_needs;
   fails = λ s p d r. deq_fails s.held r.operands;
   gives = λ s p d r. Some (deq_gives s.held r.operands);
-  changes = λ s p d r. record s { held = deq_changes s.held r.operands };
+  changes = λ s p d r. deq_changes s.held r.operands;
 }
 
 -- ---- the family

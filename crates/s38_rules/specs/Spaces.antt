@@ -9,11 +9,10 @@ use Rattle.s38_base.specs.declared.pointer.Pointer.TheVariants as pointers
 use Rattle.s38_base.specs.declared.words.Category.TheVariants.{Change}
 use Rattle.s38_base.specs.Exceptions as exceptions
 use Rattle.s38_base.specs.Limits.{cell_bytes}
-use Rattle.s38_base.specs.Pointers.{offset_of, start_of, target_of}
+use Rattle.s38_base.specs.Pointers.{offset_of, start_of}
 use Rattle.s38_base.specs.RightNames as rights
 use Rattle.s38_base.specs.Scalar.{length_of}
 use Rattle.s38_base.specs.Signals.{fails, first}
-use Rattle.s38_memory.specs.declared.cell.Cell.{Cell}
 use Rattle.s38_memory.specs.Tagged.{is_aligned, is_within, resized}
 use Rattle.s38_code.specs.declared.operand.Operand.{Operand}
 use Rattle.s38_code.specs.declared.operand.Operand.TheVariants as operands
@@ -25,13 +24,14 @@ use Rattle.s38_rules.specs.declared.need.Need.{Need}
 use Rattle.s38_rules.specs.declared.need.PointerKind.TheVariants as pointer_kinds
 use Rattle.s38_rules.specs.declared.need.Sought.TheVariants.{Of}
 use Rattle.s38_rules.specs.declared.object.Body.TheVariants as bodies
-use Rattle.s38_rules.specs.Cells.{first_pointer, with_cells}
-use Rattle.s38_rules.specs.Creation.{creation_changes, creation_fails, creation_gives, creation_needs, destruction_changes, destruction_needs, in_context, pages_rule}
+use Rattle.s38_rules.specs.Cells.{first_pointer}
+use Rattle.s38_rules.specs.Changes.{CellsPut, Changes, Gone, Made, Resized}
+use Rattle.s38_rules.specs.Creation.{creation_fails, creation_gives, creation_needs, destruction_needs, in_context, pages_rule}
 use Rattle.s38_rules.specs.Held.{Held, charge_beside, object, owner_in, space_pages}
 use Rattle.s38_rules.specs.Instruction.{Instruction, inert}
 use Rattle.s38_rules.specs.Needs.{need, on_object}
 use Rattle.s38_rules.specs.Operands.{attr_at, count_at, is_in_space, number_at, place, pointer_at, source_cells, target}
-use Rattle.s38_rules.specs.Parts.{cells_at, on_space}
+use Rattle.s38_rules.specs.Parts.{cells_at}
 use Rattle.s38_rules.specs.Resolving.{num_of}
 use Rattle.s38_rules.specs.State.{State}
 use Rattle.s38_rules.specs.Users.{user_of}
@@ -65,9 +65,8 @@ unfoldable pub crts_fails : State → ℕ → List Operand → Option Exception
 crts_fails s p ops = creation_fails s.held (user_of s p) (new_space s ops) (length_rule s ops 5)
 
 -- a space of zero bytes
-unfoldable pub crts_changes : State → ℕ → List Operand → State
-crts_changes s p ops =
-    record s { held = creation_changes s.held (user_of s p) (new_space s ops) (bodies.Space (resized (length_at s ops 5) [])) }
+abbrev pub crts_changes : State → ℕ → List Operand → Changes
+crts_changes s p ops = Made (user_of s p) (new_space s ops) (Some (bodies.Space (resized (length_at s ops 5) [])))
 
 abbrev pub crts : Instruction
 crts = record inert {
@@ -92,14 +91,14 @@ unfoldable pub mods_fails : State → List Operand → Option Exception
 mods_fails s ops = first (length_rule s ops 2) (owner_pays s.held (target s.held ops 1) (pages_for_length (length_at s ops 2)))
 
 -- the space is cut, or lengthened by zero bytes
-unfoldable pub mods_changes : State → List Operand → Held
-mods_changes s ops = on_space s.held (target s.held ops 1) (resized (length_at s ops 2))
+abbrev pub mods_changes : State → List Operand → Changes
+mods_changes s ops = Resized (target s.held ops 1) (length_at s ops 2)
 
 abbrev pub mods : Instruction
 mods = record inert {
   needs = λ s p d r. mods_needs;
   fails = λ s p d r. mods_fails s r.operands;
-  changes = λ s p d r. record s { held = mods_changes s r.operands };
+  changes = λ s p d r. mods_changes s r.operands;
 }
 
 -- ---- DESS
@@ -107,7 +106,7 @@ mods = record inert {
 abbrev pub dess : Instruction
 dess = record inert {
   needs = λ s p d r. destruction_needs kinds.Space;
-  changes = λ s p d r. record s { held = destruction_changes s.held r.operands };
+  changes = λ s p d r. Gone kinds.Space (target s.held r.operands 1);
 }
 
 -- ---- SETSPPFP
@@ -165,18 +164,14 @@ unfoldable pub cpybwp_gives : Held → List Operand → Option Val
 cpybwp_gives h ops = if is_in_space (place ops 1) then None else Some (vals.Ptr (first_pointer (source_cells h ops 2)))
 
 -- cells go with their tags into the space
-abbrev pub cells_put : Held → Option Operand → List Cell → Held
-cells_put h (Some (operands.InSpace base offset attr)) piece = on_space h (target_of base) (with_cells (start_of base offset) piece)
-cells_put h _ piece = h
-
-unfoldable pub cpybwp_changes : Held → List Operand → Held
-cpybwp_changes h ops = cells_put h (place ops 1) (source_cells h ops 2)
+abbrev pub cpybwp_changes : Held → List Operand → Changes
+cpybwp_changes h ops = CellsPut (place ops 1) (source_cells h ops 2)
 
 abbrev pub cpybwp : Instruction
 cpybwp = record inert {
   fails = λ s p d r. cpybwp_fails r.operands;
   gives = λ s p d r. cpybwp_gives s.held r.operands;
-  changes = λ s p d r. record s { held = cpybwp_changes s.held r.operands };
+  changes = λ s p d r. cpybwp_changes s.held r.operands;
 }
 
 -- ---- the family

@@ -89,11 +89,12 @@ fresh_stands one budget ended state still is =
     going : Fresh ≢ Ended
     going g = cc
 
-pub between_begun : (held : Held) (templates : List CheckedTemplate) (made : List CreateResult) (jobs : List Job) → length made ≡ length jobs
-    → IsBetween made jobs (begun (opening.state_of held templates jobs)) (unbegun jobs) (ready_list (opening.state_of held templates jobs))
-between_begun held templates made jobs count = record {
-  sound = sound_begun (opening.state_of held templates jobs);
+pub between_begun : (moment : ℕ) (held : Held) (templates : List CheckedTemplate) (made : List CreateResult) (jobs : List Job) → length made ≡ length jobs
+    → IsBetween made jobs (begun moment (opening.state_of held templates jobs)) (unbegun jobs) (ready_list (opening.state_of held templates jobs))
+between_begun moment held templates made jobs count = record {
+  sound = sound_begun moment (opening.state_of held templates jobs);
   begun = refl;
+  still = refl;
   count_made = count;
   count_states = length-map jobs _;
   ready = refl;
@@ -133,25 +134,26 @@ behind_one_more after x (y ∷ es) e = behind_one_more after (after x) es e
 -- ---- between two turns of a whole run
 
 -- the jobs have come so far, by the picks from x up to y
-pub record ComesOn {S : Type 0} (answer : S → ℕ) (after : S → S) (x : S) (held : Held) (templates : List CheckedTemplate) (made : List CreateResult) (jobs : List Job) (m : Run) (all : List JobState) (list : List ℕ) (y : S) : Type 0 where
+pub record ComesOn {S : Type 0} (answer : S → ℕ) (after : S → S) (x : S) (moment : ℕ) (held : Held) (templates : List CheckedTemplate) (made : List CreateResult) (jobs : List Job) (m : Run) (all : List JobState) (list : List ℕ) (y : S) : Type 0 where
   pub between : IsBetween made jobs m all list
   pub origin : m.origin ≡ opening.state_of held templates jobs
+  pub first : m.first ≡ moment
   pub picked : Picked (picks_of answer after (length m.history) x) m.origin m.history
   pub picker : y ≡ behind_picks after (length m.history) x
 
-pub comes_begun : {S : Type 0} (answer : S → ℕ) (after : S → S) (x : S) (held : Held) (templates : List CheckedTemplate) (made : List CreateResult) (jobs : List Job) (m : Run) (all : List JobState) (list : List ℕ) → length made ≡ length jobs
-    → m ≡ begun (opening.state_of held templates jobs) → all ≡ unbegun jobs → list ≡ ready_list m.state → ComesOn answer after x held templates made jobs m all list x
-comes_begun answer after x held templates made jobs m all list count is unbegun_yet listed =
+pub comes_begun : {S : Type 0} (answer : S → ℕ) (after : S → S) (x : S) (moment : ℕ) (held : Held) (templates : List CheckedTemplate) (made : List CreateResult) (jobs : List Job) (m : Run) (all : List JobState) (list : List ℕ) → length made ≡ length jobs
+    → m ≡ begun moment (opening.state_of held templates jobs) → all ≡ unbegun jobs → list ≡ ready_list m.state → ComesOn answer after x moment held templates made jobs m all list x
+comes_begun answer after x moment held templates made jobs m all list count is unbegun_yet listed =
     let first : list ≡ ready_list (opening.state_of held templates jobs) = listed ∙ ap (λ (n : Run). ready_list n.state) is in
-    subst (λ (n : Run). ComesOn answer after x held templates made jobs n all list x) (sym is)
-    (subst (λ (ys : List JobState). ComesOn answer after x held templates made jobs (begun (opening.state_of held templates jobs)) ys list x) (sym unbegun_yet)
-    (subst (λ (qs : List ℕ). ComesOn answer after x held templates made jobs (begun (opening.state_of held templates jobs)) (unbegun jobs) qs x) (sym first)
-    (record { between = between_begun held templates made jobs count; origin = refl; picked = tt; picker = refl })))
+    subst (λ (n : Run). ComesOn answer after x moment held templates made jobs n all list x) (sym is)
+    (subst (λ (ys : List JobState). ComesOn answer after x moment held templates made jobs (begun moment (opening.state_of held templates jobs)) ys list x) (sym unbegun_yet)
+    (subst (λ (qs : List ℕ). ComesOn answer after x moment held templates made jobs (begun moment (opening.state_of held templates jobs)) (unbegun jobs) qs x) (sym first)
+    (record { between = between_begun moment held templates made jobs count; origin = refl; first = refl; picked = tt; picker = refl })))
 
-pub comes_on : {S : Type 0} (answer : S → ℕ) (after : S → S) (x : S) (held : Held) (templates : List CheckedTemplate) (made : List CreateResult) (jobs : List Job) (m : Run) (all : List JobState) (list : List ℕ) (y : S) (place : ℕ) (m' : Run)
-    (all' : List JobState) (list' : List ℕ) → ComesOn answer after x held templates made jobs m all list y → place ≡ answer y % length list → WentOn made jobs m all list place m' all' list'
-    → ComesOn answer after x held templates made jobs m' all' list' (after y)
-comes_on answer after x held templates made jobs m all list y place m' all' list' comes at went =
+pub comes_on : {S : Type 0} (answer : S → ℕ) (after : S → S) (x : S) (moment : ℕ) (held : Held) (templates : List CheckedTemplate) (made : List CreateResult) (jobs : List Job) (m : Run) (all : List JobState) (list : List ℕ) (y : S) (place : ℕ) (m' : Run)
+    (all' : List JobState) (list' : List ℕ) → ComesOn answer after x moment held templates made jobs m all list y → place ≡ answer y % length list → WentOn made jobs m all list place m' all' list'
+    → ComesOn answer after x moment held templates made jobs m' all' list' (after y)
+comes_on answer after x moment held templates made jobs m all list y place m' all' list' comes at went =
     let listed = comes.between.ready in
     let pick : answer y ≡ answer (behind_picks after (length m.history) x) = ap answer comes.picker in
     let by : chosen m.state (answer (behind_picks after (length m.history) x)) ≡ Some went.entry.process =
@@ -162,6 +164,7 @@ comes_on answer after x held templates made jobs m all list y place m' all' list
     record {
       between = went.between;
       origin = went.origin ∙ comes.origin;
+      first = went.first ∙ comes.first;
       picked = subst (λ (s : State). Picked (picks_of answer after (length m'.history) x) s m'.history) (sym went.origin)
           (subst (λ (es : List Entry). Picked (picks_of answer after (length es) x) m.origin es) (sym went.added) more);
       picker = ap after comes.picker ∙ sym (behind_one_more after x m.history went.entry) ∙ ap (λ (es : List Entry). behind_picks after (length es) x) (sym went.added);

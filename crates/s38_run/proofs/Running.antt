@@ -14,7 +14,7 @@ use Rattle.s38_code.specs.declared.reply.Reply.{Reply}
 use Rattle.s38_code.specs.declared.reply.Reply.TheVariants.{MustWait}
 use Rattle.s38_code.specs.History.{entries_of, entry_after, is_of}
 use Rattle.s38_rules.specs.Step.{step}
-use Rattle.s38_rules.specs.Legal.{Run, after, no_moment}
+use Rattle.s38_rules.specs.Legal.{Run, after}
 use Rattle.s38_process.specs.Process.{ProcessState, absorbed, event_of}
 use Rattle.s38_run.specs.declared.job_state.JobState.{JobState}
 use Rattle.s38_run.specs.declared.job_state.JobState.TheVariants.{Unbegun, Running, Over}
@@ -38,15 +38,19 @@ pub entries_own : (q : ℕ) (h : List Entry) (e : Entry) → e.process ≡ q →
 entries_own q h e n = filter-append (is_of q) h (e ∷ []) ∙ ap (λ es. entries_of q h ++ es) (own_entry q e n)
 
 -- where the answer is entered, the history has one entry more
-pub history_more : (m : Run) (p : ℕ) (e : Event) → (step m.state p e).enters ≡ true → (after m no_moment p e).history ≡ m.history ++ entry_after m.history p e (step m.state p e).reply ∷ []
+pub history_more : (m : Run) (p : ℕ) (e : Event) → (step m.state p e).enters ≡ true → (after m m.moment p e).history ≡ m.history ++ entry_after m.history p e (step m.state p e).reply ∷ []
 unfolding after
 history_more m p e h = rw h refl
 
-pub state_after : (m : Run) (p : ℕ) (e : Event) → (after m no_moment p e).state ≡ (step m.state p e).state
+pub state_after : (m : Run) (p : ℕ) (e : Event) → (after m m.moment p e).state ≡ (step m.state p e).state
 unfolding after
 state_after m p e = refl
 
-pub origin_after : (m : Run) (p : ℕ) (e : Event) → (after m no_moment p e).origin ≡ m.origin
+pub first_after : (m : Run) (p : ℕ) (e : Event) → (after m m.moment p e).first ≡ m.first
+unfolding after
+first_after m p e = refl
+
+pub origin_after : (m : Run) (p : ℕ) (e : Event) → (after m m.moment p e).origin ≡ m.origin
 unfolding after
 origin_after m p e = refl
 

@@ -1,8 +1,7 @@
 -- What a step does for a process that is ready: it is entered, and it moves no other process.
-use Rattle.std.proofs.Common.{◌≡◌, ◌≢◌, ℕ, ◌-◌, ◌<◌, Bool, true, false, cond, List, [], length, refl, sym, ◌∙◌, subst, inl, inr, not, ◌&&◌, arith, length-set, get_or-set_other, get_or-set_same}
+use Rattle.std.proofs.Common.{◌≡◌, ◌≢◌, ℕ, ◌-◌, ◌<◌, Bool, true, false, List, [], length, refl, sym, ◌∙◌, subst, inl, inr, not, ◌&&◌, arith, length-set, get_or-set_other, get_or-set_same}
 use Rattle.std.proofs.lemmas.Option.{slice_get_cases}
 use Rattle.std.specs.Prelude.{Option, Some, None, slice_get, slice_set}
-use Rattle.s38_base.specs.declared.exception.Exception.{Exception}
 use Rattle.s38_code.specs.declared.event.Event.{Event}
 use Rattle.s38_code.specs.declared.event.Event.TheVariants.{Start, Act, Finish}
 use Rattle.s38_code.specs.declared.reply.Reply.{Reply}
@@ -15,10 +14,9 @@ use Rattle.s38_rules.specs.Verdict.{awake_verdict}
 use Rattle.s38_rules.specs.Effect.{effect_of, end_at, start_at}
 use Rattle.s38_rules.specs.Step.{Stepped, by_verdict, by_waiting, step}
 use Rattle.s38_process.specs.Process.{is_finish}
-use Rattle.s38_code.specs.Operations.{family_of}
 use Rattle.s38_rules.specs.Rows.{row}
 use Rattle.s38_rules.specs.Instruction.{AreKept}
-use Rattle.s38_rules.proofs.Laws.{act_keeps, all_decommitted_keeps, keeps_row, kept_count}
+use Rattle.s38_rules.proofs.Laws.{act_keeps, all_decommitted_keeps, kept_count}
 use Rattle.s38_run.specs.Running.{HasEnded, OthersStay}
 use Rattle.s38_run.proofs.WaitLaws.{waits_beside}
 use Rattle.s38_run.proofs.ReadyLaws.{OtherReady, kept_outline, outline, start_outline, with_waiting}
@@ -60,13 +58,13 @@ kept_stays p xs ys kept = record { count = kept_count p xs ys kept; same = kept.
 effect_stays : (s : State) (p : ℕ) (e : Event) → OthersStay s.processes (effect_of s p e).state.processes (p - 1)
 unfolding effect_of
 effect_stays s p Start = start_stays s p (process_entry s p)
-effect_stays s p (Act depth request) = kept_stays p s.processes _ (act_keeps (row request.op) s p depth request (keeps_row (family_of request.op) request.op))
+effect_stays s p (Act depth request) = kept_stays p s.processes _ (act_keeps (row request.op) s p depth request)
 effect_stays s p (Finish cause) = end_stays s p (process_entry s p)
 
 effect_outline : (s : State) (p : ℕ) (e : Event) → is_finish e ≡ false → outline (effect_of s p e).state.processes ≡ outline s.processes
 unfolding effect_of
 effect_outline s p Start f = start_outline s p (process_entry s p) refl
-effect_outline s p (Act depth request) f = kept_outline p s.processes _ (act_keeps (row request.op) s p depth request (keeps_row (family_of request.op) request.op))
+effect_outline s p (Act depth request) f = kept_outline p s.processes _ (act_keeps (row request.op) s p depth request)
 effect_outline s p (Finish cause) f = cc
 
 end_ends : (s : State) (p : ℕ) (o : Option ProcessEntry) → slice_get s.processes (p - 1) ≡ o → p - 1 < length s.processes → HasEnded (end_at s p o).processes (p - 1)

@@ -13,7 +13,7 @@ use Rattle.s38_code.specs.declared.reply.Reply.{Reply}
 use Rattle.s38_code.specs.declared.reply.Reply.TheVariants.{Done, Signal, MustWait}
 use Rattle.s38_code.specs.History.{entries_of, entry_after}
 use Rattle.s38_rules.specs.declared.process.ProcessEntry.{ProcessEntry}
-use Rattle.s38_rules.specs.Legal.{IsProcess, Run, after, no_moment}
+use Rattle.s38_rules.specs.Legal.{IsProcess, Run, after}
 use Rattle.s38_rules.specs.State.{State, is_early, process_entry, ready, ready_in, waits, ready_list}
 use Rattle.s38_rules.specs.Step.{step}
 use Rattle.s38_rules.proofs.Laws.{sound_after}
@@ -25,7 +25,7 @@ use Rattle.s38_run.specs.declared.outcome.Outcome.TheVariants.{Finished, Waits, 
 use Rattle.s38_run.specs.Running.{EachStands, IsBetween, OthersStay, Stands, TookTurn, WentOn, doing, left_in_all, left_of, outcome_of, ready_behind, state_behind, turns_left}
 use Rattle.s38_run.proofs.Asking.{behind_more, ends_asking, ends_more, ran_more}
 use Rattle.s38_run.proofs.ReadyLaws.{OtherReady, filter_fewer, listed_ready, none_listed, outline, ready_few, same_ended, same_list, waiting_list, waiting_ready, with_waiting}
-use Rattle.s38_run.proofs.Running.{entries_other, entries_own, fewer_events, fewer_ready, history_more, left_set, origin_after, turn_falls, turn_waits}
+use Rattle.s38_run.proofs.Running.{entries_other, entries_own, fewer_events, fewer_ready, first_after, history_more, left_set, origin_after, turn_falls, turn_waits}
 use Rattle.s38_run.proofs.Stepping.{GoesTo, MovesBy, goes}
 
 -- ---- who is ready behind a turn
@@ -310,7 +310,7 @@ module _ (made : List CreateResult) (jobs : List Job) (m : Run) (all : List JobS
         (set_elsewhere all (p - 1) k s (state_then m p job one state e) ne s_at))
   ]
 
-  each_then : EachStands made jobs (after m no_moment p e) (slice_set all (p - 1) (state_then m p job one state e))
+  each_then : EachStands made jobs (after m m.moment p e) (slice_set all (p - 1) (state_then m p job one state e))
   unfolding after
   each_then = record {
     each = λ k x j o s x_at j_at o_at s_at.
@@ -323,12 +323,13 @@ module _ (made : List CreateResult) (jobs : List Job) (m : Run) (all : List JobS
   count_then : length (step m.state p e).state.processes ≡ length jobs
   count_then = to.stay.count ∙ processes_count made jobs m all was turn.between
 
-  between_then : IsBetween made jobs (after m no_moment p e) (slice_set all (p - 1) (state_then m p job one state e))
+  between_then : IsBetween made jobs (after m m.moment p e) (slice_set all (p - 1) (state_then m p job one state e))
       (ready_behind (step m.state p e).state p (anyone m.state.waiting) (outcome_of e (step m.state p e).reply) was)
   unfolding after
   between_then = record {
-    sound = sound_after m no_moment p e turn.between.sound (record { first = listed.1.first; last = omega (arith, listed.1.last, turn.between.sound.kept) }) refl;
+    sound = sound_after m m.moment p e turn.between.sound (record { first = listed.1.first; last = omega (arith, listed.1.last, turn.between.sound.kept) }) (omega arith);
     begun = turn.between.begun;
+    still = turn.between.still;
     count_made = turn.between.count_made;
     count_states = simp length-set turn.between.count_states;
     ready = list_then;
@@ -336,11 +337,12 @@ module _ (made : List CreateResult) (jobs : List Job) (m : Run) (all : List JobS
     each = each_then;
   }
 
-  went_then : WentOn made jobs m all was place (after m no_moment p e) (slice_set all (p - 1) (state_then m p job one state e))
+  went_then : WentOn made jobs m all was place (after m m.moment p e) (slice_set all (p - 1) (state_then m p job one state e))
       (ready_behind (step m.state p e).state p (anyone m.state.waiting) (outcome_of e (step m.state p e).reply) was)
   went_then = record {
     between = between_then;
     origin = origin_after m p e;
+    first = first_after m p e;
     entry = entry_then m p e;
     added = history_more m p e to.entered;
     by = turn.listed;
@@ -362,8 +364,8 @@ went_on made jobs m all was place p job one state o m' state' all' now between l
     now_is ∙ ap (λ (n : Run). ready_behind n.state p (anyone m.state.waiting) o was) took.turned.machine
     ∙ ap (λ x. ready_behind (step m.state p e).state p (anyone m.state.waiting) x was) took.turned.outcome in
     subst (λ (n : Run). WentOn made jobs m all was place n all' now) (sym took.turned.machine)
-    (subst (λ (xs : List JobState). WentOn made jobs m all was place (after m no_moment p e) xs now) (sym (all_is ∙ ap (slice_set all (p - 1)) state_is))
-    (subst (λ (qs : List ℕ). WentOn made jobs m all was place (after m no_moment p e) (slice_set all (p - 1) (state_then m p job one state e)) qs) (sym list_is) went))
+    (subst (λ (xs : List JobState). WentOn made jobs m all was place (after m m.moment p e) xs now) (sym (all_is ∙ ap (slice_set all (p - 1)) state_is))
+    (subst (λ (qs : List ℕ). WentOn made jobs m all was place (after m m.moment p e) (slice_set all (p - 1) (state_then m p job one state e)) qs) (sym list_is) went))
 
 -- what a turn is allowed on
 pub going : (made : List CreateResult) (jobs : List Job) (m : Run) (all : List JobState) (was : List ℕ) (place p : ℕ) (job : Job) (one : CreateResult) (state : JobState) → IsBetween made jobs m all was

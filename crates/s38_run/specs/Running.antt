@@ -13,7 +13,7 @@ use Rattle.s38_process.specs.declared.status.Status.{Status}
 use Rattle.s38_process.specs.declared.status.Status.TheVariants.{Fresh, Running, Ending, Ended}
 use Rattle.s38_rules.specs.State.{State, ready_list}
 use Rattle.s38_rules.specs.Step.{step}
-use Rattle.s38_rules.specs.Legal.{Run, IsSound, after, no_moment}
+use Rattle.s38_rules.specs.Legal.{Run, IsSound, after}
 use Rattle.s38_process.specs.Process.{ProcessState, RanFrom, absorbed, behind, ends_by_finish, event_of, fresh}
 use Rattle.s38_rules.specs.Opening.{state_of}
 use Rattle.s38_run.specs.declared.job_state.JobState.{JobState}
@@ -60,7 +60,7 @@ outcome_of (Finish cause) reply = outcomes.Finished
 pub record Turned (number : ℕ) (m : Run) (d : ProcessState) (o : Outcome) (m' : Run) (d' : ProcessState) : Type 0 where
   pub event : Event
   pub asks : event_of d ≡ Some event
-  pub machine : m' ≡ after m no_moment number event
+  pub machine : m' ≡ after m m.moment number event
   pub process : d' ≡ absorbed d (step m.state number event).reply
   pub outcome : o ≡ outcome_of event (step m.state number event).reply
 
@@ -116,6 +116,8 @@ pub record EachStands (made : List CreateResult) (jobs : List Job) (m : Run) (st
 pub record IsBetween (made : List CreateResult) (jobs : List Job) (m : Run) (states : List JobState) (list : List ℕ) : Type 0 where
   pub sound : IsSound m
   pub begun : m.origin ≡ state_of m.origin.held m.origin.templates jobs
+  -- without a store the moment is that of the start
+  pub still : m.moment ≡ m.first
   pub count_made : length made ≡ length jobs
   pub count_states : length states ≡ length jobs
   pub ready : list ≡ ready_list m.state
@@ -141,6 +143,7 @@ turns_left jobs all ready = left_in_all jobs all * (length jobs + 1) + length re
 pub record WentOn (made : List CreateResult) (jobs : List Job) (m : Run) (all : List JobState) (ready : List ℕ) (place : ℕ) (m' : Run) (all' : List JobState) (ready' : List ℕ) : Type 0 where
   pub between : IsBetween made jobs m' all' ready'
   pub origin : m'.origin ≡ m.origin
+  pub first : m'.first ≡ m.first
   pub entry : Entry
   pub added : m'.history ≡ m.history ++ entry ∷ []
   pub by : slice_get ready place ≡ Some entry.process

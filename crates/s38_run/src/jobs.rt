@@ -89,11 +89,12 @@ pub fn serial<P: Picker>(
     made: &[CreateResult],
     picker: &mut P,
 ) -> Result<Machine, NoMemory>
-    requires begun { machine ≡ begun (state_of machine.state.held machine.state.templates jobs.now) }
+    requires begun { machine ≡ begun machine.first (state_of machine.state.held machine.state.templates jobs.now) }
     requires made { length made.now ≡ length jobs.now }
     requires few { length jobs.now < 2 ^ 32 - 1 }
     ensures sound { IfOk result IsSound }
     ensures origin { IfOk result (λ m. m.origin ≡ state_of machine.state.held machine.state.templates jobs.now) }
+    ensures still { IfOk result (λ m. (m.first ≡ machine.first) × (m.moment ≡ machine.first)) }
     ensures picked { IfOk result (λ m. Picked (picks_of P.answer P.after (length m.history) picker.old) m.origin m.history) }
     ensures picker { IfOk result (λ m. picker.new ≡ behind_picks P.after (length m.history) picker.old) }
     ensures ran { IfOk result (λ m. AllRan made.now jobs.now m.history) }

@@ -1,7 +1,7 @@
 ghost use Rattle.std.specs.Prelude.{◌≡◌, ◌≢◌, IfOk, Some, is_some, true};
 ghost use Rattle.s38_code.specs.declared.event.Event.{Event};
 ghost use Rattle.s38_code.specs.declared.reply.Reply.{Reply};
-ghost use Rattle.s38_machine.specs.Asking.{reply_by};
+ghost use Rattle.s38_code.specs.Asking.{reply_by};
 ghost use Rattle.s38_process.specs.Process.{absorbed, is_finish};
 ghost use Rattle.s38_process.specs.declared.status.Status.{Status};
 ghost use Rattle.s38_rules.specs.Legal.{IsSound, IsProcess};
@@ -11,8 +11,8 @@ ghost use Rattle.s38_run.specs.declared.job_state.JobState.{JobState};
 use crate::job_state::{JobState, begin};
 use crate::outcome::{Outcome, is_finish, outcome_of};
 use s38_base::NoMemory;
-use s38_code::{CreateResult, Job, Reply};
-use s38_machine::{Asked, Machine};
+use s38_code::{Asked, CreateResult, Job, Reply};
+use s38_machine::Machine;
 use s38_process::{Next, Process};
 use std::alloc::Global;
 

@@ -9,7 +9,8 @@ use Rattle.s38_code.specs.declared.entry.Entry.{Entry}
 use Rattle.s38_code.specs.declared.made.CheckedTemplate.{CheckedTemplate}
 use Rattle.s38_code.specs.declared.made.CreateResult.{CreateResult}
 use Rattle.s38_rules.specs.State.{State}
-use Rattle.s38_rules.specs.Legal.{IsSound, IsUnstored, Leads, Run, begun}
+use Rattle.s38_rules.specs.Legal.{AreMoments, IsSound, Leads, Run, begun, no_moment}
+use Rattle.s38_rules.proofs.Laws.{moments_stay}
 use Rattle.s38_rules.specs.Held.{Held}
 use Rattle.s38_rules.specs.Opening.{held_first, held_installed, state_of}
 use Rattle.s38_run.specs.Picked.{Picked}
@@ -29,7 +30,7 @@ use Rattle.s38_top.specs.declared.command.Command.TheVariants.{Serial, Check, De
 use Rattle.s38_top.specs.declared.outcome.Outcome.{Outcome}
 use Rattle.s38_top.specs.declared.outcome.Outcome.TheVariants.{BadWords, BadDeck, DeckFault, NoMemory, Complete, Checked, Demonstrated}
 use Rattle.s38_top.specs.Commands.{command_of, demo_size}
-use Rattle.s38_top.specs.Decks.{AreMarks, IsRunOf, checked_of, made_for, opened}
+use Rattle.s38_top.specs.Decks.{AreMarks, IsRunOf, IsUnstored, checked_of, made_for, opened}
 use Rattle.s38_commitment_laws.proofs.StepLaws.{first_right, history_right, installed_right}
 use Rattle.s38_top.proofs.ConfinedLaws.{installed_in_order, opening_in_order, run_confined}
 use Rattle.s38_top.specs.Outcome.{Ends, HasDeck, Holds, IsChecked, IsComplete, IsDemonstrated, IsGood, IsGoodDeck, IsGoodFor, OfText, Serves, Tells, checked_text, faulted, history_of, marks_of, most, reads_deck, status_of, text_of}
@@ -43,7 +44,7 @@ there_is (x ∷ xs) (suc k) h = there_is xs k (omega arith)
 -- template, has the history of the deck
 pub run_of : (held : Held) (picks : List ℕ) (deck : Deck) (made : List CreateResult) (ts : List CheckedTemplate) (begun_by m : Run) → length made ≡ length deck.jobs
     → ((k : ℕ) (job : Job) (one : CreateResult) → slice_get deck.jobs k ≡ Some job → slice_get made k ≡ Some one → made_for deck job ≡ Some one)
-    → ts ≡ checked_of deck → begun_by ≡ begun (state_of held ts deck.jobs)
+    → ts ≡ checked_of deck → begun_by ≡ begun no_moment (state_of held ts deck.jobs)
     → IsSound m → m.origin ≡ state_of begun_by.state.held begun_by.state.templates deck.jobs → Picked picks m.origin m.history → AllRan made deck.jobs m.history → IsRunOf held picks deck m.history
 run_of held picks deck made ts begun_by m count each checked begins sound origin order ran =
     let first : m.origin ≡ state_of held ts deck.jobs = origin ∙ ap (λ (r : Run). state_of r.state.held r.state.templates deck.jobs) begins in
@@ -57,11 +58,16 @@ run_of held picks deck made ts begun_by m count each checked begins sound origin
     }
 
 -- the marks of a sound machine
-pub marks_of_run : (m : Run) (history : List Entry) (marks : List ℕ) → IsSound m → history ≡ m.history → marks ≡ m.marks → AreMarks marks history
-marks_of_run m history marks sound h k = record {
-  count = ap length k ∙ sound.marked ∙ ap length (sym h);
-  stamped = subst (λ (xs : List ℕ). All IsUnstored xs) (sym k) sound.stamped;
-}
+pub marks_of_run : (held : Held) (deck : Deck) (ts : List CheckedTemplate) (begun_by m : Run) (history : List Entry) (marks : List ℕ) → begun_by ≡ begun no_moment (state_of held ts deck.jobs) → IsSound m
+    → (m.first ≡ begun_by.first) × (m.moment ≡ begun_by.first) → history ≡ m.history → marks ≡ m.marks → AreMarks marks history
+marks_of_run held deck ts begun_by m history marks begins sound still h k =
+    let start : begun_by.first ≡ no_moment = ap (λ (r : Run). r.first) begins in
+    let moments : AreMoments no_moment m.marks no_moment =
+    subst (λ (n : ℕ). AreMoments n m.marks no_moment) (still.0 ∙ start) (subst (λ (n : ℕ). AreMoments m.first m.marks n) (still.1 ∙ start) sound.stamped) in
+    record {
+      count = ap length k ∙ sound.marked ∙ ap length (sym h);
+      stamped = subst (λ (xs : List ℕ). All IsUnstored xs) (sym k) (moments_stay no_moment m.marks moments);
+    }
 
 -- ---- what a text comes to
 

@@ -12,7 +12,7 @@ use Rattle.s38_confinement.specs.Confined.{AllWithin, NeverUsed, StaysClosed}
 use Rattle.s38_confinement.specs.NoWay.{NoWay}
 use Rattle.s38_create.specs.Checked.{made_of}
 use Rattle.s38_rules.specs.State.{State}
-use Rattle.s38_rules.specs.Legal.{IsUnstored, Leads}
+use Rattle.s38_rules.specs.Legal.{Leads, no_moment}
 use Rattle.s38_rules.specs.Held.{Held}
 use Rattle.s38_rules.specs.Opening.{state_of}
 use Rattle.s38_process.specs.Process.{ProcessState, fresh}
@@ -75,6 +75,10 @@ abbrev pub IsConfined : Held → Deck → List Entry → State → Type 0
 IsConfined held deck history end =
     (users : List ℕ) (o r : ℕ) → o ≢ 0 → NoWay held users o r → AllWithin users (opened held deck) history
     → NeverUsed (opened held deck) history o r × StaysClosed (processes_of deck) history end users o r
+
+-- the mark of an entry that was answered without a store
+abbrev pub IsUnstored : ℕ → Type 0
+IsUnstored mark = mark ≡ no_moment
 
 -- each entry has a mark, and since there is no store all are those of one moment
 pub record AreMarks (marks : List ℕ) (history : List Entry) : Type 0 where

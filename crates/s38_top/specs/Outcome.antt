@@ -1,5 +1,5 @@
 -- What the program may come to, what it then answers and prints, and what it rests on.
-use Rattle.std.specs.Prelude.{◌≡◌, ◌⊎◌, ℕ, Bool, true, false, IsTrue, List, [], ◌∷◌, ◌++◌, length, take, Option, Some, None, is_some, Err, codes}
+use Rattle.std.specs.Prelude.{◌≡◌, ◌⊎◌, ◌==◌, if◌then◌else◌, ℕ, Bool, true, false, IsTrue, List, [], ◌∷◌, ◌++◌, length, take, Option, Some, None, is_some, Err, codes}
 use Rattle.std.specs.Io.KnownBytes.{Appends, Keeps}
 use Rattle.s38_base.specs.Faults.{Rose}
 use Rattle.s38_io.specs.Source.{ReadsAll}
@@ -19,6 +19,7 @@ use Rattle.s38_template.specs.declared.fault.DeckFault.TheVariants as faults
 use Rattle.s38_top.specs.declared.command.Command.{Command}
 use Rattle.s38_top.specs.declared.command.Command.TheVariants.{Serial, Check, Demo}
 use Rattle.s38_top.specs.declared.outcome.Outcome.{Outcome}
+use Rattle.s38_top.specs.declared.outcome.Whole.{Whole}
 use Rattle.s38_top.specs.declared.outcome.Outcome.TheVariants.{BadWords, BadDeck, DeckFault, NoMemory, Complete, Checked, Demonstrated}
 use Rattle.s38_top.specs.Commands.{command_of}
 use Rattle.s38_top.specs.Decks.{AreMarks, IsConfined, IsRunOf, checked_of, opened, picks_by}
@@ -28,33 +29,6 @@ abbrev pub most : ℕ
 most = 4194560
 
 -- ---- what is answered
-
-abbrev pub status_of : Outcome → ℕ
-status_of BadWords = 1
-status_of (BadDeck line code) = 2
-status_of DeckFault = 5
-status_of NoMemory = 7
-status_of (Complete pick whole) = 0
-status_of (Checked checked) = 0
-status_of (Demonstrated size whole) = 0
-
-abbrev pub history_of : Outcome → List Entry
-history_of BadWords = []
-history_of (BadDeck line code) = []
-history_of DeckFault = []
-history_of NoMemory = []
-history_of (Complete pick whole) = whole.history.items
-history_of (Checked checked) = []
-history_of (Demonstrated size whole) = whole.history.items
-
-abbrev pub marks_of : Outcome → List ℕ
-marks_of BadWords = []
-marks_of (BadDeck line code) = []
-marks_of DeckFault = []
-marks_of NoMemory = []
-marks_of (Complete pick whole) = whole.marks.items
-marks_of (Checked checked) = []
-marks_of (Demonstrated size whole) = whole.marks.items
 
 abbrev pub line : List ℕ → List ℕ
 line text = text ++ 10 ∷ []
@@ -67,14 +41,42 @@ run_text deck history = log_text history deck.jobs ++ last_line (length history)
 abbrev pub checked_text : List CheckedTemplate → List ℕ
 checked_text templates = check_text templates ++ last_line (length templates)
 
+-- a status, the text that is written, the history, and a mark for each of its entries
+pub record Answer : Type 0 where
+  pub status : ℕ
+  pub text : List ℕ
+  pub history : List Entry
+  pub marks : List ℕ
+
+-- where no job ran
+abbrev pub without_run : ℕ → List ℕ → Answer
+without_run status text = record { status = status; text = text; history = []; marks = [] }
+
+-- where each job ran to its end
+abbrev pub of_run : List ℕ → Whole → Answer
+of_run text whole = record { status = 0; text = text; history = whole.history.items; marks = whole.marks.items }
+
+-- what each outcome is answered with
+abbrev pub answer_of : Outcome → Answer
+answer_of BadWords = without_run 1 (line (codes "BAD WORDS"))
+answer_of (BadDeck number code) = without_run 2 (bad_line number code)
+answer_of DeckFault = without_run 5 (line (codes "DECK FAULT"))
+answer_of NoMemory = without_run 7 (line (codes "NO MEMORY"))
+answer_of (Complete pick whole) = of_run (run_text whole.deck whole.history.items) whole
+answer_of (Checked checked) = without_run 0 (checked_text checked.templates)
+answer_of (Demonstrated size whole) = of_run (demo_text size whole.history.items) whole
+
+abbrev pub status_of : Outcome → ℕ
+status_of o = (answer_of o).status
+
 abbrev pub text_of : Outcome → List ℕ
-text_of BadWords = line (codes "BAD WORDS")
-text_of (BadDeck number code) = bad_line number code
-text_of DeckFault = line (codes "DECK FAULT")
-text_of NoMemory = line (codes "NO MEMORY")
-text_of (Complete pick whole) = run_text whole.deck whole.history.items
-text_of (Checked checked) = checked_text checked.templates
-text_of (Demonstrated size whole) = demo_text size whole.history.items
+text_of o = (answer_of o).text
+
+abbrev pub history_of : Outcome → List Entry
+history_of o = (answer_of o).history
+
+abbrev pub marks_of : Outcome → List ℕ
+marks_of o = (answer_of o).marks
 
 -- ---- what it rests on
 
@@ -137,13 +139,7 @@ Holds words old new before now (Demonstrated size whole) =
 
 -- a fault of the sink changes the status, unless memory was wanted before
 abbrev pub faulted : Outcome → ℕ
-faulted BadWords = 6
-faulted (BadDeck line code) = 6
-faulted DeckFault = 6
-faulted NoMemory = 7
-faulted (Complete pick whole) = 6
-faulted (Checked checked) = 6
-faulted (Demonstrated size whole) = 6
+faulted o = if status_of o == 7 then 7 else 6
 
 -- the text was written, or the sink failed and a prefix of it was
 abbrev pub Tells : Option (List ℕ) → Option (List ℕ) → ℕ → ℕ → ℕ → Outcome → Type 0

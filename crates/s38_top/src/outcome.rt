@@ -1,3 +1,6 @@
+ghost use Rattle.std.specs.Prelude.{◌≡◌, if◌then◌else◌};
+ghost use Rattle.s38_top.specs.Outcome.{faulted, status_of};
+
 use s38_code::{Checked, Deck, Entry};
 use s38_machine::State;
 
@@ -34,4 +37,36 @@ pub enum Outcome {
     Checked(CheckedDeck),
     /// Each job of the generated deck of so many postings ran to its end.
     Demonstrated { size: u32, whole: Whole },
+}
+
+/// The status of want of memory.
+const NO_MEMORY: u8 = 7;
+/// The status of a sink that failed.
+const SINK_FAULT: u8 = 6;
+
+impl Outcome {
+    /// The status, if the text was written.
+    pub fn status(&self) -> u8
+        ensures { result ≡ status_of self.now }
+    {
+        match self {
+            Outcome::BadWords => 1,
+            Outcome::BadDeck { .. } => 2,
+            Outcome::DeckFault => 5,
+            Outcome::NoMemory => NO_MEMORY,
+            Outcome::Complete { .. } | Outcome::Checked(_) | Outcome::Demonstrated { .. } => 0,
+        }
+    }
+
+    /// The status by whether the text was written.
+    pub fn status_told(&self, written: bool) -> u8
+        ensures { result ≡ (if written then status_of self.now else faulted self.now) }
+    {
+        let status = self.status();
+        if written || status == NO_MEMORY {
+            status
+        } else {
+            SINK_FAULT
+        }
+    }
 }

@@ -5,7 +5,7 @@ ghost use Rattle.s38_io.specs.Sink.{AppendsFront};
 ghost use Rattle.s38_joblog.specs.Log.{last_line};
 ghost use Rattle.s38_top.specs.Outcome.{checked_text, run_text, text_of};
 
-use crate::outcome::{CheckedDeck, Outcome, Whole};
+use crate::outcome::Outcome;
 use s38_base::NoMemory;
 use s38_code::{CheckedTemplate, Deck, Entry};
 use s38_demo::demo_text;
@@ -66,51 +66,20 @@ fn tell_text<O: Sink>(outcome: Outcome, text: &[u8], out: &mut O) -> Told
     Told { outcome, written }
 }
 
-fn tell_run<O: Sink>(alloc: Global, pick: u32, whole: Whole, out: &mut O) -> Told
-    ensures outcome { (result.outcome ≡ Outcome.Complete pick whole) ⊎ (result.outcome ≡ Outcome.NoMemory) }
+/// Writes the text of an outcome. If memory was wanted for it, the outcome is that.
+fn tell_made<O: Sink>(outcome: Outcome, text: Result<Vec<u8>, NoMemory>, out: &mut O) -> Told
+    requires { IfOk text (λ made. made.items ≡ text_of outcome) }
+    ensures outcome { (result.outcome ≡ outcome) ⊎ (result.outcome ≡ Outcome.NoMemory) }
     ensures told { MatchBool result.written (Appends (O.written out.old) (O.written out.new) (text_of result.outcome))
         (Rose (O.faults out.old) (O.faults out.new) × AppendsFront (O.written out.old) (O.written out.new) (text_of result.outcome)) }
 {
-    match run_text(alloc, &whole.deck, whole.history.as_slice()) {
+    match text {
         Err(_) => tell_text(Outcome::NoMemory, b"NO MEMORY\n", out),
-        Ok(text) => tell_text(Outcome::Complete { pick, whole }, text.as_slice(), out),
+        Ok(made) => tell_text(outcome, made.as_slice(), out),
     }
 }
 
-fn tell_check<O: Sink>(alloc: Global, checked: CheckedDeck, out: &mut O) -> Told
-    ensures outcome { (result.outcome ≡ Outcome.Checked checked) ⊎ (result.outcome ≡ Outcome.NoMemory) }
-    ensures told { MatchBool result.written (Appends (O.written out.old) (O.written out.new) (text_of result.outcome))
-        (Rose (O.faults out.old) (O.faults out.new) × AppendsFront (O.written out.old) (O.written out.new) (text_of result.outcome)) }
-{
-    match checked_text(alloc, checked.templates.as_slice()) {
-        Err(_) => tell_text(Outcome::NoMemory, b"NO MEMORY\n", out),
-        Ok(text) => tell_text(Outcome::Checked(checked), text.as_slice(), out),
-    }
-}
-
-fn tell_demo<O: Sink>(alloc: Global, size: u32, whole: Whole, out: &mut O) -> Told
-    ensures outcome { (result.outcome ≡ Outcome.Demonstrated size whole) ⊎ (result.outcome ≡ Outcome.NoMemory) }
-    ensures told { MatchBool result.written (Appends (O.written out.old) (O.written out.new) (text_of result.outcome))
-        (Rose (O.faults out.old) (O.faults out.new) × AppendsFront (O.written out.old) (O.written out.new) (text_of result.outcome)) }
-{
-    match demo_text(alloc, size, whole.history.as_slice()) {
-        Err(_) => tell_text(Outcome::NoMemory, b"NO MEMORY\n", out),
-        Ok(text) => tell_text(Outcome::Demonstrated { size, whole }, text.as_slice(), out),
-    }
-}
-
-fn tell_bad<O: Sink>(alloc: Global, line: u32, code: u8, out: &mut O) -> Told
-    ensures outcome { (result.outcome ≡ Outcome.BadDeck line code) ⊎ (result.outcome ≡ Outcome.NoMemory) }
-    ensures told { MatchBool result.written (Appends (O.written out.old) (O.written out.new) (text_of result.outcome))
-        (Rose (O.faults out.old) (O.faults out.new) × AppendsFront (O.written out.old) (O.written out.new) (text_of result.outcome)) }
-{
-    match bad_line(alloc, line, code) {
-        Err(_) => tell_text(Outcome::NoMemory, b"NO MEMORY\n", out),
-        Ok(text) => tell_text(Outcome::BadDeck { line, code }, text.as_slice(), out),
-    }
-}
-
-/// Writes the text of an outcome in one piece. Where memory is wanted for it, the outcome is that.
+/// Writes the text of an outcome in one piece. If memory is wanted for it, the outcome is that.
 pub fn tell<O: Sink>(alloc: Global, outcome: Outcome, out: &mut O) -> Told
     ensures outcome { (result.outcome ≡ outcome) ⊎ (result.outcome ≡ Outcome.NoMemory) }
     ensures told { MatchBool result.written (Appends (O.written out.old) (O.written out.new) (text_of result.outcome))
@@ -118,11 +87,23 @@ pub fn tell<O: Sink>(alloc: Global, outcome: Outcome, out: &mut O) -> Told
 {
     match outcome {
         Outcome::BadWords => tell_text(Outcome::BadWords, b"BAD WORDS\n", out),
-        Outcome::BadDeck { line, code } => tell_bad(alloc, line, code, out),
         Outcome::DeckFault => tell_text(Outcome::DeckFault, b"DECK FAULT\n", out),
         Outcome::NoMemory => tell_text(Outcome::NoMemory, b"NO MEMORY\n", out),
-        Outcome::Complete { pick, whole } => tell_run(alloc, pick, whole, out),
-        Outcome::Checked(checked) => tell_check(alloc, checked, out),
-        Outcome::Demonstrated { size, whole } => tell_demo(alloc, size, whole, out),
+        Outcome::BadDeck { line, code } => {
+            let text = bad_line(alloc, line, code);
+            tell_made(Outcome::BadDeck { line, code }, text, out)
+        }
+        Outcome::Complete { pick, whole } => {
+            let text = run_text(alloc, &whole.deck, whole.history.as_slice());
+            tell_made(Outcome::Complete { pick, whole }, text, out)
+        }
+        Outcome::Checked(checked) => {
+            let text = checked_text(alloc, checked.templates.as_slice());
+            tell_made(Outcome::Checked(checked), text, out)
+        }
+        Outcome::Demonstrated { size, whole } => {
+            let text = demo_text(alloc, size, whole.history.as_slice());
+            tell_made(Outcome::Demonstrated { size, whole }, text, out)
+        }
     }
 }

@@ -38,21 +38,6 @@ struct Parts {
     rest: Rest,
 }
 
-fn status(told: &Told) -> u8
-    ensures { result ≡ (if told.now.written then status_of told.now.outcome else faulted told.now.outcome) }
-{
-    let written = told.written;
-    match &told.outcome {
-        Outcome::BadWords => { if written { 1 } else { 6 } }
-        Outcome::BadDeck { .. } => { if written { 2 } else { 6 } }
-        Outcome::DeckFault => { if written { 5 } else { 6 } }
-        Outcome::NoMemory => 7,
-        Outcome::Complete { .. } => { if written { 0 } else { 6 } }
-        Outcome::Checked(_) => { if written { 0 } else { 6 } }
-        Outcome::Demonstrated { .. } => { if written { 0 } else { 6 } }
-    }
-}
-
 /// The parts of a run.
 fn parted(whole: Whole) -> Parts
     ensures history { result.history ≡ whole.history }
@@ -112,7 +97,7 @@ fn report_of<D: Drop>(alloc: Global, told: Told, disk: D) -> Report<D>
     ensures marks { result.marks.items ≡ marks_of told.outcome }
     ensures disk { (result.status ≡ 7) ⊎ (result.disk ≡ Some disk) }
 {
-    let status = status(&told);
+    let status = told.outcome.status_told(told.written);
     let disk = disk_after(&told.outcome, disk);
     let Parts {
         history,

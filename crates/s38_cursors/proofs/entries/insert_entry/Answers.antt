@@ -1,13 +1,12 @@
 use Rattle.std.proofs.Common.{◌≡◌, ap, sym, ◌∙◌}
 use Rattle.std.proofs.lemmas.Result.{on_ok_weaker}
-use Rattle.std.specs.Prelude.{None, Option, Some}
+use Rattle.std.specs.Prelude.{None, Option}
 use Rattle.std.specs.Option.{option_map}
 use Rattle.s38_base.specs.declared.id.ObjNum.{ObjNum}
 use Rattle.s38_rules.specs.declared.cursor.Cursor.{Cursor}
 use Rattle.s38_rules.specs.DataSpaces.{cursor_of, insertion, with_inserted}
 use Rattle.s38_rules.specs.Journaling.{journal_for}
 use Rattle.s38_rules.specs.Parts.{on_table}
-use Rattle.s38_rules.specs.State.{State}
 use Rattle.s38_cursors.proofs.CursorLaws.{insdsen_met}
 use Rattle.s38_cursors.proofs.InsertLaws.{inserted_alone}
 use Rattle.s38_cursors.proofs.entries.insert_entry.Goals as goal

@@ -1,4 +1,4 @@
-use Rattle.std.proofs.Common.{◌≡◌, ℕ, ◌+◌, ap, sym, ◌∙◌}
+use Rattle.std.proofs.Common.{ℕ, ◌+◌, ap, sym, ◌∙◌}
 use Rattle.s38_rules.specs.declared.cursor.Cursor.{Cursor}
 use Rattle.s38_rules.specs.Changing.{journal_rule}
 use Rattle.s38_rules.specs.DataSpaces.{cursor_of, table_of}

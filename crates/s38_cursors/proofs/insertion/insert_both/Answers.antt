@@ -1,11 +1,10 @@
-use Rattle.std.proofs.Common.{◌≡◌, ◌<◌, ap, sym, ◌∙◌}
+use Rattle.std.proofs.Common.{◌≡◌, ◌<◌, ap, ◌∙◌}
 use Rattle.std.specs.Prelude.{None, true}
 use Rattle.s38_commits.specs.Changes.{journal_bytes}
 use Rattle.s38_cursors.specs.Insertion.{given_back, logged_by, with_room}
 use Rattle.s38_dataspaces.specs.Refusals.{insert_refusal}
 use Rattle.s38_dataspaces.specs.Values.{have_values}
 use Rattle.s38_journals.specs.Journals.{JournalList}
-use Rattle.s38_rules.specs.declared.data_body.DataBody.{DataBody}
 use Rattle.s38_rules.specs.Changing.{units_behind}
 use Rattle.s38_rules.specs.DataSpaces.{with_inserted}
 use Rattle.s38_rules.specs.Held.{Held}

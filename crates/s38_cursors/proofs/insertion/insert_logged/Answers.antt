@@ -1,4 +1,4 @@
-use Rattle.std.proofs.Common.{◌≡◌, ◌≤◌, ℕ, ap, subst, sym, ◌∙◌}
+use Rattle.std.proofs.Common.{◌≡◌, ◌≤◌, ℕ, ap, subst}
 use Rattle.s38_base.specs.Limits.{furthest}
 use Rattle.s38_cursors.specs.Insertion.{logged_by}
 use Rattle.s38_rules.specs.Parts.{table_at}

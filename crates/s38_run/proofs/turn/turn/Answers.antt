@@ -4,7 +4,7 @@ use Rattle.s38_code.specs.declared.event.Event.{Event}
 use Rattle.s38_code.specs.declared.reply.Reply.{Reply}
 use Rattle.s38_process.specs.Asked.{asked}
 use Rattle.s38_process.specs.Process.{ProcessState, absorbed, event_of, is_finish}
-use Rattle.s38_rules.specs.Legal.{Run, after, no_moment}
+use Rattle.s38_rules.specs.Legal.{Run, after}
 use Rattle.s38_rules.specs.Step.{step}
 use Rattle.s38_run.specs.Running.{Turned, outcome_of}
 use Rattle.s38_run.specs.declared.outcome.Outcome.{Outcome}
@@ -12,7 +12,7 @@ use Rattle.s38_run.proofs.turn.turn.Goals as goal
 
 -- what it asked was answered by its step, and it went on by that reply
 turned : {E : Type 0} (n : ℕ) (m m' : Run) (d d' : ProcessState) (e : Event) (ends : Bool) (last : Option Reply) (r : Result Outcome E)
-    → event_of d ≡ Some e → m' ≡ after m no_moment n e → ends ≡ is_finish e → last ≡ Some (step m.state n e).reply
+    → event_of d ≡ Some e → m' ≡ after m m.moment n e → ends ≡ is_finish e → last ≡ Some (step m.state n e).reply
     → IfOk r (λ o. (y : Reply) → last ≡ Some y → (d' ≡ absorbed d y) × ((x : Event) → ends ≡ is_finish x → o ≡ outcome_of x y))
     → IfOk r (λ o. Turned n m d o m' d')
 turned n m m' d d' e ends last (Ok o) asks moved finish is went =

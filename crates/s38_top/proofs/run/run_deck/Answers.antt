@@ -18,4 +18,5 @@ returns-clause-run g c =
 
 pub returns-clause-marks : goal.returns-clause-marks
 returns-clause-marks g c =
-    marks_of_run c.in_ok-machine-2.machine c.end-history.result.0.items c.end-history.result.1.items c.in_ok-machine-2.ensures.sound c.end-history.ensures.history c.end-history.ensures.marks
+    marks_of_run c.args.objects c.args.deck c.args.templates c.in_ok-machine.machine c.in_ok-machine-2.machine c.end-history.result.0.items c.end-history.result.1.items (rw c.as_slice-2.ensures.items at c.in_ok-machine.ensures)
+    c.in_ok-machine-2.ensures.sound c.in_ok-machine-2.ensures.still c.end-history.ensures.history c.end-history.ensures.marks

@@ -1,9 +1,9 @@
-use Rattle.std.proofs.Common.{refl, subst, sym}
-use Rattle.s38_rules.specs.Legal.{IsSound, Run, no_moment}
+use Rattle.std.proofs.Common.{arith, subst, sym}
+use Rattle.s38_rules.specs.Legal.{IsSound, Run}
 use Rattle.s38_rules.proofs.Laws.{sound_after}
 use Rattle.s38_machine.proofs.machine.Machine.step.Goals as goal
 
 pub returns-in-Ok-clause-sound : goal.returns-in-Ok-clause-sound
 returns-in-Ok-clause-sound c =
     let F : Run → Type 0 = λ m. IsSound m in
-    subst F (sym c.in-Ok.ensures.ok.1) (sound_after c.args.self.now no_moment c.args.process c.args.event.now c.requires.sound c.requires.may refl)
+    subst F (sym c.in-Ok.ensures.ok.1) (sound_after c.args.self.now c.args.self.now.moment c.args.process c.args.event.now c.requires.sound c.requires.may (omega arith))

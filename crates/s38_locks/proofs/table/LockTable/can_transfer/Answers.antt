@@ -1,0 +1,13 @@
+use Rattle.std.proofs.Common.{◌≡◌, ◌∙◌, List, ap, subst}
+use Rattle.s38_locks.specs.Locks.{IsOrderly, Lock, hinders, without_lock}
+use Rattle.s38_locks.specs.Table.{Table, locks_of}
+use Rattle.s38_locks.proofs.OrderLaws.{least_if, orderly_without}
+use Rattle.s38_locks.proofs.table.LockTable.can_transfer.Goals as goal
+
+pub returns-in-Some-clause-least : goal.returns-in-Some-clause-least
+returns-in-Some-clause-least c =
+    let object = c.args.object.0 in
+    let same : c.locks_of-locks.result.now ≡ locks_of c.args.self.now object = c.locks_of-locks.ensures.locks ∙ ap (λ (t : Table). locks_of t object) c.self.view_is in
+    let orderly = subst (λ (xs : List Lock). IsOrderly xs) same c.locks_of-locks.ensures.orderly in
+    least_if (hinders c.args.to c.args.state) (without_lock (c.args.from, c.args.state) (locks_of c.args.self.now object))
+    (orderly_without (c.args.from, c.args.state) (locks_of c.args.self.now object) orderly)

@@ -1,0 +1,4 @@
+pub mod PlaceLaws
+pub mod KeyedLaws
+pub mod DirectoryLaws
+pub mod NextLaws

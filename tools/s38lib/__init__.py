@@ -1,0 +1,1 @@
+"""What the tools for decks and logs share: reading of decks and logs, and the tables of the pages."""

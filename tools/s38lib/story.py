@@ -1,0 +1,159 @@
+"""The history of a log, told: each entry with its line of the deck, and its result in words."""
+from . import pages, values
+from .deck import MADE, split_act
+from .walk import object_in, places, walk
+from .words import is_a
+
+OPENING = {1: "CONTEXT/00/QMACHINE", 2: "PROFILE/00/QSECOFR", 3: "CONTEXT/00/QGPL", 4: "PROFILE/00/QUSER",
+           5: "QUEUE/00/QLOCKED"}
+
+
+class Step:
+    """An entry of the history, told."""
+
+    def __init__(self, entry, job, lines, result, said):
+        self.entry, self.job, self.lines, self.result, self.said = entry, job, lines, result, said
+        self.text = next(iter(lines.values()))[0] if len(lines) == 1 else None
+        self.template = next(iter(lines.values()))[1] if len(lines) == 1 else None
+        self.objects = {}  # the numbers of the objects of the operands, by place, if they are known
+
+
+class Story:
+    """The steps of a log in the order of their positions, and what they did."""
+
+    def __init__(self, deck, log):
+        self.deck, self.log = deck, log
+        self.names, self.steps = dict(OPENING), []
+        self.walker, self.states, self.last = walk(deck, log)
+        for entry in log.history():
+            self.steps.append(self.tell(entry))
+
+    def name(self, number):
+        return self.names.get(number, f"object {number}")
+
+    def job_name(self, number):
+        job = self.deck.job(number)
+        return job.name if job else f"job {number}"
+
+    def tell(self, entry):
+        states = self.states.get(entry.position, [])
+        lines = places(self.walker, states)
+        step = Step(entry, self.deck.job(entry.job.number), lines, "", "")
+        if step.text:
+            self.find_objects(step, states)
+            self.learn(step)
+        step.result, step.said = self.result(step)
+        return step
+
+    def find_objects(self, step, states):
+        """The objects of the pointers among the operands, if all ways agree."""
+        for place, word in enumerate(split_act(step.text)[2], 1):
+            found = {self.walker.object_of(state, word) for state in states}
+            if len(found) == 1 and None not in found:
+                step.objects[place] = found.pop()
+
+    def learn(self, step):
+        """The names of objects, by what made, found or renamed them."""
+        mnemonic, _, operands = split_act(step.text)
+        number = object_in(step.entry.value) if step.entry.value else None
+        if mnemonic in MADE and number is not None:
+            self.names[number] = operands[pages.rows()[mnemonic].index("I")]
+        elif mnemonic == "RSLVSP" and number is not None:
+            self.names[number] = operands[2]
+        elif mnemonic == "RENAME" and step.entry.ok and 1 in step.objects:
+            self.names[step.objects[1]] = operands[1]
+
+    # ---- results
+
+    def result(self, step):
+        """What kind of result it is, and the result in words."""
+        entry = step.entry
+        if entry.name == "START":
+            return ("ok", f"user {entry.job.user}") if entry.ok else ("refused", self.refusal(step))
+        if entry.name == "FINISH":
+            return self.end(entry)
+        if entry.waits:
+            return "waits", "waits"
+        if entry.code:
+            return "refused", self.refusal(step)
+        return "ok", self.value(step) if entry.value is not None else "done"
+
+    def end(self, entry):
+        cause, *rest = entry.words or [""]
+        if cause == "RETURN":
+            return "ok", "returned"
+        if cause == "BUDGET":
+            return "refused", "ended: its budget is used up"
+        code = "".join(rest[:1])
+        said = f"{code} {pages.codes()[code].name}" if code in pages.codes() else code
+        where = f", number {rest[1]}" if cause == "CREATE" and rest[1:] else ""
+        kinds = {"UNHANDLED": "ended: nothing took", "START": "not begun:", "CREATE": "its template is refused:"}
+        return "refused", f"{kinds.get(cause, cause)} {said}{where}"
+
+    def refusal(self, step):
+        words = step.entry.words
+        code = words[0]
+        name = pages.codes()[code].name if code in pages.codes() else pages.not_built().get(code, ("a code of the program's own",))[0]
+        said = f"{code} {name}"
+        if len(words) > 1 and words[1] != "0":
+            said += f" at operand {words[1]}" + self.operand(step, words[1])
+        return said + self.detail(words[2:])
+
+    def operand(self, step, place):
+        if not step.text or not is_a("[0-9]{1,2}", place):
+            return ""
+        operands = split_act(step.text)[2]
+        return f" ({operands[int(place) - 1]})" if 0 < int(place) <= len(operands) else ""
+
+    def detail(self, words):
+        if len(words) == 1 and is_a("[0-9]{1,5}", words[0]):
+            return f", the unit is of job {self.job_name(int(words[0]))}"
+        if len(words) == 2 and is_a("[0-9]{1,5}", words[0]):
+            return f", in the way is {words[1]} of job {self.job_name(int(words[0]))}"
+        return f", missing {' '.join(words)}" if words else ""
+
+    def value(self, step):
+        value = step.entry.value
+        if value in ("YES", "NO", "-"):
+            return {"YES": "yes", "NO": "no", "-": "no pointer"}[value]
+        number = object_in(value)
+        if number is not None:
+            return self.pointer(value, number)
+        data = values.raw(value)
+        if data is None:
+            return value
+        return self.listed(step.entry.name, data) or self.scalar(step, data)
+
+    def pointer(self, value, number):
+        name = self.name(number)
+        if value[0] == "S":
+            bits = int(value[-2:], 16) if is_a("S[0-9]+/[0-9A-F]{2}", value) else 0
+            return f"{name} (object {number})" + (f" with {values.rights_of(bits)}" if bits else "")
+        kind = "space pointer" if value[0] == "A" else "data pointer"
+        return f"{kind} to byte {value.partition('+')[2]} of {name} (object {number})"
+
+    def listed(self, mnemonic, data):
+        if mnemonic == "MATCTX":
+            return values.names_listed(data)
+        if mnemonic == "MATAU":
+            return values.rights_told(data, self.name)
+        if mnemonic == "MATAUOBJ":
+            return values.objects_listed(data, self.name)
+        if mnemonic == "MATOBJLK":
+            return values.locks_listed(data, self.job_name)
+        return values.journal_entry(data, self.name, self.job_name) if mnemonic == "RETJENT" else None
+
+    def scalar(self, step, data):
+        """Bytes by the attribute that the receiver declares, if all lines agree."""
+        found = set()
+        for line, (text, template) in step.lines.items():
+            operands = split_act(text)[2]
+            found.add(self.deck.templates[template].attribute(operands[0]) if operands else None)
+        return values.scalar(data, found.pop() if len(found) == 1 else None)
+
+    def receiver(self, step):
+        """The item that got a value, or nothing."""
+        if not step.text or step.entry.value is None or step.entry.value in ("YES", "NO"):
+            return None
+        operands = split_act(step.text)[2]
+        return operands[0] if operands else None
