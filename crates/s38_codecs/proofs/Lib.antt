@@ -1,0 +1,3 @@
+pub mod CodecLaws
+pub mod FormatLaws
+pub mod Loop

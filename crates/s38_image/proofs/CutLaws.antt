@@ -1,0 +1,112 @@
+-- Streams are cut page by page.
+use Rattle.std.proofs.Common.{◌≡◌, ℕ, zero, suc, ◌+◌, ◌-◌, ◌*◌, ◌<◌, ◌≤◌, List, [], ◌∷◌, ◌++◌, length, map, take, drop, refl, sym, ap, ◌∙◌, arith, append_assoc, inl, inr}
+use Rattle.std.specs.Prelude.{replicate}
+use Rattle.std.proofs.lemmas.Bool.{cases_lt}
+use Rattle.std.proofs.lemmas.List.{append-nil, drop-append-le, drop_all, length-drop, length-take-le, take-append-le, take_all, take-map, drop-map}
+use Rattle.std.proofs.Math.Seq.{drop-append-add, take-append-add}
+use Rattle.s38_base.specs.Limits.{page_bytes}
+use Rattle.s38_base.specs.declared.page.Change.{Change}
+use Rattle.s38_codecs.specs.Codec.{copies}
+use Rattle.s38_image.proofs.HeaderLaws.{drop_zeros}
+use Rattle.s38_image.specs.Pages.{cut, filled, numbered, page_at}
+use Rattle.s38_image.specs.Spaces.{is_tagged, tag_number, tag_numbers}
+use Rattle.s38_memory.specs.declared.cell.Cell.{Cell}
+
+same_zeros : (a b : ℕ) → a ≡ b → copies {A = ℕ} a 0 ≡ copies b 0
+same_zeros a b e = ap (λ (k : ℕ). copies {A = ℕ} k 0) e
+
+take_zeros : (k m : ℕ) → k ≤ m → take {A = ℕ} k (copies m 0) ≡ copies k 0
+unfolding copies
+take_zeros zero m le = refl
+take_zeros (suc k) zero le = absurd (omega arith)
+take_zeros (suc k) (suc m) le = ap (λ (t : List ℕ). 0 ∷ t) (take_zeros k m (omega arith))
+
+skip_zeros : (k m : ℕ) → drop {A = ℕ} k (copies m 0) ≡ copies (m - k) 0
+unfolding copies
+skip_zeros zero m = same_zeros m (m - 0) (omega arith)
+skip_zeros (suc k) zero = same_zeros 0 (0 - suc k) (omega arith)
+skip_zeros (suc k) (suc m) = skip_zeros k m ∙ same_zeros (m - k) (suc m - suc k) (omega arith)
+
+-- the first page of a stream
+pub first_page : (n : ℕ) (bytes : List ℕ) → take page_bytes (filled (page_bytes * suc n) bytes) ≡ filled page_bytes (take page_bytes bytes)
+unfolding copies
+first_page n bytes =
+    elim (cases_lt page_bytes (length bytes)) [
+      | inl lt ↦
+          let size = length-take-le page_bytes bytes (omega arith) in
+          take-append-le page_bytes bytes (copies (page_bytes * suc n - length bytes) 0) (omega arith)
+          ∙ sym (append-nil (take page_bytes bytes))
+          ∙ ap (λ (t : List ℕ). take page_bytes bytes ++ t) (same_zeros 0 (page_bytes - length (take page_bytes bytes)) (omega (arith, size)))
+      | inr le ↦
+          let all : take page_bytes bytes ≡ bytes = take_all page_bytes bytes le in
+          let split : page_bytes ≡ length bytes + (page_bytes - length bytes) = omega arith in
+          ap (λ (k : ℕ). take k (filled (page_bytes * suc n) bytes)) split
+          ∙ take-append-add bytes (copies (page_bytes * suc n - length bytes) 0) (page_bytes - length bytes)
+          ∙ ap (λ (t : List ℕ). bytes ++ t) (take_zeros (page_bytes - length bytes) (page_bytes * suc n - length bytes) (omega arith))
+          ∙ ap (λ (t : List ℕ). filled page_bytes t) (sym all)
+    ]
+
+-- the pages after it
+pub other_pages : (n : ℕ) (bytes : List ℕ) → drop page_bytes (filled (page_bytes * suc n) bytes) ≡ filled (page_bytes * n) (drop page_bytes bytes)
+other_pages n bytes =
+    elim (cases_lt page_bytes (length bytes)) [
+      | inl lt ↦
+          drop-append-le page_bytes bytes (copies (page_bytes * suc n - length bytes) 0) (omega arith)
+          ∙ ap (λ (t : List ℕ). drop page_bytes bytes ++ t) (same_zeros (page_bytes * suc n - length bytes) (page_bytes * n - length (drop page_bytes bytes)) (omega (arith, length-drop page_bytes bytes)))
+      | inr le ↦
+          let none : drop page_bytes bytes ≡ [] = drop_all page_bytes bytes le in
+          let split : page_bytes ≡ length bytes + (page_bytes - length bytes) = omega arith in
+          ap (λ (k : ℕ). drop k (filled (page_bytes * suc n) bytes)) split
+          ∙ drop-append-add bytes (copies (page_bytes * suc n - length bytes) 0) (page_bytes - length bytes)
+          ∙ skip_zeros (page_bytes - length bytes) (page_bytes * suc n - length bytes)
+          ∙ same_zeros (page_bytes * suc n - length bytes - (page_bytes - length bytes)) (page_bytes * n - 0) (omega arith)
+          ∙ ap (λ (t : List ℕ). filled (page_bytes * n) t) (sym none)
+    ]
+
+-- the parts of a stream of cells
+abbrev pub cut_pages : ℕ → ℕ → ℕ → List ℕ → List Cell → List Change
+cut_pages number first n bytes cells = numbered number first (cut n (filled (page_bytes * n) bytes)) (tag_numbers n (map is_tagged cells))
+
+pub cut_step : (number first n : ℕ) (bytes : List ℕ) (cells : List Cell) → cut_pages number first (suc n) bytes cells
+    ≡ page_at number first (filled page_bytes (take page_bytes bytes)) (tag_number (map is_tagged (take 32 cells))) ∷ cut_pages number (first + 1) n (drop page_bytes bytes) (drop 32 cells)
+unfolding cut numbered tag_numbers
+cut_step number first n bytes cells =
+    rw (first_page n bytes, other_pages n bytes, take-map is_tagged 32 cells, drop-map is_tagged 32 cells) refl
+
+-- one more page stands before the others
+pub pages_go_on : (number first count k : ℕ) (before : List Change) (bytes : List ℕ) (cells : List Cell) (total : List Change) → k < count
+    → before ++ cut_pages number (first + k) (count - k) bytes cells ≡ total
+    → (before ++ page_at number (first + k) (filled page_bytes (take page_bytes bytes)) (tag_number (map is_tagged (take 32 cells))) ∷ []) ++ cut_pages number (first + (k + 1)) (count - (k + 1)) (drop page_bytes bytes) (drop 32 cells) ≡ total
+pages_go_on number first count k before bytes cells total lt so_far =
+    let left : count - k ≡ suc (count - (k + 1)) = omega arith in
+    let next : first + k + 1 ≡ first + (k + 1) = omega arith in
+    let page = page_at number (first + k) (filled page_bytes (take page_bytes bytes)) (tag_number (map is_tagged (take 32 cells))) in
+    append_assoc before (page ∷ []) (cut_pages number (first + (k + 1)) (count - (k + 1)) (drop page_bytes bytes) (drop 32 cells))
+    ∙ ap (λ (m : ℕ). before ++ page ∷ cut_pages number m (count - (k + 1)) (drop page_bytes bytes) (drop 32 cells)) (sym next)
+    ∙ ap (λ (q : List Change). before ++ q) (sym (cut_step number (first + k) (count - (k + 1)) bytes cells))
+    ∙ ap (λ (m : ℕ). before ++ cut_pages number (first + k) m bytes cells) (sym left)
+    ∙ so_far
+
+pub pages_done : (number first count k : ℕ) (before : List Change) (bytes : List ℕ) (cells : List Cell) (total : List Change) → count ≤ k → before ++ cut_pages number (first + k) (count - k) bytes cells ≡ total → before ≡ total
+unfolding cut numbered
+pages_done number first count k before bytes cells total le so_far =
+    let none : count - k ≡ 0 = omega arith in
+    sym (append-nil before) ∙ ap (λ (m : ℕ). before ++ cut_pages number (first + k) m bytes cells) (sym none) ∙ so_far
+
+-- a page is filled with zeros
+pub page_filled : (bytes : List ℕ) → bytes ++ drop (length bytes) (replicate 512 0) ≡ filled page_bytes bytes
+page_filled bytes = ap (λ (t : List ℕ). bytes ++ t) (drop_zeros (length bytes) 512)
+
+-- the same, by what the steps of the loop gave
+pub pushed_page : (number first count k : ℕ) (old new : List Change) (bytes : List ℕ) (cells : List Cell) (page more : List ℕ) (held after : List Cell) (tags : ℕ) (part : Change) (total : List Change) → k < count
+    → page ≡ take 512 bytes → more ≡ drop 512 bytes → held ≡ take 32 cells → after ≡ drop 32 cells → tags ≡ tag_number (map is_tagged held) → part ≡ page_at number (first + k) (filled 512 page) tags → new ≡ old ++ part ∷ []
+    → old ++ cut_pages number (first + k) (count - k) bytes cells ≡ total → new ++ cut_pages number (first + (k + 1)) (count - (k + 1)) more after ≡ total
+pushed_page number first count k old new bytes cells page more held after tags part total lt p m h a t q n so_far =
+    let tags_are : tags ≡ tag_number (map is_tagged (take 32 cells)) = t ∙ ap (λ (cs : List Cell). tag_number (map is_tagged cs)) h in
+    let part_is : part ≡ page_at number (first + k) (filled 512 (take 512 bytes)) (tag_number (map is_tagged (take 32 cells))) =
+    q ∙ ap (λ (bs : List ℕ). page_at number (first + k) (filled 512 bs) tags) p ∙ ap (λ (v : ℕ). page_at number (first + k) (filled 512 (take 512 bytes)) v) tags_are in
+    let new_is : new ≡ old ++ page_at number (first + k) (filled 512 (take 512 bytes)) (tag_number (map is_tagged (take 32 cells))) ∷ [] = n ∙ ap (λ (c : Change). old ++ c ∷ []) part_is in
+    ap (λ (q : List Change). q ++ cut_pages number (first + (k + 1)) (count - (k + 1)) more after) new_is
+    ∙ ap (λ (bs : List ℕ). (old ++ page_at number (first + k) (filled 512 (take 512 bytes)) (tag_number (map is_tagged (take 32 cells))) ∷ []) ++ cut_pages number (first + (k + 1)) (count - (k + 1)) bs after) m
+    ∙ ap (λ (cs : List Cell). (old ++ page_at number (first + k) (filled 512 (take 512 bytes)) (tag_number (map is_tagged (take 32 cells))) ∷ []) ++ cut_pages number (first + (k + 1)) (count - (k + 1)) (drop 512 bytes) cs) a
+    ∙ pages_go_on number first count k old bytes cells total lt so_far

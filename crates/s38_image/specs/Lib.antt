@@ -1,0 +1,15 @@
+pub mod Pages
+pub mod Headers
+pub mod Printing
+pub mod Scalars
+pub mod Spaces
+pub mod Queues
+pub mod Indexes
+pub mod DataSpaces
+pub mod Journals
+pub mod Programs
+pub mod Bodies
+pub mod Images
+pub mod Fitting
+pub mod Settled
+pub mod Faults

@@ -1,0 +1,26 @@
+//! Images: an object as its parts, the pages that a store keeps of it, and the object that some parts hold.
+#![tactic(auto)]
+
+mod bodies;
+mod fault;
+mod header;
+mod heads;
+mod laws;
+mod pages;
+mod printing;
+mod queues;
+mod small_bodies;
+mod stored;
+mod stream;
+
+pub use bodies::{put_cells, put_journal, put_queue};
+pub use fault::ImageFault;
+pub use header::Header;
+pub use heads::{header_of, object_at, row_at};
+pub use laws::{an_image_is_read_again, parts_are_those_of_their_object};
+pub use pages::push_pages;
+pub use printing::{put_block, put_cursor, put_header, put_port, put_profile, put_rows};
+pub use queues::queue_in;
+pub use small_bodies::{block_in, cursor_in, port_in, profile_in};
+pub use stored::Stored;
+pub use stream::{are_untagged, stream_of, tags_in};

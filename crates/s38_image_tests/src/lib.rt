@@ -1,0 +1,9 @@
+//! Worked images, byte by byte, as the rules of images and no program make them.
+#![tactic(auto)]
+
+#[cfg(test)]
+mod bodies;
+#[cfg(test)]
+mod headers;
+#[cfg(test)]
+mod pages;
