@@ -8,6 +8,15 @@ mod outcome;
 mod picker;
 mod turn;
 
+use job_state::JobState;
 pub use jobs::serial;
 pub use laws::the_picks_decide;
 pub use picker::{ListPicker, NumberPicker, Picker};
+
+/// What is sent between threads.
+fn sends<T: Send + Sync>() {}
+
+/// How far a job has come may be sent and shared, and with it its process.
+pub fn all_may_be_sent() {
+    sends::<JobState>();
+}
