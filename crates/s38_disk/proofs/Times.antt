@@ -1,10 +1,11 @@
 -- The states at the moments of a run.
-use Rattle.std.proofs.Common.{◌≡◌, ℕ, zero, suc, ◌+◌, ◌-◌, ◌<◌, ◌≤◌, List, [], ◌∷◌, ◌++◌, length, take, sym, ◌∙◌, ap, subst, arith, length-append}
-use Rattle.std.proofs.lemmas.List.{take-append-le}
+use Rattle.std.proofs.Common.{◌≡◌, ◌↔◌, ℕ, zero, suc, ◌+◌, ◌-◌, ◌<◌, ◌≤◌, List, [], ◌∷◌, ◌++◌, length, take, sym, ◌∙◌, ap, subst, arith, length-append, refl}
+use Rattle.std.proofs.lemmas.List.{take-append-le, take_all}
 use Rattle.std.proofs.Math.Seq.{take-append-add}
+use Rattle.s38_disk.specs.declared.block.Block.{Block}
 use Rattle.s38_disk.specs.declared.block.Call.{Call}
 use Rattle.s38_disk.specs.Blocks.{State, settled, stepped, after, listed}
-use Rattle.s38_disk.specs.Disk.{Past, DiskView, IsAt, WasAt, adding, moment_of}
+use Rattle.s38_disk.specs.Disk.{Past, DiskView, IsAt, Leaves, WasAt, adding, moment_of}
 use Rattle.s38_disk.specs.Disk.Past.{Told, Untold}
 use Rattle.s38_disk.specs.Moves.{Along, Moves}
 use Rattle.s38_disk.proofs.States.{after-append}
@@ -36,3 +37,24 @@ moments_of {v} {w} {R = R} m s is t u low high was =
 -- no run changes an earlier moment
 pub moments_before : {v w : DiskView} {most : ℕ} {R : State → State → Type 0} → Moves v w most R → (t : ℕ) (u : State) → t ≤ moment_of v.past → WasAt w.past t u → WasAt v.past t u
 moments_before {v} m t u le was = state_before v.past m.calls t u le (subst (λ p. WasAt p t u) m.past was)
+
+state_still : (p : Past) (cs : List Call) (t : ℕ) (u : State) → t ≤ moment_of p → WasAt p t u → WasAt (adding cs p) t u
+state_still (Told base calls) cs t u le was = was ∙ ap (after (settled (listed base))) (sym (take-append-le t calls cs le))
+state_still (Untold n) cs t u le none = none
+
+-- what was told of an earlier moment is still told
+pub moments_still : {v w : DiskView} {most : ℕ} {R : State → State → Type 0} → Moves v w most R → (t : ℕ) (u : State) → t ≤ moment_of v.past → WasAt v.past t u → WasAt w.past t u
+moments_still {v} m t u le was = subst (λ p. WasAt p t u) (sym m.past) (state_still v.past m.calls t u le was)
+
+-- a run leaves the images of each earlier moment as they were
+pub images_same : {v w : DiskView} {most : ℕ} {R : State → State → Type 0} → Moves v w most R → (t : ℕ) (image : ℕ → Block) → t ≤ moment_of v.past → Leaves v.past t image ↔ Leaves w.past t image
+images_same m t image le = (λ old. (old.0, (moments_still m t old.0 le old.1.0, old.1.1)), λ new. (new.0, (moments_before m t new.0 le new.1.0, new.1.1)))
+
+-- at the present moment a disk was in the state in which it is
+pub was_now : (p : Past) (s : State) → IsAt p s → WasAt p (moment_of p) s
+was_now (Told base calls) s is = is ∙ ap (after (settled (listed base))) (sym (take_all (length calls) calls (omega arith)))
+was_now (Untold n) s none = none
+
+-- a disk as it reads is one of the images of the present moment
+pub reads_as_image : (p : Past) (s : State) → IsAt p s → Leaves p (moment_of p) s.now
+reads_as_image p s is = (s, (was_now p s is, record { same = λ i free. refl }))
