@@ -6,4 +6,6 @@ mod crashes;
 #[cfg(test)]
 mod disks;
 #[cfg(test)]
+mod files;
+#[cfg(test)]
 mod filled;
