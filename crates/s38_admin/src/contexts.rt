@@ -20,7 +20,7 @@ use s38_changes::{
     is_taken_beside, machine_needs, move_to, of_machine, rename_to,
 };
 use s38_code::{Operand, Request, Val};
-use s38_invoke::World;
+use s38_invoke::{Core, Profiles};
 use s38_objects::{Objects, kind_of};
 use s38_operands::{
     Needs, fails, fitted, id_at, is_given, is_machine, on_implied, on_object, rights_at, room_at,
@@ -38,7 +38,7 @@ fn new_context(objects: &Objects, operands: &[Operand]) -> Creating
 }
 
 #[tactic(auto, unfolding(s38_rules::specs::Contexts::crtctx_fails))]
-fn crtctx_fails(world: &World<Objects>, process: u32, operands: &[Operand]) -> Option<Exception>
+fn crtctx_fails(world: &Core<Objects, Profiles>, process: u32, operands: &[Operand]) -> Option<Exception>
     ensures { result ≡ crtctx_fails world.now process operands.now }
 {
     let created = new_context(&world.objects, operands);
@@ -48,7 +48,7 @@ fn crtctx_fails(world: &World<Objects>, process: u32, operands: &[Operand]) -> O
 #[tactic(auto, using(crate::proofs::CreationLaws::crtctx_created, s38_changes::proofs::CreationLaws::home_placed))]
 fn crtctx(
     alloc: Global,
-    world: &mut World<Objects>,
+    world: &mut Core<Objects, Profiles>,
     process: u32,
     operands: &[Operand],
 ) -> Result<(), NoMemory>
@@ -192,7 +192,7 @@ fn modadr_fails(objects: &Objects, operands: &[Operand]) -> Option<Exception>
 
 /// The object is in the new context, or in none; where memory is refused nothing changes.
 #[tactic(auto, using(crate::proofs::ContextLaws::modadr_free, crate::proofs::ContextLaws::home_free, s38_changes::proofs::CreationLaws::home_placed))]
-fn modadr(world: &mut World<Objects>, operands: &[Operand]) -> Result<(), NoMemory>
+fn modadr(world: &mut Core<Objects, Profiles>, operands: &[Operand]) -> Result<(), NoMemory>
     requires { modadr_fails world.old.held operands.now ≡ None }
     ensures ok { OnOk result (world.new ≡ record world.old { held = moved world.old.held (target world.old.held operands.now 1) (home world.old.held (target world.old.held operands.now 2)) }) }
     ensures err { OnErr result (world.new ≡ world.old) }
@@ -250,7 +250,7 @@ fn rename_fails(objects: &Objects, operands: &[Operand]) -> Option<Exception>
 }
 
 /// The object has the identification; where memory is refused nothing changes.
-fn rename(world: &mut World<Objects>, operands: &[Operand]) -> Result<(), NoMemory>
+fn rename(world: &mut Core<Objects, Profiles>, operands: &[Operand]) -> Result<(), NoMemory>
     requires { rename_fails world.old.held operands.now ≡ None }
     ensures ok { OnOk result (world.new ≡ record world.old { held = renamed_by world.old.held (target world.old.held operands.now 1) (id_at operands.now 2) }) }
     ensures err { OnErr result (world.new ≡ world.old) }
@@ -291,7 +291,7 @@ fn matctx_gives(alloc: Global, objects: &Objects, operands: &[Operand]) -> Resul
 
 /// What an instruction of contexts needs.
 #[tactic(auto, unfolding(s38_rules::specs::Contexts::contexts_row))]
-pub fn needs(world: &World<Objects>, process: u32, depth: u16, request: &Request) -> Needs
+pub fn needs(world: &Core<Objects, Profiles>, process: u32, depth: u16, request: &Request) -> Needs
     ensures { result ≡ (contexts_row request.now.op).needs world.now process depth request.now }
 {
     let _ = process;
@@ -311,7 +311,7 @@ pub fn needs(world: &World<Objects>, process: u32, depth: u16, request: &Request
 /// The first of its conditions and limits that fails.
 #[tactic(auto, unfolding(s38_rules::specs::Contexts::contexts_row))]
 pub fn conditions(
-    world: &World<Objects>,
+    world: &Core<Objects, Profiles>,
     process: u32,
     depth: u16,
     request: &Request,
@@ -334,7 +334,7 @@ pub fn conditions(
 #[tactic(auto, unfolding(s38_rules::specs::Contexts::contexts_row))]
 pub fn value(
     alloc: Global,
-    world: &World<Objects>,
+    world: &Core<Objects, Profiles>,
     process: u32,
     depth: u16,
     request: &Request,
@@ -356,7 +356,7 @@ pub fn value(
 #[tactic(auto, unfolding(s38_rules::specs::Contexts::contexts_row))]
 pub fn apply(
     alloc: Global,
-    world: &mut World<Objects>,
+    world: &mut Core<Objects, Profiles>,
     process: u32,
     depth: u16,
     request: &Request,

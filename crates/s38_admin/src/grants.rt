@@ -18,7 +18,7 @@ use s38_base::{
 };
 use s38_changes::{give_to, set_public, set_row, taker_rule};
 use s38_code::{Operand, Request, Val};
-use s38_invoke::World;
+use s38_invoke::{Core, Profiles};
 use s38_objects::Objects;
 use s38_operands::{
     Needs, fails, fitted, governed, is_given, on_object, pointer_at, rights_at, room_at, target,
@@ -105,7 +105,7 @@ fn grant_fails(objects: &Objects, operands: &[Operand]) -> Option<Exception>
 
 /// A user's row on the object, or everybody, has these rights; where memory is refused nothing changes.
 fn set_rights(
-    world: &mut World<Objects>,
+    world: &mut Core<Objects, Profiles>,
     operands: &[Operand],
     rights: Rights,
 ) -> Result<(), NoMemory>
@@ -122,7 +122,7 @@ fn set_rights(
 }
 
 /// The rights are added; where memory is refused nothing changes.
-fn grant(world: &mut World<Objects>, operands: &[Operand]) -> Result<(), NoMemory>
+fn grant(world: &mut Core<Objects, Profiles>, operands: &[Operand]) -> Result<(), NoMemory>
     ensures ok { OnOk result (world.new ≡ record world.old { held = restand world.old.held (target world.old.held operands.now 1) (with_granted world.old.held operands.now) }) }
     ensures err { OnErr result (world.new ≡ world.old) }
 {
@@ -132,7 +132,7 @@ fn grant(world: &mut World<Objects>, operands: &[Operand]) -> Result<(), NoMemor
 }
 
 /// The rights are taken away; what pointers carry stays.
-fn retract(world: &mut World<Objects>, operands: &[Operand]) -> Result<(), NoMemory>
+fn retract(world: &mut Core<Objects, Profiles>, operands: &[Operand]) -> Result<(), NoMemory>
     ensures ok { OnOk result (world.new ≡ record world.old { held = restand world.old.held (target world.old.held operands.now 1) (with_retracted world.old.held operands.now) }) }
     ensures err { OnErr result (world.new ≡ world.old) }
 {
@@ -154,7 +154,7 @@ fn xfro_needs() -> Needs
 
 /// The new owner may own the object's pages, and a row is left for it.
 #[tactic(auto, unfolding(s38_rules::specs::Grants::xfro_fails))]
-fn xfro_fails(world: &World<Objects>, operands: &[Operand]) -> Option<Exception>
+fn xfro_fails(world: &Core<Objects, Profiles>, operands: &[Operand]) -> Option<Exception>
     ensures { result ≡ xfro_fails world.now.held operands.now }
 {
     let number = target(&world.objects, operands, 1);
@@ -167,7 +167,7 @@ fn xfro_fails(world: &World<Objects>, operands: &[Operand]) -> Option<Exception>
 
 /// The new owner has all eight rights by a row; the row of the one before stays.
 #[tactic(auto, using(crate::proofs::GrantLaws::xfro_taken))]
-fn xfro(world: &mut World<Objects>, operands: &[Operand]) -> Result<(), NoMemory>
+fn xfro(world: &mut Core<Objects, Profiles>, operands: &[Operand]) -> Result<(), NoMemory>
     requires { xfro_fails world.old.held operands.now ≡ None }
     ensures ok { OnOk result (world.new ≡ record world.old { held = restand world.old.held (target world.old.held operands.now 1) (given_to (user_at world.old.held operands.now 2)) }) }
     ensures err { OnErr result (world.new ≡ world.old) }
@@ -190,7 +190,7 @@ fn truth(alloc: Global, holds: bool) -> Result<Bytes, NoMemory>
 #[tactic(auto, unfolding(s38_rules::specs::Grants::testau_bytes))]
 fn testau_gives(
     alloc: Global,
-    world: &World<Objects>,
+    world: &Core<Objects, Profiles>,
     process: u32,
     depth: u16,
     operands: &[Operand],
@@ -240,7 +240,7 @@ fn acts(users: &[UserNum], user: UserNum) -> bool
 /// The special authority over profiles, but for one's own.
 #[tactic(auto, unfolding(s38_rules::specs::Grants::matauobj_special))]
 fn matauobj_special(
-    world: &World<Objects>,
+    world: &Core<Objects, Profiles>,
     process: u32,
     depth: u16,
     operands: &[Operand],
@@ -269,7 +269,7 @@ fn matauobj_gives(alloc: Global, objects: &Objects, operands: &[Operand]) -> Res
 
 /// What an instruction of authority needs.
 #[tactic(auto, unfolding(s38_rules::specs::Grants::grants_row, s38_rules::specs::Grants::testau_needs, s38_rules::specs::Grants::matauobj_needs))]
-pub fn needs(world: &World<Objects>, process: u32, depth: u16, request: &Request) -> Needs
+pub fn needs(world: &Core<Objects, Profiles>, process: u32, depth: u16, request: &Request) -> Needs
     ensures { result ≡ (grants_row request.now.op).needs world.now process depth request.now }
 {
     let _ = world;
@@ -293,7 +293,7 @@ pub fn needs(world: &World<Objects>, process: u32, depth: u16, request: &Request
 
 /// The special authority that an acting user must have.
 #[tactic(auto, unfolding(s38_rules::specs::Grants::grants_row))]
-pub fn special(world: &World<Objects>, process: u32, depth: u16, request: &Request) -> Special
+pub fn special(world: &Core<Objects, Profiles>, process: u32, depth: u16, request: &Request) -> Special
     ensures { result.0 ≡ (grants_row request.now.op).special world.now process depth request.now }
 {
     match request.op {
@@ -305,7 +305,7 @@ pub fn special(world: &World<Objects>, process: u32, depth: u16, request: &Reque
 /// The first of its conditions and limits that fails.
 #[tactic(auto, unfolding(s38_rules::specs::Grants::grants_row))]
 pub fn conditions(
-    world: &World<Objects>,
+    world: &Core<Objects, Profiles>,
     process: u32,
     depth: u16,
     request: &Request,
@@ -326,7 +326,7 @@ pub fn conditions(
 #[tactic(auto, unfolding(s38_rules::specs::Grants::grants_row))]
 pub fn value(
     alloc: Global,
-    world: &World<Objects>,
+    world: &Core<Objects, Profiles>,
     process: u32,
     depth: u16,
     request: &Request,
@@ -346,7 +346,7 @@ pub fn value(
 #[tactic(auto, unfolding(s38_rules::specs::Grants::grants_row))]
 pub fn apply(
     alloc: Global,
-    world: &mut World<Objects>,
+    world: &mut Core<Objects, Profiles>,
     process: u32,
     depth: u16,
     request: &Request,

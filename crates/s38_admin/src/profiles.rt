@@ -14,7 +14,7 @@ use s38_changes::{
     machine_needs, of_machine, set_profile,
 };
 use s38_code::{Operand, Request, Val};
-use s38_invoke::World;
+use s38_invoke::{Core, Profiles};
 use s38_objects::Objects;
 use s38_operands::{Needs, fails, on_object, target, whole_at, word_at};
 use s38_rules::{Body, Creating, ProcessEntry, Sought, Started};
@@ -59,7 +59,7 @@ fn profile_body(operands: &[Operand]) -> Body
 }
 
 #[tactic(auto, unfolding(s38_rules::specs::Profiles::crtup_fails))]
-fn crtup_fails(world: &World<Objects>, process: u32, operands: &[Operand]) -> Option<Exception>
+fn crtup_fails(world: &Core<Objects, Profiles>, process: u32, operands: &[Operand]) -> Option<Exception>
     ensures { result ≡ crtup_fails world.now process operands.now }
 {
     let created = new_profile(&world.objects, operands);
@@ -69,7 +69,7 @@ fn crtup_fails(world: &World<Objects>, process: u32, operands: &[Operand]) -> Op
 #[tactic(auto, using(crate::proofs::CreationLaws::crtup_created, s38_changes::proofs::CreationLaws::home_placed))]
 fn crtup(
     alloc: Global,
-    world: &mut World<Objects>,
+    world: &mut Core<Objects, Profiles>,
     process: u32,
     operands: &[Operand],
 ) -> Result<(), NoMemory>
@@ -93,7 +93,7 @@ fn modup_fails(objects: &Objects, operands: &[Operand]) -> Option<Exception>
 }
 
 /// Both special authorities and limit.
-fn modup(world: &mut World<Objects>, operands: &[Operand])
+fn modup(world: &mut Core<Objects, Profiles>, operands: &[Operand])
     ensures { world.new ≡ record world.old { held = set_profile world.old.held (target world.old.held operands.now 1) (specials_at operands.now 2) (limit_at operands.now 3) } }
 {
     let number = target(&world.objects, operands, 1);
@@ -130,14 +130,14 @@ fn has_process(entries: &[ProcessEntry], user: UserNum) -> bool
 }
 
 /// The security officer stays, and so does a user that owns an object or has a live process.
-fn is_needed(world: &World<Objects>, user: UserNum) -> bool
+fn is_needed(world: &Core<Objects, Profiles>, user: UserNum) -> bool
     ensures { result ≡ is_needed world.now user.0 }
 {
     user.0 == OFFICER || is_owner(world, user) || has_process(world.processes.as_slice(), user)
 }
 
 #[tactic(auto, unfolding(s38_rules::specs::Profiles::desup_fails))]
-fn desup_fails(world: &World<Objects>, operands: &[Operand]) -> Option<Exception>
+fn desup_fails(world: &Core<Objects, Profiles>, operands: &[Operand]) -> Option<Exception>
     ensures { result ≡ desup_fails world.now operands.now }
 {
     let user = target(&world.objects, operands, 1);
@@ -148,7 +148,7 @@ fn desup_fails(world: &World<Objects>, operands: &[Operand]) -> Option<Exception
 
 /// What an instruction of profiles needs.
 #[tactic(auto, unfolding(s38_rules::specs::Profiles::profiles_row, s38_rules::specs::Profiles::modup_needs))]
-pub fn needs(world: &World<Objects>, process: u32, depth: u16, request: &Request) -> Needs
+pub fn needs(world: &Core<Objects, Profiles>, process: u32, depth: u16, request: &Request) -> Needs
     ensures { result ≡ (profiles_row request.now.op).needs world.now process depth request.now }
 {
     let _ = world;
@@ -165,7 +165,7 @@ pub fn needs(world: &World<Objects>, process: u32, depth: u16, request: &Request
 
 /// The special authority over profiles.
 #[tactic(auto, unfolding(s38_rules::specs::Profiles::profiles_row))]
-pub fn special(world: &World<Objects>, process: u32, depth: u16, request: &Request) -> Special
+pub fn special(world: &Core<Objects, Profiles>, process: u32, depth: u16, request: &Request) -> Special
     ensures { result.0 ≡ (profiles_row request.now.op).special world.now process depth request.now }
 {
     let _ = world;
@@ -180,7 +180,7 @@ pub fn special(world: &World<Objects>, process: u32, depth: u16, request: &Reque
 /// The first of its conditions and limits that fails.
 #[tactic(auto, unfolding(s38_rules::specs::Profiles::profiles_row))]
 pub fn conditions(
-    world: &World<Objects>,
+    world: &Core<Objects, Profiles>,
     process: u32,
     depth: u16,
     request: &Request,
@@ -201,7 +201,7 @@ pub fn conditions(
 #[tactic(auto, unfolding(s38_rules::specs::Profiles::profiles_row))]
 pub fn value(
     alloc: Global,
-    world: &World<Objects>,
+    world: &Core<Objects, Profiles>,
     process: u32,
     depth: u16,
     request: &Request,
@@ -225,7 +225,7 @@ pub fn value(
 #[tactic(auto, unfolding(s38_rules::specs::Profiles::profiles_row))]
 pub fn apply(
     alloc: Global,
-    world: &mut World<Objects>,
+    world: &mut Core<Objects, Profiles>,
     process: u32,
     depth: u16,
     request: &Request,

@@ -10,7 +10,7 @@ use s38_base::{
     Category, Exception, HeldPointer, Id, Kind, NoMemory, ObjNum, Op, Pointer, Rights, UserNum,
 };
 use s38_code::{Operand, Request, Val};
-use s38_invoke::World;
+use s38_invoke::{Core, Profiles};
 use s38_objects::{Objects, kind_of};
 use s38_operands::{Needs, id_at, is_list, is_machine, need, pointer_at, rights_at, target};
 use s38_rules::{Located, Named, Object, PointerKind, Sought};
@@ -27,7 +27,7 @@ fn is_context_in(object_used: Option<&Object>) -> bool
     }
 }
 
-fn may_search(world: &World<Objects>, process: u32, users: &[UserNum], context: ObjNum) -> bool
+fn may_search(world: &Core<Objects, Profiles>, process: u32, users: &[UserNum], context: ObjNum) -> bool
     ensures { result ≡ may_search world.now process (map (λ u. u.0) users.now) context.0 }
 {
     is_context_in(world.objects.get(context))
@@ -43,7 +43,7 @@ fn may_search(world: &World<Objects>, process: u32, users: &[UserNum], context: 
 
 #[tactic(auto, unfolding(s38_rules::specs::Resolving::search_in))]
 fn search_in(
-    world: &World<Objects>,
+    world: &Core<Objects, Profiles>,
     process: u32,
     users: &[UserNum],
     contexts: &[ObjNum],
@@ -94,7 +94,7 @@ fn located(context: ObjNum, object_found: Option<&Object>) -> Option<Located>
 }
 
 fn resolved_by(
-    world: &World<Objects>,
+    world: &Core<Objects, Profiles>,
     process: u32,
     depth: u16,
     operands: &[Operand],
@@ -125,7 +125,7 @@ fn resolved_by(
 
 /// The object that operands 2 and 3 of RSLVSP stand for.
 fn resolved(
-    world: &World<Objects>,
+    world: &Core<Objects, Profiles>,
     process: u32,
     depth: u16,
     operands: &[Operand],
@@ -161,7 +161,7 @@ fn listed_need(located: Option<Located>) -> Needs
 }
 
 #[tactic(auto, unfolding(s38_rules::specs::Resolving::rslvsp_needs))]
-fn rslvsp_needs(world: &World<Objects>, process: u32, depth: u16, operands: &[Operand]) -> Needs
+fn rslvsp_needs(world: &Core<Objects, Profiles>, process: u32, depth: u16, operands: &[Operand]) -> Needs
     ensures { result ≡ rslvsp_needs world.now process depth operands.now }
 {
     if is_list(operands, 2) {
@@ -174,7 +174,7 @@ fn rslvsp_needs(world: &World<Objects>, process: u32, depth: u16, operands: &[Op
 }
 
 fn carried_rights(
-    world: &World<Objects>,
+    world: &Core<Objects, Profiles>,
     users: &[UserNum],
     word: Rights,
     located: Option<Located>,
@@ -200,7 +200,7 @@ fn carried_rights(
 /// The object is found; where the pointer is to carry rights, they and AUTPTR are available on it.
 #[tactic(auto, unfolding(s38_rules::specs::Resolving::rslvsp_fails))]
 fn rslvsp_fails(
-    world: &World<Objects>,
+    world: &Core<Objects, Profiles>,
     process: u32,
     depth: u16,
     operands: &[Operand],
@@ -225,7 +225,7 @@ fn pointer_to(rights: Rights, located: Option<Located>) -> Option<Pointer>
 }
 
 #[tactic(auto, unfolding(s38_rules::specs::Resolving::rslvsp_gives))]
-fn rslvsp_gives(world: &World<Objects>, process: u32, depth: u16, operands: &[Operand]) -> Val
+fn rslvsp_gives(world: &Core<Objects, Profiles>, process: u32, depth: u16, operands: &[Operand]) -> Val
     ensures { result ≡ rslvsp_gives world.now process depth operands.now }
 {
     let located = resolved(world, process, depth, operands);
@@ -252,7 +252,7 @@ fn setspfp_gives(objects: &Objects, operands: &[Operand]) -> Val
 
 /// What an instruction of resolving needs.
 #[tactic(auto, unfolding(s38_rules::specs::Resolving::resolving_row, s38_rules::specs::Resolving::setspfp_needs))]
-pub fn needs(world: &World<Objects>, process: u32, depth: u16, request: &Request) -> Needs
+pub fn needs(world: &Core<Objects, Profiles>, process: u32, depth: u16, request: &Request) -> Needs
     ensures { result ≡ (resolving_row request.now.op).needs world.now process depth request.now }
 {
     match request.op {
@@ -272,7 +272,7 @@ pub fn needs(world: &World<Objects>, process: u32, depth: u16, request: &Request
 /// The first of its conditions and limits that fails.
 #[tactic(auto, unfolding(s38_rules::specs::Resolving::resolving_row))]
 pub fn conditions(
-    world: &World<Objects>,
+    world: &Core<Objects, Profiles>,
     process: u32,
     depth: u16,
     request: &Request,
@@ -289,7 +289,7 @@ pub fn conditions(
 #[tactic(auto, unfolding(s38_rules::specs::Resolving::resolving_row))]
 pub fn value(
     alloc: Global,
-    world: &World<Objects>,
+    world: &Core<Objects, Profiles>,
     process: u32,
     depth: u16,
     request: &Request,

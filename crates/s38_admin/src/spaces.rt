@@ -15,7 +15,7 @@ use s38_changes::{
     in_context, owner_pays, pages_for_length, put_cells, resize,
 };
 use s38_code::{Operand, Request, Val};
-use s38_invoke::World;
+use s38_invoke::{Core, Profiles};
 use s38_memory::Tagged;
 use s38_objects::Objects;
 use s38_operands::{
@@ -35,7 +35,7 @@ fn is_space_length(limit: u32, len: u128) -> bool
 }
 
 /// The number at an operand has a value, and is the length of a space.
-fn length_rule(world: &World<Objects>, operands: &[Operand], k: u8) -> Option<Exception>
+fn length_rule(world: &Core<Objects, Profiles>, operands: &[Operand], k: u8) -> Option<Exception>
     ensures { result ≡ length_rule world.now operands.now k }
 {
     let objects = &world.objects;
@@ -47,7 +47,7 @@ fn length_rule(world: &World<Objects>, operands: &[Operand], k: u8) -> Option<Ex
 }
 
 /// The length that an operand says, 0 where it is none of a space.
-fn length_at(world: &World<Objects>, operands: &[Operand], k: usize) -> u32
+fn length_at(world: &Core<Objects, Profiles>, operands: &[Operand], k: usize) -> u32
     ensures { result ≡ length_at world.now operands.now k }
 {
     let len = count_at(&world.objects, operands, k);
@@ -60,7 +60,7 @@ fn length_at(world: &World<Objects>, operands: &[Operand], k: usize) -> u32
 
 // ---- CRTS
 
-fn new_space(world: &World<Objects>, operands: &[Operand]) -> Creating
+fn new_space(world: &Core<Objects, Profiles>, operands: &[Operand]) -> Creating
     ensures { result ≡ new_space world.now operands.now }
 {
     let pages = pages_for_length(length_at(world, operands, 5));
@@ -68,7 +68,7 @@ fn new_space(world: &World<Objects>, operands: &[Operand]) -> Creating
 }
 
 #[tactic(auto, unfolding(s38_rules::specs::Spaces::crts_fails))]
-fn crts_fails(world: &World<Objects>, process: u32, operands: &[Operand]) -> Option<Exception>
+fn crts_fails(world: &Core<Objects, Profiles>, process: u32, operands: &[Operand]) -> Option<Exception>
     ensures { result ≡ crts_fails world.now process operands.now }
 {
     let created = new_space(world, operands);
@@ -77,7 +77,7 @@ fn crts_fails(world: &World<Objects>, process: u32, operands: &[Operand]) -> Opt
 }
 
 /// The greatest length of a space.
-fn limit_of(world: &World<Objects>) -> u32
+fn limit_of(world: &Core<Objects, Profiles>) -> u32
     ensures limit { result ≡ world.now.limit }
     ensures small { result ≤ furthest }
 {
@@ -99,7 +99,7 @@ fn zero_space(alloc: Global, limit: u32, len: u32) -> Result<Tagged, NoMemory>
 /// The storage of the new space.
 fn new_cells(
     alloc: Global,
-    world: &World<Objects>,
+    world: &Core<Objects, Profiles>,
     operands: &[Operand],
 ) -> Result<Tagged, NoMemory>
     requires { is_space_length world.now.limit (length_at world.now operands.now 5) ≡ true }
@@ -113,7 +113,7 @@ fn new_cells(
 #[tactic(auto, using(crate::proofs::CreationLaws::crts_created, crate::proofs::CreationLaws::space_paid, s38_changes::proofs::CreationLaws::home_placed))]
 fn create_space(
     alloc: Global,
-    world: &mut World<Objects>,
+    world: &mut Core<Objects, Profiles>,
     process: u32,
     operands: &[Operand],
     space: Tagged,
@@ -132,7 +132,7 @@ fn create_space(
 #[tactic(auto, using(crate::proofs::CreationLaws::crts_long))]
 fn crts(
     alloc: Global,
-    world: &mut World<Objects>,
+    world: &mut Core<Objects, Profiles>,
     process: u32,
     operands: &[Operand],
 ) -> Result<(), NoMemory>
@@ -150,7 +150,7 @@ fn crts(
 
 /// The owner of the space pays for its new length.
 #[tactic(auto, unfolding(s38_rules::specs::Spaces::mods_fails))]
-fn mods_fails(world: &World<Objects>, operands: &[Operand]) -> Option<Exception>
+fn mods_fails(world: &Core<Objects, Profiles>, operands: &[Operand]) -> Option<Exception>
     ensures { result ≡ mods_fails world.now operands.now }
 {
     if let Some(failure) = length_rule(world, operands, 2) {
@@ -163,7 +163,7 @@ fn mods_fails(world: &World<Objects>, operands: &[Operand]) -> Option<Exception>
 
 /// The space is cut, or lengthened by zero bytes.
 #[tactic(auto, using(crate::proofs::CreationLaws::mods_long, crate::proofs::CreationLaws::mods_paid))]
-fn mods(world: &mut World<Objects>, operands: &[Operand]) -> Result<(), NoMemory>
+fn mods(world: &mut Core<Objects, Profiles>, operands: &[Operand]) -> Result<(), NoMemory>
     requires { mods_fails world.old operands.now ≡ None }
     ensures ok { OnOk result (world.new ≡ record world.old { held = on_space world.old.held (target world.old.held operands.now 1) (resized (length_at world.old operands.now 2)) }) }
     ensures err { OnErr result (world.new ≡ world.old) }
@@ -257,7 +257,7 @@ fn cpybwp_gives(
 }
 
 /// Cells go with their tags into the space.
-fn cpybwp(alloc: Global, world: &mut World<Objects>, operands: &[Operand]) -> Result<(), NoMemory>
+fn cpybwp(alloc: Global, world: &mut Core<Objects, Profiles>, operands: &[Operand]) -> Result<(), NoMemory>
     ensures ok { OnOk result (world.new ≡ record world.old { held = cells_put world.old.held (place operands.now 1) (source_cells world.old.held operands.now 2) }) }
     ensures err { OnErr result (world.new ≡ world.old) }
 {
@@ -274,7 +274,7 @@ fn cpybwp(alloc: Global, world: &mut World<Objects>, operands: &[Operand]) -> Re
 
 /// What an instruction of spaces needs.
 #[tactic(auto, unfolding(s38_rules::specs::Spaces::spaces_row, s38_rules::specs::Spaces::mods_needs, s38_rules::specs::Spaces::setsppfp_needs, s38_rules::specs::Spaces::setdp_needs))]
-pub fn needs(world: &World<Objects>, process: u32, depth: u16, request: &Request) -> Needs
+pub fn needs(world: &Core<Objects, Profiles>, process: u32, depth: u16, request: &Request) -> Needs
     ensures { result ≡ (spaces_row request.now.op).needs world.now process depth request.now }
 {
     let _ = world;
@@ -301,7 +301,7 @@ pub fn needs(world: &World<Objects>, process: u32, depth: u16, request: &Request
 /// The first of its conditions and limits that fails.
 #[tactic(auto, unfolding(s38_rules::specs::Spaces::spaces_row))]
 pub fn conditions(
-    world: &World<Objects>,
+    world: &Core<Objects, Profiles>,
     process: u32,
     depth: u16,
     request: &Request,
@@ -323,7 +323,7 @@ pub fn conditions(
 #[tactic(auto, unfolding(s38_rules::specs::Spaces::spaces_row))]
 pub fn value(
     alloc: Global,
-    world: &World<Objects>,
+    world: &Core<Objects, Profiles>,
     process: u32,
     depth: u16,
     request: &Request,
@@ -347,7 +347,7 @@ pub fn value(
 #[tactic(auto, unfolding(s38_rules::specs::Spaces::spaces_row))]
 pub fn apply(
     alloc: Global,
-    world: &mut World<Objects>,
+    world: &mut Core<Objects, Profiles>,
     process: u32,
     depth: u16,
     request: &Request,

@@ -6,8 +6,8 @@ use crate::rights::{Missing, missing_in};
 use crate::users::is_special;
 use s38_base::exceptions::{SPECIAL_REQUIRED, UNAUTHORIZED};
 use s38_base::{Exception, Rights, Rule, Special, UserNum};
-use s38_invoke::World;
-use s38_rules::Table;
+use s38_invoke::Core;
+use s38_rules::{Table, UserMaps};
 
 /// The exception that says which needed rights are missing, where some are.
 pub fn missing(operand: u8, needed: Rights, there: Rights) -> Option<Exception>
@@ -25,8 +25,8 @@ pub fn missing(operand: u8, needed: Rights, there: Rights) -> Option<Exception>
 
 /// The exception of an instruction that needs a special authority, where no acting user has it.
 #[tactic(auto, unfolding(s38_rules::specs::Authority::lacks_special))]
-pub fn lacks_special<T: Table>(
-    world: &World<T>,
+pub fn lacks_special<T: Table, P: UserMaps>(
+    world: &Core<T, P>,
     users: &[UserNum],
     special: Special,
 ) -> Option<Exception>

@@ -8,8 +8,8 @@ ghost use Rattle.s38_rules.specs.Held.{object};
 
 use crate::users::has_special;
 use s38_base::{ObjNum, Rights, Special, UserNum};
-use s38_invoke::World;
-use s38_rules::Table;
+use s38_invoke::Core;
+use s38_rules::{Table, UserMaps};
 
 /// Needed rights that are not available.
 #[derive(Clone, Copy, PartialEq, Eq, Debug)]
@@ -24,7 +24,7 @@ pub fn has_rights(needed: Rights, there: Rights) -> bool
 
 /// The rights that a user brings to an object with these rights of everybody.
 #[tactic(auto, unfolding(s38_rules::specs::Authority::source_by))]
-fn source_by<T: Table>(world: &World<T>, number: ObjNum, public: Rights, user: UserNum) -> Rights
+fn source_by<T: Table, P: UserMaps>(world: &Core<T, P>, number: ObjNum, public: Rights, user: UserNum) -> Rights
     requires { public.0 ≡ public_in (object world.now.held number.0) }
     ensures { result.0 ≡ source_by world.now.held number.0 user.0 }
 {
@@ -35,7 +35,7 @@ fn source_by<T: Table>(world: &World<T>, number: ObjNum, public: Rights, user: U
     }
 }
 
-fn sources_by<T: Table>(world: &World<T>, number: ObjNum, public: Rights, users: &[UserNum]) -> u8
+fn sources_by<T: Table, P: UserMaps>(world: &Core<T, P>, number: ObjNum, public: Rights, users: &[UserNum]) -> u8
     requires { public.0 ≡ public_in (object world.now.held number.0) }
     ensures { result ≡ sources_by world.now.held number.0 (map (λ u. u.0) users.now) }
 {
@@ -48,8 +48,8 @@ fn sources_by<T: Table>(world: &World<T>, number: ObjNum, public: Rights, users:
 }
 
 /// What these users bring to an object with these rights of everybody; nothing where there is none.
-fn sources_on<T: Table>(
-    world: &World<T>,
+fn sources_on<T: Table, P: UserMaps>(
+    world: &Core<T, P>,
     number: ObjNum,
     users: &[UserNum],
     public: Option<Rights>,
@@ -67,8 +67,8 @@ fn sources_on<T: Table>(
 /// those that the used pointer carries: none but those without the object.
 #[inline(always)]
 #[tactic(auto, unfolding(s38_rules::specs::Authority::available))]
-pub fn available_on<T: Table>(
-    world: &World<T>,
+pub fn available_on<T: Table, P: UserMaps>(
+    world: &Core<T, P>,
     users: &[UserNum],
     number: ObjNum,
     carried: Rights,
@@ -81,7 +81,7 @@ pub fn available_on<T: Table>(
 }
 
 /// The rights of everybody on the object of a number, where there is one.
-fn public_of<T: Table>(world: &World<T>, number: ObjNum) -> Option<Rights>
+fn public_of<T: Table, P: UserMaps>(world: &Core<T, P>, number: ObjNum) -> Option<Rights>
     ensures { result ≡ public_of (object world.now.held number.0) }
 {
     match world.objects.header(number) {
@@ -93,8 +93,8 @@ fn public_of<T: Table>(world: &World<T>, number: ObjNum) -> Option<Rights>
 /// The rights that are available to these users on the object of a number, with those that the used pointer
 /// carries: none but those without the object.
 #[inline(always)]
-pub fn available<T: Table>(
-    world: &World<T>,
+pub fn available<T: Table, P: UserMaps>(
+    world: &Core<T, P>,
     users: &[UserNum],
     number: ObjNum,
     carried: Rights,
@@ -116,8 +116,8 @@ pub fn missing_in(needed: Rights, there: Rights) -> Result<(), Missing>
 
 /// Whether the needed rights are available to these users on the object of a number; else exactly those that are
 /// not.
-pub fn check<T: Table>(
-    world: &World<T>,
+pub fn check<T: Table, P: UserMaps>(
+    world: &Core<T, P>,
     users: &[UserNum],
     number: ObjNum,
     carried: Rights,

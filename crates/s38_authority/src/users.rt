@@ -5,11 +5,11 @@ ghost use Rattle.s38_rules.specs.Held.{object, owner_in};
 
 use crate::rights::has_rights;
 use s38_base::{ObjNum, Rights, Special, UserNum};
-use s38_invoke::World;
-use s38_rules::Table;
+use s38_invoke::Core;
+use s38_rules::{Table, UserMaps};
 
 /// Whether a user's profile gives it a special authority.
-pub fn has_special<T: Table>(world: &World<T>, special: Special, user: UserNum) -> bool
+pub fn has_special<T: Table, P: UserMaps>(world: &Core<T, P>, special: Special, user: UserNum) -> bool
     ensures { result ≡ has_special world.now.held special.0 user.0 }
 {
     let there = world.specials(user);
@@ -19,7 +19,7 @@ pub fn has_special<T: Table>(world: &World<T>, special: Special, user: UserNum) 
 // ---- special authorities
 
 /// Whether some of the users has a special authority.
-pub fn is_special<T: Table>(world: &World<T>, users: &[UserNum], special: Special) -> bool
+pub fn is_special<T: Table, P: UserMaps>(world: &Core<T, P>, users: &[UserNum], special: Special) -> bool
     ensures { result ≡ is_special world.now.held (map (λ u. u.0) users.now) special.0 }
 {
     match users {
@@ -32,7 +32,7 @@ pub fn is_special<T: Table>(world: &World<T>, users: &[UserNum], special: Specia
 
 // ---- ownership
 
-fn owner_in<T: Table>(world: &World<T>, number: ObjNum) -> UserNum
+fn owner_in<T: Table, P: UserMaps>(world: &Core<T, P>, number: ObjNum) -> UserNum
     ensures { result.0 ≡ owner_in (object world.now.held number.0) }
 {
     match world.objects.header(number) {
@@ -42,7 +42,7 @@ fn owner_in<T: Table>(world: &World<T>, number: ObjNum) -> UserNum
 }
 
 /// Whether a user owns the object that this owner has, or has all-object authority.
-fn governs<T: Table>(world: &World<T>, number: ObjNum, owner: UserNum, user: UserNum) -> bool
+fn governs<T: Table, P: UserMaps>(world: &Core<T, P>, number: ObjNum, owner: UserNum, user: UserNum) -> bool
     requires { owner.0 ≡ owner_in (object world.now.held number.0) }
     ensures { result ≡ governs world.now.held number.0 user.0 }
 {
@@ -50,8 +50,8 @@ fn governs<T: Table>(world: &World<T>, number: ObjNum, owner: UserNum, user: Use
 }
 
 #[tactic(auto, unfolding(s38_rules::specs::Authority::is_governed))]
-fn is_governed_by<T: Table>(
-    world: &World<T>,
+fn is_governed_by<T: Table, P: UserMaps>(
+    world: &Core<T, P>,
     number: ObjNum,
     owner: UserNum,
     users: &[UserNum],
@@ -68,7 +68,7 @@ fn is_governed_by<T: Table>(
 }
 
 /// Whether one of the users owns the object of a number, or has all-object authority.
-pub fn is_governed<T: Table>(world: &World<T>, users: &[UserNum], number: ObjNum) -> bool
+pub fn is_governed<T: Table, P: UserMaps>(world: &Core<T, P>, users: &[UserNum], number: ObjNum) -> bool
     ensures { result ≡ is_governed world.now.held number.0 (map (λ u. u.0) users.now) }
 {
     is_governed_by(world, number, owner_in(world, number), users)

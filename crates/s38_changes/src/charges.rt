@@ -11,7 +11,7 @@ ghost use Rattle.s38_rules.proofs.ChargeLaws.{AreRising};
 
 use s38_base::exceptions::PAGES_EXCEEDED;
 use s38_base::{Exception, ObjNum, UserNum};
-use s38_invoke::World;
+use s38_invoke::{Core, Profiles};
 use s38_objects::{Objects, pages};
 use s38_operands::fails;
 use s38_rules::Object;
@@ -27,7 +27,7 @@ fn passes(limit: u32, pages: u64, more: u64) -> bool
 /// A user would own more pages than its profile allows: those that it pays for, and so many more.
 #[tactic(auto, using(crate::proofs::LimitLaws::more_allowed))]
 pub fn pays_more(
-    world: &World<Objects>,
+    world: &Core<Objects, Profiles>,
     user: UserNum,
     pages: u64,
     operand: u8,
@@ -43,7 +43,7 @@ pub fn pays_more(
 }
 
 /// What the owner of an object pays for beside it; nothing of one that is not there.
-fn paid_beside(world: &World<Objects>, object: &Object) -> u64
+fn paid_beside(world: &Core<Objects, Profiles>, object: &Object) -> u64
     ensures { result ≡ counted (object_at world.now.held object.now.owner.0) (charge_in world.now.held.objects object.now.owner.0) - pages_of object.now.body }
 {
     world
@@ -64,7 +64,7 @@ fn found(objects: &Objects, number: ObjNum) -> Option<&Object>
 
 /// The owner of an object may pay for so many pages of it.
 #[tactic(auto, using(crate::proofs::LimitLaws::nobody_allowed, crate::proofs::LimitLaws::owner_allowed), unfolding(s38_rules::specs::Spaces::owner_pays))]
-pub fn owner_pays(world: &World<Objects>, number: ObjNum, pages: u64) -> Option<Exception>
+pub fn owner_pays(world: &Core<Objects, Profiles>, number: ObjNum, pages: u64) -> Option<Exception>
     requires { 1 ≤ pages }
     ensures { result ≡ owner_pays world.now.held number.0 pages }
 {
@@ -80,7 +80,7 @@ pub fn owner_pays(world: &World<Objects>, number: ObjNum, pages: u64) -> Option<
 
 /// A user may own the pages of the object of a number beside its others.
 #[tactic(auto, using(crate::proofs::LimitLaws::own_allowed, crate::proofs::LimitLaws::taker_allowed))]
-pub fn taker_rule(world: &World<Objects>, number: ObjNum, user: UserNum) -> Option<Exception>
+pub fn taker_rule(world: &Core<Objects, Profiles>, number: ObjNum, user: UserNum) -> Option<Exception>
     ensures { result ≡ taker_rule world.now.held number.0 user.0 (object_at world.now.held number.0) }
 {
     match found(&world.objects, number) {
@@ -100,7 +100,7 @@ pub fn taker_rule(world: &World<Objects>, number: ObjNum, user: UserNum) -> Opti
 
 /// Whether a user owns an object: then it pays for one.
 #[tactic(auto, using(crate::proofs::LimitLaws::owner_charged))]
-pub fn is_owner(world: &World<Objects>, user: UserNum) -> bool
+pub fn is_owner(world: &Core<Objects, Profiles>, user: UserNum) -> bool
     ensures { result ≡ is_owner world.now.held user.0 }
 {
     world.charge(user) != 0

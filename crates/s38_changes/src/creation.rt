@@ -16,7 +16,7 @@ use s38_base::{
     Category, Exception, HeldPointer, Id, Kind, NoMemory, ObjNum, Pointer, Rights, UserNum,
 };
 use s38_code::{Operand, Val};
-use s38_invoke::World;
+use s38_invoke::{Core, Profiles};
 use s38_objects::{Objects, pages};
 use s38_operands::{Needs, fails, id_at, is_given, on_implied, on_object, rights_at, target};
 use s38_rules::{Body, Creating, Object, RowList, Sought};
@@ -141,7 +141,7 @@ fn number_rule(objects: &Objects) -> Option<Exception>
 
 /// The owner pays for it, and a number is left.
 #[tactic(auto, unfolding(s38_rules::specs::Creation::creation_limits))]
-fn creation_limits(world: &World<Objects>, owner: UserNum, pages: u64) -> Option<Exception>
+fn creation_limits(world: &Core<Objects, Profiles>, owner: UserNum, pages: u64) -> Option<Exception>
     requires { 1 ≤ pages }
     ensures { result ≡ creation_limits world.now.held owner.0 pages }
 {
@@ -154,7 +154,7 @@ fn creation_limits(world: &World<Objects>, owner: UserNum, pages: u64) -> Option
 /// The identification is new, then the row's own conditions hold, then the limits.
 #[tactic(auto, unfolding(s38_rules::specs::Creation::creation_fails))]
 pub fn creation_fails(
-    world: &World<Objects>,
+    world: &Core<Objects, Profiles>,
     owner: UserNum,
     made: &Creating,
     own: Option<Exception>,
@@ -273,7 +273,7 @@ fn fresh(objects: &Objects) -> ObjNum
 /// A new object stands behind the others, and its owner pays for it and has all rights by a row. Where memory is
 /// refused nothing changes.
 #[tactic(auto, using(crate::proofs::CreationLaws::addition_kept, crate::proofs::KeptLaws::none_yet, crate::proofs::KeptLaws::no_row_yet))]
-fn add(world: &mut World<Objects>, object: Object) -> Result<(), NoMemory>
+fn add(world: &mut Core<Objects, Profiles>, object: Object) -> Result<(), NoMemory>
     requires number { object.number.0 ≡ world.old.held.next }
     requires small { world.old.held.next ≤ 2 ^ 62 }
     requires placed { is_place_of world.old.held object ≡ true }
@@ -307,7 +307,7 @@ fn add(world: &mut World<Objects>, object: Object) -> Result<(), NoMemory>
 #[tactic(auto, using(crate::proofs::CreationLaws::number_left, crate::proofs::CreationLaws::name_free, crate::proofs::CreationLaws::paid_for), unfolding(s38_rules::specs::Creation::creation_changes))]
 pub fn creation_changes(
     alloc: Global,
-    world: &mut World<Objects>,
+    world: &mut Core<Objects, Profiles>,
     owner: UserNum,
     made: &Creating,
     body: Body,

@@ -7,7 +7,7 @@ ghost use Rattle.s38_rules.specs.Operands.{target};
 use crate::users::forget;
 use s38_base::{Category, Kind, ObjNum, Rights};
 use s38_code::Operand;
-use s38_invoke::World;
+use s38_invoke::{Core, Profiles};
 use s38_objects::{Objects, kind_of};
 use s38_operands::{Needs, on_object, target};
 use s38_rules::Sought;
@@ -21,7 +21,7 @@ pub fn destruction_needs(kind: Kind) -> Needs
 }
 
 /// The object of a number is there no more, and what is kept of it goes with it.
-fn remove(world: &mut World<Objects>, number: ObjNum)
+fn remove(world: &mut Core<Objects, Profiles>, number: ObjNum)
     ensures { world.new ≡ record world.old { held = without world.old.held number.0 } }
 {
     // Its contract says that numbers rise and were given.
@@ -43,7 +43,7 @@ fn is_of_kind(objects: &Objects, number: ObjNum, kind: Kind) -> bool
 }
 
 /// The object that operand 1 names, if it is of the kind, is there no more.
-pub fn destroy(world: &mut World<Objects>, kind: Kind, operands: &[Operand])
+pub fn destroy(world: &mut Core<Objects, Profiles>, kind: Kind, operands: &[Operand])
     ensures { world.new ≡ record world.old { held = destroyed world.old.held kind (target world.old.held operands.now 1) } }
 {
     let number = target(&world.objects, operands, 1);

@@ -11,7 +11,7 @@ ghost use Rattle.s38_rules.specs.Spaces.{is_space_length, owner_pays, pages_for_
 use crate::users::pay_otherwise;
 use s38_base::{NoMemory, ObjNum, Pointer};
 use s38_code::{Operand, Val};
-use s38_invoke::World;
+use s38_invoke::{Core, Profiles};
 use s38_memory::Cell;
 use s38_objects::{Objects, pages};
 use s38_operands::{copy_cells, resize_cells, set_cells, write_cells};
@@ -46,7 +46,7 @@ fn copy_in(objects: &mut Objects, number: ObjNum, at: u64, piece: &[Cell])
 }
 
 /// Puts a value into the space of a number.
-pub fn put_value(world: &mut World<Objects>, number: ObjNum, at: u64, value: &Val)
+pub fn put_value(world: &mut Core<Objects, Profiles>, number: ObjNum, at: u64, value: &Val)
     ensures { world.new ≡ record world.old { held = put_value world.old.held number.0 at value.now } }
 {
     match value {
@@ -57,7 +57,7 @@ pub fn put_value(world: &mut World<Objects>, number: ObjNum, at: u64, value: &Va
 }
 
 /// Cells go with their tags into the space of a receiver that lies in one.
-pub fn put_cells(world: &mut World<Objects>, receiver: Option<&Operand>, cells: &[Cell])
+pub fn put_cells(world: &mut Core<Objects, Profiles>, receiver: Option<&Operand>, cells: &[Cell])
     requires { All IsCell cells.now }
     ensures { world.new ≡ record world.old { held = cells_put world.old.held (option_copied receiver.entry) cells.now } }
 {
@@ -92,7 +92,7 @@ fn resize_in(objects: &mut Objects, number: ObjNum, len: u32) -> Result<(), NoMe
 
 /// A space has this length, cut or lengthened by zero bytes, and its owner pays for it; where memory is refused
 /// nothing changes.
-pub fn resize(world: &mut World<Objects>, number: ObjNum, len: u32) -> Result<(), NoMemory>
+pub fn resize(world: &mut Core<Objects, Profiles>, number: ObjNum, len: u32) -> Result<(), NoMemory>
     requires length { is_space_length world.old.limit len ≡ true }
     requires paid { owner_pays world.old.held number.0 (pages_for_length len) ≡ None }
     ensures ok { OnOk result (world.new ≡ record world.old { held = on_space world.old.held number.0 (resized len) }) }

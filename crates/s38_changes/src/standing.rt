@@ -13,7 +13,7 @@ ghost use Rattle.s38_rules.specs.Standing.{granted, open_to_all, owned_by, resta
 
 use crate::users::{pay_less, take_row};
 use s38_base::{Id, NoMemory, ObjNum, Rights, Special, UserNum};
-use s38_invoke::World;
+use s38_invoke::Core;
 use s38_objects::{Objects, pages, pay_more};
 use s38_profiles::Profiles;
 
@@ -48,7 +48,7 @@ fn set_both(
 
 /// A user has these rights on an object by a row; where memory is refused nothing changes.
 pub fn set_row(
-    world: &mut World<Objects>,
+    world: &mut Core<Objects, Profiles>,
     number: ObjNum,
     user: UserNum,
     rights: Rights,
@@ -72,7 +72,7 @@ pub fn set_row(
 
 /// Everybody has these rights on an object.
 #[tactic(auto, using(crate::proofs::KeptLaws::public_kept))]
-pub fn set_public(world: &mut World<Objects>, number: ObjNum, rights: Rights)
+pub fn set_public(world: &mut Core<Objects, Profiles>, number: ObjNum, rights: Rights)
     ensures { world.new ≡ record world.old { held = restand world.old.held number.0 (open_to_all rights) } }
 {
     world.objects.set_public(number, rights);
@@ -80,7 +80,7 @@ pub fn set_public(world: &mut World<Objects>, number: ObjNum, rights: Rights)
 
 /// A user owns an object, pays for it, and has all eight rights on it by a row; where memory is refused nothing
 /// changes.
-pub fn give_to(world: &mut World<Objects>, number: ObjNum, user: UserNum) -> Result<(), NoMemory>
+pub fn give_to(world: &mut Core<Objects, Profiles>, number: ObjNum, user: UserNum) -> Result<(), NoMemory>
     requires { taker_rule world.old.held number.0 user.0 (object world.old.held number.0) ≡ None }
     ensures ok { OnOk result (world.new ≡ record world.old { held = restand world.old.held number.0 (λ s. owned_by user (granted user (record { 0 = 255 }) s)) }) }
     ensures err { OnErr result (world.new ≡ world.old) }
@@ -114,7 +114,7 @@ pub fn give_to(world: &mut World<Objects>, number: ObjNum, user: UserNum) -> Res
 
 /// An object has another identification; where memory is refused nothing changes.
 #[tactic(auto, using(crate::proofs::KeptLaws::renamed_kept))]
-pub fn rename_to(world: &mut World<Objects>, number: ObjNum, id: &Id) -> Result<(), NoMemory>
+pub fn rename_to(world: &mut Core<Objects, Profiles>, number: ObjNum, id: &Id) -> Result<(), NoMemory>
     requires { is_taken_beside world.old.held number.0 (context_in (object world.old.held number.0)).0 id.now ≡ false }
     ensures ok { OnOk result (world.new ≡ record world.old { held = renamed world.old.held number.0 id.now }) }
     ensures err { OnErr result (world.new ≡ world.old) }
@@ -124,7 +124,7 @@ pub fn rename_to(world: &mut World<Objects>, number: ObjNum, id: &Id) -> Result<
 
 /// An object is in another context, or in none; where memory is refused nothing changes.
 #[tactic(auto, using(crate::proofs::KeptLaws::moved_kept))]
-pub fn move_to(world: &mut World<Objects>, number: ObjNum, context: ObjNum) -> Result<(), NoMemory>
+pub fn move_to(world: &mut Core<Objects, Profiles>, number: ObjNum, context: ObjNum) -> Result<(), NoMemory>
     requires placed { is_place world.old.held context.0 ≡ true }
     requires free { is_name_beside world.old.held number.0 context.0 (object world.old.held number.0) ≡ false }
     ensures ok { OnOk result (world.new ≡ record world.old { held = moved world.old.held number.0 context }) }
@@ -135,7 +135,7 @@ pub fn move_to(world: &mut World<Objects>, number: ObjNum, context: ObjNum) -> R
 
 /// A user has these special authorities and this limit.
 #[tactic(auto, using(crate::proofs::StandingLaws::profile_absent))]
-pub fn set_profile(world: &mut World<Objects>, number: ObjNum, special: Special, limit: u32)
+pub fn set_profile(world: &mut Core<Objects, Profiles>, number: ObjNum, special: Special, limit: u32)
     ensures { world.new ≡ record world.old { held = set_profile world.old.held number.0 special limit } }
 {
     if world.profiles.has(number) {

@@ -8,7 +8,7 @@ use s38_base::exceptions::OBJECT_IN_USE;
 use s38_base::{Exception, Kind, NoMemory, Rights};
 use s38_changes::{creation_changes, creation_fails, creation_needs, in_context};
 use s38_code::Operand;
-use s38_invoke::World;
+use s38_invoke::{Core, Profiles};
 use s38_journals::Journal;
 use s38_objects::Objects;
 use s38_operands::{Needs, fails, on_object, target};
@@ -24,7 +24,7 @@ pub fn created_journal(objects: &Objects, operands: &[Operand]) -> Creating
 }
 
 #[tactic(auto, unfolding(s38_rules::specs::Journals::crtjs_fails))]
-pub fn crtjs_fails(world: &World<Objects>, process: u32, operands: &[Operand]) -> Option<Exception>
+pub fn crtjs_fails(world: &Core<Objects, Profiles>, process: u32, operands: &[Operand]) -> Option<Exception>
     ensures { result ≡ crtjs_fails world.now process operands.now }
 {
     let created = created_journal(&world.objects, operands);
@@ -35,7 +35,7 @@ pub fn crtjs_fails(world: &World<Objects>, process: u32, operands: &[Operand]) -
 #[tactic(auto, using(crate::proofs::CommitmentLaws::crtjs_created, s38_changes::proofs::CreationLaws::home_placed))]
 pub fn crtjs(
     alloc: Global,
-    world: &mut World<Objects>,
+    world: &mut Core<Objects, Profiles>,
     process: u32,
     operands: &[Operand],
 ) -> Result<(), NoMemory>
@@ -68,7 +68,7 @@ pub fn crtjp_needs(operands: &[Operand]) -> Needs
 
 /// No port leads to the journal space yet.
 #[tactic(auto, unfolding(s38_rules::specs::Journals::crtjp_fails))]
-pub fn crtjp_fails(world: &World<Objects>, process: u32, operands: &[Operand]) -> Option<Exception>
+pub fn crtjp_fails(world: &Core<Objects, Profiles>, process: u32, operands: &[Operand]) -> Option<Exception>
     ensures { result ≡ crtjp_fails world.now process operands.now }
 {
     let objects = &world.objects;
@@ -90,7 +90,7 @@ fn new_port(objects: &Objects, operands: &[Operand]) -> Port
 #[tactic(auto, using(crate::proofs::CommitmentLaws::crtjp_created, s38_changes::proofs::CreationLaws::home_placed))]
 pub fn crtjp(
     alloc: Global,
-    world: &mut World<Objects>,
+    world: &mut Core<Objects, Profiles>,
     process: u32,
     operands: &[Operand],
 ) -> Result<(), NoMemory>
@@ -122,7 +122,7 @@ pub fn crtcb_needs(operands: &[Operand]) -> Needs
 }
 
 #[tactic(auto, unfolding(s38_rules::specs::Journals::crtcb_fails))]
-pub fn crtcb_fails(world: &World<Objects>, process: u32, operands: &[Operand]) -> Option<Exception>
+pub fn crtcb_fails(world: &Core<Objects, Profiles>, process: u32, operands: &[Operand]) -> Option<Exception>
     ensures { result ≡ crtcb_fails world.now process operands.now }
 {
     let created = created_block(&world.objects, operands);
@@ -141,7 +141,7 @@ fn new_block(objects: &Objects, operands: &[Operand]) -> Block
 #[tactic(auto, using(crate::proofs::CommitmentLaws::crtcb_created, s38_changes::proofs::CreationLaws::home_placed))]
 pub fn crtcb(
     alloc: Global,
-    world: &mut World<Objects>,
+    world: &mut Core<Objects, Profiles>,
     process: u32,
     operands: &[Operand],
 ) -> Result<(), NoMemory>

@@ -16,7 +16,7 @@ use crate::units::{commit, decommit, unit_fails, unit_needs};
 use s38_base::{Category, Exception, Kind, NoMemory, Op, Rights};
 use s38_changes::{creation_gives, creation_needs, destroy, destruction_needs};
 use s38_code::{Request, Val};
-use s38_invoke::World;
+use s38_invoke::{Core, Profiles};
 use s38_objects::Objects;
 use s38_operands::{Needs, on_object};
 use s38_rules::Sought;
@@ -41,7 +41,7 @@ fn ensobj_needs() -> Needs
 
 /// What an instruction of journals and units needs.
 #[tactic(auto, unfolding(s38_rules::specs::Journals::journals_row))]
-pub fn needs(world: &World<Objects>, process: u32, depth: u16, request: &Request) -> Needs
+pub fn needs(world: &Core<Objects, Profiles>, process: u32, depth: u16, request: &Request) -> Needs
     ensures { result ≡ (journals_row request.now.op).needs world.now process depth request.now }
 {
     let _ = world;
@@ -66,7 +66,7 @@ pub fn needs(world: &World<Objects>, process: u32, depth: u16, request: &Request
 /// The first of its conditions and limits that fails.
 #[tactic(auto, unfolding(s38_rules::specs::Journals::journals_row))]
 pub fn conditions(
-    world: &World<Objects>,
+    world: &Core<Objects, Profiles>,
     process: u32,
     depth: u16,
     request: &Request,
@@ -94,7 +94,7 @@ pub fn conditions(
 #[tactic(auto, unfolding(s38_rules::specs::Journals::journals_row))]
 pub fn value(
     alloc: Global,
-    world: &World<Objects>,
+    world: &Core<Objects, Profiles>,
     process: u32,
     depth: u16,
     request: &Request,
@@ -118,7 +118,7 @@ pub fn value(
 #[tactic(auto, unfolding(s38_rules::specs::Journals::journals_row))]
 pub fn apply(
     alloc: Global,
-    world: &mut World<Objects>,
+    world: &mut Core<Objects, Profiles>,
     process: u32,
     depth: u16,
     request: &Request,

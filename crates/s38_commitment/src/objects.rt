@@ -11,7 +11,7 @@ ghost use Rattle.s38_rules.specs.Parts.{on_data};
 use s38_base::exceptions::{OBJECT_IN_USE, OBJECT_NOT_ON_DISK};
 use s38_base::{Category, Exception, Kind, ObjNum, Rights};
 use s38_code::Operand;
-use s38_invoke::World;
+use s38_invoke::{Core, Profiles};
 use s38_objects::Objects;
 use s38_operands::{Needs, fails, on_object, target};
 use s38_rules::{Body, DataBody, Object, Sought};
@@ -75,7 +75,7 @@ pub fn desjp_fails(objects: &Objects, operands: &[Operand]) -> Option<Exception>
 
 /// The commit block has no unit.
 #[tactic(auto, unfolding(s38_rules::specs::Journals::descb_fails))]
-pub fn descb_fails(world: &World<Objects>, operands: &[Operand]) -> Option<Exception>
+pub fn descb_fails(world: &Core<Objects, Profiles>, operands: &[Operand]) -> Option<Exception>
     ensures { result ≡ descb_fails world.now operands.now }
 {
     let block = target(&world.objects, operands, 1);
@@ -175,14 +175,14 @@ fn journal_through(objects: &mut Objects, space: ObjNum, port: ObjNum)
 }
 
 /// The same, among the objects of a world.
-fn journal_at(world: &mut World<Objects>, space: ObjNum, port: ObjNum)
+fn journal_at(world: &mut Core<Objects, Profiles>, space: ObjNum, port: ObjNum)
     ensures { world.new ≡ record world.old { held = ensured (on_data world.old.held space.0 (through_port port.0)) space.0 } }
 {
     journal_through(&mut world.objects, space, port);
 }
 
 /// The changes of the data space go through the port from now on, and it is on disk.
-pub fn jrnlobj(world: &mut World<Objects>, operands: &[Operand])
+pub fn jrnlobj(world: &mut Core<Objects, Profiles>, operands: &[Operand])
     ensures { world.new ≡ record world.old { held = ensured (on_data world.old.held (target world.old.held operands.now 1) (through_port (target world.old.held operands.now 2))) (target world.old.held operands.now 1) } }
 {
     let space = target(&world.objects, operands, 1);
@@ -193,14 +193,14 @@ pub fn jrnlobj(world: &mut World<Objects>, operands: &[Operand])
 // ---- ENSOBJ
 
 /// The object of a number is on disk from now on.
-fn ensure_at(world: &mut World<Objects>, number: ObjNum)
+fn ensure_at(world: &mut Core<Objects, Profiles>, number: ObjNum)
     ensures { world.new ≡ record world.old { held = ensured world.old.held number.0 } }
 {
     world.objects.ensure(number);
 }
 
 /// The object is on disk from now on.
-pub fn ensobj(world: &mut World<Objects>, operands: &[Operand])
+pub fn ensobj(world: &mut Core<Objects, Profiles>, operands: &[Operand])
     ensures { world.new ≡ record world.old { held = ensured world.old.held (target world.old.held operands.now 1) } }
 {
     let number = target(&world.objects, operands, 1);

@@ -5,7 +5,7 @@ ghost use Rattle.s38_rules.specs.Journals.{commit_changes, decommit_changes, uni
 
 use s38_base::{Category, Exception, Kind, Rights};
 use s38_code::Operand;
-use s38_invoke::World;
+use s38_invoke::{Core, Profiles};
 use s38_objects::Objects;
 use s38_operands::{Needs, on_object, target};
 use s38_rules::Sought;
@@ -22,7 +22,7 @@ pub fn unit_needs() -> Needs
 
 /// The unit of the commit block, where it has one, is of the process.
 #[tactic(auto, unfolding(s38_rules::specs::Journals::unit_fails))]
-pub fn unit_fails(world: &World<Objects>, process: u32, operands: &[Operand]) -> Option<Exception>
+pub fn unit_fails(world: &Core<Objects, Profiles>, process: u32, operands: &[Operand]) -> Option<Exception>
     ensures { result ≡ unit_fails world.now process operands.now }
 {
     let block = target(&world.objects, operands, 1);
@@ -30,7 +30,7 @@ pub fn unit_fails(world: &World<Objects>, process: u32, operands: &[Operand]) ->
 }
 
 /// What the unit of the commit block changed stays.
-pub fn commit(world: &mut World<Objects>, process: u32, operands: &[Operand])
+pub fn commit(world: &mut Core<Objects, Profiles>, process: u32, operands: &[Operand])
     ensures { world.new ≡ done world.old process (commit_changes world.old.held operands.now) }
 {
     let block = target(&world.objects, operands, 1);
@@ -38,7 +38,7 @@ pub fn commit(world: &mut World<Objects>, process: u32, operands: &[Operand])
 }
 
 /// What the unit of the commit block changed is taken back.
-pub fn decommit(world: &mut World<Objects>, process: u32, operands: &[Operand])
+pub fn decommit(world: &mut Core<Objects, Profiles>, process: u32, operands: &[Operand])
     ensures { world.new ≡ done world.old process (decommit_changes world.old.held operands.now) }
 {
     let block = target(&world.objects, operands, 1);

@@ -27,8 +27,8 @@ use Rattle.s38_rules.specs.Opening.{held_first, held_installed, installed, openi
 use Rattle.s38_rules.specs.Parts.{data_of, data_part, part_at, part_in}
 use Rattle.s38_rules.specs.Rows.{row}
 use Rattle.s38_rules.specs.State.{State, process_entry, waits}
-use Rattle.s38_rules.specs.Step.{by_verdict, by_waiting, step}
-use Rattle.s38_rules.specs.Verdict.{awake_verdict, refused_by}
+use Rattle.s38_rules.specs.Step.{awake_verdict, by_verdict, by_waiting, step}
+use Rattle.s38_rules.specs.Verdict.{refused_by}
 use Rattle.s38_rules.specs.declared.object.Object.{Object}
 use Rattle.s38_rules.specs.declared.process.ProcessEntry.{ProcessEntry}
 use Rattle.s38_rules.specs.declared.verdict.Verdict.TheVariants.{Permit}

@@ -10,9 +10,9 @@ use Rattle.s38_code.specs.declared.event.Request.{Request}
 use Rattle.s38_rules.specs.Effect.{effect_of, end_at, start_at}
 use Rattle.s38_rules.specs.Rows.{row}
 use Rattle.s38_rules.specs.State.{State, process_entry, waits}
-use Rattle.s38_rules.specs.Step.{Stepped, by_verdict, by_waiting, step}
+use Rattle.s38_rules.specs.Step.{Stepped, awake_verdict, by_verdict, by_waiting, step}
 use Rattle.s38_rules.specs.Users.{acting}
-use Rattle.s38_rules.specs.Verdict.{awake_verdict, refused_by}
+use Rattle.s38_rules.specs.Verdict.{refused_by}
 use Rattle.s38_rules.specs.declared.verdict.Verdict.TheVariants.{Permit}
 use Rattle.s38_rules.specs.declared.verdict.Verdict.{Verdict}
 use Rattle.s38_rules.proofs.VerdictLaws.{permitted_none}

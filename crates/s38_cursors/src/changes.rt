@@ -6,7 +6,7 @@ ghost use Rattle.s38_rules.specs.DataSpaces.{at_position, moved_to, next_ordinal
 ghost use Rattle.s38_rules.specs.Parts.{on_cursor, on_table, over_table, table_at};
 
 use s38_base::{NoMemory, ObjNum};
-use s38_invoke::World;
+use s38_invoke::{Core, Profiles};
 use s38_objects::Objects;
 use s38_rules::{Cursor, DataBody};
 
@@ -30,7 +30,7 @@ fn stand_in(objects: &mut Objects, number: ObjNum, to: Option<u32>)
 }
 
 /// The same, among the objects of a world.
-pub fn stand_at(world: &mut World<Objects>, number: ObjNum, to: Option<u32>)
+pub fn stand_at(world: &mut Core<Objects, Profiles>, number: ObjNum, to: Option<u32>)
     ensures { world.new ≡ record world.old { held = on_cursor world.old.held number.0 (moved_to to) } }
 {
     stand_in(&mut world.objects, number, to);
@@ -64,7 +64,7 @@ fn insert_in(objects: &mut Objects, number: ObjNum, entry: &[u8]) -> Result<u32,
 }
 
 /// The same, among the objects of a world.
-pub fn insert_at(world: &mut World<Objects>, number: ObjNum, entry: &[u8]) -> Result<u32, NoMemory>
+pub fn insert_at(world: &mut Core<Objects, Profiles>, number: ObjNum, entry: &[u8]) -> Result<u32, NoMemory>
     requires { IsTrue (have_values (table_at world.old.held number.0).fields entry.now) }
     ensures ordinal { IfOk result (λ at. at ≡ next_ordinal (table_at world.old.held number.0)) }
     ensures ok { OnOk result (world.new ≡ record world.old { held = on_table world.old.held number.0 (with_inserted entry.now) }) }
@@ -101,7 +101,7 @@ fn update_in(objects: &mut Objects, number: ObjNum, at: u32, entry: &[u8])
 }
 
 /// The same, among the objects of a world.
-pub fn update_at(world: &mut World<Objects>, number: ObjNum, at: u32, entry: &[u8])
+pub fn update_at(world: &mut Core<Objects, Profiles>, number: ObjNum, at: u32, entry: &[u8])
     requires fits { update_refusal (table_at world.old.held number.0) at entry.now ≡ None }
     requires values { IsTrue (have_values (table_at world.old.held number.0).fields entry.now) }
     ensures { world.new ≡ record world.old { held = on_table world.old.held number.0 (with_changed at (Some entry.now)) } }
@@ -132,7 +132,7 @@ fn delete_in(objects: &mut Objects, number: ObjNum, at: u32)
 }
 
 /// The same, among the objects of a world.
-pub fn delete_at(world: &mut World<Objects>, number: ObjNum, at: u32)
+pub fn delete_at(world: &mut Core<Objects, Profiles>, number: ObjNum, at: u32)
     requires { delete_refusal (table_at world.old.held number.0) at ≡ None }
     ensures { world.new ≡ record world.old { held = on_table world.old.held number.0 (with_changed at None) } }
 {

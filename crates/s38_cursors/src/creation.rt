@@ -9,7 +9,7 @@ use s38_base::{Attr, AttrList, Exception, Kind, NoMemory, ObjNum, Rights, Seq};
 use s38_changes::{creation_changes, creation_fails, creation_needs, in_context};
 use s38_code::Operand;
 use s38_dataspaces::{DataSpace, are_fields};
-use s38_invoke::World;
+use s38_invoke::{Core, Profiles};
 use s38_objects::Objects;
 use s38_operands::{Needs, is_given, on_object, place, target};
 use s38_rules::{Body, Creating, Cursor, DataBody, Sought};
@@ -24,7 +24,7 @@ pub fn created_data_space(objects: &Objects, operands: &[Operand]) -> Creating
 }
 
 #[tactic(auto, unfolding(s38_rules::specs::DataSpaces::crtds_fails))]
-pub fn crtds_fails(world: &World<Objects>, process: u32, operands: &[Operand]) -> Option<Exception>
+pub fn crtds_fails(world: &Core<Objects, Profiles>, process: u32, operands: &[Operand]) -> Option<Exception>
     ensures { result ≡ crtds_fails world.now process operands.now }
 {
     let created = created_data_space(&world.objects, operands);
@@ -66,7 +66,7 @@ fn new_data_space(alloc: Global, operands: &[Operand]) -> Result<DataBody, NoMem
 #[tactic(auto, using(crate::proofs::CursorLaws::crtds_created, s38_changes::proofs::CreationLaws::home_placed))]
 pub fn crtds(
     alloc: Global,
-    world: &mut World<Objects>,
+    world: &mut Core<Objects, Profiles>,
     process: u32,
     operands: &[Operand],
 ) -> Result<(), NoMemory>
@@ -113,7 +113,7 @@ pub fn crtcr_needs(operands: &[Operand]) -> Needs
 }
 
 #[tactic(auto, unfolding(s38_rules::specs::DataSpaces::crtcr_fails))]
-pub fn crtcr_fails(world: &World<Objects>, process: u32, operands: &[Operand]) -> Option<Exception>
+pub fn crtcr_fails(world: &Core<Objects, Profiles>, process: u32, operands: &[Operand]) -> Option<Exception>
     ensures { result ≡ crtcr_fails world.now process operands.now }
 {
     let created = created_cursor(&world.objects, operands);
@@ -134,7 +134,7 @@ fn new_cursor(objects: &Objects, operands: &[Operand]) -> Cursor
 #[tactic(auto, using(crate::proofs::CursorLaws::crtcr_created, s38_changes::proofs::CreationLaws::home_placed))]
 pub fn crtcr(
     alloc: Global,
-    world: &mut World<Objects>,
+    world: &mut Core<Objects, Profiles>,
     process: u32,
     operands: &[Operand],
 ) -> Result<(), NoMemory>

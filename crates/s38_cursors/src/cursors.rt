@@ -14,7 +14,7 @@ use crate::seeking::{setcr, setcr_fails};
 use s38_base::{Category, Exception, Kind, NoMemory, Op, Rights};
 use s38_changes::{creation_gives, creation_needs, destroy, destruction_needs};
 use s38_code::{Operand, Request, Val};
-use s38_invoke::World;
+use s38_invoke::{Core, Profiles};
 use s38_objects::Objects;
 use s38_operands::{Needs, on_implied, on_object};
 use s38_rules::Sought;
@@ -44,7 +44,7 @@ fn through_cursor(
 
 /// What an instruction of data spaces needs.
 #[tactic(auto, unfolding(s38_rules::specs::DataSpaces::data_spaces_row))]
-pub fn needs(world: &World<Objects>, process: u32, depth: u16, request: &Request) -> Needs
+pub fn needs(world: &Core<Objects, Profiles>, process: u32, depth: u16, request: &Request) -> Needs
     ensures { result ≡ (data_spaces_row request.now.op).needs world.now process depth request.now }
 {
     let _ = process;
@@ -96,7 +96,7 @@ fn changing_needs(objects: &Objects, operands: &[Operand], right: Rights) -> Nee
 /// The first of its conditions and limits that fails.
 #[tactic(auto, unfolding(s38_rules::specs::DataSpaces::data_spaces_row))]
 pub fn conditions(
-    world: &World<Objects>,
+    world: &Core<Objects, Profiles>,
     process: u32,
     depth: u16,
     request: &Request,
@@ -123,7 +123,7 @@ pub fn conditions(
 #[tactic(auto, unfolding(s38_rules::specs::DataSpaces::data_spaces_row))]
 pub fn value(
     alloc: Global,
-    world: &World<Objects>,
+    world: &Core<Objects, Profiles>,
     process: u32,
     depth: u16,
     request: &Request,
@@ -146,7 +146,7 @@ pub fn value(
 #[tactic(auto, unfolding(s38_rules::specs::DataSpaces::data_spaces_row))]
 pub fn apply(
     alloc: Global,
-    world: &mut World<Objects>,
+    world: &mut Core<Objects, Profiles>,
     process: u32,
     depth: u16,
     request: &Request,

@@ -17,7 +17,7 @@ use s38_base::{Bytes, NoMemory, ObjNum};
 use s38_code::{Operand, Val};
 use s38_commits::UnitChange;
 use s38_compute::Piece;
-use s38_invoke::World;
+use s38_invoke::{Core, Profiles};
 use s38_objects::Objects;
 use s38_operands::{fitted, piece_at, room_at, target};
 use s38_units::log_change;
@@ -37,7 +37,7 @@ fn kept(alloc: Global, entry: Option<&[u8]>) -> Result<Option<Bytes>, NoMemory>
 }
 
 /// The number of the cursor that operand 1 names.
-fn target_in(world: &World<Objects>, operands: &[Operand]) -> ObjNum
+fn target_in(world: &Core<Objects, Profiles>, operands: &[Operand]) -> ObjNum
     ensures { result.0 ≡ target world.now.held operands.now 1 }
 {
     target(&world.objects, operands, 1)
@@ -46,7 +46,7 @@ fn target_in(world: &World<Objects>, operands: &[Operand]) -> ObjNum
 /// The bytes of operand 2.
 fn piece_in<'a>(
     alloc: Global,
-    world: &World<Objects>,
+    world: &Core<Objects, Profiles>,
     operands: &'a [Operand],
 ) -> Result<Piece<'a>, NoMemory>
     ensures { IfOk result (λ piece. piece_bytes piece ≡ bytes_at world.now.held operands.now 2) }
@@ -59,7 +59,7 @@ fn piece_in<'a>(
 /// The change that an insertion makes.
 fn insertion(
     alloc: Global,
-    world: &World<Objects>,
+    world: &Core<Objects, Profiles>,
     operands: &[Operand],
     entry: &[u8],
 ) -> Result<UnitChange, NoMemory>
@@ -78,7 +78,7 @@ fn insertion(
 /// nothing changes.
 fn insert_journaled(
     alloc: Global,
-    world: &mut World<Objects>,
+    world: &mut Core<Objects, Profiles>,
     process: u32,
     operands: &[Operand],
     journal: ObjNum,
@@ -106,7 +106,7 @@ fn insert_journaled(
 /// refused nothing changes.
 fn insert_entry(
     alloc: Global,
-    world: &mut World<Objects>,
+    world: &mut Core<Objects, Profiles>,
     process: u32,
     operands: &[Operand],
     entry: &[u8],
@@ -127,7 +127,7 @@ fn insert_entry(
 /// The entry stands under the next ordinal, and so does the cursor; where memory is refused nothing changes.
 pub fn insdsen(
     alloc: Global,
-    world: &mut World<Objects>,
+    world: &mut Core<Objects, Profiles>,
     process: u32,
     operands: &[Operand],
 ) -> Result<(), NoMemory>
@@ -197,7 +197,7 @@ fn change_of(
 /// The same, in a world.
 fn change_in(
     alloc: Global,
-    world: &World<Objects>,
+    world: &Core<Objects, Profiles>,
     operands: &[Operand],
     entry: Option<&[u8]>,
 ) -> Result<UnitChange, NoMemory>
@@ -209,7 +209,7 @@ fn change_in(
 /// The change of the entry at which a cursor stands is logged; where memory is refused nothing changes.
 fn log_journaled(
     alloc: Global,
-    world: &mut World<Objects>,
+    world: &mut Core<Objects, Profiles>,
     process: u32,
     operands: &[Operand],
     entry: Option<&[u8]>,
@@ -229,7 +229,7 @@ fn log_journaled(
 /// The same where the data space is journaled; of another nothing is logged, and no memory taken.
 fn log_current(
     alloc: Global,
-    world: &mut World<Objects>,
+    world: &mut Core<Objects, Profiles>,
     process: u32,
     operands: &[Operand],
     entry: Option<&[u8]>,
@@ -250,7 +250,7 @@ fn log_current(
 /// The change is logged, and another entry stands where the cursor does; where memory is refused nothing changes.
 fn update_entry(
     alloc: Global,
-    world: &mut World<Objects>,
+    world: &mut Core<Objects, Profiles>,
     process: u32,
     operands: &[Operand],
     entry: &[u8],
@@ -273,7 +273,7 @@ fn update_entry(
 /// Another entry stands where the cursor does; where memory is refused nothing changes.
 pub fn updsen(
     alloc: Global,
-    world: &mut World<Objects>,
+    world: &mut Core<Objects, Profiles>,
     process: u32,
     operands: &[Operand],
 ) -> Result<(), NoMemory>
@@ -293,7 +293,7 @@ pub fn updsen(
 /// The entry at which the cursor stands is there no more; where memory is refused nothing changes.
 pub fn deldsen(
     alloc: Global,
-    world: &mut World<Objects>,
+    world: &mut Core<Objects, Profiles>,
     process: u32,
     operands: &[Operand],
 ) -> Result<(), NoMemory>

@@ -19,7 +19,7 @@ use s38_base::exceptions::{
 };
 use s38_code::Operand;
 use s38_dataspaces::DataSpace;
-use s38_invoke::World;
+use s38_invoke::{Core, Profiles};
 use s38_objects::Objects;
 use s38_operands::{fails, have_values_at, size_at, target};
 use s38_rules::Cursor;
@@ -32,7 +32,7 @@ const HEAD: u32 = 41;
 
 /// No unit has a change of one of its entries.
 #[tactic(auto, unfolding(s38_rules::specs::DataSpaces::desds_fails))]
-pub fn desds_fails(world: &World<Objects>, operands: &[Operand]) -> Option<Exception>
+pub fn desds_fails(world: &Core<Objects, Profiles>, operands: &[Operand]) -> Option<Exception>
     ensures { result ≡ desds_fails world.now operands.now }
 {
     let space = target(&world.objects, operands, 1);
@@ -85,7 +85,7 @@ fn position_rule(objects: &Objects, operands: &[Operand], k: u8) -> Option<Excep
 // ---- what a change must be
 
 /// No unit of others holds the entry, and the change may belong to the cursor's commit block.
-fn change_rules(world: &World<Objects>, process: u32, cursor: &Cursor, at: u32) -> Option<Exception>
+fn change_rules(world: &Core<Objects, Profiles>, process: u32, cursor: &Cursor, at: u32) -> Option<Exception>
     ensures { result ≡ change_rules world.now process cursor.now at }
 {
     let held = held_rule(&world.units, process, cursor.block, cursor.space, at);
@@ -97,7 +97,7 @@ fn change_rules(world: &World<Objects>, process: u32, cursor: &Cursor, at: u32) 
 
 /// There is room in the journal space for a change of so many bytes before and after.
 fn journal_room(
-    world: &World<Objects>,
+    world: &Core<Objects, Profiles>,
     cursor: &Cursor,
     before: usize,
     after: usize,
@@ -114,7 +114,7 @@ fn journal_room(
 // ---- the same, in a world
 
 /// Operand 2 is an entry of the data space of the cursor of operand 1.
-fn entry_failure(world: &World<Objects>, operands: &[Operand]) -> Option<Exception>
+fn entry_failure(world: &Core<Objects, Profiles>, operands: &[Operand]) -> Option<Exception>
     ensures { result ≡ entry_rule (table_of world.now.held operands.now 1).fields world.now.held operands.now }
 {
     let objects = &world.objects;
@@ -122,14 +122,14 @@ fn entry_failure(world: &World<Objects>, operands: &[Operand]) -> Option<Excepti
 }
 
 /// One entry more stays within the limit of a body.
-fn room_failure(world: &World<Objects>, operands: &[Operand]) -> Option<Exception>
+fn room_failure(world: &Core<Objects, Profiles>, operands: &[Operand]) -> Option<Exception>
     ensures { result ≡ room_rule world.now.limit (table_of world.now.held operands.now 1) }
 {
     room_rule(world.limit, table_of(&world.objects, operands, 1))
 }
 
 /// The cursor of operand 1 stands at an entry.
-fn position_failure(world: &World<Objects>, operands: &[Operand]) -> Option<Exception>
+fn position_failure(world: &Core<Objects, Profiles>, operands: &[Operand]) -> Option<Exception>
     ensures { result ≡ position_rule world.now.held operands.now 1 }
 {
     position_rule(&world.objects, operands, 1)
@@ -139,7 +139,7 @@ fn position_failure(world: &World<Objects>, operands: &[Operand]) -> Option<Exce
 
 /// The image of the data space, and the journal, have room for one entry more.
 #[tactic(auto, using(crate::proofs::CursorLaws::entry_sized))]
-fn insertion_limits(world: &World<Objects>, operands: &[Operand]) -> Option<Exception>
+fn insertion_limits(world: &Core<Objects, Profiles>, operands: &[Operand]) -> Option<Exception>
     requires { entry_rule (table_of world.now.held operands.now 1).fields world.now.held operands.now ≡ None }
     ensures { result ≡ insertion_limits world.now operands.now }
 {
@@ -153,7 +153,7 @@ fn insertion_limits(world: &World<Objects>, operands: &[Operand]) -> Option<Exce
 /// It is an entry of the data space, the change may be made, and there is room.
 #[tactic(auto, unfolding(s38_rules::specs::DataSpaces::insdsen_fails))]
 pub fn insdsen_fails(
-    world: &World<Objects>,
+    world: &Core<Objects, Profiles>,
     process: u32,
     operands: &[Operand],
 ) -> Option<Exception>
@@ -175,7 +175,7 @@ pub fn insdsen_fails(
 /// The cursor stands at an entry, and no unit of another process changed it.
 #[tactic(auto, unfolding(s38_rules::specs::DataSpaces::retdsen_fails))]
 pub fn retdsen_fails(
-    world: &World<Objects>,
+    world: &Core<Objects, Profiles>,
     process: u32,
     operands: &[Operand],
 ) -> Option<Exception>
@@ -193,7 +193,7 @@ pub fn retdsen_fails(
 /// The cursor stands at an entry, the change may be made, and there is room for one that leaves so many bytes.
 #[tactic(auto, unfolding(s38_rules::specs::DataSpaces::current_fails))]
 pub fn current_fails(
-    world: &World<Objects>,
+    world: &Core<Objects, Profiles>,
     process: u32,
     operands: &[Operand],
     after: usize,
@@ -213,7 +213,7 @@ pub fn current_fails(
 
 /// It is an entry of the data space, and the one at which the cursor stands may be changed.
 #[tactic(auto, using(crate::proofs::CursorLaws::entry_sized), unfolding(s38_rules::specs::DataSpaces::updsen_fails))]
-pub fn updsen_fails(world: &World<Objects>, process: u32, operands: &[Operand]) -> Option<Exception>
+pub fn updsen_fails(world: &Core<Objects, Profiles>, process: u32, operands: &[Operand]) -> Option<Exception>
     ensures { result ≡ updsen_fails world.now process operands.now }
 {
     if let Some(failure) = entry_failure(world, operands) {

@@ -13,7 +13,7 @@ ghost use Rattle.s38_rules.specs.Parts.{data_part, journal_at, on_journal, on_ta
 
 use s38_base::{NoMemory, ObjNum};
 use s38_commits::{UnitChange, Units};
-use s38_invoke::World;
+use s38_invoke::{Core, Profiles};
 use s38_objects::Objects;
 use s38_rules::DataBody;
 use s38_units::log_in;
@@ -139,7 +139,7 @@ fn insert_both(
 
 /// The same, in a world.
 pub fn insert_logged(
-    world: &mut World<Objects>,
+    world: &mut Core<Objects, Profiles>,
     process: u32,
     block: ObjNum,
     journal: ObjNum,

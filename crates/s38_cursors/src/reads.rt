@@ -13,7 +13,7 @@ ghost use Rattle.s38_rules.specs.Parts.{cursor_at, no_table, table_at};
 use s38_base::{Attr, ObjNum, Seek};
 use s38_code::Operand;
 use s38_dataspaces::DataSpace;
-use s38_invoke::World;
+use s38_invoke::{Core, Profiles};
 use s38_objects::Objects;
 use s38_operands::target;
 use s38_rules::Cursor;
@@ -170,21 +170,21 @@ pub fn ordinal_in(table: Option<&DataSpace>, ordinal: u128) -> Option<u32>
 // ---- in a world
 
 /// The cursor that an operand names.
-pub fn cursor_in(world: &World<Objects>, operands: &[Operand], k: usize) -> Cursor
+pub fn cursor_in(world: &Core<Objects, Profiles>, operands: &[Operand], k: usize) -> Cursor
     ensures { result ≡ cursor_of world.now.held operands.now k }
 {
     cursor_of(&world.objects, operands, k)
 }
 
 /// The ordinal of the next entry of the data space of the cursor of operand 1.
-pub fn next_ordinal_at(world: &World<Objects>, operands: &[Operand]) -> u32
+pub fn next_ordinal_at(world: &Core<Objects, Profiles>, operands: &[Operand]) -> u32
     ensures { result ≡ next_ordinal (table_of world.now.held operands.now 1) }
 {
     next_ordinal_in(table_of(&world.objects, operands, 1))
 }
 
 /// How many bytes an entry of that data space has.
-pub fn entry_len_at(world: &World<Objects>, operands: &[Operand]) -> usize
+pub fn entry_len_at(world: &Core<Objects, Profiles>, operands: &[Operand]) -> usize
     ensures len { result ≡ entry_len (table_of world.now.held operands.now 1).fields }
     ensures bound { result ≤ 4096 }
 {
@@ -192,7 +192,7 @@ pub fn entry_len_at(world: &World<Objects>, operands: &[Operand]) -> usize
 }
 
 /// How many bytes the entry at which the cursor stands has; 0 where there is none.
-pub fn current_len_at(world: &World<Objects>, operands: &[Operand]) -> usize
+pub fn current_len_at(world: &Core<Objects, Profiles>, operands: &[Operand]) -> usize
     ensures len { result ≡ entry_bytes (current world.now.held operands.now 1) }
     ensures bound { result ≤ 4096 }
 {
@@ -201,7 +201,7 @@ pub fn current_len_at(world: &World<Objects>, operands: &[Operand]) -> usize
 }
 
 /// The journal space of the data space of a number; None exactly where it is not journaled.
-pub fn journal_in(world: &World<Objects>, space: ObjNum) -> Option<ObjNum>
+pub fn journal_in(world: &Core<Objects, Profiles>, space: ObjNum) -> Option<ObjNum>
     ensures { option_map (λ journal. journal.0) result ≡ journal_for world.now.held space.0 }
 {
     journal_for(&world.objects, space)

@@ -9,7 +9,7 @@ use crate::reads::{cursor_of, ordinal_in, sought_in, table_of};
 use s38_base::exceptions::{DECIMAL_DATA, NO_ENTRY};
 use s38_base::{Exception, Seek};
 use s38_code::Operand;
-use s38_invoke::World;
+use s38_invoke::{Core, Profiles};
 use s38_objects::Objects;
 use s38_operands::{fails, number_at, ordinal_at, target, word_at};
 
@@ -79,7 +79,7 @@ pub fn setcr_fails(objects: &Objects, operands: &[Operand]) -> Option<Exception>
 }
 
 /// The cursor stands where the entry that is sought does.
-pub fn setcr(world: &mut World<Objects>, operands: &[Operand])
+pub fn setcr(world: &mut Core<Objects, Profiles>, operands: &[Operand])
     ensures { world.new ≡ record world.old { held = on_cursor world.old.held (target world.old.held operands.now 1) (at_sought world.old.held operands.now) } }
 {
     let number = target(&world.objects, operands, 1);

@@ -15,7 +15,7 @@ use s38_changes::{
 };
 use s38_code::{Operand, Request, Val};
 use s38_indexes::Index;
-use s38_invoke::World;
+use s38_invoke::{Core, Profiles};
 use s38_objects::Objects;
 use s38_operands::{
     Needs, Question, ask_at, fails, fitted, on_object, piece_at, relation_at, room_at, size_at,
@@ -36,7 +36,7 @@ fn created_index(objects: &Objects, operands: &[Operand]) -> Creating
 }
 
 #[tactic(auto, unfolding(s38_rules::specs::Indexes::crtinx_fails))]
-fn crtinx_fails(world: &World<Objects>, process: u32, operands: &[Operand]) -> Option<Exception>
+fn crtinx_fails(world: &Core<Objects, Profiles>, process: u32, operands: &[Operand]) -> Option<Exception>
     ensures { result ≡ crtinx_fails world.now process operands.now }
 {
     let created = created_index(&world.objects, operands);
@@ -59,7 +59,7 @@ fn new_index(alloc: Global, operands: &[Operand]) -> Index
 #[tactic(auto, using(crate::proofs::IndexLaws::crtinx_created, s38_changes::proofs::CreationLaws::home_placed))]
 fn crtinx(
     alloc: Global,
-    world: &mut World<Objects>,
+    world: &mut Core<Objects, Profiles>,
     process: u32,
     operands: &[Operand],
 ) -> Result<(), NoMemory>
@@ -135,7 +135,7 @@ fn size_in(index: Option<&Index>) -> u32
 
 /// The entry is not too long and not there yet, and the index's image stays small.
 #[tactic(auto, unfolding(s38_rules::specs::Indexes::insinxen_fails))]
-fn insinxen_fails(world: &World<Objects>, operands: &[Operand]) -> Option<Exception>
+fn insinxen_fails(world: &Core<Objects, Profiles>, operands: &[Operand]) -> Option<Exception>
     ensures { result ≡ insinxen_fails world.now operands.now }
 {
     let objects = &world.objects;
@@ -173,7 +173,7 @@ fn enter_in(objects: &mut Objects, number: ObjNum, entry: &[u8]) -> Result<(), N
 }
 
 /// The same, among the objects of a world.
-fn enter_at(world: &mut World<Objects>, number: ObjNum, entry: &[u8]) -> Result<(), NoMemory>
+fn enter_at(world: &mut Core<Objects, Profiles>, number: ObjNum, entry: &[u8]) -> Result<(), NoMemory>
     ensures ok { OnOk result (world.new ≡ record world.old { held = on_index world.old.held number.0 (entered entry.now) }) }
     ensures err { OnErr result (world.new ≡ world.old) }
 {
@@ -184,7 +184,7 @@ fn enter_at(world: &mut World<Objects>, number: ObjNum, entry: &[u8]) -> Result<
 }
 
 /// The entry stands in its place; where memory is refused nothing changes.
-fn insinxen(alloc: Global, world: &mut World<Objects>, operands: &[Operand]) -> Result<(), NoMemory>
+fn insinxen(alloc: Global, world: &mut Core<Objects, Profiles>, operands: &[Operand]) -> Result<(), NoMemory>
     ensures ok { OnOk result (world.new ≡ record world.old { held = on_index world.old.held (target world.old.held operands.now 1) (entered (bytes_at world.old.held operands.now 2)) }) }
     ensures err { OnErr result (world.new ≡ world.old) }
 {
@@ -270,14 +270,14 @@ fn remove_in(objects: &mut Objects, number: ObjNum, entry: &[u8])
 }
 
 /// The same, among the objects of a world.
-fn remove_at(world: &mut World<Objects>, number: ObjNum, entry: &[u8])
+fn remove_at(world: &mut Core<Objects, Profiles>, number: ObjNum, entry: &[u8])
     ensures { world.new ≡ record world.old { held = on_index world.old.held number.0 (removed entry.now) } }
 {
     remove_in(&mut world.objects, number, entry);
 }
 
 /// The entry is there no more; where memory is refused nothing changes.
-fn rmvinxen(alloc: Global, world: &mut World<Objects>, operands: &[Operand]) -> Result<(), NoMemory>
+fn rmvinxen(alloc: Global, world: &mut Core<Objects, Profiles>, operands: &[Operand]) -> Result<(), NoMemory>
     ensures ok { OnOk result (world.new ≡ record world.old { held = on_index world.old.held (target world.old.held operands.now 1) (removed (bytes_at world.old.held operands.now 2)) }) }
     ensures err { OnErr result (world.new ≡ world.old) }
 {
@@ -294,7 +294,7 @@ fn rmvinxen(alloc: Global, world: &mut World<Objects>, operands: &[Operand]) -> 
 
 /// What an instruction of indexes needs.
 #[tactic(auto, unfolding(s38_rules::specs::Indexes::indexes_row, s38_rules::specs::Indexes::insinxen_needs, s38_rules::specs::Indexes::fndinxen_needs, s38_rules::specs::Indexes::rmvinxen_needs))]
-pub fn needs(world: &World<Objects>, process: u32, depth: u16, request: &Request) -> Needs
+pub fn needs(world: &Core<Objects, Profiles>, process: u32, depth: u16, request: &Request) -> Needs
     ensures { result ≡ (indexes_row request.now.op).needs world.now process depth request.now }
 {
     let _ = world;
@@ -314,7 +314,7 @@ pub fn needs(world: &World<Objects>, process: u32, depth: u16, request: &Request
 /// The first of its conditions and limits that fails.
 #[tactic(auto, unfolding(s38_rules::specs::Indexes::indexes_row))]
 pub fn conditions(
-    world: &World<Objects>,
+    world: &Core<Objects, Profiles>,
     process: u32,
     depth: u16,
     request: &Request,
@@ -336,7 +336,7 @@ pub fn conditions(
 #[tactic(auto, unfolding(s38_rules::specs::Indexes::indexes_row))]
 pub fn value(
     alloc: Global,
-    world: &World<Objects>,
+    world: &Core<Objects, Profiles>,
     process: u32,
     depth: u16,
     request: &Request,
@@ -358,7 +358,7 @@ pub fn value(
 #[tactic(auto, unfolding(s38_rules::specs::Indexes::indexes_row))]
 pub fn apply(
     alloc: Global,
-    world: &mut World<Objects>,
+    world: &mut Core<Objects, Profiles>,
     process: u32,
     depth: u16,
     request: &Request,

@@ -14,7 +14,7 @@ use s38_changes::{
     in_context,
 };
 use s38_code::{Operand, Request, Val};
-use s38_invoke::World;
+use s38_invoke::{Core, Profiles};
 use s38_objects::Objects;
 use s38_operands::{
     Needs, Question, QueueFacts, ask_at, bytes_at, facts_of_queue, fails, fitted, is_given,
@@ -41,7 +41,7 @@ fn created_queue(objects: &Objects, operands: &[Operand]) -> Creating
 }
 
 #[tactic(auto, unfolding(s38_rules::specs::Queues::crtq_fails))]
-fn crtq_fails(world: &World<Objects>, process: u32, operands: &[Operand]) -> Option<Exception>
+fn crtq_fails(world: &Core<Objects, Profiles>, process: u32, operands: &[Operand]) -> Option<Exception>
     ensures { result ≡ crtq_fails world.now process operands.now }
 {
     let created = created_queue(&world.objects, operands);
@@ -88,7 +88,7 @@ fn new_queue(alloc: Global, operands: &[Operand]) -> Queue
 #[tactic(auto, using(crate::proofs::QueueLaws::crtq_created, s38_changes::proofs::CreationLaws::home_placed))]
 fn crtq(
     alloc: Global,
-    world: &mut World<Objects>,
+    world: &mut Core<Objects, Profiles>,
     process: u32,
     operands: &[Operand],
 ) -> Result<(), NoMemory>
@@ -123,7 +123,7 @@ fn put_fails(limit: u32, facts: &QueueFacts, key: usize, text: usize) -> Option<
 
 /// The key has the length of the queue's keys, the message is not too long, and the queue's image stays small.
 #[tactic(auto, unfolding(s38_rules::specs::Queues::enq_fails))]
-fn enq_fails(world: &World<Objects>, operands: &[Operand]) -> Option<Exception>
+fn enq_fails(world: &Core<Objects, Profiles>, operands: &[Operand]) -> Option<Exception>
     ensures { result ≡ enq_fails world.now operands.now }
 {
     let objects = &world.objects;
@@ -160,7 +160,7 @@ fn put_in(objects: &mut Objects, number: ObjNum, key: &[u8], text: &[u8]) -> Res
 
 /// A message stands last in the queue of a number; where memory is refused nothing changes.
 #[inline(always)]
-fn put(world: &mut World<Objects>, number: ObjNum, key: &[u8], text: &[u8]) -> Result<(), NoMemory>
+fn put(world: &mut Core<Objects, Profiles>, number: ObjNum, key: &[u8], text: &[u8]) -> Result<(), NoMemory>
     ensures ok { OnOk result (world.new ≡ record world.old { held = on_queue world.old.held number.0 (λ q. with_message q (message key.now text.now)) }) }
     ensures err { OnErr result (world.new ≡ world.old) }
 {
@@ -172,7 +172,7 @@ fn put(world: &mut World<Objects>, number: ObjNum, key: &[u8], text: &[u8]) -> R
 
 /// The message stands last in the queue, where its key or its text lies in a space.
 #[inline(never)]
-fn enq_read(alloc: Global, world: &mut World<Objects>, operands: &[Operand]) -> Result<(), NoMemory>
+fn enq_read(alloc: Global, world: &mut Core<Objects, Profiles>, operands: &[Operand]) -> Result<(), NoMemory>
     ensures ok { OnOk result (world.new ≡ record world.old { held = on_queue world.old.held (target world.old.held operands.now 1) (with_put world.old.held operands.now) }) }
     ensures err { OnErr result (world.new ≡ world.old) }
 {
@@ -187,7 +187,7 @@ fn enq_read(alloc: Global, world: &mut World<Objects>, operands: &[Operand]) -> 
 }
 
 /// The message stands last in the queue.
-fn enq(alloc: Global, world: &mut World<Objects>, operands: &[Operand]) -> Result<(), NoMemory>
+fn enq(alloc: Global, world: &mut Core<Objects, Profiles>, operands: &[Operand]) -> Result<(), NoMemory>
     ensures ok { OnOk result (world.new ≡ record world.old { held = on_queue world.old.held (target world.old.held operands.now 1) (with_put world.old.held operands.now) }) }
     ensures err { OnErr result (world.new ≡ world.old) }
 {
@@ -375,7 +375,7 @@ fn take_in(objects: &mut Objects, number: ObjNum, relation: Relation, key: &[u8]
 
 /// A message leaves the queue of a number.
 #[inline(always)]
-fn take(world: &mut World<Objects>, number: ObjNum, relation: Relation, key: &[u8])
+fn take(world: &mut Core<Objects, Profiles>, number: ObjNum, relation: Relation, key: &[u8])
     ensures { world.new ≡ record world.old { held = on_queue world.old.held number.0 (left_by relation key.now) } }
 {
     take_in(&mut world.objects, number, relation, key);
@@ -383,7 +383,7 @@ fn take(world: &mut World<Objects>, number: ObjNum, relation: Relation, key: &[u
 
 /// The message leaves the queue, where the key lies in a space; where memory is refused nothing changes.
 #[inline(never)]
-fn deq_read(alloc: Global, world: &mut World<Objects>, operands: &[Operand]) -> Result<(), NoMemory>
+fn deq_read(alloc: Global, world: &mut Core<Objects, Profiles>, operands: &[Operand]) -> Result<(), NoMemory>
     ensures ok { OnOk result (world.new ≡ record world.old { held = on_queue world.old.held (target world.old.held operands.now 2) (left_by (relation_at operands.now 3) (bytes_at world.old.held operands.now 4)) }) }
     ensures err { OnErr result (world.new ≡ world.old) }
 {
@@ -397,7 +397,7 @@ fn deq_read(alloc: Global, world: &mut World<Objects>, operands: &[Operand]) -> 
 }
 
 /// The message leaves the queue; where memory is refused nothing changes.
-fn deq(alloc: Global, world: &mut World<Objects>, operands: &[Operand]) -> Result<(), NoMemory>
+fn deq(alloc: Global, world: &mut Core<Objects, Profiles>, operands: &[Operand]) -> Result<(), NoMemory>
     ensures ok { OnOk result (world.new ≡ record world.old { held = on_queue world.old.held (target world.old.held operands.now 2) (left_by (relation_at operands.now 3) (bytes_at world.old.held operands.now 4)) }) }
     ensures err { OnErr result (world.new ≡ world.old) }
 {
@@ -413,7 +413,7 @@ fn deq(alloc: Global, world: &mut World<Objects>, operands: &[Operand]) -> Resul
 
 /// What an instruction of queues needs.
 #[tactic(auto, unfolding(s38_rules::specs::Queues::queues_row, s38_rules::specs::Queues::enq_needs, s38_rules::specs::Queues::deq_needs))]
-pub fn needs(world: &World<Objects>, process: u32, depth: u16, request: &Request) -> Needs
+pub fn needs(world: &Core<Objects, Profiles>, process: u32, depth: u16, request: &Request) -> Needs
     ensures { result ≡ (queues_row request.now.op).needs world.now process depth request.now }
 {
     let _ = world;
@@ -432,7 +432,7 @@ pub fn needs(world: &World<Objects>, process: u32, depth: u16, request: &Request
 /// The first of its conditions and limits that fails.
 #[tactic(auto, unfolding(s38_rules::specs::Queues::queues_row))]
 pub fn conditions(
-    world: &World<Objects>,
+    world: &Core<Objects, Profiles>,
     process: u32,
     depth: u16,
     request: &Request,
@@ -453,7 +453,7 @@ pub fn conditions(
 #[tactic(auto, unfolding(s38_rules::specs::Queues::queues_row))]
 pub fn value(
     alloc: Global,
-    world: &World<Objects>,
+    world: &Core<Objects, Profiles>,
     process: u32,
     depth: u16,
     request: &Request,
@@ -475,7 +475,7 @@ pub fn value(
 #[tactic(auto, unfolding(s38_rules::specs::Queues::queues_row))]
 pub fn apply(
     alloc: Global,
-    world: &mut World<Objects>,
+    world: &mut Core<Objects, Profiles>,
     process: u32,
     depth: u16,
     request: &Request,

@@ -4,9 +4,9 @@ ghost use Rattle.s38_base.specs.declared.id.ObjNum.{ObjNum};
 ghost use Rattle.s38_rules.specs.declared.process.ProcessEntry.{ProcessEntry};
 ghost use Rattle.s38_rules.specs.Invocations.{frames_used, most_frames, pushed, replaced, restack, stack_in, stack_of, with_stack};
 
-use crate::world::World;
+use crate::core_state::Core;
 use s38_base::{NoMemory, ObjNum};
-use s38_rules::{ProcessEntry, Table};
+use s38_rules::{ProcessEntry, Table, UserMaps};
 
 fn push_entry(entry: &mut ProcessEntry, depth: u16, program: ObjNum) -> Result<(), NoMemory>
     requires { frames_used depth (stack_in entry.old.started) < most_frames }
@@ -49,7 +49,7 @@ fn replace_at(entries: &mut [ProcessEntry], at: usize, depth: u16, program: ObjN
     replace_entry(&mut entries[at], depth, program);
 }
 
-impl<T: Table> World<T> {
+impl<T: Table, P: UserMaps> Core<T, P> {
     /// A program is called by a process that has come to a depth: the frames that count stay, and the program is
     /// added. Where memory is refused nothing changes.
     pub fn push(&mut self, process: u32, depth: u16, program: ObjNum) -> Result<(), NoMemory>

@@ -5,11 +5,11 @@ ghost use Rattle.s38_rules.specs.Creation.{limit_in};
 ghost use Rattle.s38_rules.specs.Headers.{special_in};
 ghost use Rattle.s38_rules.specs.Held.{charge_in, object};
 
-use crate::world::World;
+use crate::core_state::Core;
 use s38_base::{ObjNum, Rights, Special, UserNum};
-use s38_rules::Table;
+use s38_rules::{Table, UserMaps};
 
-impl<T: Table> World<T> {
+impl<T: Table, P: UserMaps> Core<T, P> {
     /// The special authorities of a user, none of one that is not there.
     pub fn specials(&self, user: UserNum) -> Special
         ensures { result.0 ≡ special_in (object self.now.held user.0) }

@@ -1,7 +1,8 @@
-//! The machine's world, over any table of objects: its processes, who acts in them, their invocations, their starts
+//! The machine's world, over any table of objects: its core, with the processes, who acts in them, their invocations, their starts
 //! and ends, and what is kept of users.
 #![tactic(auto)]
 
+mod core_state;
 mod invocations;
 mod kept;
 mod processes;
@@ -9,6 +10,8 @@ mod starts;
 mod users;
 mod world;
 
+pub use core_state::Core;
+pub use s38_profiles::Profiles;
 pub use starts::{end, start, start_failure};
 pub use users::Acting;
 pub use world::World;

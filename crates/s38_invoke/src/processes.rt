@@ -5,9 +5,9 @@ ghost use Rattle.s38_rules.specs.Invocations.{most_frames, stack_in, stack_of};
 ghost use Rattle.s38_rules.specs.State.{is_early, is_last_ready, others_stand, process_entry, ready, ready_in, ready_list, started, started_in, waits};
 ghost use Rattle.s38_rules.specs.Users.{contexts_in, contexts_of, user_in, user_of};
 
-use crate::world::World;
+use crate::core_state::Core;
 use s38_base::{NoMemory, ObjNum, UserNum};
-use s38_rules::{ProcessEntry, Started, Table};
+use s38_rules::{ProcessEntry, Started, Table, UserMaps};
 
 fn entry_in(entries: &[ProcessEntry], process: u32) -> Option<&ProcessEntry>
     ensures { option_copied result ≡ slice_get entries.now (process - 1) }
@@ -80,7 +80,7 @@ fn push_if(is_ready: bool, into: &mut Vec<u32>, process: u32) -> Result<(), NoMe
     Ok(())
 }
 
-impl<T: Table> World<T> {
+impl<T: Table, P: UserMaps> Core<T, P> {
     /// How far the process of a number has come.
     pub fn process_entry(&self, process: u32) -> Option<&ProcessEntry>
         ensures { option_copied result ≡ process_entry self.now process }
@@ -180,8 +180,8 @@ impl<T: Table> World<T> {
 }
 
 /// Whether of the processes from a number on no other is ready.
-fn others_stand<T: Table>(
-    world: &World<T>,
+fn others_stand<T: Table, P: UserMaps>(
+    world: &Core<T, P>,
     process: u32,
     number: u64,
     entries: &[ProcessEntry],

@@ -8,12 +8,12 @@ ghost use Rattle.s38_rules.specs.Held.{number_found};
 ghost use Rattle.s38_rules.specs.State.{process_entry};
 ghost use Rattle.s38_rules.specs.Verdict.{absent, absent_context, context_id, profile_id, start_failure};
 
-use crate::world::World;
+use crate::core_state::Core;
 use s38_base::exceptions::OBJECT_NOT_FOUND;
 use s38_base::limits::MACHINE_CONTEXT;
 use s38_base::{Exception, Id, Kind, Name, NoMemory, ObjNum, Seq};
 use s38_code::Job;
-use s38_rules::{ProcessEntry, Stack, Started, Table};
+use s38_rules::{ProcessEntry, Stack, Started, Table, UserMaps};
 use std::alloc::Global;
 
 // ---- what a start finds
@@ -132,9 +132,9 @@ fn set_ended(entries: &mut [ProcessEntry], at: usize)
 }
 
 /// What a process knows from its start, where there is one.
-fn started_of<T: Table>(
+fn started_of<T: Table, P: UserMaps>(
     alloc: Global,
-    world: &World<T>,
+    world: &Core<T, P>,
     process: u32,
 ) -> Result<Option<Started>, NoMemory>
     ensures { IfOk result (λ made. made ≡ option_map (λ x. started_as world.now.held x.job) (process_entry world.now process)) }
@@ -147,7 +147,7 @@ fn started_of<T: Table>(
 
 /// A process starts: it has its user, the contexts of its list as they are found now, and the job's own template
 /// as its one program. Where memory is refused nothing changes.
-pub fn start<T: Table>(alloc: Global, world: &mut World<T>, process: u32) -> Result<(), NoMemory>
+pub fn start<T: Table, P: UserMaps>(alloc: Global, world: &mut Core<T, P>, process: u32) -> Result<(), NoMemory>
     ensures ok { OnOk result (world.new ≡ start_at world.old process (process_entry world.old process)) }
     ensures err { OnErr result (world.new ≡ world.old) }
 {
@@ -163,7 +163,7 @@ pub fn start<T: Table>(alloc: Global, world: &mut World<T>, process: u32) -> Res
 }
 
 /// A process that has no unit of changes has ended, and holds no lock any more.
-pub fn end<T: Table>(world: &mut World<T>, process: u32)
+pub fn end<T: Table, P: UserMaps>(world: &mut Core<T, P>, process: u32)
     ensures { world.new ≡ ended_at world.old process (process_entry world.old process) }
 {
     match world.process_entry(process) {

@@ -4,9 +4,9 @@ ghost use Rattle.std.specs.Option.{option_map};
 ghost use Rattle.s38_rules.specs.Invocations.{in_use, most_frames, stack_of};
 ghost use Rattle.s38_rules.specs.Users.{acting, adopted, adoption_of, frame_header, with_owner};
 
-use crate::world::World;
+use crate::core_state::Core;
 use s38_base::{ObjNum, UserNum};
-use s38_rules::{Header, Table};
+use s38_rules::{Header, Table, UserMaps};
 use std::marker::Model;
 
 /// How many users act at most: the process's own, and the owner of each program of its stack.
@@ -139,7 +139,7 @@ fn brings_nobody<T: Table>(objects: &T, frames: &[ObjNum]) -> bool
     }
 }
 
-impl<T: Table> World<T> {
+impl<T: Table, P: UserMaps> Core<T, P> {
     /// The frames of a process that count at a depth.
     fn frames_in_use(&self, process: u32, depth: u16) -> &[ObjNum]
         ensures value { result.now ≡ in_use depth (stack_of self.now process) }

@@ -5,7 +5,7 @@ ghost use Rattle.s38_rules.specs.Locking.{is_going_in, is_job, may_take, numbere
 
 use s38_base::Name;
 use s38_code::Operand;
-use s38_invoke::World;
+use s38_invoke::{Core, Profiles};
 use s38_objects::Objects;
 use s38_operands::place;
 use s38_rules::ProcessEntry;
@@ -40,7 +40,7 @@ fn process_named(entries: &[ProcessEntry], operand: Option<&Operand>) -> u32
 }
 
 /// The process of the job that operand 3 names.
-pub fn taker(world: &World<Objects>, operands: &[Operand]) -> u32
+pub fn taker(world: &Core<Objects, Profiles>, operands: &[Operand]) -> u32
     ensures { result ≡ taker world.now operands.now }
 {
     process_named(world.processes.as_slice(), place(operands, 3))
@@ -56,7 +56,7 @@ fn is_going_in(entry: Option<&ProcessEntry>) -> bool
 }
 
 /// Whether this is another process, which has started and has not ended.
-pub fn may_take(world: &World<Objects>, process: u32, taker: u32) -> bool
+pub fn may_take(world: &Core<Objects, Profiles>, process: u32, taker: u32) -> bool
     ensures { result ≡ may_take world.now process taker }
 {
     taker != process && taker != 0 && is_going_in(world.process_entry(taker))

@@ -10,7 +10,7 @@ use crate::jobs::{may_take, taker};
 use s38_base::exceptions::{LIMIT_EXCEEDED, LOCK_NOT_GRANTABLE, LOCK_NOT_HELD, PROCESS_NOT_FOUND};
 use s38_base::{Exception, LockState, NoMemory, Op, Rights, Rule};
 use s38_code::{Operand, Request, Val};
-use s38_invoke::World;
+use s38_invoke::{Core, Profiles};
 use s38_locks::LockFault;
 use s38_objects::Objects;
 use s38_operands::{Needs, fitted, on_object, room_at, target, word_at};
@@ -83,7 +83,7 @@ fn lock_needs(operands: &[Operand]) -> Needs
 
 /// No lock of another process is in the way, and the object may have one more.
 #[tactic(auto, unfolding(s38_rules::specs::Locking::lock_fails))]
-fn lock_fails(world: &World<Objects>, process: u32, operands: &[Operand]) -> Option<Exception>
+fn lock_fails(world: &Core<Objects, Profiles>, process: u32, operands: &[Operand]) -> Option<Exception>
     ensures { result ≡ lock_fails world.now process operands.now }
 {
     let object = target(&world.objects, operands, 1);
@@ -94,7 +94,7 @@ fn lock_fails(world: &World<Objects>, process: u32, operands: &[Operand]) -> Opt
 }
 
 /// The process holds one more lock.
-fn lock(world: &mut World<Objects>, process: u32, operands: &[Operand]) -> Result<(), NoMemory>
+fn lock(world: &mut Core<Objects, Profiles>, process: u32, operands: &[Operand]) -> Result<(), NoMemory>
     requires { lock_fails world.old process operands.now ≡ None }
     ensures ok { OnOk result (world.new ≡ done world.old process (lock_changes world.old process operands.now)) }
     ensures err { OnErr result (world.new ≡ world.old) }
@@ -117,7 +117,7 @@ fn unlock_needs() -> Needs
 }
 
 /// Why a process does not give a lock up.
-fn not_held(world: &World<Objects>, process: u32, operands: &[Operand]) -> Option<Exception>
+fn not_held(world: &Core<Objects, Profiles>, process: u32, operands: &[Operand]) -> Option<Exception>
     ensures { result ≡ of_lock_fault (unlock_refusal process (state_asked operands.now) (locks_at world.now operands.now 1)) }
 {
     let object = target(&world.objects, operands, 1);
@@ -132,7 +132,7 @@ fn not_held(world: &World<Objects>, process: u32, operands: &[Operand]) -> Optio
 
 /// The process holds such a lock.
 #[tactic(auto, unfolding(s38_rules::specs::Locking::unlock_fails))]
-fn unlock_fails(world: &World<Objects>, process: u32, operands: &[Operand]) -> Option<Exception>
+fn unlock_fails(world: &Core<Objects, Profiles>, process: u32, operands: &[Operand]) -> Option<Exception>
     ensures { result ≡ unlock_fails world.now process operands.now }
 {
     not_held(world, process, operands)
@@ -140,7 +140,7 @@ fn unlock_fails(world: &World<Objects>, process: u32, operands: &[Operand]) -> O
 
 /// The process holds one lock less; it takes no memory.
 #[tactic(auto, using(crate::proofs::LockLaws::unlock_met))]
-fn unlock(world: &mut World<Objects>, process: u32, operands: &[Operand])
+fn unlock(world: &mut Core<Objects, Profiles>, process: u32, operands: &[Operand])
     requires { unlock_fails world.old process operands.now ≡ None }
     ensures { world.new ≡ done world.old process (unlock_changes world.old process operands.now) }
 {
@@ -155,7 +155,7 @@ fn unlock(world: &mut World<Objects>, process: u32, operands: &[Operand])
 
 /// Why a lock is not handed on to a process.
 fn not_given(
-    world: &World<Objects>,
+    world: &Core<Objects, Profiles>,
     process: u32,
     taker: u32,
     operands: &[Operand],
@@ -174,7 +174,7 @@ fn not_given(
 
 /// The process holds such a lock, the job is another's that goes on, and no other lock is in its way.
 #[tactic(auto, unfolding(s38_rules::specs::Locking::xfrlock_fails))]
-fn xfrlock_fails(world: &World<Objects>, process: u32, operands: &[Operand]) -> Option<Exception>
+fn xfrlock_fails(world: &Core<Objects, Profiles>, process: u32, operands: &[Operand]) -> Option<Exception>
     ensures { result ≡ xfrlock_fails world.now process operands.now }
 {
     if let Some(failure) = not_held(world, process, operands) {
@@ -189,7 +189,7 @@ fn xfrlock_fails(world: &World<Objects>, process: u32, operands: &[Operand]) -> 
 
 /// The other process holds the lock; it takes no memory.
 #[tactic(auto, using(crate::proofs::LockLaws::xfrlock_met))]
-fn xfrlock(world: &mut World<Objects>, process: u32, operands: &[Operand])
+fn xfrlock(world: &mut Core<Objects, Profiles>, process: u32, operands: &[Operand])
     requires { xfrlock_fails world.old process operands.now ≡ None }
     ensures { world.new ≡ done world.old process (xfrlock_changes world.old process operands.now) }
 {
@@ -218,7 +218,7 @@ fn matobjlk_needs() -> Needs
 #[tactic(auto, unfolding(s38_rules::specs::Locking::matobjlk_bytes))]
 fn matobjlk_gives(
     alloc: Global,
-    world: &World<Objects>,
+    world: &Core<Objects, Profiles>,
     operands: &[Operand],
 ) -> Result<Val, NoMemory>
     ensures { IfOk result (λ value. value ≡ matobjlk_gives world.now operands.now) }
@@ -233,7 +233,7 @@ fn matobjlk_gives(
 
 /// What an instruction of locks needs.
 #[tactic(auto, unfolding(s38_rules::specs::Locking::locks_row))]
-pub fn needs(world: &World<Objects>, process: u32, depth: u16, request: &Request) -> Needs
+pub fn needs(world: &Core<Objects, Profiles>, process: u32, depth: u16, request: &Request) -> Needs
     ensures { result ≡ (locks_row request.now.op).needs world.now process depth request.now }
 {
     let _ = world;
@@ -250,7 +250,7 @@ pub fn needs(world: &World<Objects>, process: u32, depth: u16, request: &Request
 /// The first of its conditions that fails.
 #[tactic(auto, unfolding(s38_rules::specs::Locking::locks_row))]
 pub fn conditions(
-    world: &World<Objects>,
+    world: &Core<Objects, Profiles>,
     process: u32,
     depth: u16,
     request: &Request,
@@ -271,7 +271,7 @@ pub fn conditions(
 #[tactic(auto, unfolding(s38_rules::specs::Locking::locks_row))]
 pub fn value(
     alloc: Global,
-    world: &World<Objects>,
+    world: &Core<Objects, Profiles>,
     process: u32,
     depth: u16,
     request: &Request,
@@ -289,7 +289,7 @@ pub fn value(
 /// What it changes, where it doesn't fail; where memory is refused nothing changes.
 #[tactic(auto, unfolding(s38_rules::specs::Locking::locks_row))]
 pub fn apply(
-    world: &mut World<Objects>,
+    world: &mut Core<Objects, Profiles>,
     process: u32,
     depth: u16,
     request: &Request,

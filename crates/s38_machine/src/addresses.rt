@@ -1,13 +1,15 @@
 //! The address rules: what a pointer has to be, and where an item in a space has to lie.
-ghost use Rattle.std.specs.Prelude.{◌≡◌, []};
-ghost use Rattle.std.specs.Option.{option_copied, unwrap_or};
+ghost use Rattle.std.specs.Prelude.{◌≡◌, ℕ, [], Option};
+ghost use Rattle.std.specs.Option.{option_copied, option_map, unwrap_or};
+ghost use Rattle.s38_machine.specs.Resolved.{Each, IsResolved, facts_of, needs_of};
+ghost use Rattle.s38_rules.specs.declared.object.Object.{Object};
 ghost use Rattle.s38_base.specs.Pointers.{target_of};
-ghost use Rattle.s38_rules.specs.Held.{Held, object};
-ghost use Rattle.s38_rules.specs.Verdict.{address_rule, address_rules, base_rule, cells_rule, is_base, is_looked_at, is_pointer, is_sought, item_rule, named_rule, object_rule, place_rule, pointer_rule, space_rule, subject};
+ghost use Rattle.s38_rules.specs.Held.{object};
+ghost use Rattle.s38_rules.specs.Verdict.{address_rule, address_rules, base_rule, cells_rule, is_base, is_looked_at, is_pointer, is_sought, item_rule, named_rule, object_rule, place_rule, pointer_rule, space_rule};
 ghost use Rattle.s38_rules.specs.Parts.{space_part};
 
 use crate::by_operand::{OperandRules, by_operand};
-use crate::rights::subject;
+use crate::resolved::{Facts, Resolved};
 use s38_base::exceptions::{
     BOUNDARY_ALIGNMENT, OBJECT_DESTROYED, OBJECT_TYPE_INVALID, POINTER_MISSING,
     POINTER_TYPE_INVALID, SPACE_ADDRESSING,
@@ -16,8 +18,8 @@ use s38_base::limits::MACHINE_CONTEXT;
 use s38_base::{Attr, Exception, Kind, Pointer};
 use s38_code::Operand;
 use s38_memory::Tagged;
-use s38_objects::{Objects, kind_of};
-use s38_operands::{fails, is_aligned, is_within, pointer_at};
+use s38_objects::Objects;
+use s38_operands::{fails, is_aligned, is_within};
 use s38_rules::{BodyPart, Named, Need, Object, PointerKind, Sought};
 
 fn is_base(pointer: Pointer, offset: u32, attr: Attr) -> bool
@@ -109,15 +111,14 @@ fn is_pointer(kind: PointerKind, pointer: Pointer) -> bool
     }
 }
 
-fn is_sought(sought: Sought, object_used: &Object) -> bool
-    ensures { result ≡ is_sought sought object_used.now }
+fn is_sought(sought: Sought, facts: Facts) -> bool
+    ensures { (o : Object) → facts ≡ facts_of o → result ≡ is_sought sought o }
 {
-    let kind = kind_of(&object_used.body);
     match sought {
         Sought::Any => true,
-        Sought::Of(needed) => needed.code() == kind.code(),
-        Sought::Container => Kind::Context.code() == kind.code()
-            && object_used.number.0 != MACHINE_CONTEXT.0,
+        Sought::Of(needed) => needed.code() == facts.kind.code(),
+        Sought::Container => Kind::Context.code() == facts.kind.code()
+            && facts.number.0 != MACHINE_CONTEXT.0,
         Sought::Ignored => true,
     }
 }
@@ -128,13 +129,13 @@ fn is_looked_at(sought: Sought) -> bool
     !matches!(sought, Sought::Ignored)
 }
 
-fn object_rule(need: &Need, object_used: Option<&Object>) -> Option<Exception>
-    ensures { result ≡ object_rule need.now (option_copied object_used.entry) }
+fn object_rule(need: &Need, found: Option<Facts>) -> Option<Exception>
+    ensures { (o : Option Object) → found ≡ option_map facts_of o → result ≡ object_rule need.now o }
 {
-    match object_used {
+    match found {
         None => fails(is_looked_at(need.sought), OBJECT_DESTROYED, need.place),
-        Some(object_used) => fails(
-            !is_sought(need.sought, object_used),
+        Some(facts) => fails(
+            !is_sought(need.sought, facts),
             OBJECT_TYPE_INVALID,
             need.place,
         ),
@@ -142,13 +143,16 @@ fn object_rule(need: &Need, object_used: Option<&Object>) -> Option<Exception>
 }
 
 #[inline(always)]
-fn pointer_rule_on(
+fn pointer_rule(
+    objects: &Objects,
     need: &Need,
     pointer: Option<Pointer>,
-    found: Option<&Object>,
+    found: Option<Facts>,
 ) -> Option<Exception>
-    ensures { (h : Held) → option_copied found.entry ≡ object h (target_of pointer) → result ≡ pointer_rule h need.now pointer }
+    requires { found ≡ option_map facts_of (object objects.now (target_of pointer)) }
+    ensures { result ≡ pointer_rule objects.now need.now pointer }
 {
+    let _ = objects;
     match pointer {
         None => Some(Exception::plain(POINTER_MISSING, need.place)),
         Some(pointer) => {
@@ -161,36 +165,18 @@ fn pointer_rule_on(
     }
 }
 
-/// There is a pointer, of the kind that is used, to an object that is there, of the kind that is used. The object is
-/// looked up already.
+/// There is a pointer, of the kind that is used, to an object that is there, of the kind that is used.
 #[inline(always)]
 #[tactic(auto, unfolding(s38_rules::specs::Verdict::address_rule))]
-pub fn address_rule_on(
-    objects: &Objects,
-    operands: &[Operand],
-    need: &Need,
-    found: Option<&Object>,
-) -> Option<Exception>
-    requires { option_copied found ≡ object objects.now (subject objects.now operands.now need.now.place need.now.named) }
-    ensures { result ≡ address_rule objects.now operands.now need.now }
+fn address_rule(objects: &Objects, operands: &[Operand], need: &Resolved) -> Option<Exception>
+    requires { IsResolved objects.now operands.now need.now }
+    ensures { result ≡ address_rule objects.now operands.now need.now.need }
 {
-    match need.named {
-        Named::Written => pointer_rule_on(
-            need,
-            pointer_at(objects, operands, need.place as usize),
-            found,
-        ),
-        Named::Implied(_) => object_rule(need, found),
+    let _ = operands;
+    match need.need.named {
+        Named::Written => pointer_rule(objects, &need.need, need.pointer, need.found),
+        Named::Implied(_) => object_rule(&need.need, need.found),
     }
-}
-
-/// There is a pointer, of the kind that is used, to an object that is there, of the kind that is used.
-#[inline(never)]
-fn address_rule(objects: &Objects, operands: &[Operand], need: &Need) -> Option<Exception>
-    ensures { result ≡ address_rule objects.now operands.now need.now }
-{
-    let found = objects.get(subject(objects, operands, need));
-    address_rule_on(objects, operands, need, found)
 }
 
 /// The address rules over the objects and the operands of a request.
@@ -201,17 +187,20 @@ struct Addresses<'a> {
 }
 
 impl<'a> OperandRules for Addresses<'a> {
+    ghost use Rattle.s38_machine.specs.Resolved.{IsResolved};
     ghost use Rattle.s38_rules.specs.Verdict.{address_rule, item_rule};
 
     ghost of_item = { λ a. item_rule a.objects.now };
 
     ghost of_need = { λ a. address_rule a.objects.now a.operands.now };
 
+    ghost Suits = { λ a. IsResolved a.objects.now a.operands.now };
+
     fn item(&self, k: u8, operand: &Operand) -> Option<Exception> {
         item_rule(self.objects, k, operand)
     }
 
-    fn need(&self, need: &Need) -> Option<Exception> {
+    fn need(&self, need: &Resolved) -> Option<Exception> {
         address_rule(self.objects, self.operands, need)
     }
 }
@@ -219,8 +208,13 @@ impl<'a> OperandRules for Addresses<'a> {
 /// The first address rule that fails: those of each operand in order, and then those of objects that no operand
 /// names.
 #[tactic(auto, unfolding(s38_rules::specs::Verdict::address_rules))]
-pub fn address_rules(objects: &Objects, operands: &[Operand], needs: &[Need]) -> Option<Exception>
-    ensures { result ≡ address_rules objects.now operands.now needs.now }
+pub fn address_rules(
+    objects: &Objects,
+    operands: &[Operand],
+    needs: &[Resolved],
+) -> Option<Exception>
+    requires { Each (IsResolved objects.now operands.now) needs.now }
+    ensures { result ≡ address_rules objects.now operands.now (needs_of needs.now) }
 {
     by_operand(&Addresses { objects, operands }, needs, 1, operands)
 }

@@ -1,18 +1,18 @@
 //! The lock rules: what the locks of other processes keep a process from.
 ghost use Rattle.std.specs.Prelude.{◌≡◌};
 ghost use Rattle.std.specs.Option.{option_copied};
+ghost use Rattle.s38_machine.specs.Resolved.{Each, IsResolved, needs_of};
 ghost use Rattle.s38_rules.specs.Blocking.{class_use, held_by, item_lock, use_at, use_rule};
 ghost use Rattle.s38_rules.specs.Verdict.{category_rule, lock_rule, lock_rules};
 
 use crate::by_operand::{OperandRules, by_operand};
-use crate::rights::subject;
+use crate::resolved::Resolved;
 use s38_base::exceptions::OBJECT_LOCKED;
 use s38_base::{Category, Exception, LockState, ObjNum, Op, Pointer, Rule};
 use s38_code::{Class, Operand, Request, classes};
-use s38_invoke::World;
+use s38_invoke::{Core, Profiles};
 use s38_locks::LockTable;
 use s38_objects::Objects;
-use s38_rules::Need;
 
 /// A lock is in the way: the exception says whose, and its state.
 fn held_by(id: u16, operand: u8, lock: Option<(u32, LockState)>) -> Option<Exception>
@@ -69,7 +69,7 @@ fn use_at(op: Op, k: u8) -> Category
 /// An item in a space, which is read or changed.
 #[tactic(auto, unfolding(s38_rules::specs::Blocking::item_lock))]
 fn item_lock(
-    world: &World<Objects>,
+    world: &Core<Objects, Profiles>,
     process: u32,
     op: Op,
     k: u8,
@@ -109,26 +109,34 @@ fn category_rule(
 /// What an instruction does to the object of a need.
 #[tactic(auto, unfolding(s38_rules::specs::Verdict::lock_rule))]
 fn lock_rule(
-    world: &World<Objects>,
+    world: &Core<Objects, Profiles>,
     process: u32,
     operands: &[Operand],
-    need: &Need,
+    need: &Resolved,
 ) -> Option<Exception>
-    ensures { result ≡ lock_rule world.now process operands.now need.now }
+    requires { IsResolved world.now.held operands.now need.now }
+    ensures { result ≡ lock_rule world.now process operands.now need.now.need }
 {
-    let object = subject(&world.objects, operands, need);
-    category_rule(&world.locks, process, need.place, object, need.category)
+    let _ = operands;
+    category_rule(
+        &world.locks,
+        process,
+        need.need.place,
+        need.object,
+        need.need.category,
+    )
 }
 
 /// The lock rules of a process over the operands of its request.
 #[derive(Clone, Copy)]
 struct Uses<'a> {
-    world: &'a World<Objects>,
+    world: &'a Core<Objects, Profiles>,
     process: u32,
     request: &'a Request,
 }
 
 impl<'a> OperandRules for Uses<'a> {
+    ghost use Rattle.s38_machine.specs.Resolved.{IsResolved};
     ghost use Rattle.s38_rules.specs.Blocking.{item_lock};
     ghost use Rattle.s38_rules.specs.Verdict.{lock_rule};
 
@@ -136,11 +144,13 @@ impl<'a> OperandRules for Uses<'a> {
 
     ghost of_need = { λ u. lock_rule u.world.now u.process u.request.now.operands };
 
+    ghost Suits = { λ u. IsResolved u.world.now.held u.request.now.operands };
+
     fn item(&self, k: u8, operand: &Operand) -> Option<Exception> {
         item_lock(self.world, self.process, self.request.op, k, operand)
     }
 
-    fn need(&self, need: &Need) -> Option<Exception> {
+    fn need(&self, need: &Resolved) -> Option<Exception> {
         lock_rule(
             self.world,
             self.process,
@@ -154,12 +164,13 @@ impl<'a> OperandRules for Uses<'a> {
 /// operand is looked at.
 #[tactic(auto, using(s38_rules::proofs::LockLaws::unlocked), unfolding(s38_rules::specs::Verdict::lock_rules))]
 pub fn lock_rules(
-    world: &World<Objects>,
+    world: &Core<Objects, Profiles>,
     process: u32,
     request: &Request,
-    needs: &[Need],
+    needs: &[Resolved],
 ) -> Option<Exception>
-    ensures { result ≡ lock_rules world.now process request.now needs.now }
+    requires { Each (IsResolved world.now.held request.now.operands) needs.now }
+    ensures { result ≡ lock_rules world.now process request.now (needs_of needs.now) }
 {
     if world.locks.is_empty() {
         return None;

@@ -7,7 +7,7 @@ ghost use Rattle.s38_rules.specs.Operands.{delivered};
 use s38_base::{NoMemory, Pointer, Seq};
 use s38_changes::put_value;
 use s38_code::{Operand, Val, Vals};
-use s38_invoke::World;
+use s38_invoke::{Core, Profiles};
 use s38_objects::Objects;
 use s38_operands::is_in_space;
 use std::alloc::Global;
@@ -41,7 +41,7 @@ pub fn parted(
 }
 
 /// A value goes into the space of its receiver, so many bytes behind its beginning; it takes no memory.
-pub fn put(world: &mut World<Objects>, shift: u16, receiver: Option<&Operand>, value: Option<Val>)
+pub fn put(world: &mut Core<Objects, Profiles>, shift: u16, receiver: Option<&Operand>, value: Option<Val>)
     ensures { world.new ≡ (delivered world.old shift (option_copied receiver.entry) value).state }
 {
     match value {

@@ -7,15 +7,15 @@ ghost use Rattle.s38_rules.specs.Effect.{effect, effect_of};
 ghost use Rattle.s38_rules.specs.Operands.{delivered};
 ghost use Rattle.s38_rules.specs.Rows.{row};
 ghost use Rattle.s38_rules.specs.State.{State};
-ghost use Rattle.s38_rules.specs.Step.{awake};
-ghost use Rattle.s38_rules.specs.Verdict.{awake_verdict};
+ghost use Rattle.s38_rules.specs.Step.{awake, awake_verdict};
+
 ghost use Rattle.s38_machine.specs.Events.{GoesAsThatOf};
 
 use crate::deliveries::{parted, put};
 use crate::rows;
 use s38_base::{NoMemory, Seq};
 use s38_code::{Event, Request, Val, Vals};
-use s38_invoke::{World, start};
+use s38_invoke::{Core, Profiles, start};
 use s38_objects::Objects;
 use s38_operands::{receiver_at, shift_at};
 use s38_units::end;
@@ -25,7 +25,7 @@ use std::alloc::Global;
 #[tactic(auto, unfolding(s38_rules::specs::Effect::effect))]
 fn act_values(
     alloc: Global,
-    world: &World<Objects>,
+    world: &Core<Objects, Profiles>,
     process: u32,
     depth: u16,
     request: &Request,
@@ -46,7 +46,7 @@ fn act_values(
 #[tactic(auto, unfolding(s38_rules::specs::Effect::effect_of))]
 pub fn parted_values(
     alloc: Global,
-    world: &World<Objects>,
+    world: &Core<Objects, Profiles>,
     process: u32,
     event: &Event,
 ) -> Result<(Vals, Option<Val>), NoMemory>
@@ -63,7 +63,7 @@ pub fn parted_values(
 #[tactic(auto, unfolding(s38_rules::specs::Effect::effect))]
 fn act(
     alloc: Global,
-    world: &mut World<Objects>,
+    world: &mut Core<Objects, Profiles>,
     process: u32,
     depth: u16,
     request: &Request,
@@ -89,7 +89,7 @@ fn act(
 #[tactic(auto, using(crate::proofs::VerdictLaws::permitted_conditions), unfolding(s38_rules::specs::Effect::effect_of))]
 fn take_effect(
     alloc: Global,
-    world: &mut World<Objects>,
+    world: &mut Core<Objects, Profiles>,
     process: u32,
     event: &Event,
     value: Option<Val>,
@@ -114,7 +114,7 @@ fn take_effect(
 #[tactic(auto, using(s38_rules::proofs::Laws::effect_keeps))]
 pub fn apply(
     alloc: Global,
-    world: &mut World<Objects>,
+    world: &mut Core<Objects, Profiles>,
     process: u32,
     event: &Event,
     value: Option<Val>,

@@ -9,15 +9,15 @@ mod effects;
 mod log;
 mod machine;
 mod opening;
+mod resolved;
 mod rights;
 mod rows;
-mod sole;
 mod verdicts;
 
 use log::Log;
 pub use machine::{Machine, State};
 pub use opening::{general_opening, installed};
-use s38_invoke::World;
+use s38_invoke::{Core, Profiles, World};
 use s38_objects::Objects;
 use std::snapshot::Snapshot;
 
@@ -27,9 +27,10 @@ fn sends<T: Send + Sync>() {}
 /// Each value of this crate may be sent and shared, and each that a machine holds.
 #[tactic(auto, using(crate::proofs::SentLaws::snapshot_send, crate::proofs::SentLaws::snapshot_sync))]
 pub fn all_may_be_sent() {
-    sends::<World<Objects>>();
+    sends::<Core<Objects, Profiles>>();
+    sends::<World<Objects, Profiles>>();
     sends::<Log>();
-    sends::<Snapshot<World<Objects>>>();
+    sends::<Snapshot<Core<Objects, Profiles>>>();
 }
 
 /// A machine may be sent and shared.

@@ -8,8 +8,8 @@ ghost use Rattle.s38_rules.specs.Kept.{CanBeKept};
 ghost use Rattle.s38_rules.specs.Legal.{IsProcess, IsSound, after, after_by, begun, no_moment};
 ghost use Rattle.s38_rules.specs.Opening.{state_of};
 ghost use Rattle.s38_rules.specs.State.{ready, ready_list};
-ghost use Rattle.s38_rules.specs.Step.{by_verdict, step};
-ghost use Rattle.s38_rules.specs.Verdict.{awake_verdict, verdict_of};
+ghost use Rattle.s38_rules.specs.Step.{awake_verdict, by_verdict, step, verdict_of};
+
 
 use crate::effects::{apply, parted_values};
 use crate::log::Log;
@@ -17,7 +17,7 @@ use crate::opening::opened;
 use crate::verdicts::{awake_verdict, verdict_of};
 use s38_base::{Exception, NoMemory, TryClone, try_clones};
 use s38_code::{Asked, Checked, Entry, Event, Job, Reply, StepFault, Stepper, Val, Vals};
-use s38_invoke::World;
+use s38_invoke::{Core, Profiles, World};
 use s38_objects::Objects;
 use s38_rules::Verdict;
 use std::alloc::Global;
@@ -25,7 +25,7 @@ use std::marker::Model;
 use std::snapshot::Snapshot;
 
 /// The objects and the processes of a machine.
-pub type State = World<Objects>;
+pub type State = Core<Objects, Profiles>;
 
 /// The moment at which each entry is answered if there is no store.
 const NO_MOMENT: u64 = 0;
@@ -35,9 +35,9 @@ const NO_MOMENT: u64 = 0;
 #[derive(Drop)]
 pub struct Machine {
     alloc: Global,
-    world: World<Objects>,
+    world: World<Objects, Profiles>,
     log: Log,
-    origin: Snapshot<World<Objects>>,
+    origin: Snapshot<Core<Objects, Profiles>>,
 }
 
 impl Model for Machine {
@@ -46,9 +46,9 @@ impl Model for Machine {
 
     ghost Value = { Run };
 
-    ghost view = { λ m. record { origin = m.origin.value; state = m.world; history = m.log.history; marks = m.log.marks; first = no_moment; moment = no_moment } };
+    ghost view = { λ m. record { origin = m.origin.value; state = m.world.state; history = m.log.history; marks = m.log.marks; first = no_moment; moment = no_moment } };
 
-    ghost invariant = { λ m. m.log.processes ≡ length m.world.processes };
+    ghost invariant = { λ m. m.log.processes ≡ length m.world.state.processes };
 }
 
 impl Machine {
@@ -62,12 +62,12 @@ impl Machine {
         requires kept { CanBeKept objects }
         ensures { IfOk result (λ machine. machine ≡ begun no_moment (state_of objects templates jobs.now)) }
     {
-        let world = opened(alloc, objects, templates, jobs)?;
+        let core = opened(alloc, objects, templates, jobs)?;
         let log = Log::new(alloc, jobs.len())?;
-        let origin = Snapshot::of(&world);
+        let origin = Snapshot::of(&core);
         Ok(Machine {
             alloc,
-            world,
+            world: World { core },
             log,
             origin,
         })
@@ -100,14 +100,14 @@ impl Machine {
             origin: _,
         } = self;
         let (history, marks) = log.into_parts();
-        (history, marks, world)
+        (history, marks, world.core)
     }
 
     /// Whether a process has not ended, is of the current stage, and does not wait.
     pub fn ready(&self, process: u32) -> bool
         ensures { result ≡ ready self.now.state process }
     {
-        self.world.ready(process)
+        self.world.core.ready(process)
     }
 
     /// Lists the processes that are ready, in order of their numbers.
@@ -115,21 +115,21 @@ impl Machine {
         requires { length self.now.state.processes < 2 ^ 32 - 1 }
         ensures { OnOk result (into.new.items ≡ ready_list self.now.state) }
     {
-        self.world.ready_list(into)
+        self.world.core.ready_list(into)
     }
 
     /// Whether some process waits.
     pub fn somebody_waits(&self) -> bool
         ensures { result ≡ not (length self.now.state.waiting == 0) }
     {
-        !self.world.waiting.is_empty()
+        !self.world.core.waiting.is_empty()
     }
 
     /// Whether an event may take effect, waits, or is refused by the first rule that fails.
     pub fn verdict(&self, process: u32, event: &Event) -> Verdict
         ensures { result ≡ verdict_of self.now.state process event.now }
     {
-        verdict_of(&self.world, process, event)
+        verdict_of(&self.world.core, process, event)
     }
 
     /// The reply of the last entry of the history.
@@ -158,7 +158,7 @@ impl Machine {
         ensures err { OnErr result (self.new ≡ self.old) }
     {
         self.log.reserve()?;
-        match apply(self.alloc, &mut self.world, process, &event, value) {
+        match apply(self.alloc, &mut self.world.core, process, &event, value) {
             Ok(()) => {}
             Err(fault) => return Err(fault),
         }
@@ -176,7 +176,7 @@ impl Machine {
         ensures ok { OnOk result (self.new ≡ after_by self.old self.old.moment process event (by_verdict self.old.state process event Verdict.Permit)) }
         ensures err { OnErr result (self.new ≡ self.old) }
     {
-        let (values, value) = parted_values(self.alloc, &self.world, process, &event)?;
+        let (values, value) = parted_values(self.alloc, &self.world.core, process, &event)?;
         self.enter_permitted(process, event, values, value)
     }
 
@@ -189,7 +189,7 @@ impl Machine {
             × (self.new ≡ after_by self.old self.old.moment process event (by_verdict self.old.state process event Verdict.Permit))) }
         ensures err { OnErr result (self.new ≡ self.old) }
     {
-        let (values, value) = parted_values(self.alloc, &self.world, process, &event)?;
+        let (values, value) = parted_values(self.alloc, &self.world.core, process, &event)?;
         let copy = try_clones(self.alloc, values.as_slice())?;
         match self.enter_permitted(process, event, values, value) {
             Ok(()) => Ok(Reply::Done(copy)),
@@ -218,7 +218,7 @@ impl Machine {
         ensures err { OnErr result (self.new ≡ self.old) }
     {
         self.log.reserve()?;
-        match self.world.waiting.insert(0, process) {
+        match self.world.core.waiting.insert(0, process) {
             Ok(()) => {}
             Err(_) => return Err(NoMemory),
         }
@@ -248,10 +248,10 @@ impl Machine {
         ensures reply { IfOk result (λ asked. reply_by asked self.new.history ≡ Some (step self.old.state process event).reply) }
         ensures err { OnErr result (self.new ≡ self.old) }
     {
-        if self.world.waits(process) {
+        if self.world.core.waits(process) {
             return Ok(Asked::WaitsStill);
         }
-        let verdict = awake_verdict(&self.world, process, &event);
+        let verdict = awake_verdict(&self.world.core, process, &event);
         match self.answer(process, event, verdict) {
             Ok(()) => Ok(Asked::Entered),
             Err(fault) => Err(fault),
@@ -309,10 +309,10 @@ impl Machine {
         ensures ok { IfOk result (λ r. (r ≡ (step self.old.state process event.now).reply) × (self.new ≡ after self.old self.old.moment process event.now)) }
         ensures err { OnErr result (self.new ≡ self.old) }
     {
-        if self.world.waits(process) {
+        if self.world.core.waits(process) {
             return Ok(Reply::MustWait);
         }
-        let verdict = awake_verdict(&self.world, process, event);
+        let verdict = awake_verdict(&self.world.core, process, event);
         let own = event.try_clone(self.alloc)?;
         match self.answer_copied(process, own, verdict) {
             Ok(reply) => Ok(reply),

@@ -8,7 +8,7 @@ ghost use Rattle.s38_rules.specs.Opening.{general_context, held_first, held_inst
 use s38_base::limits::BODY_LIMIT;
 use s38_base::{Id, Kind, Name, NoMemory, ObjNum, Rights, Special, TryClone};
 use s38_code::{Checked, Job};
-use s38_invoke::World;
+use s38_invoke::{Core, Profiles};
 use s38_objects::Objects;
 use s38_queues::{Order, Queue};
 use s38_rules::{Body, Object, ProcessEntry, RowList};
@@ -162,10 +162,10 @@ pub fn opened(
     objects: Objects,
     templates: Checked,
     jobs: &[Job],
-) -> Result<World<Objects>, NoMemory>
+) -> Result<Core<Objects, Profiles>, NoMemory>
     requires kept { CanBeKept objects }
-    ensures { IfOk result (λ world. world ≡ state_of objects templates jobs.now) }
+    ensures { IfOk result (λ core. core ≡ state_of objects templates jobs.now) }
 {
     let processes = process_entries(alloc, jobs)?;
-    World::new(alloc, objects, BODY_LIMIT, templates, processes)
+    Core::new(alloc, objects, BODY_LIMIT, templates, processes)
 }

@@ -1,30 +1,22 @@
 //! The rule of authority: what an instruction claims of each object is there.
-ghost use Rattle.std.specs.Prelude.{◌≡◌, map};
-ghost use Rattle.std.specs.Option.{option_copied};
+ghost use Rattle.std.specs.Prelude.{◌≡◌, map, Option};
+ghost use Rattle.std.specs.Option.{option_map};
+ghost use Rattle.s38_machine.specs.Resolved.{Each, IsResolved, facts_of, needs_of};
+ghost use Rattle.s38_rules.specs.declared.object.Object.{Object};
 ghost use Rattle.s38_rules.specs.Headers.{public_of};
 ghost use Rattle.s38_rules.specs.Held.{object};
 ghost use Rattle.s38_rules.specs.Needs.{first_of};
-ghost use Rattle.s38_rules.specs.Verdict.{claim_rule, granting_rule, names_owners, rights_rule, subject};
+ghost use Rattle.s38_rules.specs.Verdict.{claim_rule, granting_rule, names_owners, rights_rule};
 
+use crate::resolved::{Facts, Resolved};
 use s38_authority::{available_on, is_governed, missing};
 use s38_base::exceptions::OWNERSHIP_REQUIRED;
 use s38_base::{Exception, ObjNum, Pointer, Rights, UserNum};
 use s38_code::Operand;
-use s38_invoke::World;
+use s38_invoke::{Core, Profiles};
 use s38_objects::Objects;
-use s38_operands::{fails, pointer_at, target};
-use s38_rules::{Claim, Named, Need, Object};
-
-/// The object that a need speaks of.
-#[inline(always)]
-pub fn subject(objects: &Objects, operands: &[Operand], need: &Need) -> ObjNum
-    ensures { result.0 ≡ subject objects.now operands.now need.now.place need.now.named }
-{
-    match need.named {
-        Named::Written => target(objects, operands, need.place as usize),
-        Named::Implied(number) => number,
-    }
-}
+use s38_operands::fails;
+use s38_rules::{Claim, Need};
 
 /// Whether the rights are some that an owner alone gives and takes.
 fn names_owners(rights: Rights) -> bool
@@ -50,26 +42,26 @@ fn granting_rule(owns: bool, operand: u8, rights: Rights, there: Rights) -> Opti
 
 /// The rights of everybody on an object, where there is one.
 #[inline(always)]
-fn public_of(found: Option<&Object>) -> Option<Rights>
-    ensures { result ≡ public_of (option_copied found.entry) }
+fn public_of(found: Option<Facts>) -> Option<Rights>
+    ensures { (o : Option Object) → found ≡ option_map facts_of o → result ≡ public_of o }
 {
     match found {
         None => None,
-        Some(found) => Some(found.public),
+        Some(facts) => Some(facts.public),
     }
 }
 
-/// What is claimed of an object, which is looked up already, is there for these users.
+/// What is claimed of an object, whose rights of everybody are looked up already, is there for these users.
 #[inline(always)]
 fn claim_rule(
-    world: &World<Objects>,
+    world: &Core<Objects, Profiles>,
     users: &[UserNum],
     number: ObjNum,
     carried: Rights,
     need: &Need,
-    found: Option<&Object>,
+    public: Option<Rights>,
 ) -> Option<Exception>
-    requires { option_copied found ≡ object world.now.held number.0 }
+    requires { public ≡ public_of (object world.now.held number.0) }
     ensures { result ≡ claim_rule need.now.claim world.now.held (map (λ u. u.0) users.now) number.0 carried.0 need.now.place need.now.rights.0 }
 {
     let place = need.place;
@@ -77,13 +69,13 @@ fn claim_rule(
         Claim::Available => missing(
             place,
             need.rights,
-            available_on(world, users, number, carried, public_of(found)),
+            available_on(world, users, number, carried, public),
         ),
         Claim::Granting => granting_rule(
             is_governed(world, users, number),
             place,
             need.rights,
-            available_on(world, users, number, carried, public_of(found)),
+            available_on(world, users, number, carried, public),
         ),
         Claim::Ownership => fails(
             !is_governed(world, users, number),
@@ -93,61 +85,46 @@ fn claim_rule(
     }
 }
 
-/// What a need claims is there. Its object is looked up already.
+/// What a need claims is there. A need whose object no operand names has no pointer, and so carries no rights.
 #[inline(always)]
-#[tactic(auto, unfolding(s38_rules::specs::Verdict::rights_rule))]
-pub fn rights_rule_on(
-    world: &World<Objects>,
-    users: &[UserNum],
-    operands: &[Operand],
-    need: &Need,
-    found: Option<&Object>,
-) -> Option<Exception>
-    requires { option_copied found ≡ object world.now.held (subject world.now.held operands.now need.now.place need.now.named) }
-    ensures { result ≡ rights_rule world.now.held (map (λ u. u.0) users.now) operands.now need.now }
-{
-    match need.named {
-        Named::Written => {
-            let pointer = pointer_at(&world.objects, operands, need.place as usize);
-            claim_rule(
-                world,
-                users,
-                Pointer::target(pointer),
-                Pointer::carried(pointer),
-                need,
-                found,
-            )
-        }
-        Named::Implied(number) => claim_rule(world, users, number, Rights(0), need, found),
-    }
-}
-
-/// What a need claims is there.
+#[tactic(auto, using(crate::proofs::ResolvedLaws::carried_by_pointer), unfolding(s38_rules::specs::Verdict::rights_rule))]
 fn rights_rule(
-    world: &World<Objects>,
+    world: &Core<Objects, Profiles>,
     users: &[UserNum],
     operands: &[Operand],
-    need: &Need,
+    need: &Resolved,
 ) -> Option<Exception>
-    ensures { result ≡ rights_rule world.now.held (map (λ u. u.0) users.now) operands.now need.now }
+    requires { IsResolved world.now.held operands.now need.now }
+    ensures { result ≡ rights_rule world.now.held (map (λ u. u.0) users.now) operands.now need.now.need }
 {
-    let found = world.objects.get(subject(&world.objects, operands, need));
-    rights_rule_on(world, users, operands, need, found)
+    let _ = operands;
+    claim_rule(
+        world,
+        users,
+        need.object,
+        Pointer::carried(need.pointer),
+        &need.need,
+        public_of(need.found),
+    )
 }
 
 /// The first claim that the acting users don't meet.
 pub fn first_unmet(
-    world: &World<Objects>,
+    world: &Core<Objects, Profiles>,
     users: &[UserNum],
     operands: &[Operand],
-    needs: &[Need],
+    needs: &[Resolved],
 ) -> Option<Exception>
-    ensures { result ≡ first_of (rights_rule world.now.held (map (λ u. u.0) users.now) operands.now) needs.now }
+    requires { Each (IsResolved world.now.held operands.now) needs.now }
+    ensures { result ≡ first_of (rights_rule world.now.held (map (λ u. u.0) users.now) operands.now) (needs_of needs.now) }
 {
-    for need in needs {
-        if let Some(failure) = rights_rule(world, users, operands, need) {
-            return Some(failure);
+    match needs {
+        [] => None,
+        [need, more @ ..] => {
+            if let Some(failure) = rights_rule(world, users, operands, need) {
+                return Some(failure);
+            }
+            first_unmet(world, users, operands, more)
         }
     }
-    None
 }

@@ -9,7 +9,7 @@ use s38_code::{Family, Request, Val, family_of};
 use s38_commitment::journals;
 use s38_cursors::cursors;
 use s38_data::{indexes, queues};
-use s38_invoke::World;
+use s38_invoke::{Core, Profiles};
 use s38_locking::locking;
 use s38_objects::Objects;
 use s38_operands::{Needs, computing_fails, computing_gives, computing_needs};
@@ -19,7 +19,7 @@ use std::alloc::Global;
 /// What an instruction needs of its operands, in their order.
 #[inline(never)]
 #[tactic(auto, unfolding(s38_rules::specs::Rows::row_in))]
-pub fn needs(world: &World<Objects>, process: u32, depth: u16, request: &Request) -> Needs
+pub fn needs(world: &Core<Objects, Profiles>, process: u32, depth: u16, request: &Request) -> Needs
     ensures { result ≡ (row request.now.op).needs world.now process depth request.now }
 {
     match family_of(request.op) {
@@ -41,7 +41,7 @@ pub fn needs(world: &World<Objects>, process: u32, depth: u16, request: &Request
 
 /// The special authority that an acting user must have.
 #[tactic(auto, using(s38_rules::proofs::Laws::unspecial_contexts, s38_rules::proofs::Laws::unspecial_data_spaces, s38_rules::proofs::Laws::unspecial_indexes, s38_rules::proofs::Laws::unspecial_journals, s38_rules::proofs::Laws::unspecial_locks, s38_rules::proofs::Laws::unspecial_programs, s38_rules::proofs::Laws::unspecial_queues, s38_rules::proofs::Laws::unspecial_resolving, s38_rules::proofs::Laws::unspecial_spaces), unfolding(s38_rules::specs::Rows::row_in))]
-pub fn special(world: &World<Objects>, process: u32, depth: u16, request: &Request) -> Special
+pub fn special(world: &Core<Objects, Profiles>, process: u32, depth: u16, request: &Request) -> Special
     ensures { result.0 ≡ (row request.now.op).special world.now process depth request.now }
 {
     match family_of(request.op) {
@@ -54,7 +54,7 @@ pub fn special(world: &World<Objects>, process: u32, depth: u16, request: &Reque
 /// The first of its conditions and limits that fails.
 #[tactic(auto, unfolding(s38_rules::specs::Rows::row_in))]
 pub fn conditions(
-    world: &World<Objects>,
+    world: &Core<Objects, Profiles>,
     process: u32,
     depth: u16,
     request: &Request,
@@ -82,7 +82,7 @@ pub fn conditions(
 #[tactic(auto, unfolding(s38_rules::specs::Rows::row_in))]
 pub fn value(
     alloc: Global,
-    world: &World<Objects>,
+    world: &Core<Objects, Profiles>,
     process: u32,
     depth: u16,
     request: &Request,
@@ -110,7 +110,7 @@ pub fn value(
 #[tactic(auto, using(s38_rules::proofs::Laws::resolving_still), unfolding(s38_rules::specs::Rows::row_in))]
 pub fn apply(
     alloc: Global,
-    world: &mut World<Objects>,
+    world: &mut Core<Objects, Profiles>,
     process: u32,
     depth: u16,
     request: &Request,

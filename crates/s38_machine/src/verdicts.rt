@@ -1,53 +1,99 @@
 //! What becomes of an event: the first rule that fails.
-ghost use Rattle.std.specs.Prelude.{◌≡◌};
+ghost use Rattle.std.specs.Prelude.{◌≡◌, map};
 ghost use Rattle.std.specs.Option.{option_copied};
 ghost use Rattle.s38_base.specs.Signals.{first};
+ghost use Rattle.s38_machine.specs.Resolved.{Each, IsResolved, needs_of};
 ghost use Rattle.s38_rules.specs.Authority.{lacks_special};
+ghost use Rattle.s38_rules.specs.Needs.{first_of};
 ghost use Rattle.s38_rules.specs.Rows.{row};
 ghost use Rattle.s38_rules.specs.Users.{acting};
-ghost use Rattle.s38_rules.specs.Verdict.{awake_verdict, may_wait, of_failure, of_request, refused_by, rights_rules, says_wait, start_verdict, unless_last, verdict_of};
+ghost use Rattle.s38_rules.specs.Verdict.{may_wait, of_failure, of_request, refused_by, refused_with, rights_rule, rights_rules, ruled_verdict, says_wait, start_verdict, unless_last};
+ghost use Rattle.s38_rules.specs.Step.{awake_verdict, verdict_of};
 
 use crate::addresses::address_rules;
 use crate::blocking::lock_rules;
 use crate::rights::first_unmet;
+use crate::resolved::{Resolved, resolve, resolve_all};
 use crate::rows;
-use crate::sole::{refused_by_sole, sole_need};
 use s38_authority::lacks_special;
 use s38_base::exceptions::{ALL_WAIT, LOCK_NOT_GRANTABLE, NO_MESSAGE};
-use s38_base::{Exception, Op};
+use s38_base::{Exception, Op, Special, UserNum};
 use s38_code::{Event, Operand, Request};
-use s38_invoke::{Acting, World, start_failure};
+use s38_invoke::{Acting, Core, Profiles, start_failure};
 use s38_objects::Objects;
 use s38_operands::word_at;
-use s38_rules::{Need, ProcessEntry, Verdict};
+use s38_rules::{ProcessEntry, Verdict};
+
+/// The special authority, and then the authority over each object, that an instruction needs of these users.
+fn authority_of(
+    world: &Core<Objects, Profiles>,
+    users: &[UserNum],
+    special: Special,
+    operands: &[Operand],
+    needs: &[Resolved],
+) -> Option<Exception>
+    requires { Each (IsResolved world.now.held operands.now) needs.now }
+    ensures { result ≡ first (lacks_special world.now.held (map (λ u. u.0) users.now) special.0)
+        (first_of (rights_rule world.now.held (map (λ u. u.0) users.now) operands.now) (needs_of needs.now)) }
+{
+    if let Some(failure) = lacks_special(world, users, special) {
+        return Some(failure);
+    }
+    first_unmet(world, users, operands, needs)
+}
 
 /// The special authority, and then the authority over each object, that an instruction needs of the acting users.
 #[tactic(auto, unfolding(s38_rules::specs::Verdict::rights_rules))]
 fn authority_rules(
-    world: &World<Objects>,
+    world: &Core<Objects, Profiles>,
     process: u32,
     depth: u16,
     request: &Request,
-    needs: &[Need],
+    needs: &[Resolved],
 ) -> Option<Exception>
+    requires { Each (IsResolved world.now.held request.now.operands) needs.now }
     ensures { result ≡ first (lacks_special world.now.held (acting world.now process depth) ((row request.now.op).special world.now process depth request.now))
-        (rights_rules world.now process depth request.now.operands needs.now) }
+        (rights_rules world.now process depth request.now.operands (needs_of needs.now)) }
 {
+    let operands = request.operands.as_slice();
+    let special = rows::special(world, process, depth, request);
+    if let Some(user) = world.sole_user(process, depth) {
+        return authority_of(world, &[user], special, operands, needs);
+    }
     let mut users = Acting::nobody();
     world.act(process, depth, &mut users);
-    let special = rows::special(world, process, depth, request);
-    if let Some(failure) = lacks_special(world, users.as_slice(), special) {
-        return Some(failure);
-    }
-    first_unmet(world, users.as_slice(), request.operands.as_slice(), needs)
+    authority_of(world, users.as_slice(), special, operands, needs)
 }
 
-/// The first rule that an instruction fails whose needs are listed: address rules, then a special authority, then
-/// authority over objects, then locks, then its conditions and limits.
-#[inline(never)]
+/// The first rule that an instruction fails with these needs: address rules, then a special authority, then authority
+/// over objects, then locks, then its conditions and limits.
+#[inline(always)]
+fn refused_with(
+    world: &Core<Objects, Profiles>,
+    process: u32,
+    depth: u16,
+    request: &Request,
+    needs: &[Resolved],
+) -> Option<Exception>
+    requires { Each (IsResolved world.now.held request.now.operands) needs.now }
+    ensures { result ≡ refused_with (row request.now.op) world.now process depth request.now (needs_of needs.now) }
+{
+    if let Some(failure) = address_rules(&world.objects, request.operands.as_slice(), needs) {
+        return Some(failure);
+    }
+    if let Some(failure) = authority_rules(world, process, depth, request, needs) {
+        return Some(failure);
+    }
+    if let Some(failure) = lock_rules(world, process, request, needs) {
+        return Some(failure);
+    }
+    rows::conditions(world, process, depth, request)
+}
+
+/// The first rule that an instruction fails. Each of its needs is resolved once, and all rules go over that.
 #[tactic(auto, unfolding(s38_rules::specs::Verdict::refused_by))]
-fn refused_by_list(
-    world: &World<Objects>,
+fn refused_by(
+    world: &Core<Objects, Profiles>,
     process: u32,
     depth: u16,
     request: &Request,
@@ -56,30 +102,15 @@ fn refused_by_list(
 {
     let needs = rows::needs(world, process, depth, request);
     let operands = request.operands.as_slice();
-    if let Some(failure) = address_rules(&world.objects, operands, needs.as_slice()) {
-        return Some(failure);
-    }
-    if let Some(failure) = authority_rules(world, process, depth, request, needs.as_slice()) {
-        return Some(failure);
-    }
-    if let Some(failure) = lock_rules(world, process, request, needs.as_slice()) {
-        return Some(failure);
-    }
-    rows::conditions(world, process, depth, request)
-}
-
-/// The first rule that an instruction fails.
-fn refused_by(
-    world: &World<Objects>,
-    process: u32,
-    depth: u16,
-    request: &Request,
-) -> Option<Exception>
-    ensures { result ≡ refused_by (row request.now.op) world.now process depth request.now }
-{
-    match sole_need(request.op) {
-        Some(need) => refused_by_sole(world, process, depth, request, need),
-        None => refused_by_list(world, process, depth, request),
+    match needs.as_slice() {
+        [need] => {
+            let sole = resolve(&world.objects, operands, need);
+            refused_with(world, process, depth, request, &[sole])
+        }
+        more => {
+            let all = resolve_all(&world.objects, operands, more);
+            refused_with(world, process, depth, request, all.as_slice())
+        }
     }
 }
 
@@ -125,7 +156,7 @@ fn unless_last(is_last: bool) -> Verdict
 /// What becomes of a request that fails so.
 #[tactic(auto, unfolding(s38_rules::specs::Verdict::of_request))]
 fn of_request(
-    world: &World<Objects>,
+    world: &Core<Objects, Profiles>,
     process: u32,
     request: &Request,
     failure: Option<Exception>,
@@ -144,7 +175,7 @@ fn of_request(
     }
 }
 
-fn start_verdict(world: &World<Objects>, process: u32, entry: Option<&ProcessEntry>) -> Verdict
+fn start_verdict(world: &Core<Objects, Profiles>, process: u32, entry: Option<&ProcessEntry>) -> Verdict
     ensures { result ≡ start_verdict world.now process (option_copied entry.entry) }
 {
     match entry {
@@ -158,11 +189,11 @@ fn start_verdict(world: &World<Objects>, process: u32, entry: Option<&ProcessEnt
     }
 }
 
-/// What becomes of an event of a process that doesn't wait: a start waits for the earlier stages; an instruction is
-/// refused by the first rule that fails, or waits; an end never.
-#[tactic(auto, unfolding(s38_rules::specs::Verdict::awake_verdict))]
-pub fn awake_verdict(world: &World<Objects>, process: u32, event: &Event) -> Verdict
-    ensures { result ≡ awake_verdict world.now process event.now }
+/// What the rules make of an event of a process that doesn't wait: a start waits for the earlier stages; an instruction
+/// is refused by the first rule that fails, or waits; an end never.
+#[tactic(auto, unfolding(s38_rules::specs::Verdict::ruled_verdict))]
+fn ruled_verdict(world: &Core<Objects, Profiles>, process: u32, event: &Event) -> Verdict
+    ensures { result ≡ ruled_verdict world.now process event.now }
 {
     match event {
         Event::Start => start_verdict(world, process, world.process_entry(process)),
@@ -174,9 +205,17 @@ pub fn awake_verdict(world: &World<Objects>, process: u32, event: &Event) -> Ver
     }
 }
 
+/// What becomes of an event of a process that doesn't wait. There is no store yet, which could be full.
+#[tactic(auto, using(s38_rules::proofs::RoomLaws::unlimited), unfolding(s38_rules::specs::Step::awake_verdict))]
+pub fn awake_verdict(world: &Core<Objects, Profiles>, process: u32, event: &Event) -> Verdict
+    ensures { result ≡ awake_verdict world.now process event.now }
+{
+    ruled_verdict(world, process, event)
+}
+
 /// What becomes of an event; a process that waits goes on waiting.
-#[tactic(auto, unfolding(s38_rules::specs::Verdict::verdict_of))]
-pub fn verdict_of(world: &World<Objects>, process: u32, event: &Event) -> Verdict
+#[tactic(auto, unfolding(s38_rules::specs::Step::verdict_of))]
+pub fn verdict_of(world: &Core<Objects, Profiles>, process: u32, event: &Event) -> Verdict
     ensures { result ≡ verdict_of world.now process event.now }
 {
     if world.waits(process) {

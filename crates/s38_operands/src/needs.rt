@@ -9,22 +9,29 @@ use std::marker::Model;
 /// How many needs an instruction has at most.
 const MOST: usize = 6;
 
+/// One need in place, or several with room for more.
+#[derive(Drop)]
+enum Held {
+    One([Need; 1]),
+    Several { held: [Need; MOST], count: usize },
+}
+
 /// What an instruction needs, in order.
 #[derive(Drop)]
 pub struct Needs {
-    held: [Need; MOST],
-    count: usize,
+    held: Held,
 }
 
 impl Model for Needs {
-    ghost use Rattle.std.specs.Prelude.{◌≤◌, List, take};
+    ghost use Rattle.std.specs.Prelude.{List};
     ghost use Rattle.s38_rules.specs.declared.need.Need.{Need};
+    ghost use Rattle.s38_operands.specs.NeedLists.{IsFew, listed};
 
     ghost Value = { List Need };
 
-    ghost view = { λ n. take n.count n.held };
+    ghost view = { λ n. listed n.held };
 
-    ghost invariant = { λ n. n.count ≤ 6 };
+    ghost invariant = { λ n. IsFew n.held };
 }
 
 const NOTHING: Need = Need {
@@ -43,8 +50,10 @@ impl Needs {
         ensures { result ≡ [] }
     {
         Needs {
-            held: [NOTHING; MOST],
-            count: 0,
+            held: Held::Several {
+                held: [NOTHING; MOST],
+                count: 0,
+            },
         }
     }
 
@@ -53,18 +62,8 @@ impl Needs {
         ensures { result ≡ need ∷ [] }
     {
         Needs {
-            held: [need, NOTHING, NOTHING, NOTHING, NOTHING, NOTHING],
-            count: 1,
+            held: Held::One([need]),
         }
-    }
-
-    /// One need more, behind the others.
-    fn add(&mut self, need: Need)
-        requires { length self.old < 6 }
-        ensures { self.new ≡ self.old ++ need ∷ [] }
-    {
-        self.held[self.count] = need;
-        self.count += 1;
     }
 
     /// These needs, and others behind them; there is room for all.
@@ -72,16 +71,21 @@ impl Needs {
         requires { length self + length others ≤ 6 }
         ensures { result ≡ self ++ others }
     {
-        let mut all = self;
+        let mut all = Needs::none();
+        add_all(&mut all, self.as_slice());
         add_all(&mut all, others.as_slice());
         all
     }
 
-    /// The needs.
+    /// The needs; there are at most six.
     pub fn as_slice(&self) -> &[Need]
-        ensures { result.now ≡ self.now }
+        ensures value { result.now ≡ self.now }
+        ensures few { length result.now ≤ 6 }
     {
-        &self.held[..self.count]
+        match &self.held {
+            Held::One(need) => need,
+            Held::Several { held, count } => &held[..*count],
+        }
     }
 }
 

@@ -1,6 +1,6 @@
 -- How much of a room is left behind lines that are put into it.
 use Rattle.std.specs.Prelude.{ℕ, ◌-◌, List, [], ◌∷◌, Option, Some, None, nat_le, if◌then◌else◌}
-use Rattle.s38_rules.specs.Programs.{line_size}
+use Rattle.s38_rules.specs.Room.{line_size}
 
 -- none, once a line did not fit
 abbrev pub room_behind : Option ℕ → List ℕ → Option ℕ

@@ -9,7 +9,7 @@ ghost use Rattle.s38_rules.specs.Programs.{are_arguments, argument_rule, call_gi
 use s38_base::exceptions::{ARGUMENT_MISMATCH, LIMIT_EXCEEDED};
 use s38_base::{Attr, Category, Exception, Kind, NoMemory, Rights, TryClone};
 use s38_code::{Code, Form, Operand, Row, Val};
-use s38_invoke::World;
+use s38_invoke::{Core, Profiles};
 use s38_objects::Objects;
 use s38_operands::{Needs, fails, on_object, target};
 use s38_rules::{Body, Object, Sought};
@@ -136,7 +136,7 @@ fn argument_rule(objects: &Objects, operands: &[Operand]) -> Option<Exception>
 }
 
 /// A frame is left.
-fn frame_rule(world: &World<Objects>, process: u32, depth: u16) -> Option<Exception>
+fn frame_rule(world: &Core<Objects, Profiles>, process: u32, depth: u16) -> Option<Exception>
     ensures { result ≡ frame_rule world.now process depth }
 {
     let used = world.stack_of(process).len().min(depth as usize);
@@ -146,7 +146,7 @@ fn frame_rule(world: &World<Objects>, process: u32, depth: u16) -> Option<Except
 /// The arguments suit, and a frame is left.
 #[tactic(auto, unfolding(s38_rules::specs::Programs::callx_fails))]
 pub fn callx_fails(
-    world: &World<Objects>,
+    world: &Core<Objects, Profiles>,
     process: u32,
     depth: u16,
     operands: &[Operand],
@@ -187,7 +187,7 @@ pub fn call_gives(
 /// The program stands behind the frames that count; where memory is refused nothing changes.
 #[tactic(auto, using(crate::proofs::CallLaws::frame_left))]
 pub fn callx(
-    world: &mut World<Objects>,
+    world: &mut Core<Objects, Profiles>,
     process: u32,
     depth: u16,
     operands: &[Operand],
@@ -201,7 +201,7 @@ pub fn callx(
 }
 
 /// The program stands in place of the last frame that counts.
-pub fn xctl(world: &mut World<Objects>, process: u32, depth: u16, operands: &[Operand])
+pub fn xctl(world: &mut Core<Objects, Profiles>, process: u32, depth: u16, operands: &[Operand])
     ensures { world.new ≡ done world.old process (xctl_changes world.old.held depth operands.now) }
 {
     let program = target(&world.objects, operands, 1);

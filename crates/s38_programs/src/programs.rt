@@ -13,7 +13,7 @@ use s38_changes::{
     in_context,
 };
 use s38_code::{CheckedTemplate, Code, Operand, Request, Val};
-use s38_invoke::World;
+use s38_invoke::{Core, Profiles};
 use s38_objects::Objects;
 use s38_operands::{Needs, fails, place};
 use s38_rules::{Body, Creating};
@@ -22,7 +22,7 @@ use std::alloc::Global;
 // ---- CRTPG
 
 /// The template that operand 5 names.
-fn template_at<'a>(world: &'a World<Objects>, operands: &[Operand]) -> Option<&'a CheckedTemplate>
+fn template_at<'a>(world: &'a Core<Objects, Profiles>, operands: &[Operand]) -> Option<&'a CheckedTemplate>
     ensures { option_copied result ≡ template_at world.now operands.now }
 {
     template_in(world.templates.as_slice(), place(operands, 5))
@@ -36,7 +36,7 @@ fn new_program(objects: &Objects, operands: &[Operand]) -> Creating
 
 /// The name is free, the template makes a program, the owner pays for it, and its text is not too long.
 #[tactic(auto, unfolding(s38_rules::specs::Programs::crtpg_fails))]
-fn crtpg_fails(world: &World<Objects>, process: u32, operands: &[Operand]) -> Option<Exception>
+fn crtpg_fails(world: &Core<Objects, Profiles>, process: u32, operands: &[Operand]) -> Option<Exception>
     ensures { result ≡ crtpg_fails world.now process operands.now }
 {
     let objects = &world.objects;
@@ -52,7 +52,7 @@ fn crtpg_fails(world: &World<Objects>, process: u32, operands: &[Operand]) -> Op
 /// The program of the template, to be held by an object too.
 fn program_copy(
     alloc: Global,
-    world: &World<Objects>,
+    world: &Core<Objects, Profiles>,
     operands: &[Operand],
 ) -> Result<Option<Code>, NoMemory>
     ensures { IfOk result (λ code. code ≡ program_in (template_at world.now operands.now)) }
@@ -67,7 +67,7 @@ fn program_copy(
 #[tactic(auto, using(crate::proofs::CreationLaws::crtpg_created, s38_changes::proofs::CreationLaws::home_placed))]
 fn crtpg(
     alloc: Global,
-    world: &mut World<Objects>,
+    world: &mut Core<Objects, Profiles>,
     process: u32,
     operands: &[Operand],
 ) -> Result<(), NoMemory>
@@ -88,7 +88,7 @@ fn crtpg(
 
 /// What an instruction of programs needs.
 #[tactic(auto, unfolding(s38_rules::specs::Programs::programs_row))]
-pub fn needs(world: &World<Objects>, process: u32, depth: u16, request: &Request) -> Needs
+pub fn needs(world: &Core<Objects, Profiles>, process: u32, depth: u16, request: &Request) -> Needs
     ensures { result ≡ (programs_row request.now.op).needs world.now process depth request.now }
 {
     let _ = world;
@@ -105,7 +105,7 @@ pub fn needs(world: &World<Objects>, process: u32, depth: u16, request: &Request
 /// The first of its conditions and limits that fails.
 #[tactic(auto, unfolding(s38_rules::specs::Programs::programs_row))]
 pub fn conditions(
-    world: &World<Objects>,
+    world: &Core<Objects, Profiles>,
     process: u32,
     depth: u16,
     request: &Request,
@@ -125,7 +125,7 @@ pub fn conditions(
 #[tactic(auto, unfolding(s38_rules::specs::Programs::programs_row))]
 pub fn value(
     alloc: Global,
-    world: &World<Objects>,
+    world: &Core<Objects, Profiles>,
     process: u32,
     depth: u16,
     request: &Request,
@@ -147,7 +147,7 @@ pub fn value(
 #[tactic(auto, unfolding(s38_rules::specs::Programs::programs_row))]
 pub fn apply(
     alloc: Global,
-    world: &mut World<Objects>,
+    world: &mut Core<Objects, Profiles>,
     process: u32,
     depth: u16,
     request: &Request,

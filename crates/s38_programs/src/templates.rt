@@ -2,7 +2,8 @@
 ghost use Rattle.std.specs.Prelude.{◌≡◌, find, nat_lt, sum_by};
 ghost use Rattle.std.specs.Option.{option_copied, option_map};
 ghost use Rattle.s38_programs.specs.Rooms.{room_after, room_behind};
-ghost use Rattle.s38_rules.specs.Programs.{is_named, line_size, program_by, program_in, refused_in, size_in, template_in, template_rule};
+ghost use Rattle.s38_rules.specs.Room.{line_size};
+ghost use Rattle.s38_rules.specs.Programs.{is_named, program_by, program_in, refused_in, size_in, template_in, template_rule};
 
 use s38_base::exceptions::TEMPLATE_MISSING;
 use s38_base::{Exception, Name, Rule};

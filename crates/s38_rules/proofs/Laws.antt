@@ -33,7 +33,7 @@ use Rattle.s38_rules.specs.Locking.{locks_row}
 use Rattle.s38_rules.specs.Effect.{effect, effect_of, start_at, end_at}
 use Rattle.s38_rules.specs.Instruction.{AreKept, Instruction, unstacked}
 use Rattle.s38_rules.specs.Invocations.{restack, restack_at, restacked, with_stack}
-use Rattle.s38_rules.specs.Legal.{AreMoments, IsEntry, IsProcess, IsSound, Leads, Run, after, after_by, begun, history_after}
+use Rattle.s38_rules.specs.Legal.{AreMoments, IsEntry, IsProcess, IsSound, IsStored, Leads, Run, after, after_by, begun, history_after}
 use Rattle.s38_rules.specs.Operands.{deliver, delivered}
 use Rattle.s38_rules.specs.Programs.{programs_row}
 use Rattle.s38_rules.specs.Indexes.{indexes_row}
@@ -44,7 +44,7 @@ use Rattle.s38_rules.specs.Spaces.{spaces_row}
 use Rattle.s38_rules.specs.State.{State, process_entry, waits}
 use Rattle.s38_rules.specs.Step.{step, by_verdict, by_waiting}
 use Rattle.s38_rules.specs.Units.{all_decommitted, committed, decommitted, decommitted_of}
-use Rattle.s38_rules.specs.Verdict.{awake_verdict}
+use Rattle.s38_rules.specs.Step.{awake_verdict}
 
 -- entries that lead somewhere, and one more from there
 pub leads_more : (s : State) (before es : List Entry) (t : State) (e : Entry) → Leads s before es t → IsEntry t (before ++ es) e → Leads s before (es ++ e ∷ []) (step t e.process e.event).state
@@ -276,11 +276,33 @@ moments_rise first [] now moments = moments
 moments_rise first (mark ∷ marks) now moments = omega (arith, moments.0, moments_rise mark marks now moments.1)
 
 -- where the moment stayed, all marks are that moment
-pub moments_stay : (first : ℕ) (marks : List ℕ) → AreMoments first marks first → All (λ mark. mark ≡ first) marks
+moments_stay : (first : ℕ) (marks : List ℕ) → AreMoments first marks first → All (λ mark. mark ≡ first) marks
 moments_stay first [] moments = All-nil (λ mark. mark ≡ first)
 moments_stay first (mark ∷ marks) moments =
     let same : mark ≡ first = omega (arith, moments.0, moments_rise mark marks first moments.1) in
     All-cons (λ m. m ≡ first) mark marks same (moments_stay first marks (subst (λ (m : ℕ). AreMoments m marks first) same moments.1))
+
+-- an entry more, and its mark
+stored_more : (m : Run) (mark p : ℕ) (e : Event) → (step m.state p e).enters ≡ true → IsStored m → m.moment ≤ mark → IsStored (after_by m mark p e (step m.state p e))
+stored_more m mark p e h stored later = record {
+  marked = rw h (simp length-append (ap (λ n. n + 1) stored.marked));
+  stamped = rw h (moments_more m.first m.marks m.moment mark stored.stamped later);
+}
+
+-- no entry more
+stored_later : (m : Run) (mark p : ℕ) (e : Event) → (step m.state p e).enters ≡ false → IsStored m → m.moment ≤ mark → IsStored (after_by m mark p e (step m.state p e))
+stored_later m mark p e h stored later = record {
+  marked = rw h stored.marked;
+  stamped = rw h (moments_later m.first m.marks m.moment mark stored.stamped later);
+}
+
+-- where the moment stayed, each entry has that moment as its mark
+pub marked_still : (m : Run) → IsStored m → m.moment ≡ m.first → (length m.marks ≡ length m.history) × All (λ mark. mark ≡ m.first) m.marks
+marked_still m stored still = (stored.marked, moments_stay m.first m.marks (subst (λ (n : ℕ). AreMoments m.first m.marks n) still stored.stamped))
+
+-- a machine that has just begun has no mark
+stored_begun : (moment : ℕ) (s : State) → IsStored (begun moment s)
+stored_begun moment s = record { marked = refl; stamped = omega arith }
 
 sound_by : (m : Run) (mark p : ℕ) (e : Event) (b : Bool) → (step m.state p e).enters ≡ b → IsSound m → IsProcess m.origin p → m.moment ≤ mark → IsSound (after_by m mark p e (step m.state p e))
 sound_by m mark p e true h sound may later =
@@ -289,15 +311,13 @@ sound_by m mark p e true h sound may later =
     record { process = here; entered = h; reply = refl; seq = refl } in
     record {
       legal = rw h (leads_more m.origin [] m.history m.state _ sound.legal one);
-      marked = rw h (simp length-append (ap (λ n. n + 1) sound.marked));
-      stamped = rw h (moments_more m.first m.marks m.moment mark sound.stamped later);
+      stored = stored_more m mark p e h sound.stored later;
       kept = step_keeps m.state p e ∙ sound.kept;
     }
 sound_by m mark p e false h sound may later =
     record {
       legal = rw h (subst (λ t. Leads m.origin [] m.history t) (sym (silent m.state p e h)) sound.legal);
-      marked = rw h sound.marked;
-      stamped = rw h (moments_later m.first m.marks m.moment mark sound.stamped later);
+      stored = stored_later m mark p e h sound.stored later;
       kept = step_keeps m.state p e ∙ sound.kept;
     }
 
@@ -308,7 +328,7 @@ sound_after m mark p e sound may later = sound_by m mark p e (step m.state p e).
 
 -- a machine that has just begun is sound
 pub sound_begun : (moment : ℕ) (s : State) → IsSound (begun moment s)
-sound_begun moment s = record { legal = refl; marked = refl; stamped = omega arith; kept = refl }
+sound_begun moment s = record { legal = refl; stored = stored_begun moment s; kept = refl }
 
 answered_by : (m : Run) (p : ℕ) (e : Event) (b : Bool) → (step m.state p e).enters ≡ b → IsAnswered p e (step m.state p e).reply m.history (history_after m.history p e (step m.state p e))
 answered_by m p e true h = rw h (inl refl)

@@ -45,12 +45,16 @@ AreMoments first (mark ∷ marks) moment = (first ≤ mark) × AreMoments mark m
 abbrev pub no_moment : ℕ
 no_moment = 0
 
--- the history is legal and leads from the origin to the state; each entry has a mark, and the marks are moments from the
--- start to now; the processes are those of the origin's jobs
-pub record IsSound (m : Run) : Type 0 where
-  pub legal : Leads m.origin [] m.history m.state
+-- what the store has of a run: each entry has a mark, and the marks are moments from the start to now
+pub record IsStored (m : Run) : Type 0 where
   pub marked : length m.marks ≡ length m.history
   pub stamped : AreMoments m.first m.marks m.moment
+
+-- the history is legal and leads from the origin to the state; the store has what it is to have; the processes are those
+-- of the origin's jobs
+pub record IsSound (m : Run) : Type 0 where
+  pub legal : Leads m.origin [] m.history m.state
+  pub stored : IsStored m
   pub kept : length m.state.processes ≡ length m.origin.processes
 
 abbrev pub history_after : List Entry → ℕ → Event → Stepped → List Entry

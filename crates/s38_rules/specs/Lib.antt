@@ -8,6 +8,7 @@ pub mod Contexts
 pub mod Creation
 pub mod DataSpaces
 pub mod Effect
+pub mod Forcing
 pub mod Grants
 pub mod Headers
 pub mod Held
@@ -30,6 +31,7 @@ pub mod Profiles
 pub mod Programs
 pub mod Queues
 pub mod Resolving
+pub mod Room
 pub mod Rows
 pub mod Spaces
 pub mod Standing

@@ -65,7 +65,7 @@ process_entries jobs = map (λ job. record { job = job; started = None; ended = 
 
 abbrev pub state_of : Held → List CheckedTemplate → List Job → State
 state_of held templates jobs =
-    record { held = held; limit = body_limit; templates = templates; processes = process_entries jobs; waiting = []; locks = []; units = [] }
+    record { held = held; limit = body_limit; templates = templates; processes = process_entries jobs; waiting = []; locks = []; units = []; room = None }
 
 abbrev pub held_first : Held
 held_first = record { objects = opening; next = 6; ceiling = 5 }

@@ -39,6 +39,7 @@ use Rattle.s38_rules.specs.Instruction.{Instruction, inert}
 use Rattle.s38_rules.specs.Invocations.{frames_used, most_frames, pushed, replaced, stack_of}
 use Rattle.s38_rules.specs.Needs.{on_object}
 use Rattle.s38_rules.specs.Operands.{place, target}
+use Rattle.s38_rules.specs.Room.{program_size}
 use Rattle.s38_rules.specs.State.{State}
 use Rattle.s38_rules.specs.Users.{user_of}
 
@@ -64,13 +65,7 @@ abbrev pub program_in : Option CheckedTemplate → Option Program
 program_in None = None
 program_in (Some template) = program_by template.made
 
-abbrev pub line_size : List ℕ → ℕ
-line_size line = length line + 1
-
--- the size of a program's image: its text, each line with its line feed
-abbrev pub program_size : Program → ℕ
-program_size program = sum_by line_size program.template
-
+-- the size of a program's image
 abbrev pub size_of : Option Program → ℕ
 size_of None = 0
 size_of (Some program) = program_size program

@@ -7,6 +7,7 @@ use Rattle.s38_code.specs.declared.made.CheckedTemplate.{CheckedTemplate}
 use Rattle.s38_rules.specs.declared.process.ProcessEntry.{ProcessEntry}
 use Rattle.s38_rules.specs.declared.process.Started.{Started}
 use Rattle.s38_rules.specs.Held.{Held}
+use Rattle.s38_rules.specs.Room.{Room}
 
 pub record State : Type 0 where
   pub held : Held
@@ -22,6 +23,8 @@ pub record State : Type 0 where
   pub locks : Table
   -- which commit blocks have a unit of changes that is not committed
   pub units : UnitMap
+  -- what the store has room for; none without a store
+  pub room : Option Room
 
 -- ---- processes
 

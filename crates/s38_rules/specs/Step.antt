@@ -1,14 +1,27 @@
 -- One step of the machine: an event takes effect, or is refused, or waits; each answer makes an entry, but that
 -- to a process which waits already.
-use Rattle.std.specs.Prelude.{ℕ, Bool, true, false, [], ◌∷◌}
+use Rattle.std.specs.Prelude.{ℕ, Bool, true, false, [], ◌∷◌, if◌then◌else◌}
 use Rattle.s38_code.specs.declared.event.Event.{Event}
 use Rattle.s38_code.specs.declared.reply.Reply.{Reply}
 use Rattle.s38_code.specs.declared.reply.Reply.TheVariants.{Done, Signal, MustWait}
 use Rattle.s38_rules.specs.declared.verdict.Verdict.{Verdict}
 use Rattle.s38_rules.specs.declared.verdict.Verdict.TheVariants.{Permit, Wait, Refuse}
 use Rattle.s38_rules.specs.State.{State, waits}
-use Rattle.s38_rules.specs.Verdict.{awake_verdict}
 use Rattle.s38_rules.specs.Effect.{effect_of}
+use Rattle.s38_rules.specs.Forcing.{with_room}
+use Rattle.s38_rules.specs.Verdict.{ruled_verdict}
+
+-- ---- what becomes of an event
+
+-- the rules, and then the room in the store
+unfoldable pub awake_verdict : State → ℕ → Event → Verdict
+awake_verdict s p event = with_room s p event (ruled_verdict s p event)
+
+-- a process that waits goes on waiting
+unfoldable pub verdict_of : State → ℕ → Event → Verdict
+verdict_of s p event = if waits s p then Wait else awake_verdict s p event
+
+-- ---- the step
 
 pub record Stepped : Type 0 where
   pub reply : Reply

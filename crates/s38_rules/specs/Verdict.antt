@@ -257,11 +257,7 @@ start_verdict s p None = Permit
 start_verdict s p (Some x) = if is_early s.processes x.job.stage then Wait else of_failure (start_failure s.held x.job)
 
 -- a start waits for the earlier stages; an instruction is refused by the first rule that fails, or waits; an end never
-unfoldable pub awake_verdict : State → ℕ → Event → Verdict
-awake_verdict s p Start = start_verdict s p (process_entry s p)
-awake_verdict s p (Act depth request) = of_request s p request (refused_by (row request.op) s p depth request)
-awake_verdict s p (Finish cause) = Permit
-
--- a process that waits goes on waiting
-unfoldable pub verdict_of : State → ℕ → Event → Verdict
-verdict_of s p event = if waits s p then Wait else awake_verdict s p event
+unfoldable pub ruled_verdict : State → ℕ → Event → Verdict
+ruled_verdict s p Start = start_verdict s p (process_entry s p)
+ruled_verdict s p (Act depth request) = of_request s p request (refused_by (row request.op) s p depth request)
+ruled_verdict s p (Finish cause) = Permit

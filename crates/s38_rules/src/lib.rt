@@ -16,6 +16,7 @@ mod process;
 mod rows;
 mod stack;
 mod table;
+mod user_maps;
 mod verdict;
 
 pub use block::Block;
@@ -31,6 +32,7 @@ pub use process::{ProcessEntry, Started};
 pub use rows::{PrivateRow, RowList};
 pub use stack::Stack;
 pub use table::{Header, Table, TableRows};
+pub use user_maps::UserMaps;
 pub use verdict::Verdict;
 
 /// What is sent between threads.

@@ -11,7 +11,8 @@ use Rattle.s38_rules.specs.declared.process.ProcessEntry.{ProcessEntry}
 use Rattle.s38_rules.specs.declared.verdict.Verdict.TheVariants.{Refuse, Wait}
 use Rattle.s38_rules.specs.Rows.{row}
 use Rattle.s38_rules.specs.State.{State, is_early, is_last_ready, others_stand, process_entry, ready, ready_in, waits}
-use Rattle.s38_rules.specs.Verdict.{awake_verdict, may_wait, of_failure, of_request, refused_by, start_failure, start_verdict, unless_last}
+use Rattle.s38_rules.specs.Verdict.{may_wait, of_failure, of_request, refused_by, start_failure, start_verdict, unless_last}
+use Rattle.s38_rules.specs.Step.{awake_verdict}
 use Rattle.s38_run.proofs.ReadyLaws.{OtherReady}
 
 -- ---- a start of the current stage does not wait

@@ -10,7 +10,7 @@ ghost use Rattle.s38_units.specs.Ends.{is_unit_of, taken_back};
 use crate::units::decommit;
 use s38_base::ObjNum;
 use s38_commits::Unit;
-use s38_invoke::World;
+use s38_invoke::{Core, Profiles};
 use s38_objects::Objects;
 
 fn is_unit_of(process: u32, unit: Option<&Unit>) -> bool
@@ -23,7 +23,7 @@ fn is_unit_of(process: u32, unit: Option<&Unit>) -> bool
 }
 
 /// The unit of a commit block is taken back where it is of the process.
-fn take_back(world: &mut World<Objects>, process: u32, block: ObjNum)
+fn take_back(world: &mut Core<Objects, Profiles>, process: u32, block: ObjNum)
     ensures taken { world.new ≡ taken_back world.old process block.0 }
     ensures rising { IsRising world.old.units }
 {
@@ -34,7 +34,7 @@ fn take_back(world: &mut World<Objects>, process: u32, block: ObjNum)
 
 /// The units of a process are taken back, in order of the numbers of their commit blocks.
 #[tactic(auto, using(crate::proofs::UnitLaws::taken_first, crate::proofs::UnitLaws::taken_last, crate::proofs::UnitLaws::taken_next))]
-fn take_all_back(world: &mut World<Objects>, process: u32)
+fn take_all_back(world: &mut Core<Objects, Profiles>, process: u32)
     ensures { world.new ≡ all_decommitted world.old process world.old.units }
 {
     let mut block = ObjNum(0);
@@ -48,7 +48,7 @@ fn take_all_back(world: &mut World<Objects>, process: u32)
 /// A process has ended: its units were taken back, in order of the numbers of their commit blocks, and it holds no
 /// lock any more.
 #[tactic(auto, using(crate::proofs::UnitLaws::processes_stay))]
-pub fn end(world: &mut World<Objects>, process: u32)
+pub fn end(world: &mut Core<Objects, Profiles>, process: u32)
     ensures { world.new ≡ end_at world.old process (process_entry world.old process) }
 {
     if world.process_entry(process).is_some() {

@@ -12,7 +12,7 @@ ghost use Rattle.s38_units.specs.Logging.{objects_logged, units_logged};
 use crate::journaling::{journal_for, open_behind};
 use s38_base::{Bytes, NoMemory, ObjNum};
 use s38_commits::{UnitChange, Units};
-use s38_invoke::World;
+use s38_invoke::{Core, Profiles};
 use s38_journals::{EntryKind, Journal, JournalEntry};
 use s38_objects::Objects;
 
@@ -152,7 +152,7 @@ pub fn log_in(
 /// data space nothing is logged, and no memory taken. Where memory is refused nothing changes.
 #[tactic(auto, unfolding(s38_rules::specs::Changing::logged))]
 pub fn log_change(
-    world: &mut World<Objects>,
+    world: &mut Core<Objects, Profiles>,
     process: u32,
     block: ObjNum,
     change: &UnitChange,

@@ -12,7 +12,7 @@ use s38_base::exceptions::{
 };
 use s38_base::{Exception, ObjNum, Rule};
 use s38_commits::{Unit, Units};
-use s38_invoke::World;
+use s38_invoke::{Core, Profiles};
 use s38_journals::Journal;
 use s38_objects::Objects;
 use s38_operands::fails;
@@ -113,7 +113,7 @@ pub fn unit_rule(process: u32, unit: Option<&Unit>) -> Option<Exception>
 /// The commit block is there, the data space is journaled to its port, and its unit is of the process. Without a block
 /// nothing is asked.
 pub fn block_rules(
-    world: &World<Objects>,
+    world: &Core<Objects, Profiles>,
     process: u32,
     block: ObjNum,
     space: ObjNum,
@@ -184,7 +184,7 @@ fn is_unit_full(units: &Units, block: ObjNum, bytes: u32) -> bool
 /// For a change of so many bytes there is room in the journal space, for another unit, and in the unit. Of a data
 /// space that is not journaled nothing is asked.
 pub fn journal_rule(
-    world: &World<Objects>,
+    world: &Core<Objects, Profiles>,
     block: ObjNum,
     bytes: u32,
     journal: Option<ObjNum>,

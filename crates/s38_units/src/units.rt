@@ -9,7 +9,7 @@ ghost use Rattle.s38_rules.specs.Units.{all_undone, committed, decommitted, end_
 use crate::journaling::journal_for_block;
 use s38_base::{Bytes, ObjNum};
 use s38_commits::{Unit, UnitChange};
-use s38_invoke::World;
+use s38_invoke::{Core, Profiles};
 use s38_journals::{EntryKind, JournalEntry};
 use s38_objects::Objects;
 use s38_rules::DataBody;
@@ -90,7 +90,7 @@ fn undo_all(objects: &mut Objects, changes: &[UnitChange])
 
 /// What the unit of a commit block changed stays, and the journal says so; without a unit nothing happens.
 #[tactic(auto, using(crate::proofs::UnitLaws::ended_none))]
-pub fn commit(world: &mut World<Objects>, process: u32, block: ObjNum)
+pub fn commit(world: &mut Core<Objects, Profiles>, process: u32, block: ObjNum)
     ensures { world.new ≡ committed world.old process block.0 (unit_of world.old.units block.0) }
 {
     match world.units.end(block) {
@@ -118,7 +118,7 @@ fn undo_unit(objects: &mut Objects, journal: Option<ObjNum>, process: u32, unit:
 /// What the unit of a commit block changed is taken back, the newest change first, and the journal says so; without a
 /// unit nothing happens.
 #[tactic(auto, using(crate::proofs::UnitLaws::ended_none))]
-pub fn decommit(world: &mut World<Objects>, process: u32, block: ObjNum)
+pub fn decommit(world: &mut Core<Objects, Profiles>, process: u32, block: ObjNum)
     ensures { world.new ≡ decommitted world.old process block.0 (unit_of world.old.units block.0) }
 {
     match world.units.end(block) {

@@ -1,7 +1,7 @@
 use Rattle.std.proofs.Common.{◌+◌, ◌++◌, ◌∷◌, [], cond, refl, sym, ◌∙◌, ap}
 use Rattle.s38_rules.specs.State.{ready}
 use Rattle.s38_invoke.proofs.StageLaws.{filter_range}
-use Rattle.s38_invoke.proofs.world.World.ready_list.Goals as goal
+use Rattle.s38_invoke.proofs.core_state.Core.ready_list.Goals as goal
 
 pub loop-at-preserved : goal.loop-at-preserved
 loop-at-preserved g c =
