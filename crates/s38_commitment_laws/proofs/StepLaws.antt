@@ -17,6 +17,7 @@ use Rattle.s38_commits.specs.Units.{unit_of}
 use Rattle.s38_journals.specs.Journals.{can_write}
 use Rattle.s38_journals.specs.declared.entry.EntryKind.{EntryKind}
 use Rattle.s38_rules.specs.Units.{all_undone, end_entry}
+use Rattle.s38_rules.proofs.RoomLaws.{permitted_by_rules}
 use Rattle.s38_rules.proofs.VerdictLaws.{permitted_none}
 use Rattle.s38_rules.specs.Changes.{Changes, Entered, Then}
 use Rattle.s38_rules.specs.Journaling.{journal_for}
@@ -28,7 +29,7 @@ use Rattle.s38_rules.specs.Parts.{data_of, data_part, part_at, part_in}
 use Rattle.s38_rules.specs.Rows.{row}
 use Rattle.s38_rules.specs.State.{State, process_entry, waits}
 use Rattle.s38_rules.specs.Step.{awake_verdict, by_verdict, by_waiting, step}
-use Rattle.s38_rules.specs.Verdict.{refused_by}
+use Rattle.s38_rules.specs.Verdict.{refused_by, ruled_verdict}
 use Rattle.s38_rules.specs.declared.object.Object.{Object}
 use Rattle.s38_rules.specs.declared.process.ProcessEntry.{ProcessEntry}
 use Rattle.s38_rules.specs.declared.verdict.Verdict.TheVariants.{Permit}
@@ -76,9 +77,9 @@ finish_right s p None right = right
 finish_right s p (Some x) right = all_decommitted_right s.units s p right right.rising (all_stand s.units right.rising)
 
 event_right : (s : State) (p : ℕ) (e : Event) → IsRight s → awake_verdict s p e ≡ Permit → IsRight (effect_of s p e).state
-unfolding effect_of awake_verdict
+unfolding effect_of ruled_verdict
 event_right s p Start right may = start_right s p (process_entry s p) right
-event_right s p (Act d t) right may = effect_right s p d t right (permitted_none s p t (refused_by (row t.op) s p d t) may)
+event_right s p (Act d t) right may = effect_right s p d t right (permitted_none s p t (refused_by (row t.op) s p d t) (permitted_by_rules s p (Act d t) may))
 event_right s p (Finish cause) right may = finish_right s p (process_entry s p) right
 
 verdict_right : (s : State) (p : ℕ) (e : Event) (v : Verdict) → IsRight s → awake_verdict s p e ≡ v → IsRight (by_verdict s p e v).state

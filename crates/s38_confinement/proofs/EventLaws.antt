@@ -12,9 +12,10 @@ use Rattle.s38_rules.specs.Rows.{row}
 use Rattle.s38_rules.specs.State.{State, process_entry, waits}
 use Rattle.s38_rules.specs.Step.{Stepped, awake_verdict, by_verdict, by_waiting, step}
 use Rattle.s38_rules.specs.Users.{acting}
-use Rattle.s38_rules.specs.Verdict.{refused_by}
+use Rattle.s38_rules.specs.Verdict.{refused_by, ruled_verdict}
 use Rattle.s38_rules.specs.declared.verdict.Verdict.TheVariants.{Permit}
 use Rattle.s38_rules.specs.declared.verdict.Verdict.{Verdict}
+use Rattle.s38_rules.proofs.RoomLaws.{permitted_by_rules}
 use Rattle.s38_rules.proofs.VerdictLaws.{permitted_none}
 use Rattle.s38_confinement.proofs.EffectLaws.{effect_lessens}
 use Rattle.s38_confinement.proofs.PlainLaws.{all_decommitted_keeps}
@@ -32,11 +33,11 @@ pub record KeepsOut (users : List ℕ) (o r : ℕ) (s : State) (e : Entry) (t : 
 
 event_lessens : (s : State) (p : ℕ) (e : Event) (users : List ℕ) (o r : ℕ) → o ≢ 0 → NoWay s.held users o r → OfEvent (IsHarmless o r) e → ActsWithin users s p e → awake_verdict s p e ≡ Permit
     → Lessens s.held (effect_of s p e).state.held o r × OfVals (IsHarmless o r) (effect_of s p e).values × (UsesBy s p e o r → ⊥)
-unfolding effect_of awake_verdict
+unfolding effect_of ruled_verdict
 event_lessens s p Start users o r some closed asked within may =
     (elim (process_entry s p) as (λ x. Lessens s.held (start_at s p x).held o r) [ None ↦ lessens_same s.held o r | Some x ↦ lessens_same s.held o r ], All-nil (OfVal (IsHarmless o r)), λ uses. uses)
 event_lessens s p (Act d t) users o r some closed asked within may =
-    let none = permitted_none s p t (refused_by (row t.op) s p d t) may in
+    let none = permitted_none s p t (refused_by (row t.op) s p d t) (permitted_by_rules s p (Act d t) may) in
     let way = among s.held users (acting s p d) o r closed within in
     let done = effect_lessens s p d t o r way asked none in
     (done.0, done.1, unused s p d t o r some way asked none)

@@ -28,7 +28,7 @@ pub struct Core<T: Table, P: UserMaps> {
     pub units: Units,
 }
 
-impl<T: Table> Model for Core<T, P> {
+impl<T: Table, P: UserMaps> Model for Core<T, P> {
     ghost use Rattle.std.specs.Prelude.{◌≤◌, None};
     ghost use Rattle.s38_base.specs.Limits.{furthest};
     ghost use Rattle.s38_rules.specs.Kept.{Mirrors};

@@ -340,7 +340,8 @@ impl Stepper for Machine {
     ghost use Rattle.std.specs.Prelude.{None, Option, ℕ};
     ghost use Rattle.s38_code.specs.declared.event.Event.{Event};
     ghost use Rattle.s38_rules.specs.State.{State};
-    ghost use Rattle.s38_rules.specs.Legal.{IsProcess, IsSound, IsStep};
+    ghost use Rattle.s38_rules.specs.Legal.{IsProcess, IsSound};
+    ghost use Rattle.s38_machine.specs.Still.{IsStillStep};
 
     ghost Origin = { State };
 
@@ -352,7 +353,7 @@ impl Stepper for Machine {
 
     ghost is_sound = { IsSound };
 
-    ghost steps = { IsStep };
+    ghost steps = { IsStillStep };
 
     ghost may_ask = { λ origin process event entries. IsProcess origin process };
 

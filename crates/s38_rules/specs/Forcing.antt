@@ -125,9 +125,11 @@ abbrev pub room_rule : Room → ℕ → Option Exception
 room_rule room new =
     if nat_lt room.free new then Some (record { id = exceptions.store_full; operand = 0; rule = StoreFull new room.free }) else None
 
+-- a step that forces nothing needs no room
 abbrev pub store_rule : Option Room → List Forced → List Object → Option Exception
 store_rule None all os = None
-store_rule (Some room) all os = room_rule room (new_parts room all os)
+store_rule (Some room) [] os = None
+store_rule (Some room) (one ∷ more) os = room_rule room (new_parts room (one ∷ more) os)
 
 -- the last limit of a step that every other rule permits
 abbrev pub with_room : State → ℕ → Event → Verdict → Verdict

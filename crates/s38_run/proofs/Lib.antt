@@ -5,4 +5,5 @@ pub mod ReadyLaws
 pub mod Running
 pub mod Stepping
 pub mod TurnLaws
+mod Turned
 mod WaitLaws

@@ -17,6 +17,7 @@ use Rattle.s38_process.specs.Process.{is_finish}
 use Rattle.s38_rules.specs.Rows.{row}
 use Rattle.s38_rules.specs.Instruction.{AreKept}
 use Rattle.s38_rules.proofs.Laws.{act_keeps, all_decommitted_keeps, kept_count}
+use Rattle.s38_rules.proofs.RoomLaws.{end_permitted}
 use Rattle.s38_run.specs.Running.{HasEnded, OthersStay}
 use Rattle.s38_run.proofs.WaitLaws.{waits_beside}
 use Rattle.s38_run.proofs.ReadyLaws.{OtherReady, kept_outline, outline, start_outline, with_waiting}
@@ -87,10 +88,9 @@ effect_ends s p (Finish cause) f within = end_ends s p (process_entry s p) refl 
 
 -- an end is permitted
 finish_permits : (s : State) (p : ℕ) (e : Event) → is_finish e ≡ true → awake_verdict s p e ≡ Permit
-unfolding awake_verdict
 finish_permits s p Start f = cc
 finish_permits s p (Act depth request) f = cc
-finish_permits s p (Finish cause) f = refl
+finish_permits s p (Finish cause) f = end_permitted s p cause
 
 goes_by : (s : State) (p : ℕ) (e : Event) (v : Verdict) → p - 1 < length s.processes → ready s p ≡ true → awake_verdict s p e ≡ v → GoesTo s p e (by_verdict s p e v)
 goes_by s p e Permit within r is = record {

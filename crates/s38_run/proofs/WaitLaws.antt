@@ -11,7 +11,8 @@ use Rattle.s38_rules.specs.declared.process.ProcessEntry.{ProcessEntry}
 use Rattle.s38_rules.specs.declared.verdict.Verdict.TheVariants.{Refuse, Wait}
 use Rattle.s38_rules.specs.Rows.{row}
 use Rattle.s38_rules.specs.State.{State, is_early, is_last_ready, others_stand, process_entry, ready, ready_in, waits}
-use Rattle.s38_rules.specs.Verdict.{may_wait, of_failure, of_request, refused_by, start_failure, start_verdict, unless_last}
+use Rattle.s38_rules.specs.Verdict.{may_wait, of_failure, of_request, refused_by, ruled_verdict, start_failure, start_verdict, unless_last}
+use Rattle.s38_rules.proofs.RoomLaws.{waits_by_rules}
 use Rattle.s38_rules.specs.Step.{awake_verdict}
 use Rattle.s38_run.proofs.ReadyLaws.{OtherReady}
 
@@ -105,9 +106,12 @@ other_ready s p h =
       ready = ready_entry s (1 + one.place) one.entry (process_entry s (1 + one.place)) (subst (λ (k : ℕ). slice_get s.processes k ≡ Some one.entry) place one.there) one.ready;
     }
 
+ruled_beside : (s : State) (p : ℕ) (e : Event) → ruled_verdict s p e ≡ Wait → ready s p ≡ true → OtherReady s p
+unfolding ruled_verdict
+ruled_beside s p Start w r = absurd (start_goes s p (process_entry s p) r w)
+ruled_beside s p (Act depth request) w r = other_ready s p (request_waits s p request (refused_by (row request.op) s p depth request) w)
+ruled_beside s p (Finish cause) w r = cc
+
 -- where a process waits, another is ready, that may wake it
 pub waits_beside : (s : State) (p : ℕ) (e : Event) → awake_verdict s p e ≡ Wait → ready s p ≡ true → OtherReady s p
-unfolding awake_verdict
-waits_beside s p Start w r = absurd (start_goes s p (process_entry s p) r w)
-waits_beside s p (Act depth request) w r = other_ready s p (request_waits s p request (refused_by (row request.op) s p depth request) w)
-waits_beside s p (Finish cause) w r = cc
+waits_beside s p e w r = ruled_beside s p e (waits_by_rules s p e w) r

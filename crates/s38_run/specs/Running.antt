@@ -1,5 +1,5 @@
 -- How far the jobs have come, while they are run.
-use Rattle.std.specs.Prelude.{◌≡◌, ◌≢◌, ℕ, ◌+◌, ◌-◌, ◌*◌, ◌<◌, ◌==◌, Bool, true, not, MatchBool, List, [], ◌∷◌, ◌++◌, filter, length, map, slice_get, slice_index_or, Some, if◌then◌else◌}
+use Rattle.std.specs.Prelude.{◌≡◌, ◌≢◌, ℕ, ◌+◌, ◌-◌, ◌*◌, ◌<◌, ◌==◌, Bool, true, not, MatchBool, List, [], ◌∷◌, ◌++◌, filter, length, map, slice_get, slice_index_or, Some, Result, Ok, if◌then◌else◌}
 use Rattle.s38_code.specs.declared.deck.Job.{Job}
 use Rattle.s38_code.specs.declared.entry.Entry.{Entry}
 use Rattle.s38_code.specs.declared.event.Event.{Event}
@@ -7,6 +7,7 @@ use Rattle.s38_code.specs.declared.event.Event.TheVariants.{Start, Act, Finish}
 use Rattle.s38_code.specs.declared.made.CreateResult.{CreateResult}
 use Rattle.s38_code.specs.declared.reply.Reply.{Reply}
 use Rattle.s38_code.specs.declared.reply.Reply.TheVariants.{Done, Signal, MustWait}
+use Rattle.s38_code.specs.declared.step.StepFault.{StepFault}
 use Rattle.s38_code.specs.History.{entries_of}
 use Rattle.s38_rules.specs.declared.process.ProcessEntry.{ProcessEntry}
 use Rattle.s38_process.specs.declared.status.Status.{Status}
@@ -55,6 +56,15 @@ abbrev pub outcome_of : Event → Reply → Outcome
 outcome_of Start reply = outcome_by reply
 outcome_of (Act depth request) reply = outcome_by reply
 outcome_of (Finish cause) reply = outcomes.Finished
+
+-- a process asked one event of a machine, whose steps are given, was answered, and went on by the reply
+pub record HasAsked (Steps : Event → Result Reply StepFault → Type 0) (d : ProcessState) (o : Outcome) (d' : ProcessState) : Type 0 where
+  pub event : Event
+  pub asks : event_of d ≡ Some event
+  pub reply : Reply
+  pub steps : Steps event (Ok reply)
+  pub process : d' ≡ absorbed d reply
+  pub outcome : o ≡ outcome_of event reply
 
 -- one event was asked, and answered
 pub record Turned (number : ℕ) (m : Run) (d : ProcessState) (o : Outcome) (m' : Run) (d' : ProcessState) : Type 0 where

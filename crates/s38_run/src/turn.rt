@@ -2,16 +2,17 @@ ghost use Rattle.std.specs.Prelude.{◌≡◌, ◌≢◌, IfOk, Some, is_some, t
 ghost use Rattle.s38_code.specs.declared.event.Event.{Event};
 ghost use Rattle.s38_code.specs.declared.reply.Reply.{Reply};
 ghost use Rattle.s38_code.specs.Asking.{reply_by};
-ghost use Rattle.s38_process.specs.Process.{absorbed, is_finish};
+ghost use Rattle.s38_code.specs.History.{entries_of};
+ghost use Rattle.s38_process.specs.Process.{absorbed, event_of, is_finish};
 ghost use Rattle.s38_process.specs.declared.status.Status.{Status};
 ghost use Rattle.s38_rules.specs.Legal.{IsSound, IsProcess};
-ghost use Rattle.s38_run.specs.Running.{TookTurn, Turned, WentInPlace, doing, outcome_of};
+ghost use Rattle.s38_run.specs.Running.{HasAsked, TookTurn, Turned, WentInPlace, doing, outcome_of};
 ghost use Rattle.s38_run.specs.declared.job_state.JobState.{JobState};
 
 use crate::job_state::{JobState, begin};
 use crate::outcome::{Outcome, is_finish, outcome_of};
 use s38_base::NoMemory;
-use s38_code::{Asked, CreateResult, Job, Reply};
+use s38_code::{Asked, CreateResult, Job, Reply, StepFault, Stepper};
 use s38_machine::Machine;
 use s38_process::{Next, Process};
 use std::alloc::Global;
@@ -28,14 +29,14 @@ fn absorb(process: &mut Process, reply: &Reply, ends: bool) -> Result<Outcome, N
 }
 
 /// A process goes on by the reply to what it has just asked.
-fn absorb_asked(
-    machine: &Machine,
+fn absorb_asked<S: Stepper>(
+    machine: &S,
     process: &mut Process,
     asked: Asked,
     ends: bool,
 ) -> Result<Outcome, NoMemory>
-    requires { is_some (reply_by asked machine.now.history) ≡ true }
-    ensures { IfOk result (λ outcome. (reply : Reply) → reply_by asked machine.now.history ≡ Some reply
+    requires { is_some (reply_by asked (S.history machine.now)) ≡ true }
+    ensures { IfOk result (λ outcome. (reply : Reply) → reply_by asked (S.history machine.now) ≡ Some reply
         → (process.new ≡ absorbed process.old reply) × ((event : Event) → ends ≡ is_finish event → outcome ≡ outcome_of event reply)) }
 {
     match asked {
@@ -47,24 +48,49 @@ fn absorb_asked(
     }
 }
 
-/// One event of a process that has not ended is asked and answered.
-#[tactic(auto, using(crate::proofs::Asking::none_asked))]
-fn turn(machine: &mut Machine, process: &mut Process, number: u32) -> Result<Outcome, NoMemory>
+/// One event of a process that has not ended is asked of a machine, and answered. Where the machine makes no answer, the
+/// process stands as it stood.
+pub fn turn<S: Stepper>(
+    machine: &mut S,
+    process: &mut Process,
+    number: u32,
+) -> Result<Outcome, StepFault>
+    requires sound { S.is_sound machine.old }
+    requires may { (event : Event) → event_of process.old ≡ Some event → S.may_ask (S.origin machine.old) number event (entries_of number (S.history machine.old)) }
+    requires going { process.old.status ≢ Status.Ended }
+    ensures { IfOk result (λ outcome. HasAsked (λ event answer. S.steps machine.old number event answer machine.new) process.old outcome process.new) }
+{
+    match process.next() {
+        Err(_) => Err(StepFault::NoMemory),
+        Ok(Next::Ended) => unreachable!(),
+        Ok(Next::Step(event)) => {
+            let ends = is_finish(&event);
+            match machine.ask(number, event) {
+                Err(fault) => Err(fault),
+                Ok(asked) => match absorb_asked(machine, process, asked, ends) {
+                    Ok(outcome) => Ok(outcome),
+                    Err(_) => Err(StepFault::NoMemory),
+                },
+            }
+        }
+    }
+}
+
+/// The same of the machine of a run, in which a want of memory is the only fault.
+#[tactic(auto, using(crate::proofs::Turned::turned))]
+fn machine_turn(
+    machine: &mut Machine,
+    process: &mut Process,
+    number: u32,
+) -> Result<Outcome, NoMemory>
     requires sound { IsSound machine.old }
     requires may { IsProcess machine.old.origin number }
     requires going { process.old.status ≢ Status.Ended }
     ensures { IfOk result (λ outcome. Turned number machine.old process.old outcome machine.new process.new) }
 {
-    match process.next() {
-        Err(fault) => Err(fault),
-        Ok(Next::Ended) => unreachable!(),
-        Ok(Next::Step(event)) => {
-            let ends = is_finish(&event);
-            match machine.ask(number, event) {
-                Err(_) => Err(NoMemory),
-                Ok(asked) => absorb_asked(machine, process, asked, ends),
-            }
-        }
+    match turn(machine, process, number) {
+        Ok(outcome) => Ok(outcome),
+        Err(_) => Err(NoMemory),
     }
 }
 
@@ -85,7 +111,7 @@ fn running_turn(
     let _ = job;
     let _ = made;
     match state {
-        JobState::Running(process) => turn(machine, process, number),
+        JobState::Running(process) => machine_turn(machine, process, number),
         _ => unreachable!(),
     }
 }

@@ -9,8 +9,8 @@ use Rattle.s38_code.specs.declared.entry.Entry.{Entry}
 use Rattle.s38_code.specs.declared.made.CheckedTemplate.{CheckedTemplate}
 use Rattle.s38_code.specs.declared.made.CreateResult.{CreateResult}
 use Rattle.s38_rules.specs.State.{State}
-use Rattle.s38_rules.specs.Legal.{AreMoments, IsSound, Leads, Run, begun, no_moment}
-use Rattle.s38_rules.proofs.Laws.{moments_stay}
+use Rattle.s38_rules.specs.Legal.{IsSound, Leads, Run, begun, no_moment}
+use Rattle.s38_rules.proofs.Laws.{marked_still}
 use Rattle.s38_rules.specs.Held.{Held}
 use Rattle.s38_rules.specs.Opening.{held_first, held_installed, state_of}
 use Rattle.s38_run.specs.Picked.{Picked}
@@ -62,11 +62,10 @@ pub marks_of_run : (held : Held) (deck : Deck) (ts : List CheckedTemplate) (begu
     → (m.first ≡ begun_by.first) × (m.moment ≡ begun_by.first) → history ≡ m.history → marks ≡ m.marks → AreMarks marks history
 marks_of_run held deck ts begun_by m history marks begins sound still h k =
     let start : begun_by.first ≡ no_moment = ap (λ (r : Run). r.first) begins in
-    let moments : AreMoments no_moment m.marks no_moment =
-    subst (λ (n : ℕ). AreMoments n m.marks no_moment) (still.0 ∙ start) (subst (λ (n : ℕ). AreMoments m.first m.marks n) (still.1 ∙ start) sound.stamped) in
+    let here = marked_still m sound.stored (still.1 ∙ sym still.0) in
     record {
-      count = ap length k ∙ sound.marked ∙ ap length (sym h);
-      stamped = subst (λ (xs : List ℕ). All IsUnstored xs) (sym k) (moments_stay no_moment m.marks moments);
+      count = ap length k ∙ here.0 ∙ ap length (sym h);
+      stamped = subst (λ (xs : List ℕ). All IsUnstored xs) (sym k) (subst (λ (n : ℕ). All (λ mark. mark ≡ n) m.marks) (still.0 ∙ start) here.1);
     }
 
 -- ---- what a text comes to

@@ -8,8 +8,9 @@ use Rattle.s38_code.specs.declared.step.StepFault.{StepFault}
 use Rattle.s38_code.specs.Asking.{answer_by, reply_by}
 use Rattle.s38_code.specs.History.{IsAnswered}
 use Rattle.s38_rules.specs.Step.{step}
-use Rattle.s38_rules.specs.Legal.{IsStep, Run, after}
+use Rattle.s38_rules.specs.Legal.{Run, after}
 use Rattle.s38_rules.proofs.Laws.{answered_after, origin_after}
+use Rattle.s38_machine.specs.Still.{IsStillStep}
 use Rattle.s38_machine.proofs.AskingLaws.{same_moment}
 use Rattle.s38_machine.proofs.machine.MachineStepper.ask.Goals as goal
 
@@ -38,10 +39,11 @@ no_earlier : (m n : Run) (p : ℕ) (e : Event) → n ≡ after m m.moment p e �
 no_earlier m n p e is = let same = same_moment m n p e is in omega (arith, same)
 
 stepped : (r : Result Asked StepFault) (m n : Run) (p : ℕ) (e : Event) → Replied r m n p e → OnOk r (n ≡ after m m.moment p e) → OnErr r (n ≡ m)
-    → IfSome (answer_by r n.history) (λ answer. IsStep m p e answer n)
+    → IfSome (answer_by r n.history) (λ answer. IsStillStep m p e answer n)
 stepped (Ok x) m n p e is ok err =
-    subst (λ (o : Option Reply). IfSome (option_map (λ (y : Reply). Ok y) o) (λ answer. IsStep m p e answer n)) (sym is) (record { reply = refl; moved = at_moment m n p e ok; later = no_earlier m n p e ok; kept = tt })
-stepped (Err x) m n p e is ok err = record { reply = tt; moved = tt; later = subst (λ (k : Run). m.moment ≤ k.moment) (sym err) (omega arith); kept = err }
+    subst (λ (o : Option Reply). IfSome (option_map (λ (y : Reply). Ok y) o) (λ answer. IsStillStep m p e answer n)) (sym is) (record { reply = refl; moved = at_moment m n p e ok; later = no_earlier m n p e ok; kept = tt }, same_moment m n p e ok)
+stepped (Err x) m n p e is ok err =
+    (record { reply = tt; moved = tt; later = subst (λ (k : Run). m.moment ≤ k.moment) (sym err) (omega arith); kept = err }, ap (λ (k : Run). k.moment) err)
 
 pub returns-clause-steps : goal.returns-clause-steps
 returns-clause-steps c = stepped c.ask.result c.args.self.now c.ask.new.self c.args.process c.args.event c.ask.ensures.reply c.ask.ensures.ok c.ask.ensures.err

@@ -5,8 +5,9 @@ use Rattle.s38_code.specs.declared.reply.Reply.{Reply}
 use Rattle.s38_code.specs.declared.step.StepFault.{StepFault}
 use Rattle.s38_code.specs.History.{IsAnswered}
 use Rattle.s38_rules.specs.Step.{step}
-use Rattle.s38_rules.specs.Legal.{IsStep, Run, after}
+use Rattle.s38_rules.specs.Legal.{Run, after}
 use Rattle.s38_rules.proofs.Laws.{answered_after, origin_after}
+use Rattle.s38_machine.specs.Still.{IsStillStep}
 use Rattle.s38_machine.proofs.AskingLaws.{same_moment}
 use Rattle.s38_machine.proofs.machine.MachineStepper.step.Goals as goal
 
@@ -36,9 +37,11 @@ at_moment m n p e is = subst (λ k. n ≡ after m k p e) (sym (same_moment m n p
 no_earlier : (m n : Run) (p : ℕ) (e : Event) → n ≡ after m m.moment p e → m.moment ≤ n.moment
 no_earlier m n p e is = let same = same_moment m n p e is in omega (arith, same)
 
-stepped : (r : Result Reply StepFault) (m n : Run) (p : ℕ) (e : Event) → Stepped r m n p e → OnErr r (n ≡ m) → IsStep m p e r n
-stepped (Ok x) m n p e ok err = record { reply = sym ok.0; moved = at_moment m n p e ok.1; later = no_earlier m n p e ok.1; kept = tt }
-stepped (Err x) m n p e ok err = record { reply = tt; moved = tt; later = subst (λ (k : Run). m.moment ≤ k.moment) (sym err) (omega arith); kept = err }
+stepped : (r : Result Reply StepFault) (m n : Run) (p : ℕ) (e : Event) → Stepped r m n p e → OnErr r (n ≡ m) → IsStillStep m p e r n
+stepped (Ok x) m n p e ok err =
+    (record { reply = sym ok.0; moved = at_moment m n p e ok.1; later = no_earlier m n p e ok.1; kept = tt }, same_moment m n p e ok.1)
+stepped (Err x) m n p e ok err =
+    (record { reply = tt; moved = tt; later = subst (λ (k : Run). m.moment ≤ k.moment) (sym err) (omega arith); kept = err }, ap (λ (k : Run). k.moment) err)
 
 pub returns-clause-steps : goal.returns-clause-steps
 returns-clause-steps c = stepped c.step.result c.args.self.now c.step.new.self c.args.process c.args.event.now c.step.ensures.ok c.step.ensures.err
