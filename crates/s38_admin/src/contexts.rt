@@ -19,13 +19,10 @@ use s38_changes::{
     creation_changes, creation_fails, creation_gives, destroy, destruction_needs, home,
     is_taken_beside, machine_needs, move_to, of_machine, rename_to,
 };
-use s38_code::{Operand, Request, Val};
+use s38_code::{Operand, Val};
 use s38_invoke::{Core, Profiles};
 use s38_objects::{Objects, kind_of};
-use s38_operands::{
-    Needs, fails, fitted, id_at, is_given, is_machine, on_implied, on_object, rights_at, room_at,
-    target,
-};
+use s38_operands::{Act, Needs, fails, fitted, id_at, is_given, is_machine, on_implied, on_object, rights_at, room_at, target};
 use s38_rules::{Body, Creating, Named, Object, Sought};
 use std::alloc::Global;
 
@@ -291,14 +288,12 @@ fn matctx_gives(alloc: Global, objects: &Objects, operands: &[Operand]) -> Resul
 
 /// What an instruction of contexts needs.
 #[tactic(auto, unfolding(s38_rules::specs::Contexts::contexts_row))]
-pub fn needs(world: &Core<Objects, Profiles>, process: u32, depth: u16, request: &Request) -> Needs
-    ensures { result ≡ (contexts_row request.now.op).needs world.now process depth request.now }
+pub fn needs(world: &Core<Objects, Profiles>, act: Act<'_>) -> Needs
+    ensures { result ≡ (contexts_row act.request.now.op).needs world.now act.process act.depth act.request.now }
 {
-    let _ = process;
-    let _ = depth;
     let objects = &world.objects;
-    let operands = request.operands.as_slice();
-    match request.op {
+    let operands = act.request.operands.as_slice();
+    match act.request.op {
         Op::Crtctx => machine_needs(),
         Op::Desctx => destruction_needs(Kind::Context),
         Op::Modadr => modadr_needs(objects, operands),
@@ -310,19 +305,13 @@ pub fn needs(world: &Core<Objects, Profiles>, process: u32, depth: u16, request:
 
 /// The first of its conditions and limits that fails.
 #[tactic(auto, unfolding(s38_rules::specs::Contexts::contexts_row))]
-pub fn conditions(
-    world: &Core<Objects, Profiles>,
-    process: u32,
-    depth: u16,
-    request: &Request,
-) -> Option<Exception>
-    ensures { result ≡ (contexts_row request.now.op).fails world.now process depth request.now }
+pub fn conditions(world: &Core<Objects, Profiles>, act: Act<'_>) -> Option<Exception>
+    ensures { result ≡ (contexts_row act.request.now.op).fails world.now act.process act.depth act.request.now }
 {
-    let _ = depth;
     let objects = &world.objects;
-    let operands = request.operands.as_slice();
-    match request.op {
-        Op::Crtctx => crtctx_fails(world, process, operands),
+    let operands = act.request.operands.as_slice();
+    match act.request.op {
+        Op::Crtctx => crtctx_fails(world, act.process, operands),
         Op::Desctx => desctx_fails(objects, operands),
         Op::Modadr => modadr_fails(objects, operands),
         Op::Rename => rename_fails(objects, operands),
@@ -332,20 +321,12 @@ pub fn conditions(
 
 /// The value for its receiver.
 #[tactic(auto, unfolding(s38_rules::specs::Contexts::contexts_row))]
-pub fn value(
-    alloc: Global,
-    world: &Core<Objects, Profiles>,
-    process: u32,
-    depth: u16,
-    request: &Request,
-) -> Result<Option<Val>, NoMemory>
-    ensures { IfOk result (λ value. value ≡ (contexts_row request.now.op).gives world.now process depth request.now) }
+pub fn value(alloc: Global, world: &Core<Objects, Profiles>, act: Act<'_>) -> Result<Option<Val>, NoMemory>
+    ensures { IfOk result (λ value. value ≡ (contexts_row act.request.now.op).gives world.now act.process act.depth act.request.now) }
 {
-    let _ = process;
-    let _ = depth;
     let objects = &world.objects;
-    let operands = request.operands.as_slice();
-    match request.op {
+    let operands = act.request.operands.as_slice();
+    match act.request.op {
         Op::Crtctx => Ok(Some(creation_gives(objects, &new_context(objects, operands)))),
         Op::Matctx => Ok(Some(matctx_gives(alloc, objects, operands)?)),
         _ => Ok(None),
@@ -354,20 +335,14 @@ pub fn value(
 
 /// What it changes, where it doesn't fail; where memory is refused nothing changes.
 #[tactic(auto, unfolding(s38_rules::specs::Contexts::contexts_row))]
-pub fn apply(
-    alloc: Global,
-    world: &mut Core<Objects, Profiles>,
-    process: u32,
-    depth: u16,
-    request: &Request,
-) -> Result<(), NoMemory>
-    requires { (contexts_row request.now.op).fails world.old process depth request.now ≡ None }
-    ensures ok { OnOk result (world.new ≡ done world.old process ((contexts_row request.now.op).changes world.old process depth request.now)) }
+pub fn apply(alloc: Global, world: &mut Core<Objects, Profiles>, act: Act<'_>) -> Result<(), NoMemory>
+    requires { (contexts_row act.request.now.op).fails world.old act.process act.depth act.request.now ≡ None }
+    ensures ok { OnOk result (world.new ≡ done world.old act.process ((contexts_row act.request.now.op).changes world.old act.process act.depth act.request.now)) }
     ensures err { OnErr result (world.new ≡ world.old) }
 {
-    let operands = request.operands.as_slice();
-    match request.op {
-        Op::Crtctx => crtctx(alloc, world, process, operands),
+    let operands = act.request.operands.as_slice();
+    match act.request.op {
+        Op::Crtctx => crtctx(alloc, world, act.process, operands),
         Op::Modadr => modadr(world, operands),
         Op::Rename => rename(world, operands),
         Op::Desctx => {

@@ -1,4 +1,5 @@
 //! Authority over objects: granted and retracted, an object given to another owner, and what is available looked at.
+ghost use Rattle.s38_rules.specs.State.{State};
 ghost use Rattle.s38_rules.specs.Changes.{done};
 ghost use Rattle.std.specs.Prelude.{◌≡◌, ◌==◌, None, IfOk, OnOk, OnErr, length, map};
 ghost use Rattle.std.specs.List.{list_any};
@@ -17,12 +18,10 @@ use s38_base::{
     Bytes, Category, Exception, Kind, NoMemory, ObjNum, Op, Pointer, Rights, Special, UserNum,
 };
 use s38_changes::{give_to, set_public, set_row, taker_rule};
-use s38_code::{Operand, Request, Val};
+use s38_code::{Operand, Val};
 use s38_invoke::{Core, Profiles};
 use s38_objects::Objects;
-use s38_operands::{
-    Needs, fails, fitted, governed, is_given, on_object, pointer_at, rights_at, room_at, target,
-};
+use s38_operands::{Act, Needs, fails, fitted, governed, is_given, on_object, pointer_at, rights_at, room_at, target};
 use s38_rules::{Claim, Object, Sought};
 use std::alloc::Global;
 
@@ -269,14 +268,11 @@ fn matauobj_gives(alloc: Global, objects: &Objects, operands: &[Operand]) -> Res
 
 /// What an instruction of authority needs.
 #[tactic(auto, unfolding(s38_rules::specs::Grants::grants_row, s38_rules::specs::Grants::testau_needs, s38_rules::specs::Grants::matauobj_needs))]
-pub fn needs(world: &Core<Objects, Profiles>, process: u32, depth: u16, request: &Request) -> Needs
-    ensures { result ≡ (grants_row request.now.op).needs world.now process depth request.now }
+pub fn needs(act: Act<'_>) -> Needs
+    ensures { (s : State) → result ≡ (grants_row act.request.now.op).needs s act.process act.depth act.request.now }
 {
-    let _ = world;
-    let _ = process;
-    let _ = depth;
-    let operands = request.operands.as_slice();
-    match request.op {
+    let operands = act.request.operands.as_slice();
+    match act.request.op {
         Op::Grant | Op::Retract => grant_needs(operands),
         Op::Xfro => xfro_needs(),
         Op::Testau => on_object(2, Sought::Any, Rights(0), None),
@@ -293,29 +289,22 @@ pub fn needs(world: &Core<Objects, Profiles>, process: u32, depth: u16, request:
 
 /// The special authority that an acting user must have.
 #[tactic(auto, unfolding(s38_rules::specs::Grants::grants_row))]
-pub fn special(world: &Core<Objects, Profiles>, process: u32, depth: u16, request: &Request) -> Special
-    ensures { result.0 ≡ (grants_row request.now.op).special world.now process depth request.now }
+pub fn special(world: &Core<Objects, Profiles>, act: Act<'_>) -> Special
+    ensures { result.0 ≡ (grants_row act.request.now.op).special world.now act.process act.depth act.request.now }
 {
-    match request.op {
-        Op::Matauobj => matauobj_special(world, process, depth, request.operands.as_slice()),
+    match act.request.op {
+        Op::Matauobj => matauobj_special(world, act.process, act.depth, act.request.operands.as_slice()),
         _ => Special(0),
     }
 }
 
 /// The first of its conditions and limits that fails.
 #[tactic(auto, unfolding(s38_rules::specs::Grants::grants_row))]
-pub fn conditions(
-    world: &Core<Objects, Profiles>,
-    process: u32,
-    depth: u16,
-    request: &Request,
-) -> Option<Exception>
-    ensures { result ≡ (grants_row request.now.op).fails world.now process depth request.now }
+pub fn conditions(world: &Core<Objects, Profiles>, act: Act<'_>) -> Option<Exception>
+    ensures { result ≡ (grants_row act.request.now.op).fails world.now act.process act.depth act.request.now }
 {
-    let _ = process;
-    let _ = depth;
-    let operands = request.operands.as_slice();
-    match request.op {
+    let operands = act.request.operands.as_slice();
+    match act.request.op {
         Op::Grant => grant_fails(&world.objects, operands),
         Op::Xfro => xfro_fails(world, operands),
         _ => None,
@@ -324,18 +313,12 @@ pub fn conditions(
 
 /// The value for its receiver.
 #[tactic(auto, unfolding(s38_rules::specs::Grants::grants_row))]
-pub fn value(
-    alloc: Global,
-    world: &Core<Objects, Profiles>,
-    process: u32,
-    depth: u16,
-    request: &Request,
-) -> Result<Option<Val>, NoMemory>
-    ensures { IfOk result (λ value. value ≡ (grants_row request.now.op).gives world.now process depth request.now) }
+pub fn value(alloc: Global, world: &Core<Objects, Profiles>, act: Act<'_>) -> Result<Option<Val>, NoMemory>
+    ensures { IfOk result (λ value. value ≡ (grants_row act.request.now.op).gives world.now act.process act.depth act.request.now) }
 {
-    let operands = request.operands.as_slice();
-    match request.op {
-        Op::Testau => Ok(Some(testau_gives(alloc, world, process, depth, operands)?)),
+    let operands = act.request.operands.as_slice();
+    match act.request.op {
+        Op::Testau => Ok(Some(testau_gives(alloc, world, act.process, act.depth, operands)?)),
         Op::Matau => Ok(Some(matau_gives(alloc, &world.objects, operands)?)),
         Op::Matauobj => Ok(Some(matauobj_gives(alloc, &world.objects, operands)?)),
         _ => Ok(None),
@@ -344,22 +327,13 @@ pub fn value(
 
 /// What it changes, where it doesn't fail; where memory is refused nothing changes.
 #[tactic(auto, unfolding(s38_rules::specs::Grants::grants_row))]
-pub fn apply(
-    alloc: Global,
-    world: &mut Core<Objects, Profiles>,
-    process: u32,
-    depth: u16,
-    request: &Request,
-) -> Result<(), NoMemory>
-    requires { (grants_row request.now.op).fails world.old process depth request.now ≡ None }
-    ensures ok { OnOk result (world.new ≡ done world.old process ((grants_row request.now.op).changes world.old process depth request.now)) }
+pub fn apply(alloc: Global, world: &mut Core<Objects, Profiles>, act: Act<'_>) -> Result<(), NoMemory>
+    requires { (grants_row act.request.now.op).fails world.old act.process act.depth act.request.now ≡ None }
+    ensures ok { OnOk result (world.new ≡ done world.old act.process ((grants_row act.request.now.op).changes world.old act.process act.depth act.request.now)) }
     ensures err { OnErr result (world.new ≡ world.old) }
 {
-    let _ = alloc;
-    let _ = process;
-    let _ = depth;
-    let operands = request.operands.as_slice();
-    match request.op {
+    let operands = act.request.operands.as_slice();
+    match act.request.op {
         Op::Grant => grant(world, operands),
         Op::Retract => retract(world, operands),
         Op::Xfro => xfro(world, operands),

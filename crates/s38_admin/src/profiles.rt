@@ -1,4 +1,5 @@
 //! User profiles: made, changed and destroyed. Each needs the special authority over profiles.
+ghost use Rattle.s38_rules.specs.State.{State};
 ghost use Rattle.s38_rules.specs.Changes.{done};
 ghost use Rattle.s38_rules.specs.Operands.{target};
 ghost use Rattle.s38_rules.specs.Parts.{set_profile};
@@ -13,10 +14,10 @@ use s38_changes::{
     creation_changes, creation_fails, creation_gives, destroy, destruction_needs, is_owner,
     machine_needs, of_machine, set_profile,
 };
-use s38_code::{Operand, Request, Val};
+use s38_code::{Operand, Val};
 use s38_invoke::{Core, Profiles};
 use s38_objects::Objects;
-use s38_operands::{Needs, fails, on_object, target, whole_at, word_at};
+use s38_operands::{Act, Needs, fails, on_object, target, whole_at, word_at};
 use s38_rules::{Body, Creating, ProcessEntry, Sought, Started};
 use std::alloc::Global;
 
@@ -148,14 +149,11 @@ fn desup_fails(world: &Core<Objects, Profiles>, operands: &[Operand]) -> Option<
 
 /// What an instruction of profiles needs.
 #[tactic(auto, unfolding(s38_rules::specs::Profiles::profiles_row, s38_rules::specs::Profiles::modup_needs))]
-pub fn needs(world: &Core<Objects, Profiles>, process: u32, depth: u16, request: &Request) -> Needs
-    ensures { result ≡ (profiles_row request.now.op).needs world.now process depth request.now }
+pub fn needs(act: Act<'_>) -> Needs
+    ensures { (s : State) → result ≡ (profiles_row act.request.now.op).needs s act.process act.depth act.request.now }
 {
-    let _ = world;
-    let _ = process;
-    let _ = depth;
     let profile = Sought::Of(Kind::Profile);
-    match request.op {
+    match act.request.op {
         Op::Crtup => machine_needs(),
         Op::Modup => on_object(1, profile, Rights(0), Some(Category::Change)),
         Op::Desup => destruction_needs(Kind::Profile),
@@ -165,13 +163,10 @@ pub fn needs(world: &Core<Objects, Profiles>, process: u32, depth: u16, request:
 
 /// The special authority over profiles.
 #[tactic(auto, unfolding(s38_rules::specs::Profiles::profiles_row))]
-pub fn special(world: &Core<Objects, Profiles>, process: u32, depth: u16, request: &Request) -> Special
-    ensures { result.0 ≡ (profiles_row request.now.op).special world.now process depth request.now }
+pub fn special(act: Act<'_>) -> Special
+    ensures { (s : State) → result.0 ≡ (profiles_row act.request.now.op).special s act.process act.depth act.request.now }
 {
-    let _ = world;
-    let _ = process;
-    let _ = depth;
-    match request.op {
+    match act.request.op {
         Op::Crtup | Op::Modup | Op::Desup => Special::PROFILE,
         _ => Special(0),
     }
@@ -179,18 +174,12 @@ pub fn special(world: &Core<Objects, Profiles>, process: u32, depth: u16, reques
 
 /// The first of its conditions and limits that fails.
 #[tactic(auto, unfolding(s38_rules::specs::Profiles::profiles_row))]
-pub fn conditions(
-    world: &Core<Objects, Profiles>,
-    process: u32,
-    depth: u16,
-    request: &Request,
-) -> Option<Exception>
-    ensures { result ≡ (profiles_row request.now.op).fails world.now process depth request.now }
+pub fn conditions(world: &Core<Objects, Profiles>, act: Act<'_>) -> Option<Exception>
+    ensures { result ≡ (profiles_row act.request.now.op).fails world.now act.process act.depth act.request.now }
 {
-    let _ = depth;
-    let operands = request.operands.as_slice();
-    match request.op {
-        Op::Crtup => crtup_fails(world, process, operands),
+    let operands = act.request.operands.as_slice();
+    match act.request.op {
+        Op::Crtup => crtup_fails(world, act.process, operands),
         Op::Modup => modup_fails(&world.objects, operands),
         Op::Desup => desup_fails(world, operands),
         _ => None,
@@ -199,20 +188,11 @@ pub fn conditions(
 
 /// The value for its receiver.
 #[tactic(auto, unfolding(s38_rules::specs::Profiles::profiles_row))]
-pub fn value(
-    alloc: Global,
-    world: &Core<Objects, Profiles>,
-    process: u32,
-    depth: u16,
-    request: &Request,
-) -> Result<Option<Val>, NoMemory>
-    ensures { IfOk result (λ value. value ≡ (profiles_row request.now.op).gives world.now process depth request.now) }
+pub fn value(alloc: Global, world: &Core<Objects, Profiles>, act: Act<'_>) -> Result<Option<Val>, NoMemory>
+    ensures { IfOk result (λ value. value ≡ (profiles_row act.request.now.op).gives world.now act.process act.depth act.request.now) }
 {
-    let _ = alloc;
-    let _ = process;
-    let _ = depth;
-    let operands = request.operands.as_slice();
-    match request.op {
+    let operands = act.request.operands.as_slice();
+    match act.request.op {
         Op::Crtup => Ok(Some(creation_gives(
             &world.objects,
             &new_profile(&world.objects, operands),
@@ -223,21 +203,14 @@ pub fn value(
 
 /// What it changes, where it doesn't fail; where memory is refused nothing changes.
 #[tactic(auto, unfolding(s38_rules::specs::Profiles::profiles_row))]
-pub fn apply(
-    alloc: Global,
-    world: &mut Core<Objects, Profiles>,
-    process: u32,
-    depth: u16,
-    request: &Request,
-) -> Result<(), NoMemory>
-    requires { (profiles_row request.now.op).fails world.old process depth request.now ≡ None }
-    ensures ok { OnOk result (world.new ≡ done world.old process ((profiles_row request.now.op).changes world.old process depth request.now)) }
+pub fn apply(alloc: Global, world: &mut Core<Objects, Profiles>, act: Act<'_>) -> Result<(), NoMemory>
+    requires { (profiles_row act.request.now.op).fails world.old act.process act.depth act.request.now ≡ None }
+    ensures ok { OnOk result (world.new ≡ done world.old act.process ((profiles_row act.request.now.op).changes world.old act.process act.depth act.request.now)) }
     ensures err { OnErr result (world.new ≡ world.old) }
 {
-    let _ = depth;
-    let operands = request.operands.as_slice();
-    match request.op {
-        Op::Crtup => crtup(alloc, world, process, operands),
+    let operands = act.request.operands.as_slice();
+    match act.request.op {
+        Op::Crtup => crtup(alloc, world, act.process, operands),
         Op::Modup => {
             modup(world, operands);
             Ok(())

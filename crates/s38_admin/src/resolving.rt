@@ -9,10 +9,10 @@ use s38_base::limits::MACHINE_CONTEXT;
 use s38_base::{
     Category, Exception, HeldPointer, Id, Kind, NoMemory, ObjNum, Op, Pointer, Rights, UserNum,
 };
-use s38_code::{Operand, Request, Val};
+use s38_code::{Operand, Val};
 use s38_invoke::{Core, Profiles};
 use s38_objects::{Objects, kind_of};
-use s38_operands::{Needs, id_at, is_list, is_machine, need, pointer_at, rights_at, target};
+use s38_operands::{Act, Needs, id_at, is_list, is_machine, need, pointer_at, rights_at, target};
 use s38_rules::{Located, Named, Object, PointerKind, Sought};
 use std::alloc::Global;
 
@@ -252,11 +252,11 @@ fn setspfp_gives(objects: &Objects, operands: &[Operand]) -> Val
 
 /// What an instruction of resolving needs.
 #[tactic(auto, unfolding(s38_rules::specs::Resolving::resolving_row, s38_rules::specs::Resolving::setspfp_needs))]
-pub fn needs(world: &Core<Objects, Profiles>, process: u32, depth: u16, request: &Request) -> Needs
-    ensures { result ≡ (resolving_row request.now.op).needs world.now process depth request.now }
+pub fn needs(world: &Core<Objects, Profiles>, act: Act<'_>) -> Needs
+    ensures { result ≡ (resolving_row act.request.now.op).needs world.now act.process act.depth act.request.now }
 {
-    match request.op {
-        Op::Rslvsp => rslvsp_needs(world, process, depth, request.operands.as_slice()),
+    match act.request.op {
+        Op::Rslvsp => rslvsp_needs(world, act.process, act.depth, act.request.operands.as_slice()),
         Op::Setspfp => need(
             2,
             Named::Written,
@@ -271,35 +271,23 @@ pub fn needs(world: &Core<Objects, Profiles>, process: u32, depth: u16, request:
 
 /// The first of its conditions and limits that fails.
 #[tactic(auto, unfolding(s38_rules::specs::Resolving::resolving_row))]
-pub fn conditions(
-    world: &Core<Objects, Profiles>,
-    process: u32,
-    depth: u16,
-    request: &Request,
-) -> Option<Exception>
-    ensures { result ≡ (resolving_row request.now.op).fails world.now process depth request.now }
+pub fn conditions(world: &Core<Objects, Profiles>, act: Act<'_>) -> Option<Exception>
+    ensures { result ≡ (resolving_row act.request.now.op).fails world.now act.process act.depth act.request.now }
 {
-    match request.op {
-        Op::Rslvsp => rslvsp_fails(world, process, depth, request.operands.as_slice()),
+    match act.request.op {
+        Op::Rslvsp => rslvsp_fails(world, act.process, act.depth, act.request.operands.as_slice()),
         _ => None,
     }
 }
 
 /// The value for its receiver.
 #[tactic(auto, unfolding(s38_rules::specs::Resolving::resolving_row))]
-pub fn value(
-    alloc: Global,
-    world: &Core<Objects, Profiles>,
-    process: u32,
-    depth: u16,
-    request: &Request,
-) -> Result<Option<Val>, NoMemory>
-    ensures { IfOk result (λ value. value ≡ (resolving_row request.now.op).gives world.now process depth request.now) }
+pub fn value(alloc: Global, world: &Core<Objects, Profiles>, act: Act<'_>) -> Result<Option<Val>, NoMemory>
+    ensures { IfOk result (λ value. value ≡ (resolving_row act.request.now.op).gives world.now act.process act.depth act.request.now) }
 {
-    let _ = alloc;
-    let operands = request.operands.as_slice();
-    match request.op {
-        Op::Rslvsp => Ok(Some(rslvsp_gives(world, process, depth, operands))),
+    let operands = act.request.operands.as_slice();
+    match act.request.op {
+        Op::Rslvsp => Ok(Some(rslvsp_gives(world, act.process, act.depth, operands))),
         Op::Setspfp => Ok(Some(setspfp_gives(&world.objects, operands))),
         _ => Ok(None),
     }

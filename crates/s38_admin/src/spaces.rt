@@ -1,4 +1,5 @@
 //! Spaces: made, lengthened or cut, and destroyed; pointers into them; copies of cells with their tags.
+ghost use Rattle.s38_rules.specs.State.{State};
 ghost use Rattle.s38_rules.specs.Changes.{done};
 ghost use Rattle.s38_rules.specs.Operands.{cells_put, place, source_cells, target};
 ghost use Rattle.s38_rules.specs.Parts.{on_space};
@@ -14,14 +15,11 @@ use s38_changes::{
     creation_changes, creation_fails, creation_gives, creation_needs, destroy, destruction_needs,
     in_context, owner_pays, pages_for_length, put_cells, resize,
 };
-use s38_code::{Operand, Request, Val};
+use s38_code::{Operand, Val};
 use s38_invoke::{Core, Profiles};
 use s38_memory::Tagged;
 use s38_objects::Objects;
-use s38_operands::{
-    Needs, attr_at, count_at, fails, first_pointer, is_aligned, is_in_space, is_within, need,
-    number_at, on_object, place, pointer_at, source_cells, target,
-};
+use s38_operands::{Act, Needs, attr_at, count_at, fails, first_pointer, is_aligned, is_in_space, is_within, need, number_at, on_object, place, pointer_at, source_cells, target};
 use s38_rules::{Body, Creating, Named, PointerKind, Sought};
 use std::alloc::Global;
 
@@ -274,14 +272,11 @@ fn cpybwp(alloc: Global, world: &mut Core<Objects, Profiles>, operands: &[Operan
 
 /// What an instruction of spaces needs.
 #[tactic(auto, unfolding(s38_rules::specs::Spaces::spaces_row, s38_rules::specs::Spaces::mods_needs, s38_rules::specs::Spaces::setsppfp_needs, s38_rules::specs::Spaces::setdp_needs))]
-pub fn needs(world: &Core<Objects, Profiles>, process: u32, depth: u16, request: &Request) -> Needs
-    ensures { result ≡ (spaces_row request.now.op).needs world.now process depth request.now }
+pub fn needs(act: Act<'_>) -> Needs
+    ensures { (s : State) → result ≡ (spaces_row act.request.now.op).needs s act.process act.depth act.request.now }
 {
-    let _ = world;
-    let _ = process;
-    let _ = depth;
     let space = Sought::Of(Kind::Space);
-    match request.op {
+    match act.request.op {
         Op::Setsppfp => on_object(2, space, Rights::SPACE, None),
         Op::Setdp => need(
             2,
@@ -291,7 +286,7 @@ pub fn needs(world: &Core<Objects, Profiles>, process: u32, depth: u16, request:
             Rights(0),
             None,
         ),
-        Op::Crts => creation_needs(request.operands.as_slice()),
+        Op::Crts => creation_needs(act.request.operands.as_slice()),
         Op::Mods => on_object(1, space, Rights::OBJMGT, Some(Category::Change)),
         Op::Dess => destruction_needs(Kind::Space),
         _ => Needs::none(),
@@ -300,20 +295,14 @@ pub fn needs(world: &Core<Objects, Profiles>, process: u32, depth: u16, request:
 
 /// The first of its conditions and limits that fails.
 #[tactic(auto, unfolding(s38_rules::specs::Spaces::spaces_row))]
-pub fn conditions(
-    world: &Core<Objects, Profiles>,
-    process: u32,
-    depth: u16,
-    request: &Request,
-) -> Option<Exception>
-    ensures { result ≡ (spaces_row request.now.op).fails world.now process depth request.now }
+pub fn conditions(world: &Core<Objects, Profiles>, act: Act<'_>) -> Option<Exception>
+    ensures { result ≡ (spaces_row act.request.now.op).fails world.now act.process act.depth act.request.now }
 {
-    let _ = depth;
-    let operands = request.operands.as_slice();
-    match request.op {
+    let operands = act.request.operands.as_slice();
+    match act.request.op {
         Op::Setdp => setdp_fails(&world.objects, operands),
         Op::Cpybwp => cpybwp_fails(operands),
-        Op::Crts => crts_fails(world, process, operands),
+        Op::Crts => crts_fails(world, act.process, operands),
         Op::Mods => mods_fails(world, operands),
         _ => None,
     }
@@ -321,20 +310,12 @@ pub fn conditions(
 
 /// The value for its receiver.
 #[tactic(auto, unfolding(s38_rules::specs::Spaces::spaces_row))]
-pub fn value(
-    alloc: Global,
-    world: &Core<Objects, Profiles>,
-    process: u32,
-    depth: u16,
-    request: &Request,
-) -> Result<Option<Val>, NoMemory>
-    ensures { IfOk result (λ value. value ≡ (spaces_row request.now.op).gives world.now process depth request.now) }
+pub fn value(alloc: Global, world: &Core<Objects, Profiles>, act: Act<'_>) -> Result<Option<Val>, NoMemory>
+    ensures { IfOk result (λ value. value ≡ (spaces_row act.request.now.op).gives world.now act.process act.depth act.request.now) }
 {
-    let _ = process;
-    let _ = depth;
     let objects = &world.objects;
-    let operands = request.operands.as_slice();
-    match request.op {
+    let operands = act.request.operands.as_slice();
+    match act.request.op {
         Op::Setsppfp => Ok(Some(setsppfp_gives(objects, operands))),
         Op::Setdp => Ok(Some(setdp_gives(objects, operands))),
         Op::Cpybwp => cpybwp_gives(alloc, objects, operands),
@@ -345,21 +326,15 @@ pub fn value(
 
 /// What it changes, where it doesn't fail; where memory is refused nothing changes.
 #[tactic(auto, unfolding(s38_rules::specs::Spaces::spaces_row))]
-pub fn apply(
-    alloc: Global,
-    world: &mut Core<Objects, Profiles>,
-    process: u32,
-    depth: u16,
-    request: &Request,
-) -> Result<(), NoMemory>
-    requires { (spaces_row request.now.op).fails world.old process depth request.now ≡ None }
-    ensures ok { OnOk result (world.new ≡ done world.old process ((spaces_row request.now.op).changes world.old process depth request.now)) }
+pub fn apply(alloc: Global, world: &mut Core<Objects, Profiles>, act: Act<'_>) -> Result<(), NoMemory>
+    requires { (spaces_row act.request.now.op).fails world.old act.process act.depth act.request.now ≡ None }
+    ensures ok { OnOk result (world.new ≡ done world.old act.process ((spaces_row act.request.now.op).changes world.old act.process act.depth act.request.now)) }
     ensures err { OnErr result (world.new ≡ world.old) }
 {
-    let operands = request.operands.as_slice();
-    match request.op {
+    let operands = act.request.operands.as_slice();
+    match act.request.op {
         Op::Cpybwp => cpybwp(alloc, world, operands),
-        Op::Crts => crts(alloc, world, process, operands),
+        Op::Crts => crts(alloc, world, act.process, operands),
         Op::Mods => mods(world, operands),
         Op::Dess => {
             destroy(world, Kind::Space, operands);

@@ -6,5 +6,5 @@ mod rights;
 mod users;
 
 pub use refusals::{lacks_special, missing};
-pub use rights::{Missing, available, available_on, check, has_rights};
+pub use rights::{available, available_on, has_rights};
 pub use users::is_governed;

@@ -113,17 +113,3 @@ pub fn missing_in(needed: Rights, there: Rights) -> Result<(), Missing>
     }
     Err(Missing(Rights(needed.0 & (255 - there.0))))
 }
-
-/// Whether the needed rights are available to these users on the object of a number; else exactly those that are
-/// not.
-pub fn check<T: Table, P: UserMaps>(
-    world: &Core<T, P>,
-    users: &[UserNum],
-    number: ObjNum,
-    carried: Rights,
-    needed: Rights,
-) -> Result<(), Missing>
-    ensures { option_map (λ m. m.0) (result_err result) ≡ missing_in needed.0 (available world.now.held (map (λ u. u.0) users.now) number.0 carried.0) }
-{
-    missing_in(needed, available(world, users, number, carried))
-}

@@ -1,5 +1,6 @@
 //! The family of journals and units: journal spaces, ports and commit blocks made and destroyed; data spaces journaled;
 //! entries of a journal read; units committed and taken back; objects ensured.
+ghost use Rattle.s38_rules.specs.State.{State};
 ghost use Rattle.s38_rules.specs.Changes.{done};
 ghost use Rattle.std.specs.Prelude.{◌≡◌, None, IfOk, OnErr, OnOk};
 ghost use Rattle.s38_rules.specs.Journals.{ensobj_needs, journals_row, retjent_needs};
@@ -15,10 +16,10 @@ use crate::reads::{retjent_fails, retjent_gives};
 use crate::units::{commit, decommit, unit_fails, unit_needs};
 use s38_base::{Category, Exception, Kind, NoMemory, Op, Rights};
 use s38_changes::{creation_gives, creation_needs, destroy, destruction_needs};
-use s38_code::{Request, Val};
+use s38_code::Val;
 use s38_invoke::{Core, Profiles};
 use s38_objects::Objects;
-use s38_operands::{Needs, on_object};
+use s38_operands::{Act, Needs, on_object};
 use s38_rules::Sought;
 use std::alloc::Global;
 
@@ -41,14 +42,11 @@ fn ensobj_needs() -> Needs
 
 /// What an instruction of journals and units needs.
 #[tactic(auto, unfolding(s38_rules::specs::Journals::journals_row))]
-pub fn needs(world: &Core<Objects, Profiles>, process: u32, depth: u16, request: &Request) -> Needs
-    ensures { result ≡ (journals_row request.now.op).needs world.now process depth request.now }
+pub fn needs(act: Act<'_>) -> Needs
+    ensures { (s : State) → result ≡ (journals_row act.request.now.op).needs s act.process act.depth act.request.now }
 {
-    let _ = world;
-    let _ = process;
-    let _ = depth;
-    let operands = request.operands.as_slice();
-    match request.op {
+    let operands = act.request.operands.as_slice();
+    match act.request.op {
         Op::Crtjs => creation_needs(operands),
         Op::Crtjp => crtjp_needs(operands),
         Op::Crtcb => crtcb_needs(operands),
@@ -65,47 +63,33 @@ pub fn needs(world: &Core<Objects, Profiles>, process: u32, depth: u16, request:
 
 /// The first of its conditions and limits that fails.
 #[tactic(auto, unfolding(s38_rules::specs::Journals::journals_row))]
-pub fn conditions(
-    world: &Core<Objects, Profiles>,
-    process: u32,
-    depth: u16,
-    request: &Request,
-) -> Option<Exception>
-    ensures { result ≡ (journals_row request.now.op).fails world.now process depth request.now }
+pub fn conditions(world: &Core<Objects, Profiles>, act: Act<'_>) -> Option<Exception>
+    ensures { result ≡ (journals_row act.request.now.op).fails world.now act.process act.depth act.request.now }
 {
-    let _ = depth;
     let objects = &world.objects;
-    let operands = request.operands.as_slice();
-    match request.op {
-        Op::Crtjs => crtjs_fails(world, process, operands),
-        Op::Crtjp => crtjp_fails(world, process, operands),
-        Op::Crtcb => crtcb_fails(world, process, operands),
+    let operands = act.request.operands.as_slice();
+    match act.request.op {
+        Op::Crtjs => crtjs_fails(world, act.process, operands),
+        Op::Crtjp => crtjp_fails(world, act.process, operands),
+        Op::Crtcb => crtcb_fails(world, act.process, operands),
         Op::Desjs => desjs_fails(objects, operands),
         Op::Desjp => desjp_fails(objects, operands),
         Op::Descb => descb_fails(world, operands),
         Op::Jrnlobj => jrnlobj_fails(objects, operands),
         Op::Retjent => retjent_fails(objects, operands),
-        Op::Commit | Op::Decommit => unit_fails(world, process, operands),
+        Op::Commit | Op::Decommit => unit_fails(world, act.process, operands),
         _ => None,
     }
 }
 
 /// The value for its receiver.
 #[tactic(auto, unfolding(s38_rules::specs::Journals::journals_row))]
-pub fn value(
-    alloc: Global,
-    world: &Core<Objects, Profiles>,
-    process: u32,
-    depth: u16,
-    request: &Request,
-) -> Result<Option<Val>, NoMemory>
-    ensures { IfOk result (λ value. value ≡ (journals_row request.now.op).gives world.now process depth request.now) }
+pub fn value(alloc: Global, world: &Core<Objects, Profiles>, act: Act<'_>) -> Result<Option<Val>, NoMemory>
+    ensures { IfOk result (λ value. value ≡ (journals_row act.request.now.op).gives world.now act.process act.depth act.request.now) }
 {
-    let _ = process;
-    let _ = depth;
     let objects = &world.objects;
-    let operands = request.operands.as_slice();
-    match request.op {
+    let operands = act.request.operands.as_slice();
+    match act.request.op {
         Op::Crtjs => Ok(Some(creation_gives(objects, &created_journal(objects, operands)))),
         Op::Crtjp => Ok(Some(creation_gives(objects, &created_port(objects, operands)))),
         Op::Crtcb => Ok(Some(creation_gives(objects, &created_block(objects, operands)))),
@@ -116,29 +100,22 @@ pub fn value(
 
 /// What it changes, where it doesn't fail; where memory is refused nothing changes.
 #[tactic(auto, unfolding(s38_rules::specs::Journals::journals_row))]
-pub fn apply(
-    alloc: Global,
-    world: &mut Core<Objects, Profiles>,
-    process: u32,
-    depth: u16,
-    request: &Request,
-) -> Result<(), NoMemory>
-    requires { (journals_row request.now.op).fails world.old process depth request.now ≡ None }
-    ensures ok { OnOk result (world.new ≡ done world.old process ((journals_row request.now.op).changes world.old process depth request.now)) }
+pub fn apply(alloc: Global, world: &mut Core<Objects, Profiles>, act: Act<'_>) -> Result<(), NoMemory>
+    requires { (journals_row act.request.now.op).fails world.old act.process act.depth act.request.now ≡ None }
+    ensures ok { OnOk result (world.new ≡ done world.old act.process ((journals_row act.request.now.op).changes world.old act.process act.depth act.request.now)) }
     ensures err { OnErr result (world.new ≡ world.old) }
 {
-    let _ = depth;
-    let operands = request.operands.as_slice();
-    match request.op {
-        Op::Crtjs => return crtjs(alloc, world, process, operands),
-        Op::Crtjp => return crtjp(alloc, world, process, operands),
-        Op::Crtcb => return crtcb(alloc, world, process, operands),
+    let operands = act.request.operands.as_slice();
+    match act.request.op {
+        Op::Crtjs => return crtjs(alloc, world, act.process, operands),
+        Op::Crtjp => return crtjp(alloc, world, act.process, operands),
+        Op::Crtcb => return crtcb(alloc, world, act.process, operands),
         Op::Desjs => destroy(world, Kind::Journal, operands),
         Op::Desjp => destroy(world, Kind::Port, operands),
         Op::Descb => destroy(world, Kind::Block, operands),
         Op::Jrnlobj => jrnlobj(world, operands),
-        Op::Commit => commit(world, process, operands),
-        Op::Decommit => decommit(world, process, operands),
+        Op::Commit => commit(world, act.process, operands),
+        Op::Decommit => decommit(world, act.process, operands),
         Op::Ensobj => ensobj(world, operands),
         _ => {}
     }

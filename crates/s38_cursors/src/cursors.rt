@@ -13,10 +13,10 @@ use crate::reads::cursor_of;
 use crate::seeking::{setcr, setcr_fails};
 use s38_base::{Category, Exception, Kind, NoMemory, Op, Rights};
 use s38_changes::{creation_gives, creation_needs, destroy, destruction_needs};
-use s38_code::{Operand, Request, Val};
+use s38_code::{Operand, Val};
 use s38_invoke::{Core, Profiles};
 use s38_objects::Objects;
-use s38_operands::{Needs, on_implied, on_object};
+use s38_operands::{Act, Needs, on_implied, on_object};
 use s38_rules::Sought;
 use std::alloc::Global;
 
@@ -44,14 +44,12 @@ fn through_cursor(
 
 /// What an instruction of data spaces needs.
 #[tactic(auto, unfolding(s38_rules::specs::DataSpaces::data_spaces_row))]
-pub fn needs(world: &Core<Objects, Profiles>, process: u32, depth: u16, request: &Request) -> Needs
-    ensures { result ≡ (data_spaces_row request.now.op).needs world.now process depth request.now }
+pub fn needs(world: &Core<Objects, Profiles>, act: Act<'_>) -> Needs
+    ensures { result ≡ (data_spaces_row act.request.now.op).needs world.now act.process act.depth act.request.now }
 {
-    let _ = process;
-    let _ = depth;
     let objects = &world.objects;
-    let operands = request.operands.as_slice();
-    match request.op {
+    let operands = act.request.operands.as_slice();
+    match act.request.op {
         Op::Crtds => creation_needs(operands),
         Op::Crtcr => crtcr_needs(operands),
         Op::Desds => destruction_needs(Kind::DataSpace),
@@ -95,46 +93,32 @@ fn changing_needs(objects: &Objects, operands: &[Operand], right: Rights) -> Nee
 
 /// The first of its conditions and limits that fails.
 #[tactic(auto, unfolding(s38_rules::specs::DataSpaces::data_spaces_row))]
-pub fn conditions(
-    world: &Core<Objects, Profiles>,
-    process: u32,
-    depth: u16,
-    request: &Request,
-) -> Option<Exception>
-    ensures { result ≡ (data_spaces_row request.now.op).fails world.now process depth request.now }
+pub fn conditions(world: &Core<Objects, Profiles>, act: Act<'_>) -> Option<Exception>
+    ensures { result ≡ (data_spaces_row act.request.now.op).fails world.now act.process act.depth act.request.now }
 {
-    let _ = depth;
     let objects = &world.objects;
-    let operands = request.operands.as_slice();
-    match request.op {
-        Op::Crtds => crtds_fails(world, process, operands),
-        Op::Crtcr => crtcr_fails(world, process, operands),
+    let operands = act.request.operands.as_slice();
+    match act.request.op {
+        Op::Crtds => crtds_fails(world, act.process, operands),
+        Op::Crtcr => crtcr_fails(world, act.process, operands),
         Op::Setcr => setcr_fails(objects, operands),
         Op::Desds => desds_fails(world, operands),
-        Op::Insdsen => insdsen_fails(world, process, operands),
-        Op::Retdsen => retdsen_fails(world, process, operands),
-        Op::Updsen => updsen_fails(world, process, operands),
-        Op::Deldsen => current_fails(world, process, operands, 0),
+        Op::Insdsen => insdsen_fails(world, act.process, operands),
+        Op::Retdsen => retdsen_fails(world, act.process, operands),
+        Op::Updsen => updsen_fails(world, act.process, operands),
+        Op::Deldsen => current_fails(world, act.process, operands, 0),
         _ => None,
     }
 }
 
 /// The value for its receiver.
 #[tactic(auto, unfolding(s38_rules::specs::DataSpaces::data_spaces_row))]
-pub fn value(
-    alloc: Global,
-    world: &Core<Objects, Profiles>,
-    process: u32,
-    depth: u16,
-    request: &Request,
-) -> Result<Option<Val>, NoMemory>
-    ensures { IfOk result (λ value. value ≡ (data_spaces_row request.now.op).gives world.now process depth request.now) }
+pub fn value(alloc: Global, world: &Core<Objects, Profiles>, act: Act<'_>) -> Result<Option<Val>, NoMemory>
+    ensures { IfOk result (λ value. value ≡ (data_spaces_row act.request.now.op).gives world.now act.process act.depth act.request.now) }
 {
-    let _ = process;
-    let _ = depth;
     let objects = &world.objects;
-    let operands = request.operands.as_slice();
-    match request.op {
+    let operands = act.request.operands.as_slice();
+    match act.request.op {
         Op::Crtds => Ok(Some(creation_gives(objects, &created_data_space(objects, operands)))),
         Op::Crtcr => Ok(Some(creation_gives(objects, &created_cursor(objects, operands)))),
         Op::Retdsen => Ok(Some(retdsen_gives(alloc, objects, operands)?)),
@@ -144,21 +128,15 @@ pub fn value(
 
 /// What it changes, where it doesn't fail; where memory is refused nothing changes.
 #[tactic(auto, unfolding(s38_rules::specs::DataSpaces::data_spaces_row))]
-pub fn apply(
-    alloc: Global,
-    world: &mut Core<Objects, Profiles>,
-    process: u32,
-    depth: u16,
-    request: &Request,
-) -> Result<(), NoMemory>
-    requires { (data_spaces_row request.now.op).fails world.old process depth request.now ≡ None }
-    ensures ok { OnOk result (world.new ≡ done world.old process ((data_spaces_row request.now.op).changes world.old process depth request.now)) }
+pub fn apply(alloc: Global, world: &mut Core<Objects, Profiles>, act: Act<'_>) -> Result<(), NoMemory>
+    requires { (data_spaces_row act.request.now.op).fails world.old act.process act.depth act.request.now ≡ None }
+    ensures ok { OnOk result (world.new ≡ done world.old act.process ((data_spaces_row act.request.now.op).changes world.old act.process act.depth act.request.now)) }
     ensures err { OnErr result (world.new ≡ world.old) }
 {
-    let operands = request.operands.as_slice();
-    match request.op {
-        Op::Crtds => crtds(alloc, world, process, operands),
-        Op::Crtcr => crtcr(alloc, world, process, operands),
+    let operands = act.request.operands.as_slice();
+    match act.request.op {
+        Op::Crtds => crtds(alloc, world, act.process, operands),
+        Op::Crtcr => crtcr(alloc, world, act.process, operands),
         Op::Desds => {
             destroy(world, Kind::DataSpace, operands);
             Ok(())
@@ -171,9 +149,9 @@ pub fn apply(
             setcr(world, operands);
             Ok(())
         }
-        Op::Insdsen => insdsen(alloc, world, process, operands),
-        Op::Updsen => updsen(alloc, world, process, operands),
-        Op::Deldsen => deldsen(alloc, world, process, operands),
+        Op::Insdsen => insdsen(alloc, world, act.process, operands),
+        Op::Updsen => updsen(alloc, world, act.process, operands),
+        Op::Deldsen => deldsen(alloc, world, act.process, operands),
         _ => Ok(()),
     }
 }

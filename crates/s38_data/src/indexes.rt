@@ -1,4 +1,5 @@
 //! Independent indexes: made and destroyed; entries put in, found and taken out.
+ghost use Rattle.s38_rules.specs.State.{State};
 ghost use Rattle.s38_rules.specs.Changes.{done};
 ghost use Rattle.std.specs.Prelude.{◌≡◌, ◌≤◌, [], Some, None, IfOk, OnOk, OnErr, is_some, length};
 ghost use Rattle.std.specs.Option.{option_copied, unwrap_or};
@@ -13,14 +14,11 @@ use s38_changes::{
     creation_changes, creation_fails, creation_gives, creation_needs, destroy, destruction_needs,
     in_context,
 };
-use s38_code::{Operand, Request, Val};
+use s38_code::{Operand, Val};
 use s38_indexes::Index;
 use s38_invoke::{Core, Profiles};
 use s38_objects::Objects;
-use s38_operands::{
-    Needs, Question, ask_at, fails, fitted, on_object, piece_at, relation_at, room_at, size_at,
-    target, whole_at,
-};
+use s38_operands::{Act, Needs, Question, ask_at, fails, fitted, on_object, piece_at, relation_at, room_at, size_at, target, whole_at};
 use s38_rules::{Body, Creating, Sought};
 use std::alloc::Global;
 
@@ -294,15 +292,12 @@ fn rmvinxen(alloc: Global, world: &mut Core<Objects, Profiles>, operands: &[Oper
 
 /// What an instruction of indexes needs.
 #[tactic(auto, unfolding(s38_rules::specs::Indexes::indexes_row, s38_rules::specs::Indexes::insinxen_needs, s38_rules::specs::Indexes::fndinxen_needs, s38_rules::specs::Indexes::rmvinxen_needs))]
-pub fn needs(world: &Core<Objects, Profiles>, process: u32, depth: u16, request: &Request) -> Needs
-    ensures { result ≡ (indexes_row request.now.op).needs world.now process depth request.now }
+pub fn needs(act: Act<'_>) -> Needs
+    ensures { (s : State) → result ≡ (indexes_row act.request.now.op).needs s act.process act.depth act.request.now }
 {
-    let _ = world;
-    let _ = process;
-    let _ = depth;
     let index = Sought::Of(Kind::Index);
-    match request.op {
-        Op::Crtinx => creation_needs(request.operands.as_slice()),
+    match act.request.op {
+        Op::Crtinx => creation_needs(act.request.operands.as_slice()),
         Op::Desinx => destruction_needs(Kind::Index),
         Op::Insinxen => on_object(1, index, Rights::INSERT, Some(Category::Change)),
         Op::Fndinxen => on_object(2, index, Rights::RETRIEVE, Some(Category::Read)),
@@ -313,18 +308,12 @@ pub fn needs(world: &Core<Objects, Profiles>, process: u32, depth: u16, request:
 
 /// The first of its conditions and limits that fails.
 #[tactic(auto, unfolding(s38_rules::specs::Indexes::indexes_row))]
-pub fn conditions(
-    world: &Core<Objects, Profiles>,
-    process: u32,
-    depth: u16,
-    request: &Request,
-) -> Option<Exception>
-    ensures { result ≡ (indexes_row request.now.op).fails world.now process depth request.now }
+pub fn conditions(world: &Core<Objects, Profiles>, act: Act<'_>) -> Option<Exception>
+    ensures { result ≡ (indexes_row act.request.now.op).fails world.now act.process act.depth act.request.now }
 {
-    let _ = depth;
-    let operands = request.operands.as_slice();
-    match request.op {
-        Op::Crtinx => crtinx_fails(world, process, operands),
+    let operands = act.request.operands.as_slice();
+    match act.request.op {
+        Op::Crtinx => crtinx_fails(world, act.process, operands),
         Op::Insinxen => insinxen_fails(world, operands),
         Op::Fndinxen => fndinxen_fails(&world.objects, operands),
         Op::Rmvinxen => rmvinxen_fails(&world.objects, operands),
@@ -334,20 +323,12 @@ pub fn conditions(
 
 /// The value for its receiver.
 #[tactic(auto, unfolding(s38_rules::specs::Indexes::indexes_row))]
-pub fn value(
-    alloc: Global,
-    world: &Core<Objects, Profiles>,
-    process: u32,
-    depth: u16,
-    request: &Request,
-) -> Result<Option<Val>, NoMemory>
-    ensures { IfOk result (λ value. value ≡ (indexes_row request.now.op).gives world.now process depth request.now) }
+pub fn value(alloc: Global, world: &Core<Objects, Profiles>, act: Act<'_>) -> Result<Option<Val>, NoMemory>
+    ensures { IfOk result (λ value. value ≡ (indexes_row act.request.now.op).gives world.now act.process act.depth act.request.now) }
 {
-    let _ = process;
-    let _ = depth;
     let objects = &world.objects;
-    let operands = request.operands.as_slice();
-    match request.op {
+    let operands = act.request.operands.as_slice();
+    match act.request.op {
         Op::Crtinx => Ok(Some(creation_gives(objects, &created_index(objects, operands)))),
         Op::Fndinxen => Ok(Some(fndinxen_gives(alloc, objects, operands)?)),
         _ => Ok(None),
@@ -356,20 +337,14 @@ pub fn value(
 
 /// What it changes, where it doesn't fail; where memory is refused nothing changes.
 #[tactic(auto, unfolding(s38_rules::specs::Indexes::indexes_row))]
-pub fn apply(
-    alloc: Global,
-    world: &mut Core<Objects, Profiles>,
-    process: u32,
-    depth: u16,
-    request: &Request,
-) -> Result<(), NoMemory>
-    requires { (indexes_row request.now.op).fails world.old process depth request.now ≡ None }
-    ensures ok { OnOk result (world.new ≡ done world.old process ((indexes_row request.now.op).changes world.old process depth request.now)) }
+pub fn apply(alloc: Global, world: &mut Core<Objects, Profiles>, act: Act<'_>) -> Result<(), NoMemory>
+    requires { (indexes_row act.request.now.op).fails world.old act.process act.depth act.request.now ≡ None }
+    ensures ok { OnOk result (world.new ≡ done world.old act.process ((indexes_row act.request.now.op).changes world.old act.process act.depth act.request.now)) }
     ensures err { OnErr result (world.new ≡ world.old) }
 {
-    let operands = request.operands.as_slice();
-    match request.op {
-        Op::Crtinx => crtinx(alloc, world, process, operands),
+    let operands = act.request.operands.as_slice();
+    match act.request.op {
+        Op::Crtinx => crtinx(alloc, world, act.process, operands),
         Op::Desinx => {
             destroy(world, Kind::Index, operands);
             Ok(())

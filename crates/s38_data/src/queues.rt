@@ -1,4 +1,5 @@
 //! Queues: made and destroyed; messages put and taken.
+ghost use Rattle.s38_rules.specs.State.{State};
 ghost use Rattle.s38_rules.specs.Changes.{done};
 ghost use Rattle.std.specs.Prelude.{◌≡◌, ◌≤◌, ℕ, [], Some, None, IfOk, OnOk, OnErr, is_some, length};
 ghost use Rattle.std.specs.Option.{option_copied, unwrap_or};
@@ -13,14 +14,10 @@ use s38_changes::{
     creation_changes, creation_fails, creation_gives, creation_needs, destroy, destruction_needs,
     in_context,
 };
-use s38_code::{Operand, Request, Val};
+use s38_code::{Operand, Val};
 use s38_invoke::{Core, Profiles};
 use s38_objects::Objects;
-use s38_operands::{
-    Needs, Question, QueueFacts, ask_at, bytes_at, facts_of_queue, fails, fitted, is_given,
-    lent_at, on_object, piece_at, queue_facts, relation_at, room_at, size_at, target, whole_at,
-    word_at,
-};
+use s38_operands::{Act, Needs, Question, QueueFacts, ask_at, bytes_at, facts_of_queue, fails, fitted, is_given, lent_at, on_object, piece_at, queue_facts, relation_at, room_at, size_at, target, whole_at, word_at};
 use s38_queues::{Message, Order, Queue};
 use s38_rules::{Body, Creating, Sought};
 use std::alloc::Global;
@@ -413,15 +410,12 @@ fn deq(alloc: Global, world: &mut Core<Objects, Profiles>, operands: &[Operand])
 
 /// What an instruction of queues needs.
 #[tactic(auto, unfolding(s38_rules::specs::Queues::queues_row, s38_rules::specs::Queues::enq_needs, s38_rules::specs::Queues::deq_needs))]
-pub fn needs(world: &Core<Objects, Profiles>, process: u32, depth: u16, request: &Request) -> Needs
-    ensures { result ≡ (queues_row request.now.op).needs world.now process depth request.now }
+pub fn needs(act: Act<'_>) -> Needs
+    ensures { (s : State) → result ≡ (queues_row act.request.now.op).needs s act.process act.depth act.request.now }
 {
-    let _ = world;
-    let _ = process;
-    let _ = depth;
     let queue = Sought::Of(Kind::Queue);
-    match request.op {
-        Op::Crtq => creation_needs(request.operands.as_slice()),
+    match act.request.op {
+        Op::Crtq => creation_needs(act.request.operands.as_slice()),
         Op::Desq => destruction_needs(Kind::Queue),
         Op::Enq => on_object(1, queue, Rights::INSERT, Some(Category::Change)),
         Op::Deq => on_object(2, queue, Rights::DELETE, Some(Category::Change)),
@@ -431,18 +425,12 @@ pub fn needs(world: &Core<Objects, Profiles>, process: u32, depth: u16, request:
 
 /// The first of its conditions and limits that fails.
 #[tactic(auto, unfolding(s38_rules::specs::Queues::queues_row))]
-pub fn conditions(
-    world: &Core<Objects, Profiles>,
-    process: u32,
-    depth: u16,
-    request: &Request,
-) -> Option<Exception>
-    ensures { result ≡ (queues_row request.now.op).fails world.now process depth request.now }
+pub fn conditions(world: &Core<Objects, Profiles>, act: Act<'_>) -> Option<Exception>
+    ensures { result ≡ (queues_row act.request.now.op).fails world.now act.process act.depth act.request.now }
 {
-    let _ = depth;
-    let operands = request.operands.as_slice();
-    match request.op {
-        Op::Crtq => crtq_fails(world, process, operands),
+    let operands = act.request.operands.as_slice();
+    match act.request.op {
+        Op::Crtq => crtq_fails(world, act.process, operands),
         Op::Enq => enq_fails(world, operands),
         Op::Deq => deq_fails(&world.objects, operands),
         _ => None,
@@ -451,20 +439,12 @@ pub fn conditions(
 
 /// The value for its receiver.
 #[tactic(auto, unfolding(s38_rules::specs::Queues::queues_row))]
-pub fn value(
-    alloc: Global,
-    world: &Core<Objects, Profiles>,
-    process: u32,
-    depth: u16,
-    request: &Request,
-) -> Result<Option<Val>, NoMemory>
-    ensures { IfOk result (λ value. value ≡ (queues_row request.now.op).gives world.now process depth request.now) }
+pub fn value(alloc: Global, world: &Core<Objects, Profiles>, act: Act<'_>) -> Result<Option<Val>, NoMemory>
+    ensures { IfOk result (λ value. value ≡ (queues_row act.request.now.op).gives world.now act.process act.depth act.request.now) }
 {
-    let _ = process;
-    let _ = depth;
     let objects = &world.objects;
-    let operands = request.operands.as_slice();
-    match request.op {
+    let operands = act.request.operands.as_slice();
+    match act.request.op {
         Op::Crtq => Ok(Some(creation_gives(objects, &created_queue(objects, operands)))),
         Op::Deq => Ok(Some(deq_gives(alloc, objects, operands)?)),
         _ => Ok(None),
@@ -473,20 +453,14 @@ pub fn value(
 
 /// What it changes, where it doesn't fail; where memory is refused nothing changes.
 #[tactic(auto, unfolding(s38_rules::specs::Queues::queues_row))]
-pub fn apply(
-    alloc: Global,
-    world: &mut Core<Objects, Profiles>,
-    process: u32,
-    depth: u16,
-    request: &Request,
-) -> Result<(), NoMemory>
-    requires { (queues_row request.now.op).fails world.old process depth request.now ≡ None }
-    ensures ok { OnOk result (world.new ≡ done world.old process ((queues_row request.now.op).changes world.old process depth request.now)) }
+pub fn apply(alloc: Global, world: &mut Core<Objects, Profiles>, act: Act<'_>) -> Result<(), NoMemory>
+    requires { (queues_row act.request.now.op).fails world.old act.process act.depth act.request.now ≡ None }
+    ensures ok { OnOk result (world.new ≡ done world.old act.process ((queues_row act.request.now.op).changes world.old act.process act.depth act.request.now)) }
     ensures err { OnErr result (world.new ≡ world.old) }
 {
-    let operands = request.operands.as_slice();
-    match request.op {
-        Op::Crtq => crtq(alloc, world, process, operands),
+    let operands = act.request.operands.as_slice();
+    match act.request.op {
+        Op::Crtq => crtq(alloc, world, act.process, operands),
         Op::Desq => {
             destroy(world, Kind::Queue, operands);
             Ok(())

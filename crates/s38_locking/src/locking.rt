@@ -1,4 +1,5 @@
 //! Locks: granted, given up, handed on to another job, listed.
+ghost use Rattle.s38_rules.specs.State.{State};
 ghost use Rattle.s38_rules.specs.Changes.{done};
 ghost use Rattle.std.specs.Prelude.{◌≡◌, None, Some, IfOk, OnOk, OnErr};
 ghost use Rattle.s38_base.specs.Signals.{first};
@@ -9,11 +10,11 @@ use crate::images::locks_image;
 use crate::jobs::{may_take, taker};
 use s38_base::exceptions::{LIMIT_EXCEEDED, LOCK_NOT_GRANTABLE, LOCK_NOT_HELD, PROCESS_NOT_FOUND};
 use s38_base::{Exception, LockState, NoMemory, Op, Rights, Rule};
-use s38_code::{Operand, Request, Val};
+use s38_code::{Operand, Val};
 use s38_invoke::{Core, Profiles};
 use s38_locks::LockFault;
 use s38_objects::Objects;
-use s38_operands::{Needs, fitted, on_object, room_at, target, word_at};
+use s38_operands::{Act, Needs, fitted, on_object, room_at, target, word_at};
 use s38_rules::Sought;
 use std::alloc::Global;
 
@@ -233,14 +234,11 @@ fn matobjlk_gives(
 
 /// What an instruction of locks needs.
 #[tactic(auto, unfolding(s38_rules::specs::Locking::locks_row))]
-pub fn needs(world: &Core<Objects, Profiles>, process: u32, depth: u16, request: &Request) -> Needs
-    ensures { result ≡ (locks_row request.now.op).needs world.now process depth request.now }
+pub fn needs(act: Act<'_>) -> Needs
+    ensures { (s : State) → result ≡ (locks_row act.request.now.op).needs s act.process act.depth act.request.now }
 {
-    let _ = world;
-    let _ = process;
-    let _ = depth;
-    match request.op {
-        Op::Lock => lock_needs(request.operands.as_slice()),
+    match act.request.op {
+        Op::Lock => lock_needs(act.request.operands.as_slice()),
         Op::Unlock | Op::Xfrlock => unlock_needs(),
         Op::Matobjlk => matobjlk_needs(),
         _ => Needs::none(),
@@ -249,64 +247,45 @@ pub fn needs(world: &Core<Objects, Profiles>, process: u32, depth: u16, request:
 
 /// The first of its conditions that fails.
 #[tactic(auto, unfolding(s38_rules::specs::Locking::locks_row))]
-pub fn conditions(
-    world: &Core<Objects, Profiles>,
-    process: u32,
-    depth: u16,
-    request: &Request,
-) -> Option<Exception>
-    ensures { result ≡ (locks_row request.now.op).fails world.now process depth request.now }
+pub fn conditions(world: &Core<Objects, Profiles>, act: Act<'_>) -> Option<Exception>
+    ensures { result ≡ (locks_row act.request.now.op).fails world.now act.process act.depth act.request.now }
 {
-    let _ = depth;
-    let operands = request.operands.as_slice();
-    match request.op {
-        Op::Lock => lock_fails(world, process, operands),
-        Op::Unlock => unlock_fails(world, process, operands),
-        Op::Xfrlock => xfrlock_fails(world, process, operands),
+    let operands = act.request.operands.as_slice();
+    match act.request.op {
+        Op::Lock => lock_fails(world, act.process, operands),
+        Op::Unlock => unlock_fails(world, act.process, operands),
+        Op::Xfrlock => xfrlock_fails(world, act.process, operands),
         _ => None,
     }
 }
 
 /// The value for its receiver.
 #[tactic(auto, unfolding(s38_rules::specs::Locking::locks_row))]
-pub fn value(
-    alloc: Global,
-    world: &Core<Objects, Profiles>,
-    process: u32,
-    depth: u16,
-    request: &Request,
-) -> Result<Option<Val>, NoMemory>
-    ensures { IfOk result (λ value. value ≡ (locks_row request.now.op).gives world.now process depth request.now) }
+pub fn value(alloc: Global, world: &Core<Objects, Profiles>, act: Act<'_>) -> Result<Option<Val>, NoMemory>
+    ensures { IfOk result (λ value. value ≡ (locks_row act.request.now.op).gives world.now act.process act.depth act.request.now) }
 {
-    let _ = process;
-    let _ = depth;
-    match request.op {
-        Op::Matobjlk => Ok(Some(matobjlk_gives(alloc, world, request.operands.as_slice())?)),
+    match act.request.op {
+        Op::Matobjlk => Ok(Some(matobjlk_gives(alloc, world, act.request.operands.as_slice())?)),
         _ => Ok(None),
     }
 }
 
 /// What it changes, where it doesn't fail; where memory is refused nothing changes.
 #[tactic(auto, unfolding(s38_rules::specs::Locking::locks_row))]
-pub fn apply(
-    world: &mut Core<Objects, Profiles>,
-    process: u32,
-    depth: u16,
-    request: &Request,
-) -> Result<(), NoMemory>
-    requires { (locks_row request.now.op).fails world.old process depth request.now ≡ None }
-    ensures ok { OnOk result (world.new ≡ done world.old process ((locks_row request.now.op).changes world.old process depth request.now)) }
+pub fn apply(world: &mut Core<Objects, Profiles>, act: Act<'_>) -> Result<(), NoMemory>
+    requires { (locks_row act.request.now.op).fails world.old act.process act.depth act.request.now ≡ None }
+    ensures ok { OnOk result (world.new ≡ done world.old act.process ((locks_row act.request.now.op).changes world.old act.process act.depth act.request.now)) }
     ensures err { OnErr result (world.new ≡ world.old) }
 {
-    let operands = request.operands.as_slice();
-    match request.op {
-        Op::Lock => lock(world, process, operands),
+    let operands = act.request.operands.as_slice();
+    match act.request.op {
+        Op::Lock => lock(world, act.process, operands),
         Op::Unlock => {
-            unlock(world, process, operands);
+            unlock(world, act.process, operands);
             Ok(())
         }
         Op::Xfrlock => {
-            xfrlock(world, process, operands);
+            xfrlock(world, act.process, operands);
             Ok(())
         }
         _ => Ok(()),

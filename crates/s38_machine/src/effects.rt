@@ -14,10 +14,10 @@ ghost use Rattle.s38_machine.specs.Events.{GoesAsThatOf};
 use crate::deliveries::{parted, put};
 use crate::rows;
 use s38_base::{NoMemory, Seq};
-use s38_code::{Event, Request, Val, Vals};
+use s38_code::{Event, Val, Vals};
 use s38_invoke::{Core, Profiles, start};
 use s38_objects::Objects;
-use s38_operands::{receiver_at, shift_at};
+use s38_operands::{Act, receiver_at, shift_at};
 use s38_units::end;
 use std::alloc::Global;
 
@@ -26,18 +26,16 @@ use std::alloc::Global;
 fn act_values(
     alloc: Global,
     world: &Core<Objects, Profiles>,
-    process: u32,
-    depth: u16,
-    request: &Request,
+    act: Act<'_>,
 ) -> Result<(Vals, Option<Val>), NoMemory>
-    ensures values { IfOk result (λ parts. parts.0 ≡ (effect (row request.now.op) world.now process depth request.now).values) }
-    ensures kept { IfOk result (λ parts. (s : State) (shift : ℕ) → (delivered s shift (receiver_at request.now.op request.now.operands) parts.1).state
-        ≡ (delivered s shift (receiver_at request.now.op request.now.operands) ((row request.now.op).gives world.now process depth request.now)).state) }
+    ensures values { IfOk result (λ parts. parts.0 ≡ (effect (row act.request.now.op) world.now act.process act.depth act.request.now).values) }
+    ensures kept { IfOk result (λ parts. (s : State) (shift : ℕ) → (delivered s shift (receiver_at act.request.now.op act.request.now.operands) parts.1).state
+        ≡ (delivered s shift (receiver_at act.request.now.op act.request.now.operands) ((row act.request.now.op).gives world.now act.process act.depth act.request.now)).state) }
 {
-    let value = rows::value(alloc, world, process, depth, request)?;
+    let value = rows::value(alloc, world, act)?;
     parted(
         alloc,
-        receiver_at(request.op, request.operands.as_slice()),
+        receiver_at(act.request.op, act.request.operands.as_slice()),
         value,
     )
 }
@@ -54,32 +52,37 @@ pub fn parted_values(
     ensures kept { IfOk result (λ parts. GoesAsThatOf world.now process event.now parts.1) }
 {
     match event {
-        Event::Act { depth, request } => act_values(alloc, world, process, *depth, request),
+        Event::Act { depth, request } => {
+            let act = Act {
+                process,
+                depth: *depth,
+                request,
+            };
+            act_values(alloc, world, act)
+        }
         _ => Ok((Seq::new(alloc), None)),
     }
 }
 
 /// An instruction changes what it changes, and then its value goes into the space of its receiver.
 #[tactic(auto, unfolding(s38_rules::specs::Effect::effect))]
-fn act(
+fn carry_out(
     alloc: Global,
     world: &mut Core<Objects, Profiles>,
-    process: u32,
-    depth: u16,
-    request: &Request,
+    act: Act<'_>,
     value: Option<Val>,
 ) -> Result<(), NoMemory>
-    requires conditions { (row request.now.op).fails world.old process depth request.now ≡ None }
-    requires value { (s : State) (shift : ℕ) → (delivered s shift (receiver_at request.now.op request.now.operands) value).state
-        ≡ (delivered s shift (receiver_at request.now.op request.now.operands) ((row request.now.op).gives world.old process depth request.now)).state }
-    ensures ok { OnOk result (world.new ≡ (effect (row request.now.op) world.old process depth request.now).state) }
+    requires conditions { (row act.request.now.op).fails world.old act.process act.depth act.request.now ≡ None }
+    requires value { (s : State) (shift : ℕ) → (delivered s shift (receiver_at act.request.now.op act.request.now.operands) value).state
+        ≡ (delivered s shift (receiver_at act.request.now.op act.request.now.operands) ((row act.request.now.op).gives world.old act.process act.depth act.request.now)).state }
+    ensures ok { OnOk result (world.new ≡ (effect (row act.request.now.op) world.old act.process act.depth act.request.now).state) }
     ensures err { OnErr result (world.new ≡ world.old) }
 {
-    let operands = request.operands.as_slice();
-    let shift = shift_at(&world.objects, request.op, operands);
-    match rows::apply(alloc, world, process, depth, request) {
+    let operands = act.request.operands.as_slice();
+    let shift = shift_at(&world.objects, act.request.op, operands);
+    match rows::apply(alloc, world, act) {
         Ok(()) => {
-            put(world, shift, receiver_at(request.op, operands), value);
+            put(world, shift, receiver_at(act.request.op, operands), value);
             Ok(())
         }
         Err(fault) => Err(fault),
@@ -101,7 +104,14 @@ fn take_effect(
 {
     match event {
         Event::Start => start(alloc, world, process),
-        Event::Act { depth, request } => act(alloc, world, process, *depth, request, value),
+        Event::Act { depth, request } => {
+            let act = Act {
+                process,
+                depth: *depth,
+                request,
+            };
+            carry_out(alloc, world, act, value)
+        }
         Event::Finish { .. } => {
             end(world, process);
             Ok(())

@@ -21,7 +21,7 @@ use s38_base::{Exception, Op, Special, UserNum};
 use s38_code::{Event, Operand, Request};
 use s38_invoke::{Acting, Core, Profiles, start_failure};
 use s38_objects::Objects;
-use s38_operands::word_at;
+use s38_operands::{Act, word_at};
 use s38_rules::{ProcessEntry, Verdict};
 
 /// The special authority, and then the authority over each object, that an instruction needs of these users.
@@ -46,22 +46,20 @@ fn authority_of(
 #[tactic(auto, unfolding(s38_rules::specs::Verdict::rights_rules))]
 fn authority_rules(
     world: &Core<Objects, Profiles>,
-    process: u32,
-    depth: u16,
-    request: &Request,
+    act: Act<'_>,
     needs: &[Resolved],
 ) -> Option<Exception>
-    requires { Each (IsResolved world.now.held request.now.operands) needs.now }
-    ensures { result ≡ first (lacks_special world.now.held (acting world.now process depth) ((row request.now.op).special world.now process depth request.now))
-        (rights_rules world.now process depth request.now.operands (needs_of needs.now)) }
+    requires { Each (IsResolved world.now.held act.request.now.operands) needs.now }
+    ensures { result ≡ first (lacks_special world.now.held (acting world.now act.process act.depth) ((row act.request.now.op).special world.now act.process act.depth act.request.now))
+        (rights_rules world.now act.process act.depth act.request.now.operands (needs_of needs.now)) }
 {
-    let operands = request.operands.as_slice();
-    let special = rows::special(world, process, depth, request);
-    if let Some(user) = world.sole_user(process, depth) {
+    let operands = act.request.operands.as_slice();
+    let special = rows::special(world, act);
+    if let Some(user) = world.sole_user(act.process, act.depth) {
         return authority_of(world, &[user], special, operands, needs);
     }
     let mut users = Acting::nobody();
-    world.act(process, depth, &mut users);
+    world.act(act.process, act.depth, &mut users);
     authority_of(world, users.as_slice(), special, operands, needs)
 }
 
@@ -70,46 +68,39 @@ fn authority_rules(
 #[inline(always)]
 fn refused_with(
     world: &Core<Objects, Profiles>,
-    process: u32,
-    depth: u16,
-    request: &Request,
+    act: Act<'_>,
     needs: &[Resolved],
 ) -> Option<Exception>
-    requires { Each (IsResolved world.now.held request.now.operands) needs.now }
-    ensures { result ≡ refused_with (row request.now.op) world.now process depth request.now (needs_of needs.now) }
+    requires { Each (IsResolved world.now.held act.request.now.operands) needs.now }
+    ensures { result ≡ refused_with (row act.request.now.op) world.now act.process act.depth act.request.now (needs_of needs.now) }
 {
-    if let Some(failure) = address_rules(&world.objects, request.operands.as_slice(), needs) {
+    if let Some(failure) = address_rules(&world.objects, act.request.operands.as_slice(), needs) {
         return Some(failure);
     }
-    if let Some(failure) = authority_rules(world, process, depth, request, needs) {
+    if let Some(failure) = authority_rules(world, act, needs) {
         return Some(failure);
     }
-    if let Some(failure) = lock_rules(world, process, request, needs) {
+    if let Some(failure) = lock_rules(world, act.process, act.request, needs) {
         return Some(failure);
     }
-    rows::conditions(world, process, depth, request)
+    rows::conditions(world, act)
 }
 
 /// The first rule that an instruction fails. Each of its needs is resolved once, and all rules go over that.
 #[tactic(auto, unfolding(s38_rules::specs::Verdict::refused_by))]
-fn refused_by(
-    world: &Core<Objects, Profiles>,
-    process: u32,
-    depth: u16,
-    request: &Request,
-) -> Option<Exception>
-    ensures { result ≡ refused_by (row request.now.op) world.now process depth request.now }
+fn refused_by(world: &Core<Objects, Profiles>, act: Act<'_>) -> Option<Exception>
+    ensures { result ≡ refused_by (row act.request.now.op) world.now act.process act.depth act.request.now }
 {
-    let needs = rows::needs(world, process, depth, request);
-    let operands = request.operands.as_slice();
+    let needs = rows::needs(world, act);
+    let operands = act.request.operands.as_slice();
     match needs.as_slice() {
         [need] => {
             let sole = resolve(&world.objects, operands, need);
-            refused_with(world, process, depth, request, &[sole])
+            refused_with(world, act, &[sole])
         }
         more => {
             let all = resolve_all(&world.objects, operands, more);
-            refused_with(world, process, depth, request, all.as_slice())
+            refused_with(world, act, all.as_slice())
         }
     }
 }
@@ -198,8 +189,12 @@ fn ruled_verdict(world: &Core<Objects, Profiles>, process: u32, event: &Event) -
     match event {
         Event::Start => start_verdict(world, process, world.process_entry(process)),
         Event::Act { depth, request } => {
-            let failure = refused_by(world, process, *depth, request);
-            of_request(world, process, request, failure)
+            let act = Act {
+                process,
+                depth: *depth,
+                request,
+            };
+            of_request(world, process, request, refused_by(world, act))
         }
         Event::Finish { .. } => Verdict::Permit,
     }

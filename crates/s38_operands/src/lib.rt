@@ -2,6 +2,7 @@
 //! computations, values, needs.
 #![tactic(auto)]
 
+mod act;
 mod cells;
 mod computing;
 mod entries;
@@ -16,6 +17,7 @@ mod reads;
 mod storage;
 mod values;
 
+pub use act::Act;
 pub use cells::{copy_cells, resize_cells, set_cells, write_cells};
 pub use computing::{
     AtOperands, computing_fails, computing_gives, computing_needs, receiver_at, shift_at,

@@ -1,4 +1,5 @@
 //! Programs as objects: made of the deck's templates, called, and destroyed.
+ghost use Rattle.s38_rules.specs.State.{State};
 ghost use Rattle.s38_rules.specs.Changes.{done};
 ghost use Rattle.std.specs.Prelude.{◌≡◌, None, IfOk, OnOk, OnErr};
 ghost use Rattle.std.specs.Option.{option_copied};
@@ -12,10 +13,10 @@ use s38_changes::{
     creation_changes, creation_fails, creation_gives, creation_needs, destroy, destruction_needs,
     in_context,
 };
-use s38_code::{CheckedTemplate, Code, Operand, Request, Val};
+use s38_code::{CheckedTemplate, Code, Operand, Val};
 use s38_invoke::{Core, Profiles};
 use s38_objects::Objects;
-use s38_operands::{Needs, fails, place};
+use s38_operands::{Act, Needs, fails, place};
 use s38_rules::{Body, Creating};
 use std::alloc::Global;
 
@@ -88,14 +89,11 @@ fn crtpg(
 
 /// What an instruction of programs needs.
 #[tactic(auto, unfolding(s38_rules::specs::Programs::programs_row))]
-pub fn needs(world: &Core<Objects, Profiles>, process: u32, depth: u16, request: &Request) -> Needs
-    ensures { result ≡ (programs_row request.now.op).needs world.now process depth request.now }
+pub fn needs(act: Act<'_>) -> Needs
+    ensures { (s : State) → result ≡ (programs_row act.request.now.op).needs s act.process act.depth act.request.now }
 {
-    let _ = world;
-    let _ = process;
-    let _ = depth;
-    match request.op {
-        Op::Crtpg => creation_needs(request.operands.as_slice()),
+    match act.request.op {
+        Op::Crtpg => creation_needs(act.request.operands.as_slice()),
         Op::Callx | Op::Xctl => call_needs(),
         Op::Despg => destruction_needs(Kind::Program),
         _ => Needs::none(),
@@ -104,18 +102,13 @@ pub fn needs(world: &Core<Objects, Profiles>, process: u32, depth: u16, request:
 
 /// The first of its conditions and limits that fails.
 #[tactic(auto, unfolding(s38_rules::specs::Programs::programs_row))]
-pub fn conditions(
-    world: &Core<Objects, Profiles>,
-    process: u32,
-    depth: u16,
-    request: &Request,
-) -> Option<Exception>
-    ensures { result ≡ (programs_row request.now.op).fails world.now process depth request.now }
+pub fn conditions(world: &Core<Objects, Profiles>, act: Act<'_>) -> Option<Exception>
+    ensures { result ≡ (programs_row act.request.now.op).fails world.now act.process act.depth act.request.now }
 {
-    let operands = request.operands.as_slice();
-    match request.op {
-        Op::Crtpg => crtpg_fails(world, process, operands),
-        Op::Callx => callx_fails(world, process, depth, operands),
+    let operands = act.request.operands.as_slice();
+    match act.request.op {
+        Op::Crtpg => crtpg_fails(world, act.process, operands),
+        Op::Callx => callx_fails(world, act.process, act.depth, operands),
         Op::Xctl => xctl_fails(&world.objects, operands),
         _ => None,
     }
@@ -123,20 +116,12 @@ pub fn conditions(
 
 /// The value for its receiver.
 #[tactic(auto, unfolding(s38_rules::specs::Programs::programs_row))]
-pub fn value(
-    alloc: Global,
-    world: &Core<Objects, Profiles>,
-    process: u32,
-    depth: u16,
-    request: &Request,
-) -> Result<Option<Val>, NoMemory>
-    ensures { IfOk result (λ value. value ≡ (programs_row request.now.op).gives world.now process depth request.now) }
+pub fn value(alloc: Global, world: &Core<Objects, Profiles>, act: Act<'_>) -> Result<Option<Val>, NoMemory>
+    ensures { IfOk result (λ value. value ≡ (programs_row act.request.now.op).gives world.now act.process act.depth act.request.now) }
 {
-    let _ = process;
-    let _ = depth;
     let objects = &world.objects;
-    let operands = request.operands.as_slice();
-    match request.op {
+    let operands = act.request.operands.as_slice();
+    match act.request.op {
         Op::Crtpg => Ok(Some(creation_gives(objects, &new_program(objects, operands)))),
         Op::Callx | Op::Xctl => call_gives(alloc, objects, operands),
         _ => Ok(None),
@@ -145,23 +130,17 @@ pub fn value(
 
 /// What it changes, where it doesn't fail; where memory is refused nothing changes.
 #[tactic(auto, unfolding(s38_rules::specs::Programs::programs_row))]
-pub fn apply(
-    alloc: Global,
-    world: &mut Core<Objects, Profiles>,
-    process: u32,
-    depth: u16,
-    request: &Request,
-) -> Result<(), NoMemory>
-    requires { (programs_row request.now.op).fails world.old process depth request.now ≡ None }
-    ensures ok { OnOk result (world.new ≡ done world.old process ((programs_row request.now.op).changes world.old process depth request.now)) }
+pub fn apply(alloc: Global, world: &mut Core<Objects, Profiles>, act: Act<'_>) -> Result<(), NoMemory>
+    requires { (programs_row act.request.now.op).fails world.old act.process act.depth act.request.now ≡ None }
+    ensures ok { OnOk result (world.new ≡ done world.old act.process ((programs_row act.request.now.op).changes world.old act.process act.depth act.request.now)) }
     ensures err { OnErr result (world.new ≡ world.old) }
 {
-    let operands = request.operands.as_slice();
-    match request.op {
-        Op::Crtpg => crtpg(alloc, world, process, operands),
-        Op::Callx => callx(world, process, depth, operands),
+    let operands = act.request.operands.as_slice();
+    match act.request.op {
+        Op::Crtpg => crtpg(alloc, world, act.process, operands),
+        Op::Callx => callx(world, act.process, act.depth, operands),
         Op::Xctl => {
-            xctl(world, process, depth, operands);
+            xctl(world, act.process, act.depth, operands);
             Ok(())
         }
         Op::Despg => {
