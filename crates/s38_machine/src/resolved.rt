@@ -92,6 +92,7 @@ pub fn resolve(objects: &Objects, operands: &[Operand], need: &Need) -> Resolved
 const MOST: usize = 6;
 
 /// Needs, resolved, in a list that takes no memory.
+#[derive(Drop)]
 pub struct ResolvedNeeds {
     held: [Resolved; MOST],
     count: usize,

@@ -9,31 +9,6 @@ use std::marker::Model;
 /// How many needs an instruction has at most.
 const MOST: usize = 6;
 
-/// One need in place, or several with room for more.
-#[derive(Drop)]
-enum Held {
-    One([Need; 1]),
-    Several { held: [Need; MOST], count: usize },
-}
-
-/// What an instruction needs, in order.
-#[derive(Drop)]
-pub struct Needs {
-    held: Held,
-}
-
-impl Model for Needs {
-    ghost use Rattle.std.specs.Prelude.{List};
-    ghost use Rattle.s38_rules.specs.declared.need.Need.{Need};
-    ghost use Rattle.s38_operands.specs.NeedLists.{IsFew, listed};
-
-    ghost Value = { List Need };
-
-    ghost view = { λ n. listed n.held };
-
-    ghost invariant = { λ n. IsFew n.held };
-}
-
 const NOTHING: Need = Need {
     place: 0,
     named: Named::Written,
@@ -44,16 +19,97 @@ const NOTHING: Need = Need {
     category: None,
 };
 
+/// Up to six needs, in order.
+#[derive(Drop)]
+struct Several {
+    held: [Need; MOST],
+    count: usize,
+}
+
+impl Model for Several {
+    ghost use Rattle.std.specs.Prelude.{◌≤◌, List, take};
+    ghost use Rattle.s38_rules.specs.declared.need.Need.{Need};
+
+    ghost Value = { List Need };
+
+    ghost view = { λ n. take n.count n.held };
+
+    ghost invariant = { λ n. n.count ≤ 6 };
+}
+
+impl Several {
+    fn none() -> Several
+        ensures { result ≡ [] }
+    {
+        Several {
+            held: [NOTHING; MOST],
+            count: 0,
+        }
+    }
+
+    /// One need more, behind the others.
+    fn add(&mut self, need: Need)
+        requires { length self.old < 6 }
+        ensures { self.new ≡ self.old ++ need ∷ [] }
+    {
+        self.held[self.count] = need;
+        self.count += 1;
+    }
+
+    fn as_slice(&self) -> &[Need]
+        ensures value { result.now ≡ self.now }
+        ensures few { length result.now ≤ 6 }
+    {
+        &self.held[..self.count]
+    }
+}
+
+/// The needs, and these behind them.
+fn add_all(all: &mut Several, needs: &[Need])
+    requires { length all.old + length needs.now ≤ 6 }
+    ensures { all.new ≡ all.old ++ needs.now }
+{
+    match needs {
+        [] => {}
+        [need, more @ ..] => {
+            all.add(*need);
+            add_all(all, more);
+        }
+    }
+}
+
+/// One need in place, or several.
+#[derive(Drop)]
+enum Held {
+    One([Need; 1]),
+    Several(Several),
+}
+
+/// What an instruction needs, in order.
+#[derive(Drop)]
+pub struct Needs {
+    held: Held,
+}
+
+impl Model for Needs {
+    ghost use Rattle.std.specs.Prelude.{◌≤◌, List, length};
+    ghost use Rattle.s38_rules.specs.declared.need.Need.{Need};
+    ghost use Rattle.s38_operands.specs.NeedLists.{listed};
+
+    ghost Value = { List Need };
+
+    ghost view = { λ n. listed n.held };
+
+    ghost invariant = { λ n. length (listed n.held) ≤ 6 };
+}
+
 impl Needs {
     /// No need.
     pub fn none() -> Needs
         ensures { result ≡ [] }
     {
         Needs {
-            held: Held::Several {
-                held: [NOTHING; MOST],
-                count: 0,
-            },
+            held: Held::Several(Several::none()),
         }
     }
 
@@ -71,10 +127,12 @@ impl Needs {
         requires { length self + length others ≤ 6 }
         ensures { result ≡ self ++ others }
     {
-        let mut all = Needs::none();
+        let mut all = Several::none();
         add_all(&mut all, self.as_slice());
         add_all(&mut all, others.as_slice());
-        all
+        Needs {
+            held: Held::Several(all),
+        }
     }
 
     /// The needs; there are at most six.
@@ -84,21 +142,7 @@ impl Needs {
     {
         match &self.held {
             Held::One(need) => need,
-            Held::Several { held, count } => &held[..*count],
-        }
-    }
-}
-
-/// The needs, and these behind them.
-fn add_all(all: &mut Needs, needs: &[Need])
-    requires { length all.old + length needs.now ≤ 6 }
-    ensures { all.new ≡ all.old ++ needs.now }
-{
-    match needs {
-        [] => {}
-        [need, more @ ..] => {
-            all.add(*need);
-            add_all(all, more);
+            Held::Several(needs) => needs.as_slice(),
         }
     }
 }
