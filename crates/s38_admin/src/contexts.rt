@@ -289,7 +289,7 @@ fn matctx_gives(alloc: Global, objects: &Objects, operands: &[Operand]) -> Resul
 /// What an instruction of contexts needs.
 #[tactic(auto, unfolding(s38_rules::specs::Contexts::contexts_row))]
 pub fn needs(world: &Core<Objects, Profiles>, act: Act<'_>) -> Needs
-    ensures { result ≡ (contexts_row act.request.now.op).needs world.now act.process act.depth act.request.now }
+    ensures { result ≡ (contexts_row act.entry.request.now.op).needs world.now act.entry.process act.entry.depth act.entry.request.now }
 {
     let objects = &world.objects;
     let operands = act.request.operands.as_slice();
@@ -306,7 +306,7 @@ pub fn needs(world: &Core<Objects, Profiles>, act: Act<'_>) -> Needs
 /// The first of its conditions and limits that fails.
 #[tactic(auto, unfolding(s38_rules::specs::Contexts::contexts_row))]
 pub fn conditions(world: &Core<Objects, Profiles>, act: Act<'_>) -> Option<Exception>
-    ensures { result ≡ (contexts_row act.request.now.op).fails world.now act.process act.depth act.request.now }
+    ensures { result ≡ (contexts_row act.entry.request.now.op).fails world.now act.entry.process act.entry.depth act.entry.request.now }
 {
     let objects = &world.objects;
     let operands = act.request.operands.as_slice();
@@ -322,7 +322,7 @@ pub fn conditions(world: &Core<Objects, Profiles>, act: Act<'_>) -> Option<Excep
 /// The value for its receiver.
 #[tactic(auto, unfolding(s38_rules::specs::Contexts::contexts_row))]
 pub fn value(alloc: Global, world: &Core<Objects, Profiles>, act: Act<'_>) -> Result<Option<Val>, NoMemory>
-    ensures { IfOk result (λ value. value ≡ (contexts_row act.request.now.op).gives world.now act.process act.depth act.request.now) }
+    ensures { IfOk result (λ value. value ≡ (contexts_row act.entry.request.now.op).gives world.now act.entry.process act.entry.depth act.entry.request.now) }
 {
     let objects = &world.objects;
     let operands = act.request.operands.as_slice();
@@ -336,8 +336,8 @@ pub fn value(alloc: Global, world: &Core<Objects, Profiles>, act: Act<'_>) -> Re
 /// What it changes, where it doesn't fail; where memory is refused nothing changes.
 #[tactic(auto, unfolding(s38_rules::specs::Contexts::contexts_row))]
 pub fn apply(alloc: Global, world: &mut Core<Objects, Profiles>, act: Act<'_>) -> Result<(), NoMemory>
-    requires { (contexts_row act.request.now.op).fails world.old act.process act.depth act.request.now ≡ None }
-    ensures ok { OnOk result (world.new ≡ done world.old act.process ((contexts_row act.request.now.op).changes world.old act.process act.depth act.request.now)) }
+    requires { (contexts_row act.entry.request.now.op).fails world.old act.entry.process act.entry.depth act.entry.request.now ≡ None }
+    ensures ok { OnOk result (world.new ≡ done world.old act.entry.process ((contexts_row act.entry.request.now.op).changes world.old act.entry.process act.entry.depth act.entry.request.now)) }
     ensures err { OnErr result (world.new ≡ world.old) }
 {
     let operands = act.request.operands.as_slice();

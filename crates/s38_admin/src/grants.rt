@@ -269,7 +269,7 @@ fn matauobj_gives(alloc: Global, objects: &Objects, operands: &[Operand]) -> Res
 /// What an instruction of authority needs.
 #[tactic(auto, unfolding(s38_rules::specs::Grants::grants_row, s38_rules::specs::Grants::testau_needs, s38_rules::specs::Grants::matauobj_needs))]
 pub fn needs(act: Act<'_>) -> Needs
-    ensures { (s : State) → result ≡ (grants_row act.request.now.op).needs s act.process act.depth act.request.now }
+    ensures { (s : State) → result ≡ (grants_row act.entry.request.now.op).needs s act.entry.process act.entry.depth act.entry.request.now }
 {
     let operands = act.request.operands.as_slice();
     match act.request.op {
@@ -290,7 +290,7 @@ pub fn needs(act: Act<'_>) -> Needs
 /// The special authority that an acting user must have.
 #[tactic(auto, unfolding(s38_rules::specs::Grants::grants_row))]
 pub fn special(world: &Core<Objects, Profiles>, act: Act<'_>) -> Special
-    ensures { result.0 ≡ (grants_row act.request.now.op).special world.now act.process act.depth act.request.now }
+    ensures { result.0 ≡ (grants_row act.entry.request.now.op).special world.now act.entry.process act.entry.depth act.entry.request.now }
 {
     match act.request.op {
         Op::Matauobj => matauobj_special(world, act.process, act.depth, act.request.operands.as_slice()),
@@ -301,7 +301,7 @@ pub fn special(world: &Core<Objects, Profiles>, act: Act<'_>) -> Special
 /// The first of its conditions and limits that fails.
 #[tactic(auto, unfolding(s38_rules::specs::Grants::grants_row))]
 pub fn conditions(world: &Core<Objects, Profiles>, act: Act<'_>) -> Option<Exception>
-    ensures { result ≡ (grants_row act.request.now.op).fails world.now act.process act.depth act.request.now }
+    ensures { result ≡ (grants_row act.entry.request.now.op).fails world.now act.entry.process act.entry.depth act.entry.request.now }
 {
     let operands = act.request.operands.as_slice();
     match act.request.op {
@@ -314,7 +314,7 @@ pub fn conditions(world: &Core<Objects, Profiles>, act: Act<'_>) -> Option<Excep
 /// The value for its receiver.
 #[tactic(auto, unfolding(s38_rules::specs::Grants::grants_row))]
 pub fn value(alloc: Global, world: &Core<Objects, Profiles>, act: Act<'_>) -> Result<Option<Val>, NoMemory>
-    ensures { IfOk result (λ value. value ≡ (grants_row act.request.now.op).gives world.now act.process act.depth act.request.now) }
+    ensures { IfOk result (λ value. value ≡ (grants_row act.entry.request.now.op).gives world.now act.entry.process act.entry.depth act.entry.request.now) }
 {
     let operands = act.request.operands.as_slice();
     match act.request.op {
@@ -328,8 +328,8 @@ pub fn value(alloc: Global, world: &Core<Objects, Profiles>, act: Act<'_>) -> Re
 /// What it changes, where it doesn't fail; where memory is refused nothing changes.
 #[tactic(auto, unfolding(s38_rules::specs::Grants::grants_row))]
 pub fn apply(alloc: Global, world: &mut Core<Objects, Profiles>, act: Act<'_>) -> Result<(), NoMemory>
-    requires { (grants_row act.request.now.op).fails world.old act.process act.depth act.request.now ≡ None }
-    ensures ok { OnOk result (world.new ≡ done world.old act.process ((grants_row act.request.now.op).changes world.old act.process act.depth act.request.now)) }
+    requires { (grants_row act.entry.request.now.op).fails world.old act.entry.process act.entry.depth act.entry.request.now ≡ None }
+    ensures ok { OnOk result (world.new ≡ done world.old act.entry.process ((grants_row act.entry.request.now.op).changes world.old act.entry.process act.entry.depth act.entry.request.now)) }
     ensures err { OnErr result (world.new ≡ world.old) }
 {
     let operands = act.request.operands.as_slice();

@@ -150,7 +150,7 @@ fn desup_fails(world: &Core<Objects, Profiles>, operands: &[Operand]) -> Option<
 /// What an instruction of profiles needs.
 #[tactic(auto, unfolding(s38_rules::specs::Profiles::profiles_row, s38_rules::specs::Profiles::modup_needs))]
 pub fn needs(act: Act<'_>) -> Needs
-    ensures { (s : State) → result ≡ (profiles_row act.request.now.op).needs s act.process act.depth act.request.now }
+    ensures { (s : State) → result ≡ (profiles_row act.entry.request.now.op).needs s act.entry.process act.entry.depth act.entry.request.now }
 {
     let profile = Sought::Of(Kind::Profile);
     match act.request.op {
@@ -164,7 +164,7 @@ pub fn needs(act: Act<'_>) -> Needs
 /// The special authority over profiles.
 #[tactic(auto, unfolding(s38_rules::specs::Profiles::profiles_row))]
 pub fn special(act: Act<'_>) -> Special
-    ensures { (s : State) → result.0 ≡ (profiles_row act.request.now.op).special s act.process act.depth act.request.now }
+    ensures { (s : State) → result.0 ≡ (profiles_row act.entry.request.now.op).special s act.entry.process act.entry.depth act.entry.request.now }
 {
     match act.request.op {
         Op::Crtup | Op::Modup | Op::Desup => Special::PROFILE,
@@ -175,7 +175,7 @@ pub fn special(act: Act<'_>) -> Special
 /// The first of its conditions and limits that fails.
 #[tactic(auto, unfolding(s38_rules::specs::Profiles::profiles_row))]
 pub fn conditions(world: &Core<Objects, Profiles>, act: Act<'_>) -> Option<Exception>
-    ensures { result ≡ (profiles_row act.request.now.op).fails world.now act.process act.depth act.request.now }
+    ensures { result ≡ (profiles_row act.entry.request.now.op).fails world.now act.entry.process act.entry.depth act.entry.request.now }
 {
     let operands = act.request.operands.as_slice();
     match act.request.op {
@@ -189,7 +189,7 @@ pub fn conditions(world: &Core<Objects, Profiles>, act: Act<'_>) -> Option<Excep
 /// The value for its receiver.
 #[tactic(auto, unfolding(s38_rules::specs::Profiles::profiles_row))]
 pub fn value(alloc: Global, world: &Core<Objects, Profiles>, act: Act<'_>) -> Result<Option<Val>, NoMemory>
-    ensures { IfOk result (λ value. value ≡ (profiles_row act.request.now.op).gives world.now act.process act.depth act.request.now) }
+    ensures { IfOk result (λ value. value ≡ (profiles_row act.entry.request.now.op).gives world.now act.entry.process act.entry.depth act.entry.request.now) }
 {
     let operands = act.request.operands.as_slice();
     match act.request.op {
@@ -204,8 +204,8 @@ pub fn value(alloc: Global, world: &Core<Objects, Profiles>, act: Act<'_>) -> Re
 /// What it changes, where it doesn't fail; where memory is refused nothing changes.
 #[tactic(auto, unfolding(s38_rules::specs::Profiles::profiles_row))]
 pub fn apply(alloc: Global, world: &mut Core<Objects, Profiles>, act: Act<'_>) -> Result<(), NoMemory>
-    requires { (profiles_row act.request.now.op).fails world.old act.process act.depth act.request.now ≡ None }
-    ensures ok { OnOk result (world.new ≡ done world.old act.process ((profiles_row act.request.now.op).changes world.old act.process act.depth act.request.now)) }
+    requires { (profiles_row act.entry.request.now.op).fails world.old act.entry.process act.entry.depth act.entry.request.now ≡ None }
+    ensures ok { OnOk result (world.new ≡ done world.old act.entry.process ((profiles_row act.entry.request.now.op).changes world.old act.entry.process act.entry.depth act.entry.request.now)) }
     ensures err { OnErr result (world.new ≡ world.old) }
 {
     let operands = act.request.operands.as_slice();

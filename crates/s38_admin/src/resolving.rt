@@ -253,7 +253,7 @@ fn setspfp_gives(objects: &Objects, operands: &[Operand]) -> Val
 /// What an instruction of resolving needs.
 #[tactic(auto, unfolding(s38_rules::specs::Resolving::resolving_row, s38_rules::specs::Resolving::setspfp_needs))]
 pub fn needs(world: &Core<Objects, Profiles>, act: Act<'_>) -> Needs
-    ensures { result ≡ (resolving_row act.request.now.op).needs world.now act.process act.depth act.request.now }
+    ensures { result ≡ (resolving_row act.entry.request.now.op).needs world.now act.entry.process act.entry.depth act.entry.request.now }
 {
     match act.request.op {
         Op::Rslvsp => rslvsp_needs(world, act.process, act.depth, act.request.operands.as_slice()),
@@ -272,7 +272,7 @@ pub fn needs(world: &Core<Objects, Profiles>, act: Act<'_>) -> Needs
 /// The first of its conditions and limits that fails.
 #[tactic(auto, unfolding(s38_rules::specs::Resolving::resolving_row))]
 pub fn conditions(world: &Core<Objects, Profiles>, act: Act<'_>) -> Option<Exception>
-    ensures { result ≡ (resolving_row act.request.now.op).fails world.now act.process act.depth act.request.now }
+    ensures { result ≡ (resolving_row act.entry.request.now.op).fails world.now act.entry.process act.entry.depth act.entry.request.now }
 {
     match act.request.op {
         Op::Rslvsp => rslvsp_fails(world, act.process, act.depth, act.request.operands.as_slice()),
@@ -283,7 +283,7 @@ pub fn conditions(world: &Core<Objects, Profiles>, act: Act<'_>) -> Option<Excep
 /// The value for its receiver.
 #[tactic(auto, unfolding(s38_rules::specs::Resolving::resolving_row))]
 pub fn value(alloc: Global, world: &Core<Objects, Profiles>, act: Act<'_>) -> Result<Option<Val>, NoMemory>
-    ensures { IfOk result (λ value. value ≡ (resolving_row act.request.now.op).gives world.now act.process act.depth act.request.now) }
+    ensures { IfOk result (λ value. value ≡ (resolving_row act.entry.request.now.op).gives world.now act.entry.process act.entry.depth act.entry.request.now) }
 {
     let operands = act.request.operands.as_slice();
     match act.request.op {

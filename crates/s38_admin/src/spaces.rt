@@ -273,7 +273,7 @@ fn cpybwp(alloc: Global, world: &mut Core<Objects, Profiles>, operands: &[Operan
 /// What an instruction of spaces needs.
 #[tactic(auto, unfolding(s38_rules::specs::Spaces::spaces_row, s38_rules::specs::Spaces::mods_needs, s38_rules::specs::Spaces::setsppfp_needs, s38_rules::specs::Spaces::setdp_needs))]
 pub fn needs(act: Act<'_>) -> Needs
-    ensures { (s : State) → result ≡ (spaces_row act.request.now.op).needs s act.process act.depth act.request.now }
+    ensures { (s : State) → result ≡ (spaces_row act.entry.request.now.op).needs s act.entry.process act.entry.depth act.entry.request.now }
 {
     let space = Sought::Of(Kind::Space);
     match act.request.op {
@@ -296,7 +296,7 @@ pub fn needs(act: Act<'_>) -> Needs
 /// The first of its conditions and limits that fails.
 #[tactic(auto, unfolding(s38_rules::specs::Spaces::spaces_row))]
 pub fn conditions(world: &Core<Objects, Profiles>, act: Act<'_>) -> Option<Exception>
-    ensures { result ≡ (spaces_row act.request.now.op).fails world.now act.process act.depth act.request.now }
+    ensures { result ≡ (spaces_row act.entry.request.now.op).fails world.now act.entry.process act.entry.depth act.entry.request.now }
 {
     let operands = act.request.operands.as_slice();
     match act.request.op {
@@ -311,7 +311,7 @@ pub fn conditions(world: &Core<Objects, Profiles>, act: Act<'_>) -> Option<Excep
 /// The value for its receiver.
 #[tactic(auto, unfolding(s38_rules::specs::Spaces::spaces_row))]
 pub fn value(alloc: Global, world: &Core<Objects, Profiles>, act: Act<'_>) -> Result<Option<Val>, NoMemory>
-    ensures { IfOk result (λ value. value ≡ (spaces_row act.request.now.op).gives world.now act.process act.depth act.request.now) }
+    ensures { IfOk result (λ value. value ≡ (spaces_row act.entry.request.now.op).gives world.now act.entry.process act.entry.depth act.entry.request.now) }
 {
     let objects = &world.objects;
     let operands = act.request.operands.as_slice();
@@ -327,8 +327,8 @@ pub fn value(alloc: Global, world: &Core<Objects, Profiles>, act: Act<'_>) -> Re
 /// What it changes, where it doesn't fail; where memory is refused nothing changes.
 #[tactic(auto, unfolding(s38_rules::specs::Spaces::spaces_row))]
 pub fn apply(alloc: Global, world: &mut Core<Objects, Profiles>, act: Act<'_>) -> Result<(), NoMemory>
-    requires { (spaces_row act.request.now.op).fails world.old act.process act.depth act.request.now ≡ None }
-    ensures ok { OnOk result (world.new ≡ done world.old act.process ((spaces_row act.request.now.op).changes world.old act.process act.depth act.request.now)) }
+    requires { (spaces_row act.entry.request.now.op).fails world.old act.entry.process act.entry.depth act.entry.request.now ≡ None }
+    ensures ok { OnOk result (world.new ≡ done world.old act.entry.process ((spaces_row act.entry.request.now.op).changes world.old act.entry.process act.entry.depth act.entry.request.now)) }
     ensures err { OnErr result (world.new ≡ world.old) }
 {
     let operands = act.request.operands.as_slice();

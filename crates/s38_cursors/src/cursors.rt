@@ -45,7 +45,7 @@ fn through_cursor(
 /// What an instruction of data spaces needs.
 #[tactic(auto, unfolding(s38_rules::specs::DataSpaces::data_spaces_row))]
 pub fn needs(world: &Core<Objects, Profiles>, act: Act<'_>) -> Needs
-    ensures { result ≡ (data_spaces_row act.request.now.op).needs world.now act.process act.depth act.request.now }
+    ensures { result ≡ (data_spaces_row act.entry.request.now.op).needs world.now act.entry.process act.entry.depth act.entry.request.now }
 {
     let objects = &world.objects;
     let operands = act.request.operands.as_slice();
@@ -94,7 +94,7 @@ fn changing_needs(objects: &Objects, operands: &[Operand], right: Rights) -> Nee
 /// The first of its conditions and limits that fails.
 #[tactic(auto, unfolding(s38_rules::specs::DataSpaces::data_spaces_row))]
 pub fn conditions(world: &Core<Objects, Profiles>, act: Act<'_>) -> Option<Exception>
-    ensures { result ≡ (data_spaces_row act.request.now.op).fails world.now act.process act.depth act.request.now }
+    ensures { result ≡ (data_spaces_row act.entry.request.now.op).fails world.now act.entry.process act.entry.depth act.entry.request.now }
 {
     let objects = &world.objects;
     let operands = act.request.operands.as_slice();
@@ -114,7 +114,7 @@ pub fn conditions(world: &Core<Objects, Profiles>, act: Act<'_>) -> Option<Excep
 /// The value for its receiver.
 #[tactic(auto, unfolding(s38_rules::specs::DataSpaces::data_spaces_row))]
 pub fn value(alloc: Global, world: &Core<Objects, Profiles>, act: Act<'_>) -> Result<Option<Val>, NoMemory>
-    ensures { IfOk result (λ value. value ≡ (data_spaces_row act.request.now.op).gives world.now act.process act.depth act.request.now) }
+    ensures { IfOk result (λ value. value ≡ (data_spaces_row act.entry.request.now.op).gives world.now act.entry.process act.entry.depth act.entry.request.now) }
 {
     let objects = &world.objects;
     let operands = act.request.operands.as_slice();
@@ -129,8 +129,8 @@ pub fn value(alloc: Global, world: &Core<Objects, Profiles>, act: Act<'_>) -> Re
 /// What it changes, where it doesn't fail; where memory is refused nothing changes.
 #[tactic(auto, unfolding(s38_rules::specs::DataSpaces::data_spaces_row))]
 pub fn apply(alloc: Global, world: &mut Core<Objects, Profiles>, act: Act<'_>) -> Result<(), NoMemory>
-    requires { (data_spaces_row act.request.now.op).fails world.old act.process act.depth act.request.now ≡ None }
-    ensures ok { OnOk result (world.new ≡ done world.old act.process ((data_spaces_row act.request.now.op).changes world.old act.process act.depth act.request.now)) }
+    requires { (data_spaces_row act.entry.request.now.op).fails world.old act.entry.process act.entry.depth act.entry.request.now ≡ None }
+    ensures ok { OnOk result (world.new ≡ done world.old act.entry.process ((data_spaces_row act.entry.request.now.op).changes world.old act.entry.process act.entry.depth act.entry.request.now)) }
     ensures err { OnErr result (world.new ≡ world.old) }
 {
     let operands = act.request.operands.as_slice();

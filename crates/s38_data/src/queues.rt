@@ -411,7 +411,7 @@ fn deq(alloc: Global, world: &mut Core<Objects, Profiles>, operands: &[Operand])
 /// What an instruction of queues needs.
 #[tactic(auto, unfolding(s38_rules::specs::Queues::queues_row, s38_rules::specs::Queues::enq_needs, s38_rules::specs::Queues::deq_needs))]
 pub fn needs(act: Act<'_>) -> Needs
-    ensures { (s : State) → result ≡ (queues_row act.request.now.op).needs s act.process act.depth act.request.now }
+    ensures { (s : State) → result ≡ (queues_row act.entry.request.now.op).needs s act.entry.process act.entry.depth act.entry.request.now }
 {
     let queue = Sought::Of(Kind::Queue);
     match act.request.op {
@@ -426,7 +426,7 @@ pub fn needs(act: Act<'_>) -> Needs
 /// The first of its conditions and limits that fails.
 #[tactic(auto, unfolding(s38_rules::specs::Queues::queues_row))]
 pub fn conditions(world: &Core<Objects, Profiles>, act: Act<'_>) -> Option<Exception>
-    ensures { result ≡ (queues_row act.request.now.op).fails world.now act.process act.depth act.request.now }
+    ensures { result ≡ (queues_row act.entry.request.now.op).fails world.now act.entry.process act.entry.depth act.entry.request.now }
 {
     let operands = act.request.operands.as_slice();
     match act.request.op {
@@ -440,7 +440,7 @@ pub fn conditions(world: &Core<Objects, Profiles>, act: Act<'_>) -> Option<Excep
 /// The value for its receiver.
 #[tactic(auto, unfolding(s38_rules::specs::Queues::queues_row))]
 pub fn value(alloc: Global, world: &Core<Objects, Profiles>, act: Act<'_>) -> Result<Option<Val>, NoMemory>
-    ensures { IfOk result (λ value. value ≡ (queues_row act.request.now.op).gives world.now act.process act.depth act.request.now) }
+    ensures { IfOk result (λ value. value ≡ (queues_row act.entry.request.now.op).gives world.now act.entry.process act.entry.depth act.entry.request.now) }
 {
     let objects = &world.objects;
     let operands = act.request.operands.as_slice();
@@ -454,8 +454,8 @@ pub fn value(alloc: Global, world: &Core<Objects, Profiles>, act: Act<'_>) -> Re
 /// What it changes, where it doesn't fail; where memory is refused nothing changes.
 #[tactic(auto, unfolding(s38_rules::specs::Queues::queues_row))]
 pub fn apply(alloc: Global, world: &mut Core<Objects, Profiles>, act: Act<'_>) -> Result<(), NoMemory>
-    requires { (queues_row act.request.now.op).fails world.old act.process act.depth act.request.now ≡ None }
-    ensures ok { OnOk result (world.new ≡ done world.old act.process ((queues_row act.request.now.op).changes world.old act.process act.depth act.request.now)) }
+    requires { (queues_row act.entry.request.now.op).fails world.old act.entry.process act.entry.depth act.entry.request.now ≡ None }
+    ensures ok { OnOk result (world.new ≡ done world.old act.entry.process ((queues_row act.entry.request.now.op).changes world.old act.entry.process act.entry.depth act.entry.request.now)) }
     ensures err { OnErr result (world.new ≡ world.old) }
 {
     let operands = act.request.operands.as_slice();

@@ -28,9 +28,9 @@ fn act_values(
     world: &Core<Objects, Profiles>,
     act: Act<'_>,
 ) -> Result<(Vals, Option<Val>), NoMemory>
-    ensures values { IfOk result (λ parts. parts.0 ≡ (effect (row act.request.now.op) world.now act.process act.depth act.request.now).values) }
-    ensures kept { IfOk result (λ parts. (s : State) (shift : ℕ) → (delivered s shift (receiver_at act.request.now.op act.request.now.operands) parts.1).state
-        ≡ (delivered s shift (receiver_at act.request.now.op act.request.now.operands) ((row act.request.now.op).gives world.now act.process act.depth act.request.now)).state) }
+    ensures values { IfOk result (λ parts. parts.0 ≡ (effect (row act.entry.request.now.op) world.now act.entry.process act.entry.depth act.entry.request.now).values) }
+    ensures kept { IfOk result (λ parts. (s : State) (shift : ℕ) → (delivered s shift (receiver_at act.entry.request.now.op act.entry.request.now.operands) parts.1).state
+        ≡ (delivered s shift (receiver_at act.entry.request.now.op act.entry.request.now.operands) ((row act.entry.request.now.op).gives world.now act.entry.process act.entry.depth act.entry.request.now)).state) }
 {
     let value = rows::value(alloc, world, act)?;
     parted(
@@ -72,10 +72,10 @@ fn carry_out(
     act: Act<'_>,
     value: Option<Val>,
 ) -> Result<(), NoMemory>
-    requires conditions { (row act.request.now.op).fails world.old act.process act.depth act.request.now ≡ None }
-    requires value { (s : State) (shift : ℕ) → (delivered s shift (receiver_at act.request.now.op act.request.now.operands) value).state
-        ≡ (delivered s shift (receiver_at act.request.now.op act.request.now.operands) ((row act.request.now.op).gives world.old act.process act.depth act.request.now)).state }
-    ensures ok { OnOk result (world.new ≡ (effect (row act.request.now.op) world.old act.process act.depth act.request.now).state) }
+    requires conditions { (row act.entry.request.now.op).fails world.old act.entry.process act.entry.depth act.entry.request.now ≡ None }
+    requires value { (s : State) (shift : ℕ) → (delivered s shift (receiver_at act.entry.request.now.op act.entry.request.now.operands) value).state
+        ≡ (delivered s shift (receiver_at act.entry.request.now.op act.entry.request.now.operands) ((row act.entry.request.now.op).gives world.old act.entry.process act.entry.depth act.entry.request.now)).state }
+    ensures ok { OnOk result (world.new ≡ (effect (row act.entry.request.now.op) world.old act.entry.process act.entry.depth act.entry.request.now).state) }
     ensures err { OnErr result (world.new ≡ world.old) }
 {
     let operands = act.request.operands.as_slice();

@@ -20,7 +20,7 @@ use std::alloc::Global;
 #[inline(never)]
 #[tactic(auto, unfolding(s38_rules::specs::Rows::row_in))]
 pub fn needs(world: &Core<Objects, Profiles>, act: Act<'_>) -> Needs
-    ensures { result ≡ (row act.request.now.op).needs world.now act.process act.depth act.request.now }
+    ensures { result ≡ (row act.entry.request.now.op).needs world.now act.entry.process act.entry.depth act.entry.request.now }
 {
     match family_of(act.request.op) {
         Family::Computing => computing_needs(act.request.op),
@@ -42,7 +42,7 @@ pub fn needs(world: &Core<Objects, Profiles>, act: Act<'_>) -> Needs
 /// The special authority that an acting user must have.
 #[tactic(auto, using(s38_rules::proofs::Laws::unspecial_contexts, s38_rules::proofs::Laws::unspecial_data_spaces, s38_rules::proofs::Laws::unspecial_indexes, s38_rules::proofs::Laws::unspecial_journals, s38_rules::proofs::Laws::unspecial_locks, s38_rules::proofs::Laws::unspecial_programs, s38_rules::proofs::Laws::unspecial_queues, s38_rules::proofs::Laws::unspecial_resolving, s38_rules::proofs::Laws::unspecial_spaces), unfolding(s38_rules::specs::Rows::row_in))]
 pub fn special(world: &Core<Objects, Profiles>, act: Act<'_>) -> Special
-    ensures { result.0 ≡ (row act.request.now.op).special world.now act.process act.depth act.request.now }
+    ensures { result.0 ≡ (row act.entry.request.now.op).special world.now act.entry.process act.entry.depth act.entry.request.now }
 {
     match family_of(act.request.op) {
         Family::Profiles => profiles::special(act),
@@ -54,7 +54,7 @@ pub fn special(world: &Core<Objects, Profiles>, act: Act<'_>) -> Special
 /// The first of its conditions and limits that fails.
 #[tactic(auto, unfolding(s38_rules::specs::Rows::row_in))]
 pub fn conditions(world: &Core<Objects, Profiles>, act: Act<'_>) -> Option<Exception>
-    ensures { result ≡ (row act.request.now.op).fails world.now act.process act.depth act.request.now }
+    ensures { result ≡ (row act.entry.request.now.op).fails world.now act.entry.process act.entry.depth act.entry.request.now }
 {
     match family_of(act.request.op) {
         Family::Computing => computing_fails(&world.objects, act.request),
@@ -76,7 +76,7 @@ pub fn conditions(world: &Core<Objects, Profiles>, act: Act<'_>) -> Option<Excep
 /// The value for its receiver; None where it gives none.
 #[tactic(auto, unfolding(s38_rules::specs::Rows::row_in))]
 pub fn value(alloc: Global, world: &Core<Objects, Profiles>, act: Act<'_>) -> Result<Option<Val>, NoMemory>
-    ensures { IfOk result (λ value. value ≡ (row act.request.now.op).gives world.now act.process act.depth act.request.now) }
+    ensures { IfOk result (λ value. value ≡ (row act.entry.request.now.op).gives world.now act.entry.process act.entry.depth act.entry.request.now) }
 {
     match family_of(act.request.op) {
         Family::Computing => computing_gives(alloc, &world.objects, act.request),
@@ -98,8 +98,8 @@ pub fn value(alloc: Global, world: &Core<Objects, Profiles>, act: Act<'_>) -> Re
 /// What it changes, where it doesn't fail; where memory is refused nothing changes.
 #[tactic(auto, using(s38_rules::proofs::Laws::resolving_still), unfolding(s38_rules::specs::Rows::row_in))]
 pub fn apply(alloc: Global, world: &mut Core<Objects, Profiles>, act: Act<'_>) -> Result<(), NoMemory>
-    requires { (row act.request.now.op).fails world.old act.process act.depth act.request.now ≡ None }
-    ensures ok { OnOk result (world.new ≡ done world.old act.process ((row act.request.now.op).changes world.old act.process act.depth act.request.now)) }
+    requires { (row act.entry.request.now.op).fails world.old act.entry.process act.entry.depth act.entry.request.now ≡ None }
+    ensures ok { OnOk result (world.new ≡ done world.old act.entry.process ((row act.entry.request.now.op).changes world.old act.entry.process act.entry.depth act.entry.request.now)) }
     ensures err { OnErr result (world.new ≡ world.old) }
 {
     match family_of(act.request.op) {

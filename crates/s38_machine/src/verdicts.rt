@@ -49,9 +49,9 @@ fn authority_rules(
     act: Act<'_>,
     needs: &[Resolved],
 ) -> Option<Exception>
-    requires { Each (IsResolved world.now.held act.request.now.operands) needs.now }
-    ensures { result ≡ first (lacks_special world.now.held (acting world.now act.process act.depth) ((row act.request.now.op).special world.now act.process act.depth act.request.now))
-        (rights_rules world.now act.process act.depth act.request.now.operands (needs_of needs.now)) }
+    requires { Each (IsResolved world.now.held act.entry.request.now.operands) needs.now }
+    ensures { result ≡ first (lacks_special world.now.held (acting world.now act.entry.process act.entry.depth) ((row act.entry.request.now.op).special world.now act.entry.process act.entry.depth act.entry.request.now))
+        (rights_rules world.now act.entry.process act.entry.depth act.entry.request.now.operands (needs_of needs.now)) }
 {
     let operands = act.request.operands.as_slice();
     let special = rows::special(world, act);
@@ -71,8 +71,8 @@ fn refused_with(
     act: Act<'_>,
     needs: &[Resolved],
 ) -> Option<Exception>
-    requires { Each (IsResolved world.now.held act.request.now.operands) needs.now }
-    ensures { result ≡ refused_with (row act.request.now.op) world.now act.process act.depth act.request.now (needs_of needs.now) }
+    requires { Each (IsResolved world.now.held act.entry.request.now.operands) needs.now }
+    ensures { result ≡ refused_with (row act.entry.request.now.op) world.now act.entry.process act.entry.depth act.entry.request.now (needs_of needs.now) }
 {
     if let Some(failure) = address_rules(&world.objects, act.request.operands.as_slice(), needs) {
         return Some(failure);
@@ -89,7 +89,7 @@ fn refused_with(
 /// The first rule that an instruction fails. Each of its needs is resolved once, and all rules go over that.
 #[tactic(auto, unfolding(s38_rules::specs::Verdict::refused_by))]
 fn refused_by(world: &Core<Objects, Profiles>, act: Act<'_>) -> Option<Exception>
-    ensures { result ≡ refused_by (row act.request.now.op) world.now act.process act.depth act.request.now }
+    ensures { result ≡ refused_by (row act.entry.request.now.op) world.now act.entry.process act.entry.depth act.entry.request.now }
 {
     let needs = rows::needs(world, act);
     let operands = act.request.operands.as_slice();

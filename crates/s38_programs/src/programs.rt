@@ -90,7 +90,7 @@ fn crtpg(
 /// What an instruction of programs needs.
 #[tactic(auto, unfolding(s38_rules::specs::Programs::programs_row))]
 pub fn needs(act: Act<'_>) -> Needs
-    ensures { (s : State) → result ≡ (programs_row act.request.now.op).needs s act.process act.depth act.request.now }
+    ensures { (s : State) → result ≡ (programs_row act.entry.request.now.op).needs s act.entry.process act.entry.depth act.entry.request.now }
 {
     match act.request.op {
         Op::Crtpg => creation_needs(act.request.operands.as_slice()),
@@ -103,7 +103,7 @@ pub fn needs(act: Act<'_>) -> Needs
 /// The first of its conditions and limits that fails.
 #[tactic(auto, unfolding(s38_rules::specs::Programs::programs_row))]
 pub fn conditions(world: &Core<Objects, Profiles>, act: Act<'_>) -> Option<Exception>
-    ensures { result ≡ (programs_row act.request.now.op).fails world.now act.process act.depth act.request.now }
+    ensures { result ≡ (programs_row act.entry.request.now.op).fails world.now act.entry.process act.entry.depth act.entry.request.now }
 {
     let operands = act.request.operands.as_slice();
     match act.request.op {
@@ -117,7 +117,7 @@ pub fn conditions(world: &Core<Objects, Profiles>, act: Act<'_>) -> Option<Excep
 /// The value for its receiver.
 #[tactic(auto, unfolding(s38_rules::specs::Programs::programs_row))]
 pub fn value(alloc: Global, world: &Core<Objects, Profiles>, act: Act<'_>) -> Result<Option<Val>, NoMemory>
-    ensures { IfOk result (λ value. value ≡ (programs_row act.request.now.op).gives world.now act.process act.depth act.request.now) }
+    ensures { IfOk result (λ value. value ≡ (programs_row act.entry.request.now.op).gives world.now act.entry.process act.entry.depth act.entry.request.now) }
 {
     let objects = &world.objects;
     let operands = act.request.operands.as_slice();
@@ -131,8 +131,8 @@ pub fn value(alloc: Global, world: &Core<Objects, Profiles>, act: Act<'_>) -> Re
 /// What it changes, where it doesn't fail; where memory is refused nothing changes.
 #[tactic(auto, unfolding(s38_rules::specs::Programs::programs_row))]
 pub fn apply(alloc: Global, world: &mut Core<Objects, Profiles>, act: Act<'_>) -> Result<(), NoMemory>
-    requires { (programs_row act.request.now.op).fails world.old act.process act.depth act.request.now ≡ None }
-    ensures ok { OnOk result (world.new ≡ done world.old act.process ((programs_row act.request.now.op).changes world.old act.process act.depth act.request.now)) }
+    requires { (programs_row act.entry.request.now.op).fails world.old act.entry.process act.entry.depth act.entry.request.now ≡ None }
+    ensures ok { OnOk result (world.new ≡ done world.old act.entry.process ((programs_row act.entry.request.now.op).changes world.old act.entry.process act.entry.depth act.entry.request.now)) }
     ensures err { OnErr result (world.new ≡ world.old) }
 {
     let operands = act.request.operands.as_slice();
