@@ -72,9 +72,9 @@ fn carry_out(
     act: Act<'_>,
     value: Option<Val>,
 ) -> Result<(), NoMemory>
-    requires conditions { (row act.entry.request.now.op).fails world.old act.entry.process act.entry.depth act.entry.request.now ≡ None }
-    requires value { (s : State) (shift : ℕ) → (delivered s shift (receiver_at act.entry.request.now.op act.entry.request.now.operands) value).state
-        ≡ (delivered s shift (receiver_at act.entry.request.now.op act.entry.request.now.operands) ((row act.entry.request.now.op).gives world.old act.entry.process act.entry.depth act.entry.request.now)).state }
+    requires conditions { (row act.request.now.op).fails world.old act.process act.depth act.request.now ≡ None }
+    requires value { (s : State) (shift : ℕ) → (delivered s shift (receiver_at act.request.now.op act.request.now.operands) value).state
+        ≡ (delivered s shift (receiver_at act.request.now.op act.request.now.operands) ((row act.request.now.op).gives world.old act.process act.depth act.request.now)).state }
     ensures ok { OnOk result (world.new ≡ (effect (row act.entry.request.now.op) world.old act.entry.process act.entry.depth act.entry.request.now).state) }
     ensures err { OnErr result (world.new ≡ world.old) }
 {

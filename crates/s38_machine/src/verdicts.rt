@@ -49,7 +49,7 @@ fn authority_rules(
     act: Act<'_>,
     needs: &[Resolved],
 ) -> Option<Exception>
-    requires { Each (IsResolved world.now.held act.entry.request.now.operands) needs.now }
+    requires { Each (IsResolved world.now.held act.request.now.operands) needs.now }
     ensures { result ≡ first (lacks_special world.now.held (acting world.now act.entry.process act.entry.depth) ((row act.entry.request.now.op).special world.now act.entry.process act.entry.depth act.entry.request.now))
         (rights_rules world.now act.entry.process act.entry.depth act.entry.request.now.operands (needs_of needs.now)) }
 {
@@ -71,7 +71,7 @@ fn refused_with(
     act: Act<'_>,
     needs: &[Resolved],
 ) -> Option<Exception>
-    requires { Each (IsResolved world.now.held act.entry.request.now.operands) needs.now }
+    requires { Each (IsResolved world.now.held act.request.now.operands) needs.now }
     ensures { result ≡ refused_with (row act.entry.request.now.op) world.now act.entry.process act.entry.depth act.entry.request.now (needs_of needs.now) }
 {
     if let Some(failure) = address_rules(&world.objects, act.request.operands.as_slice(), needs) {
