@@ -1,6 +1,7 @@
 //! The address rules: what a pointer has to be, and where an item in a space has to lie.
 ghost use Rattle.std.specs.Prelude.{◌≡◌, ℕ, [], Option};
 ghost use Rattle.std.specs.Option.{option_copied, option_map, unwrap_or};
+ghost use Rattle.s38_machine.specs.Plain.{are_plain};
 ghost use Rattle.s38_machine.specs.Resolved.{Each, IsResolved, facts_of, needs_of};
 ghost use Rattle.s38_rules.specs.declared.object.Object.{Object};
 ghost use Rattle.s38_base.specs.Pointers.{target_of};
@@ -19,7 +20,7 @@ use s38_base::{Attr, Exception, Kind, Pointer};
 use s38_code::Operand;
 use s38_memory::Tagged;
 use s38_objects::Objects;
-use s38_operands::{fails, is_aligned, is_within};
+use s38_operands::{fails, is_aligned, is_in_space, is_within};
 use s38_rules::{BodyPart, Named, Need, Object, PointerKind, Sought};
 
 fn is_base(pointer: Pointer, offset: u32, attr: Attr) -> bool
@@ -205,9 +206,29 @@ impl<'a> OperandRules for Addresses<'a> {
     }
 }
 
-/// The first address rule that fails: those of each operand in order, and then those of objects that no operand
-/// names.
+/// Whether no operand lies in a space.
+fn are_plain(operands: &[Operand]) -> bool
+    ensures { result ≡ are_plain operands.now }
+{
+    match operands {
+        [] => true,
+        [operand, more @ ..] => !is_in_space(Some(operand)) && are_plain(more),
+    }
+}
+
+/// The first address rule that fails, operand by operand.
 #[tactic(auto, unfolding(s38_rules::specs::Verdict::address_rules))]
+fn each_address(objects: &Objects, operands: &[Operand], needs: &[Resolved]) -> Option<Exception>
+    requires { Each (IsResolved objects.now operands.now) needs.now }
+    ensures { result ≡ address_rules objects.now operands.now (needs_of needs.now) }
+{
+    by_operand(&Addresses { objects, operands }, needs, 1, operands)
+}
+
+/// The first address rule that fails: those of each operand in order, and then those of objects that no operand
+/// names. Where no operand lies in a space, one need is asked alone.
+#[inline(always)]
+#[tactic(auto, using(crate::proofs::SoleLaws::sole_rule))]
 pub fn address_rules(
     objects: &Objects,
     operands: &[Operand],
@@ -216,5 +237,10 @@ pub fn address_rules(
     requires { Each (IsResolved objects.now operands.now) needs.now }
     ensures { result ≡ address_rules objects.now operands.now (needs_of needs.now) }
 {
-    by_operand(&Addresses { objects, operands }, needs, 1, operands)
+    if let [need] = needs {
+        if need.need.place as usize <= operands.len() && are_plain(operands) {
+            return address_rule(objects, operands, need);
+        }
+    }
+    each_address(objects, operands, needs)
 }
