@@ -1,5 +1,5 @@
 -- A need of an instruction with the pointer and the object that it speaks of.
-use Rattle.std.specs.Prelude.{◌≡◌, ◌×◌, ⊤, ℕ, List, [], ◌∷◌, map, Option, None}
+use Rattle.std.specs.Prelude.{◌≡◌, ℕ, List, [], ◌∷◌, map, Option, None}
 use Rattle.std.specs.Option.{option_map}
 use Rattle.s38_base.specs.declared.pointer.Pointer.{Pointer}
 use Rattle.s38_code.specs.declared.operand.Operand.{Operand}
@@ -35,7 +35,7 @@ abbrev pub IsResolved : Held → List Operand → Resolved → Type 0
 IsResolved h ops r = r ≡ resolved h ops r.need
 
 abbrev pub Each : (Resolved → Type 0) → List Resolved → Type 0
-Each holds [] = ⊤
+Each holds [] = Unit {0}
 Each holds (r ∷ rs) = holds r × Each holds rs
 
 abbrev pub needs_of : List Resolved → List Need

@@ -1,5 +1,5 @@
 -- Steps of a machine without a store.
-use Rattle.std.specs.Prelude.{◌≡◌, ◌×◌, ℕ, Result}
+use Rattle.std.specs.Prelude.{◌≡◌, ℕ, Result}
 use Rattle.s38_code.specs.declared.event.Event.{Event}
 use Rattle.s38_code.specs.declared.reply.Reply.{Reply}
 use Rattle.s38_code.specs.declared.step.StepFault.{StepFault}
