@@ -1,0 +1,6 @@
+//! What lies inside a space: every operand that a permitted instruction names there, and all that it puts there.
+#![tactic(auto)]
+
+mod laws;
+
+pub use laws::operands_lie_inside;
