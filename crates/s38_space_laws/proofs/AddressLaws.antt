@@ -2,7 +2,7 @@
 use Rattle.std.proofs.Common.{◌+◌, ◌≡◌, ◌∷◌, Bool, List, [], cond, false, min, refl, true, ℕ}
 use Rattle.std.proofs.lemmas.List.Elements.{All-cons, All-nil}
 use Rattle.std.specs.Option.{unwrap_or}
-use Rattle.std.specs.Prelude.{◌&&◌, ◌||◌, All, IsTrue, None, Option, Some, is_some, not}
+use Rattle.std.specs.Prelude.{◌&&◌, ◌||◌, All, None, Option, Some, is_some, not}
 use Rattle.s38_base.specs.Exceptions as exceptions
 use Rattle.s38_base.specs.Limits.{last_operand}
 use Rattle.s38_base.specs.Pointers.{object_of, offset_of}
@@ -10,7 +10,6 @@ use Rattle.s38_base.specs.Scalar.{is_pointer_attr, length_of}
 use Rattle.s38_base.specs.Signals.{fails, plain}
 use Rattle.s38_base.specs.declared.attr.Attr.{Attr}
 use Rattle.s38_base.specs.declared.exception.Exception.{Exception}
-use Rattle.s38_base.specs.declared.pointer.Pointer.{Pointer}
 use Rattle.s38_code.specs.declared.event.Event.TheVariants.{Act}
 use Rattle.s38_code.specs.declared.event.Request.{Request}
 use Rattle.s38_code.specs.declared.operand.Operand.TheVariants as operands
@@ -24,11 +23,11 @@ use Rattle.s38_rules.specs.Instruction.{Instruction}
 use Rattle.s38_rules.specs.Parts.{part_in, space_of, space_part}
 use Rattle.s38_rules.specs.Rows.{row}
 use Rattle.s38_rules.specs.State.{State}
-use Rattle.s38_rules.specs.Verdict.{address_rule, address_rules, base_rule, by_operand, cells_rule, is_base, item_rule, place_rule, refused_by, ruled_verdict, space_rule}
+use Rattle.s38_rules.specs.Verdict.{address_rule, address_rules, by_operand, cells_rule, is_base, item_rule, refused_by, ruled_verdict, space_rule}
 use Rattle.s38_rules.specs.declared.need.Need.{Need}
 use Rattle.s38_rules.specs.declared.object.Object.{Object}
 use Rattle.s38_rules.specs.declared.verdict.Verdict.TheVariants.{Permit}
-use Rattle.s38_space_laws.specs.Inside.{LiesInside, has_item}
+use Rattle.s38_space_laws.specs.Inside.{LiesInside}
 
 -- ---- one operand
 

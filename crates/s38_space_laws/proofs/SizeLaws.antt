@@ -1,11 +1,11 @@
 -- What lies inside a space still does behind every change but those that cut a space or take an object away: one case
 -- for each word of change.
-use Rattle.std.proofs.Common.{◌*◌, ◌++◌, ◌+◌, ◌-◌, ◌/◌, ◌<◌, ◌==◌, ◌∙◌, ◌∷◌, ◌≡◌, ◌≤◌, Bool, List, [], ap, arith, cond, drop, false, length, length-append, min, refl, subst, sym, take, true, ℕ}
+use Rattle.std.proofs.Common.{◌*◌, ◌++◌, ◌+◌, ◌-◌, ◌/◌, ◌==◌, ◌∙◌, ◌∷◌, ◌≡◌, Bool, List, [], ap, arith, cond, drop, false, length, length-append, min, refl, subst, sym, take, true, ℕ}
 use Rattle.std.proofs.lemmas.Bool.Decides.{nat_tests}
 use Rattle.std.proofs.lemmas.Bool.{and_parts, cond_both}
 use Rattle.std.proofs.lemmas.List.{length-drop, length-take}
 use Rattle.std.specs.Option.{option_map, unwrap_or}
-use Rattle.std.specs.Prelude.{◌&&◌, None, Option, Some, find, is_some, nat_le}
+use Rattle.std.specs.Prelude.{◌&&◌, None, Option, Some, is_some, nat_le}
 use Rattle.s38_base.specs.Pointers.{start_of, target_of}
 use Rattle.s38_base.specs.declared.id.Id.{Id}
 use Rattle.s38_base.specs.declared.id.ObjNum.{ObjNum}
@@ -22,7 +22,7 @@ use Rattle.s38_rules.specs.Cells.{with_cells}
 use Rattle.s38_rules.specs.Changes.{CellsPut, Changes, Committed, Decommitted, Ensured, Entered, Framed, Gone, Journaled, Locked, Made, Moved, Named, OnCursor, OnIndex, OnQueue, Profiled, Resized, Stands, Stays, Then, done, made_by, renamed_by, through_port}
 use Rattle.s38_rules.specs.Changing.{logged, logged_in}
 use Rattle.s38_rules.specs.Creation.{created, creation_changes}
-use Rattle.s38_rules.specs.Held.{Held, change, ensured, has_number, kept_on_disk, moved, object, object_in}
+use Rattle.s38_rules.specs.Held.{Held, change, has_number, kept_on_disk, object, object_in}
 use Rattle.s38_rules.specs.Invocations.{restack_at}
 use Rattle.s38_rules.specs.Journaling.{journal_for, journal_for_block}
 use Rattle.s38_rules.specs.Operands.{cells_put}
@@ -35,7 +35,6 @@ use Rattle.s38_rules.specs.declared.object.Body.TheVariants as bodies
 use Rattle.s38_rules.specs.declared.object.Body.{Body}
 use Rattle.s38_rules.specs.declared.object.Object.{Object}
 use Rattle.s38_rules.specs.declared.process.ProcessEntry.{ProcessEntry}
-use Rattle.s38_space_laws.specs.Inside.{has_bytes}
 use Rattle.s38_space_laws.specs.Placed.{KeepsBytes, leaves_spaces}
 
 keeps_same : (h : Held) → KeepsBytes h h
@@ -97,13 +96,13 @@ laid_length : (at : ℕ) (piece cells : List Cell) → length (with_cells at pie
 laid_length at piece cells =
     cond_both (is_within at (16 * length piece) cells && is_aligned at) (overlaid (at / 16) piece cells) cells (λ (new : List Cell). length new ≡ length cells)
     (λ yes.
-      let behind = drop (at / 16 + length piece) cells in
-      let all = length-append (take (at / 16) cells) (piece ++ behind) in
-      let last = length-append piece behind in
-      let front = length-take (at / 16) cells in
-      let rest = length-drop (at / 16 + length piece) cells in
-      let few = few_cells at (length piece) (length cells) (and_parts (is_within at (16 * length piece) cells) (is_aligned at) yes).0 in
-      omega (arith, all, last, front, rest, few))
+    let behind = drop (at / 16 + length piece) cells in
+    let all = length-append (take (at / 16) cells) (piece ++ behind) in
+    let last = length-append piece behind in
+    let front = length-take (at / 16) cells in
+    let rest = length-drop (at / 16 + length piece) cells in
+    let few = few_cells at (length piece) (length cells) (and_parts (is_within at (16 * length piece) cells) (is_aligned at) yes).0 in
+    omega (arith, all, last, front, rest, few))
     (λ no. refl)
 
 cells_keep : (h : Held) (x : Option Operand) (piece : List Cell) → KeepsBytes h (cells_put h x piece)

@@ -1,7 +1,6 @@
 -- What lies inside a space: so many bytes, a cell, an item, an operand.
 use Rattle.std.specs.Prelude.{ℕ, Bool, ◌&&◌, ◌||◌, IsTrue, is_some, not}
 use Rattle.s38_base.specs.declared.attr.Attr.{Attr}
-use Rattle.s38_base.specs.Limits.{cell_bytes}
 use Rattle.s38_base.specs.Pointers.{start_of, target_of}
 use Rattle.s38_base.specs.Scalar.{is_pointer_attr, length_of}
 use Rattle.s38_code.specs.declared.operand.Operand.{Operand}

@@ -3,4 +3,4 @@
 
 mod laws;
 
-pub use laws::{changes_keep_spaces, operands_lie_inside};
+pub use laws::{cells_lie_inside, changes_keep_spaces, operands_lie_inside, values_lie_inside};
