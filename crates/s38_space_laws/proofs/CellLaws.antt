@@ -46,7 +46,7 @@ use Rattle.s38_space_laws.proofs.AddressLaws.{unrefused, unrefused_inside}
 use Rattle.s38_space_laws.proofs.PlaceLaws.{first_of, part_inside, suits_row}
 use Rattle.s38_space_laws.proofs.ValueLaws.{SuitsRow}
 use Rattle.s38_space_laws.specs.Inside.{LiesInside, has_bytes}
-use Rattle.s38_space_laws.specs.Placed.{AreCellsPlaced, ArePlaced, IsSuited, attr_of, same_length}
+use Rattle.s38_space_laws.specs.Placed.{AreCellsPlaced, ArePlaced, SuitsTable, attr_of, same_length}
 
 -- ---- how many cells are copied
 
@@ -177,5 +177,5 @@ row_placed families.DataSpaces s p d t suited may = data_spaces_placed t.op s p 
 row_placed families.Journals s p d t suited may = journals_placed t.op s p d t
 row_placed _ s p d t suited may = tt
 
-pub cells_placed : (s : State) (p d : ℕ) (t : Request) → ruled_verdict s p (Act d t) ≡ Permit → IsSuited t → ArePlaced s p ((row t.op).changes s p d t)
+pub cells_placed : (s : State) (p d : ℕ) (t : Request) → ruled_verdict s p (Act d t) ≡ Permit → SuitsTable t → ArePlaced s p ((row t.op).changes s p d t)
 cells_placed s p d t may suited = row_placed (family_of t.op) s p d t (suits_row t suited) (unrefused s p d t may)

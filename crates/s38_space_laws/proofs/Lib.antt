@@ -1,5 +1,6 @@
 pub mod AddressLaws
 pub mod CellLaws
 pub mod PlaceLaws
+pub mod ReadLaws
 pub mod SizeLaws
 pub mod ValueLaws

@@ -34,7 +34,7 @@ use Rattle.s38_space_laws.proofs.AddressLaws.{permitted_inside}
 use Rattle.s38_space_laws.proofs.SizeLaws.{done_keeps}
 use Rattle.s38_space_laws.proofs.ValueLaws.{Fits, SuitsRow, begins_with_pointer, gets_pointer, goes_back, row_fits}
 use Rattle.s38_space_laws.specs.Inside.{LiesInside, has_bytes, has_cells, has_item}
-use Rattle.s38_space_laws.specs.Placed.{IsPlaced, IsSuited, IsValuePlaced, all_suit, attr_of, has_value, is_cell_value, leaves_spaces, suits}
+use Rattle.s38_space_laws.specs.Placed.{IsPlaced, SuitsTable, IsValuePlaced, all_suit, attr_of, has_value, is_cell_value, leaves_spaces, suits}
 
 -- ---- parts of what lies inside
 
@@ -87,7 +87,7 @@ pointer_first (PointerReceiver ∷ more) (y ∷ ops) x begins suited is =
     subst (λ (z : Operand). is_pointer_attr (attr_of z) ≡ true) (same_Some y x is) (and_parts (suits PointerReceiver y) (all_suit more ops) suited).0
 pointer_first _ _ x begins suited is = cc
 
-pub suits_row : (t : Request) → IsSuited t → SuitsRow t.op t.operands
+pub suits_row : (t : Request) → SuitsTable t → SuitsRow t.op t.operands
 suits_row t suited = record { classes = suited.classes; ruled = suited.ruled }
 
 item_kept : (h k : Held) (n at : ℕ) (attr : Attr) → ((len : ℕ) → has_bytes h n at len ≡ true → has_bytes k n at len ≡ true) → has_item h n at attr ≡ true → has_item k n at attr ≡ true
@@ -96,7 +96,7 @@ item_kept h k n at attr keeps item =
     and_from (has_bytes k n at (length_of attr)) (is_aligned at || not (is_pointer_attr attr)) (keeps (length_of attr) both.0) both.1
 
 -- a receiver in a space, behind what an instruction changes
-placed_by : (s : State) (p d : ℕ) (t : Request) (shift : ℕ) (given : Option Val) → ruled_verdict s p (Act d t) ≡ Permit → IsSuited t → goes_back t.op ≡ false
+placed_by : (s : State) (p d : ℕ) (t : Request) (shift : ℕ) (given : Option Val) → ruled_verdict s p (Act d t) ≡ Permit → SuitsTable t → goes_back t.op ≡ false
     → (is_in_space (place t.operands 1) ≡ true → IfSome given (λ v. Fits t.op (room_at t.operands 1) shift v × (leaves_spaces ((row t.op).changes s p d t) ≡ true)))
     → (x : Option Operand) → place t.operands 1 ≡ x → (v : Option Val) → given ≡ v → IsValuePlaced (done s p ((row t.op).changes s p d t)).held shift x v
 placed_by s p d t shift given may suited stays own (Some (operands.InSpace base offset attr)) at (Some v) is =
@@ -111,7 +111,7 @@ placed_by s p d t shift given may suited stays own (Some (operands.InSpace base 
     (subst (λ r. Fits t.op r shift v) room well.0)
 placed_by s p d t shift given may suited stays own _ at _ is = tt
 
-pub value_placed : (s : State) (p d : ℕ) (t : Request) → ruled_verdict s p (Act d t) ≡ Permit → IsSuited t → IsPlaced s p d t
+pub value_placed : (s : State) (p d : ℕ) (t : Request) → ruled_verdict s p (Act d t) ≡ Permit → SuitsTable t → IsPlaced s p d t
 value_placed s p d t may suited =
     let end = (done s p ((row t.op).changes s p d t)).held in
     let shift = shift_at s.held t.op t.operands in

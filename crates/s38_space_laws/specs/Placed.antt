@@ -62,7 +62,7 @@ keeps_rule ShortBinary ops = has_two_bytes ops
 keeps_rule _ ops = true
 
 -- the operands suit the table of operations
-pub record IsSuited (r : Request) : Type 0 where
+pub record SuitsTable (r : Request) : Type 0 where
   pub classes : IsTrue (all_suit (classes r.op) r.operands)
   pub ruled : IsTrue (keeps_rule (operand_rule r.op) r.operands)
 

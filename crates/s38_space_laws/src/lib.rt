@@ -3,4 +3,7 @@
 
 mod laws;
 
-pub use laws::{cells_lie_inside, changes_keep_spaces, operands_lie_inside, values_lie_inside};
+pub use laws::{
+    cells_lie_inside, changes_keep_spaces, operands_lie_inside, values_are_read_back,
+    values_lie_inside,
+};
