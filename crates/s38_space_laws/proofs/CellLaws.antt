@@ -1,16 +1,18 @@
 -- Cells that a permitted instruction copies into a space lie inside it.
-use Rattle.std.proofs.Common.{◌*◌, ◌/◌, ◌∷◌, ◌≡◌, ◌≤◌, List, [], ap, arith, drop, false, length, refl, subst, true, ℕ}
+use Rattle.std.proofs.Common.{◌*◌, ◌+◌, ◌-◌, ◌/◌, ◌==◌, ◌∙◌, ◌∷◌, ◌≡◌, ◌≤◌, Bool, List, [], ap, arith, cond, drop, false, length, min, refl, subst, sym, take, true, ℕ}
 use Rattle.std.proofs.lemmas.Bool.Decides.{nat_tests}
-use Rattle.std.proofs.lemmas.Bool.{and_from, and_parts, cond_both}
-use Rattle.std.proofs.lemmas.List.{length-take}
-use Rattle.std.specs.Prelude.{◌&&◌, None, Option, Some}
+use Rattle.std.proofs.lemmas.Bool.{and_from, and_parts}
+use Rattle.std.proofs.lemmas.List.Elements.{All-head, All-tail}
+use Rattle.std.proofs.lemmas.List.{length-drop, length-take}
+use Rattle.std.specs.Prelude.{◌%◌, ◌&&◌, All, None, Option, Some, is_some, nat_le, not}
 use Rattle.s38_base.specs.Exceptions as exceptions
 use Rattle.s38_base.specs.Pointers.{start_of, target_of}
 use Rattle.s38_base.specs.Scalar.{length_of}
 use Rattle.s38_base.specs.Signals.{fails}
 use Rattle.s38_base.specs.declared.op.Op.TheVariants.{Callx, Cpybwp, Crtctx, Crtinx, Crtq, Crtup, Grant, Insdsen, Jrnlobj, Lock, Rslvsp}
 use Rattle.s38_base.specs.declared.op.Op.{Op}
-use Rattle.s38_code.specs.Operations.{family_of, operand_rule}
+use Rattle.s38_code.specs.Operations.{classes, family_of, operand_rule}
+use Rattle.s38_code.specs.declared.class.Class.TheVariants.{CellsReceiver, CellsSource}
 use Rattle.s38_code.specs.declared.event.Event.TheVariants.{Act}
 use Rattle.s38_code.specs.declared.event.Request.{Request}
 use Rattle.s38_code.specs.declared.family.Family.TheVariants as families
@@ -31,7 +33,7 @@ use Rattle.s38_rules.specs.Instruction.{Instruction}
 use Rattle.s38_rules.specs.Journals.{journals_row}
 use Rattle.s38_rules.specs.Locking.{locks_row}
 use Rattle.s38_rules.specs.Operands.{cells_of, place, source_cells}
-use Rattle.s38_rules.specs.Parts.{cells_at}
+use Rattle.s38_rules.specs.Parts.{cells_at, part_at, space_part}
 use Rattle.s38_rules.specs.Profiles.{profiles_row}
 use Rattle.s38_rules.specs.Programs.{programs_row}
 use Rattle.s38_rules.specs.Queues.{queues_row}
@@ -43,35 +45,38 @@ use Rattle.s38_rules.specs.Users.{acting}
 use Rattle.s38_rules.specs.Verdict.{address_rules, lock_rules, refused_by, rights_rules, ruled_verdict}
 use Rattle.s38_rules.specs.declared.verdict.Verdict.TheVariants.{Permit}
 use Rattle.s38_space_laws.proofs.AddressLaws.{unrefused, unrefused_inside}
-use Rattle.s38_space_laws.proofs.PlaceLaws.{first_of, part_inside, suits_row}
+use Rattle.s38_space_laws.proofs.PlaceLaws.{suits_row}
 use Rattle.s38_space_laws.proofs.ValueLaws.{SuitsRow}
-use Rattle.s38_space_laws.specs.Inside.{LiesInside, has_bytes}
-use Rattle.s38_space_laws.specs.Placed.{AreCellsPlaced, ArePlaced, SuitsTable, attr_of, same_length}
+use Rattle.s38_space_laws.specs.Inside.{LiesInside, has_bytes, has_cells}
+use Rattle.s38_space_laws.specs.Placed.{AreCellsPlaced, ArePlaced}
+use Rattle.s38_space_laws.specs.Suited.{SuitsTable, all_suit, attr_of, fills_cells, has_cells_of, same_length}
 
 -- ---- how many cells are copied
 
-cells_few : (cells : List Cell) (at len : ℕ) → 16 * length (cells_there cells at len) ≤ len
-cells_few cells at len =
-    cond_both (is_within at len cells && is_aligned at) (cells_in at len cells) [] (λ (found : List Cell). 16 * length found ≤ len)
-    (λ yes. omega (arith, length-take (len / 16) (drop (at / 16) cells))) (λ no. omega arith)
+all_there : (at len count : ℕ) → nat_le (at + len) (16 * count) ≡ true → (at % 16 == 0) ≡ true → len % 16 ≡ 0 → 16 * min (len / 16) (count - at / 16) ≡ len
+all_there at len count within aligned fills =
+    let low : at + len ≤ 16 * count = grind (arith, nat_tests) in
+    let even : at % 16 ≡ 0 = grind (arith, nat_tests) in
+    omega (arith, low, even, fills)
 
-source_few : (h : Held) (x : Operand) → 16 * length (cells_of h (Some x)) ≤ length_of (attr_of x)
-source_few h (operands.Ptr p) = omega arith
-source_few h (operands.InSpace base offset attr) = cells_few (cells_at h (target_of base)) (start_of base offset) (length_of attr)
-source_few h _ = omega arith
+cells_all : (h : Held) (n at : ℕ) (len : ℕ) → has_bytes h n at len ≡ true → is_aligned at ≡ true → len % 16 ≡ 0 → 16 * length (cells_there (cells_at h n) at len) ≡ len
+cells_all h n at len inside aligned fills =
+    let cells = cells_at h n in
+    let within = (and_parts (is_some (part_at space_part h n)) (is_within at len cells) inside).1 in
+    let found : cells_there cells at len ≡ cells_in at len cells = ap (λ b. cond b (cells_in at len cells) []) (and_from (is_within at len cells) (is_aligned at) within aligned) in
+    let count : length (cells_there cells at len) ≡ length (cells_in at len cells) = ap (λ (l : List Cell). length l) found in
+    let size : length (cells_in at len cells) ≡ min (len / 16) (length cells - at / 16) =
+    length-take (len / 16) (drop (at / 16) cells) ∙ ap (min (len / 16)) (length-drop (at / 16) cells) in
+    let all = all_there at len (length cells) within aligned fills in
+    omega (arith, count, size, all)
 
--- as many bytes as the receiver has, at most
-copied_few : (h : Held) (ops : List Operand) (base : _) (offset : ℕ) (attr : _) → same_length ops ≡ true → place ops 1 ≡ Some (operands.InSpace base offset attr)
-    → 16 * length (source_cells h ops 2) ≤ length_of attr
-copied_few h (x ∷ y ∷ more) base offset attr same at =
-    let long : length_of (attr_of x) ≡ length_of (attr_of y) = grind (arith, nat_tests) in
-    let own : length_of (attr_of x) ≡ length_of attr = ap length_first at in
-    omega (arith, long, own, source_few h y)
-  where
-    length_first : Option Operand → ℕ
-    length_first None = 0
-    length_first (Some z) = length_of (attr_of z)
-copied_few h _ base offset attr same at = cc
+-- an operand that has cells reads as cells for all of its bytes
+source_all : (h : Held) (x : Operand) → has_cells_of x ≡ true → length_of (attr_of x) % 16 ≡ 0 → LiesInside h x → is_unaligned (Some x) ≡ false → 16 * length (cells_of h (Some x)) ≡ length_of (attr_of x)
+source_all h (operands.Ptr p) has fills inside aligned = omega arith
+source_all h (operands.InSpace base offset attr) has fills inside aligned =
+    cells_all h (target_of base) (start_of base offset) (length_of attr) (and_parts (has_bytes h (target_of base) (start_of base offset) (length_of attr)) _ inside).0
+    (not_false (is_aligned (start_of base offset)) aligned) fills
+source_all h _ has fills inside aligned = cc
 
 -- ---- CPYBWP
 
@@ -83,31 +88,39 @@ unfailed i s p d t h =
     let three = first_none (rights_rules s p d t.operands (i.needs s p d t)) _ two.1 in
     (first_none (lock_rules s p t (i.needs s p d t)) _ three.1).1
 
-copied_inside : (s : State) (ops : List Operand) (x : Option Operand) → place ops 1 ≡ x → same_length ops ≡ true → is_unaligned x ≡ false → ((y : Operand) → x ≡ Some y → LiesInside s.held y)
-    → AreCellsPlaced s.held x (source_cells s.held ops 2)
-copied_inside s ops (Some (operands.InSpace base offset attr)) at same aligned inside =
+cells_inside : (h : Held) (n start len : ℕ) → has_bytes h n start len ≡ true → not (is_aligned start) ≡ false → has_cells h n start len ≡ true
+cells_inside h n start len bytes aligned = and_from (has_bytes h n start len) (is_aligned start) bytes (not_false (is_aligned start) aligned)
+
+copied_inside : (s : State) (ops : List Operand) → all_suit (CellsReceiver ∷ CellsSource ∷ []) ops ≡ true → same_length ops ≡ true → All (LiesInside s.held) ops
+    → is_unaligned (place ops 1) ≡ false → is_unaligned (place ops 2) ≡ false → AreCellsPlaced s.held (place ops 1) (source_cells s.held ops 2)
+copied_inside s (operands.InSpace base offset attr ∷ y ∷ more) suited same all one two =
     let n = target_of base in
     let start = start_of base offset in
-    let size = 16 * length (source_cells s.held ops 2) in
-    let item = inside (operands.InSpace base offset attr) refl in
-    let bytes = shorter s.held n start (length_of attr) size (and_parts (has_bytes s.held n start (length_of attr)) _ item).0 (copied_few s.held ops base offset attr same at) in
-    and_from (has_bytes s.held n start size) (is_aligned start) bytes (not_false (is_aligned start) aligned)
-  where
-    shorter : (h : Held) (n at len size : ℕ) → has_bytes h n at len ≡ true → size ≤ len → has_bytes h n at size ≡ true
-    shorter h n at len size is few = subst (λ i. has_bytes h n i size ≡ true) (omega arith) (part_inside h n at len 0 size is (omega (arith, few)))
-copied_inside s ops _ at same aligned inside = tt
+    let x = operands.InSpace base offset attr in
+    let first = and_parts (fills_cells x) _ suited in
+    let second = and_parts (has_cells_of y) _ first.1 in
+    let long : length_of attr ≡ length_of (attr_of y) = grind (arith, nat_tests) in
+    let fills : length_of (attr_of y) % 16 ≡ 0 = subst (λ len. len % 16 ≡ 0) long (grind (arith, nat_tests, first.0)) in
+    let item = All-head (LiesInside s.held) x (y ∷ more) all in
+    let source = All-head (LiesInside s.held) y more (All-tail (LiesInside s.held) x (y ∷ more) all) in
+    let count = source_all s.held y second.0 fills source two in
+    (count ∙ sym long, cells_inside s.held n start (length_of attr) (and_parts (has_bytes s.held n start (length_of attr)) _ item).0 one)
+copied_inside s (operands.InSpace base offset attr ∷ []) suited same all one two = cc
+copied_inside s _ suited same all one two = tt
 
 -- what passed the rules of its row
 abbrev Unrefused : Instruction → State → ℕ → ℕ → Request → Type 0
 Unrefused i s p d t = refused_by i s p d t ≡ None
 
 spaces_placed : (op : Op) (s : State) (p d : ℕ) (t : Request) → SuitsRow op t.operands → Unrefused (spaces_row op) s p d t → ArePlaced s p ((spaces_row op).changes s p d t)
-unfolding spaces_row operand_rule cpybwp_fails
+unfolding spaces_row classes operand_rule cpybwp_fails
 spaces_placed Cpybwp s p d t suited may =
-    let rules = first_none (fails (is_unaligned (place t.operands 1)) exceptions.boundary_alignment 1) _ (unfailed _ s p d t may) in
-    let all = unrefused_inside _ s p d t may in
-    copied_inside s t.operands (place t.operands 1) refl suited.ruled (fails_none (is_unaligned (place t.operands 1)) exceptions.boundary_alignment 1 rules.0)
-    (λ y at. first_of (LiesInside s.held) t.operands y all at)
+    let one = fails (is_unaligned (place t.operands 1)) exceptions.boundary_alignment 1 in
+    let two = fails (is_unaligned (place t.operands 2)) exceptions.boundary_alignment 2 in
+    let rules = first_none one two (unfailed _ s p d t may) in
+    copied_inside s t.operands suited.classes suited.ruled (unrefused_inside _ s p d t may)
+    (fails_none (is_unaligned (place t.operands 1)) exceptions.boundary_alignment 1 rules.0)
+    (fails_none (is_unaligned (place t.operands 2)) exceptions.boundary_alignment 2 rules.1)
 spaces_placed _ s p d t suited may = tt
 
 -- ---- the other families copy no cells

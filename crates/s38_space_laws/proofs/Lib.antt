@@ -1,4 +1,5 @@
 pub mod AddressLaws
+pub mod AskedLaws
 pub mod CellLaws
 pub mod PlaceLaws
 pub mod ReadLaws

@@ -34,7 +34,8 @@ use Rattle.s38_space_laws.proofs.AddressLaws.{permitted_inside}
 use Rattle.s38_space_laws.proofs.SizeLaws.{done_keeps}
 use Rattle.s38_space_laws.proofs.ValueLaws.{Fits, SuitsRow, begins_with_pointer, gets_pointer, goes_back, row_fits}
 use Rattle.s38_space_laws.specs.Inside.{LiesInside, has_bytes, has_cells, has_item}
-use Rattle.s38_space_laws.specs.Placed.{IsPlaced, SuitsTable, IsValuePlaced, all_suit, attr_of, has_value, is_cell_value, leaves_spaces, suits}
+use Rattle.s38_space_laws.specs.Placed.{IsPlaced, IsValuePlaced, has_value, is_cell_value, leaves_spaces}
+use Rattle.s38_space_laws.specs.Suited.{SuitsTable, all_suit, attr_of, suits}
 
 -- ---- parts of what lies inside
 

@@ -31,7 +31,7 @@ use Rattle.s38_rules.specs.declared.object.Body.TheVariants as bodies
 use Rattle.s38_rules.specs.declared.object.Body.{Body}
 use Rattle.s38_rules.specs.declared.object.Object.{Object}
 use Rattle.s38_space_laws.specs.Inside.{has_bytes, has_cells}
-use Rattle.s38_space_laws.specs.Placed.{AreCellsPlaced, has_value, is_cell_value}
+use Rattle.s38_space_laws.specs.Placed.{has_value}
 
 -- ---- the cells of a space that is there
 
@@ -183,7 +183,7 @@ overlaid_length k piece cells few =
 whole_cells : (n : ℕ) → 16 * n / 16 ≡ n
 whole_cells n = omega arith
 
-pub cells_read : (h : Held) (base : Option Pointer) (offset : ℕ) (attr : Attr) (piece : List Cell) → AreCellsPlaced h (Some (operands.InSpace base offset attr)) piece
+pub cells_read : (h : Held) (base : Option Pointer) (offset : ℕ) (attr : Attr) (piece : List Cell) → has_cells h (target_of base) (start_of base offset) (16 * length piece) ≡ true
     → cells_there (cells_at (cells_put h (Some (operands.InSpace base offset attr)) piece) (target_of base)) (start_of base offset) (16 * length piece) ≡ piece
 cells_read h base offset attr piece inside =
     let n = target_of base in

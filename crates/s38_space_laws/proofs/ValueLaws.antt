@@ -64,7 +64,8 @@ use Rattle.s38_rules.specs.Spaces.{cpybwp_changes, cpybwp_gives, setdp_gives, se
 use Rattle.s38_rules.specs.State.{State}
 use Rattle.s38_rules.specs.declared.creating.Creating.{Creating}
 use Rattle.s38_rules.specs.declared.need.Located.{Located}
-use Rattle.s38_space_laws.specs.Placed.{all_suit, has_two_bytes, is_cell_value, keeps_rule, leaves_spaces, suits}
+use Rattle.s38_space_laws.specs.Placed.{is_cell_value, leaves_spaces}
+use Rattle.s38_space_laws.specs.Suited.{all_suit, has_two_bytes, keeps_rule, suits}
 
 -- ---- what a receiver takes
 

@@ -6,9 +6,14 @@ ghost use Rattle.s38_base.specs.Pointers.{start_of, target_of};
 ghost use Rattle.s38_base.specs.declared.attr.Attr.{Attr};
 ghost use Rattle.s38_base.specs.declared.pointer.Pointer.{Pointer};
 ghost use Rattle.s38_code.specs.declared.operand.Operand.TheVariants.{InSpace};
+ghost use Rattle.s38_code.specs.declared.program.Instruction.{Instruction};
+ghost use Rattle.s38_code.specs.declared.program.Row.{Row};
 ghost use Rattle.s38_code.specs.declared.reply.Val.TheVariants.{Bytes, Ptr};
+ghost use Rattle.s38_code.specs.declared.reply.Val.{Val};
 ghost use Rattle.s38_memory.specs.Cell.{IsCell};
 ghost use Rattle.s38_memory.specs.declared.cell.Cell.{Cell};
+ghost use Rattle.s38_odt.specs.Suited.{IsSuited};
+ghost use Rattle.s38_requests.specs.Requests.{request_of};
 ghost use Rattle.s38_rules.specs.Cells.{bytes_there, cells_there, pointer_there};
 ghost use Rattle.s38_rules.specs.Changes.{Changes, done};
 ghost use Rattle.s38_rules.specs.Held.{Held};
@@ -18,8 +23,9 @@ ghost use Rattle.s38_rules.specs.Rows.{row};
 ghost use Rattle.s38_rules.specs.State.{State};
 ghost use Rattle.s38_rules.specs.Verdict.{ruled_verdict};
 ghost use Rattle.s38_rules.specs.declared.verdict.Verdict.TheVariants.{Permit};
-ghost use Rattle.s38_space_laws.specs.Inside.{LiesInside};
-ghost use Rattle.s38_space_laws.specs.Placed.{AreCellsPlaced, ArePlaced, IsPlaced, KeepsBytes, SuitsTable, has_value, leaves_spaces};
+ghost use Rattle.s38_space_laws.specs.Inside.{LiesInside, has_cells};
+ghost use Rattle.s38_space_laws.specs.Placed.{ArePlaced, IsPlaced, KeepsBytes, has_value, leaves_spaces};
+ghost use Rattle.s38_space_laws.specs.Suited.{SuitsTable};
 ghost use Rattle.std.specs.Prelude.{◌≡◌, ◌*◌, ℕ, All, IsTrue, List, Option, Some, length};
 
 /// Each operand in a space of an instruction that the rules permit lies inside it: its base leads to a space that is
@@ -41,7 +47,7 @@ pub fn values_lie_inside()
 {}
 
 /// Cells that an instruction copies, if the rules permit it and its operands suit the table of operations, lie inside the
-/// space into which they go.
+/// space into which they go, and are as many as the operand there has.
 pub fn cells_lie_inside()
     ensures placed { (s : State) (p : ℕ) (d : ℕ) (r : Request) → ruled_verdict s p (Act d r) ≡ Permit → SuitsTable r
         → ArePlaced s p ((row r.op).changes s p d r) }
@@ -54,6 +60,14 @@ pub fn values_are_read_back()
         → bytes_there (cells_at (put_value h n at (Bytes bytes)) n) at (length bytes) ≡ bytes }
     ensures pointer { (h : Held) (n : ℕ) (at : ℕ) (p : Option Pointer) → IsTrue (has_value h n at (Ptr p))
         → pointer_there (cells_at (put_value h n at (Ptr p)) n) at ≡ p }
-    ensures cells { (h : Held) (base : Option Pointer) (offset : ℕ) (attr : Attr) (cells : List Cell) → AreCellsPlaced h (Some (InSpace base offset attr)) cells
+    ensures cells { (h : Held) (base : Option Pointer) (offset : ℕ) (attr : Attr) (cells : List Cell)
+        → IsTrue (has_cells h (target_of base) (start_of base offset) (cell_bytes * length cells))
         → cells_there (cells_at (cells_put h (Some (InSpace base offset attr)) cells) (target_of base)) (start_of base offset) (cell_bytes * length cells) ≡ cells }
+{}
+
+/// The operands of an instruction that creation lets into a program suit the table of operations, whatever its variables
+/// hold.
+pub fn checked_instructions_suit()
+    ensures suited { (rows : List Row) (count : ℕ) (homes : List ℕ) (values : List Val) (i : Instruction) → IsSuited rows count i
+        → SuitsTable (request_of rows homes values i) }
 {}

@@ -4,6 +4,6 @@
 mod laws;
 
 pub use laws::{
-    cells_lie_inside, changes_keep_spaces, operands_lie_inside, values_are_read_back,
-    values_lie_inside,
+    cells_lie_inside, changes_keep_spaces, checked_instructions_suit, operands_lie_inside,
+    values_are_read_back, values_lie_inside,
 };
