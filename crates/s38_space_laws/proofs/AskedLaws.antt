@@ -1,12 +1,9 @@
 -- An instruction that creation lets into a program asks with operands that suit the table of operations.
-use Rattle.std.proofs.Common.{◌==◌, ◌∷◌, ◌≡◌, ◌∙◌, Bool, List, [], ap, arith, cond, false, refl, subst, suc, sym, true, zero, ℕ}
+use Rattle.std.proofs.Common.{◌==◌, ◌∷◌, ◌≡◌, ◌∙◌, Bool, List, [], ap, arith, false, refl, subst, sym, true, ℕ}
 use Rattle.std.proofs.lemmas.Bool.Decides.{nat_tests}
-use Rattle.std.proofs.lemmas.Bool.{and_from, and_parts, cond_both}
-use Rattle.std.proofs.lemmas.List.Elements.{All-head, All-tail}
-use Rattle.std.proofs.lemmas.Option.{same_Some}
-use Rattle.std.specs.List.{list_all}
+use Rattle.std.proofs.lemmas.Bool.{and_from, and_parts}
 use Rattle.std.specs.Option.{option_and_then}
-use Rattle.std.specs.Prelude.{◌%◌, ◌&&◌, All, IfSome, None, Option, Some, is_some, length, nat_le, not, slice_get}
+use Rattle.std.specs.Prelude.{◌%◌, None, Option, Some, is_some, not, slice_get}
 use Rattle.s38_base.specs.Scalar.{is_bounded, is_pointer_attr, length_of}
 use Rattle.s38_base.specs.declared.attr.Attr.TheVariants as attrs
 use Rattle.s38_base.specs.declared.attr.Attr.{Attr}
@@ -17,11 +14,6 @@ use Rattle.s38_code.specs.declared.class.Class.TheVariants.{Argument, BytesRecei
 use Rattle.s38_code.specs.declared.class.Class.{Class}
 use Rattle.s38_code.specs.declared.class.Constant.TheVariants.{Attribute}
 use Rattle.s38_code.specs.declared.class.Keyword.TheVariants.{Rights}
-use Rattle.s38_code.specs.declared.event.EndCause.TheVariants as causes
-use Rattle.s38_code.specs.declared.event.Event.TheVariants.{Act, Finish, Start}
-use Rattle.s38_code.specs.declared.event.Event.{Event}
-use Rattle.s38_code.specs.declared.event.Request.{Request}
-use Rattle.s38_code.specs.declared.operand.Operand.{Operand}
 use Rattle.s38_code.specs.declared.program.Arg.TheVariants as args
 use Rattle.s38_code.specs.declared.program.Arg.{Arg}
 use Rattle.s38_code.specs.declared.program.Form.TheVariants as forms

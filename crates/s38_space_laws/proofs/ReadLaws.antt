@@ -17,8 +17,8 @@ use Rattle.s38_code.specs.declared.operand.Operand.TheVariants as operands
 use Rattle.s38_code.specs.declared.reply.Val.TheVariants as vals
 use Rattle.s38_memory.proofs.Meaning.{bytes_in-written, written-touched}
 use Rattle.s38_memory.specs.Cell.{IsCell, bytes_of}
-use Rattle.s38_memory.specs.Image.{HasImage, fields, image}
-use Rattle.s38_memory.specs.Tagged.{IsBytes, bytes_in, cells_fault, is_aligned, is_within, overlaid, pointer_in, unless_refused, written}
+use Rattle.s38_memory.specs.Image.{fields, image}
+use Rattle.s38_memory.specs.Tagged.{IsBytes, bytes_in, is_aligned, is_within, overlaid, pointer_in, unless_refused, written}
 use Rattle.s38_memory.specs.declared.cell.Cell.TheVariants.{Bytes, Tagged}
 use Rattle.s38_memory.specs.declared.cell.Cell.{Cell}
 use Rattle.s38_memory.specs.declared.fault.MemoryFault.TheVariants.{Alignment, Bounds}

@@ -13,11 +13,11 @@ use Rattle.s38_rules.specs.Parts.{cells_at, part_at, space_part}
 abbrev pub has_bytes : Held → ℕ → ℕ → ℕ → Bool
 has_bytes h n at len = is_some (part_at space_part h n) && is_within at len (cells_at h n)
 
--- and they are whole cells
+-- and they begin with a cell
 abbrev pub has_cells : Held → ℕ → ℕ → ℕ → Bool
 has_cells h n at len = has_bytes h n at len && is_aligned at
 
--- an item of this attribute lies there: all its bytes, and those of a pointer are a cell
+-- an item of this attribute lies there: all its bytes, and a pointer begins with a cell
 abbrev pub has_item : Held → ℕ → ℕ → Attr → Bool
 has_item h n at attr = has_bytes h n at (length_of attr) && (is_aligned at || not (is_pointer_attr attr))
 

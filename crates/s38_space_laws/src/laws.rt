@@ -1,10 +1,10 @@
 //! What the rules see to in spaces, so that nothing is dropped silently there.
-ghost use Rattle.s38_code.specs.declared.event.Event.TheVariants.{Act};
-ghost use Rattle.s38_code.specs.declared.event.Request.{Request};
 ghost use Rattle.s38_base.specs.Limits.{cell_bytes};
 ghost use Rattle.s38_base.specs.Pointers.{start_of, target_of};
 ghost use Rattle.s38_base.specs.declared.attr.Attr.{Attr};
 ghost use Rattle.s38_base.specs.declared.pointer.Pointer.{Pointer};
+ghost use Rattle.s38_code.specs.declared.event.Event.TheVariants.{Act};
+ghost use Rattle.s38_code.specs.declared.event.Request.{Request};
 ghost use Rattle.s38_code.specs.declared.operand.Operand.TheVariants.{InSpace};
 ghost use Rattle.s38_code.specs.declared.program.Instruction.{Instruction};
 ghost use Rattle.s38_code.specs.declared.program.Row.{Row};
