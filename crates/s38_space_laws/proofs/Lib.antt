@@ -1,6 +1,7 @@
 pub mod AddressLaws
 pub mod AskedLaws
 pub mod CellLaws
+pub mod LawfulLaws
 pub mod PlaceLaws
 pub mod ReadLaws
 pub mod SizeLaws

@@ -13,6 +13,8 @@ ghost use Rattle.s38_code.specs.declared.reply.Val.{Val};
 ghost use Rattle.s38_memory.specs.Cell.{IsCell};
 ghost use Rattle.s38_memory.specs.declared.cell.Cell.{Cell};
 ghost use Rattle.s38_odt.specs.Suited.{IsSuited};
+ghost use Rattle.s38_process.specs.Lawful.{IsLawful};
+ghost use Rattle.s38_process.specs.Process.{ProcessState, event_of};
 ghost use Rattle.s38_requests.specs.Requests.{request_of};
 ghost use Rattle.s38_rules.specs.Cells.{bytes_there, cells_there, pointer_there};
 ghost use Rattle.s38_rules.specs.Changes.{Changes, done};
@@ -66,8 +68,9 @@ pub fn values_are_read_back()
 {}
 
 /// The operands of an instruction that creation lets into a program suit the table of operations, whatever its variables
-/// hold.
+/// hold; so do those of each instruction that a lawful process asks.
 pub fn checked_instructions_suit()
     ensures suited { (rows : List Row) (count : ℕ) (homes : List ℕ) (values : List Val) (i : Instruction) → IsSuited rows count i
         → SuitsTable (request_of rows homes values i) }
+    ensures asked { (process : ProcessState) (d : ℕ) (r : Request) → IsLawful process → event_of process ≡ Some (Act d r) → SuitsTable r }
 {}
