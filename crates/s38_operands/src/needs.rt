@@ -114,6 +114,7 @@ impl Needs {
     }
 
     /// One need.
+    #[inline(always)]
     pub fn one(need: Need) -> Needs
         ensures { result ≡ need ∷ [] }
     {
@@ -148,6 +149,7 @@ impl Needs {
 }
 
 /// One claim on an operand.
+#[inline(always)]
 pub fn claimed(
     claim: Claim,
     place: u8,
@@ -171,6 +173,7 @@ pub fn claimed(
 }
 
 /// One need of an operand.
+#[inline(always)]
 pub fn need(
     place: u8,
     named: Named,
@@ -193,6 +196,7 @@ pub fn need(
 }
 
 /// Rights on the object of a system pointer, which is read, changed or controlled.
+#[inline(always)]
 pub fn on_object(place: u8, sought: Sought, rights: Rights, category: Option<Category>) -> Needs
     ensures { result ≡ on_object place sought rights.0 category }
 {
