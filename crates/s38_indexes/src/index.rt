@@ -7,6 +7,7 @@ ghost use Rattle.s38_indexes.specs.Refusals.{insert_refusal, remove_refusal};
 use crate::fault::IndexFault;
 use crate::leaf::Leaf;
 use crate::leaves;
+use crate::walk::Entries;
 use s38_base::{Bytes, Relation};
 use std::alloc::Global;
 use std::marker::Model;
@@ -107,6 +108,13 @@ impl Index {
             Some(entry) => Some(entry.as_slice()),
             None => None,
         }
+    }
+
+    /// The entries, in rising order, in constant time each.
+    pub fn entries(&self) -> Entries<'_>
+        ensures { result ≡ self.now.entries }
+    {
+        Entries::of(self.leaves.as_slice())
     }
 
     /// Whether an entry would be taken: what `insert` answers, want of memory aside.
