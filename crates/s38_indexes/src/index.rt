@@ -1,6 +1,6 @@
 ghost use Rattle.std.specs.Prelude.{◌≡◌, ◌≤◌, [], None, Some, length, IfErr, IfOk, OnOk, OnErr};
 ghost use Rattle.std.specs.Option.{option_copied, unwrap_or};
-ghost use Rattle.s38_indexes.specs.Entries.{IsRising, found, image_size, largest, with_entry, without_entry};
+ghost use Rattle.s38_indexes.specs.Entries.{AreShort, IsRising, found, image_size, largest, with_entry, without_entry};
 ghost use Rattle.s38_indexes.specs.Leaves.{NoneEmpty, first_reaching, joined};
 ghost use Rattle.s38_indexes.specs.Refusals.{insert_refusal, remove_refusal};
 
@@ -34,7 +34,7 @@ impl Model for Index {
 
     ghost view = { λ i. record { longest = i.longest; entries = joined i.leaves.items } };
 
-    ghost invariant = { λ i. IsKept i.count i.size i.leaves.items };
+    ghost invariant = { λ i. IsKept i.longest i.count i.size i.leaves.items };
 }
 
 /// The first leaf that has an entry that does not come before a new one, or why that one would not be taken.
@@ -112,7 +112,8 @@ impl Index {
 
     /// The entries, in rising order, in constant time each.
     pub fn entries(&self) -> Entries<'_>
-        ensures { result ≡ self.now.entries }
+        ensures entries { result ≡ self.now.entries }
+        ensures short { AreShort self.now.longest self.now.entries }
     {
         Entries::of(self.leaves.as_slice())
     }
