@@ -142,8 +142,8 @@ finished_short number first at len from most old new tail is some more =
     sym (take-append-drop from new)
     ∙ ap (λ (q : List Change). q ++ drop from new) t.before
     ∙ ap (λ (q : List Change). take from old ++ q) (t.pages
-      ∙ ap (λ (q : List ℕ). numbered number first (cut (length new - from) q) []) (t.bytes ∙ whole)
-      ∙ ap (λ (m : ℕ). numbered number first (cut m (filled (page_bytes * needed (length (bytes ++ tail))) (bytes ++ tail))) []) pages)
+    ∙ ap (λ (q : List ℕ). numbered number first (cut (length new - from) q) []) (t.bytes ∙ whole)
+    ∙ ap (λ (m : ℕ). numbered number first (cut m (filled (page_bytes * needed (length (bytes ++ tail))) (bytes ++ tail))) []) pages)
 
 -- no last page, or a full one
 pub finished_full : (number first at len from most : ℕ) (old : List Change) (tail : List ℕ) → IsCut number first at len from most old tail → length tail ≡ 0
@@ -159,8 +159,8 @@ finished_full number first at len from most old tail is none =
     sym all ∙ sym (append-nil (bytes ++ tail)) ∙ ap (λ (q : List ℕ). (bytes ++ tail) ++ q) (sym (zeros_left (page_bytes * needed (length (bytes ++ tail)) - length (bytes ++ tail)) 0 zeros)) in
     sym (take-append-drop from old)
     ∙ ap (λ (q : List Change). take from old ++ q) (is.pages
-      ∙ ap (λ (q : List ℕ). numbered number first (cut (length old - from) q) []) whole
-      ∙ ap (λ (m : ℕ). numbered number first (cut m (filled (page_bytes * needed (length (bytes ++ tail))) (bytes ++ tail))) []) pages)
+    ∙ ap (λ (q : List ℕ). numbered number first (cut (length old - from) q) []) whole
+    ∙ ap (λ (m : ℕ). numbered number first (cut m (filled (page_bytes * needed (length (bytes ++ tail))) (bytes ++ tail))) []) pages)
 
 pub some_length : {A : Type 0} (xs : List A) → (length xs == 0) ≡ false → 0 < length xs
 some_length [] e = absurd cc

@@ -35,9 +35,9 @@ impl Model for PageWriter {
     ghost Value = { Written };
 
     ghost view = { λ w. record {
-        place = record { before = take w.start w.parts.items; number = w.number; first = w.first; capacity = vec_capacity w.parts };
-        bytes = stream (drop w.start w.parts.items) ++ w.tail.items;
-        room = w.room;
+      place = record { before = take w.start w.parts.items; number = w.number; first = w.first; capacity = vec_capacity w.parts };
+      bytes = stream (drop w.start w.parts.items) ++ w.tail.items;
+      room = w.room;
     } };
 
     ghost invariant = { λ w. IsCut w.number w.first w.part w.room w.start (vec_capacity w.parts) w.parts.items w.tail.items };
@@ -57,9 +57,9 @@ impl PageWriter {
         requires room { vec_len parts + needed len ≤ vec_capacity parts }
         requires near { 512 * first + len ≤ 33554432 }
         ensures { result ≡ record {
-            place = record { before = parts.items; number = number; first = first; capacity = vec_capacity parts };
-            bytes = [];
-            room = len;
+          place = record { before = parts.items; number = number; first = first; capacity = vec_capacity parts };
+          bytes = [];
+          room = len;
         } }
     {
         PageWriter {

@@ -6,9 +6,7 @@ use s38_base::{Attr, Change, ObjNum, Pointer, Rights, Seq};
 use s38_code::TextLines;
 use s38_commits::Units;
 use s38_dataspaces::DataSpace;
-use s38_image::{
-    PageWriter, push_cells, put_data_space, put_index, put_text, stream_of, text_len,
-};
+use s38_image::{PageWriter, push_cells, put_data_space, put_index, put_text, stream_of, text_len};
 use s38_indexes::Index;
 use s38_memory::Tagged;
 use s38_rules::DataBody;
@@ -22,7 +20,8 @@ const SPACE: &[u8] = b"0123456789ABCDEF\x01\x80\0\0\0\0\0\0\0\0\0\0\0\0\0\x07";
 const INDEX: &[u8] = b"\x05\0\0\0\x03\x02AB\x03ABC\x01B";
 
 /// Port 9, entry 258 of its journal space, two fields of 2 characters and of 1, and three ordinals, the second deleted.
-const DATA: &[u8] = b"\0\0\0\0\0\0\0\x09\0\0\0\0\0\0\x01\x02\0\x02\x04\0\x02\x04\0\x01\0\0\0\x03\x01ABC\0\0\0\0\x01DEF";
+const DATA: &[u8] =
+    b"\0\0\0\0\0\0\0\x09\0\0\0\0\0\0\x01\x02\0\x02\x04\0\x02\x04\0\x01\0\0\0\x03\x01ABC\0\0\0\0\x01DEF";
 
 /// The bytes of a body.
 fn bytes_of(alloc: Global, parts: &[Change], len: u32) -> Result<Vec<u8>, Fail>
@@ -98,6 +97,6 @@ fn a_program_has_its_text(rt: HostRuntime) -> Result<(), Fail> {
     let mut writer = PageWriter::new(room, 7, 128, len);
     put_text(&mut writer, lines.lines());
     let image = stream_of(rt.alloc(), 7, 128, len, &writer.finish())?;
-    assert!(rt; image.as_slice() == b"PROGRAM P\nEND\n");
+    assert!(rt; image.as_slice() == b"PROGRAM P\nEND\n".as_slice());
     Ok(())
 }

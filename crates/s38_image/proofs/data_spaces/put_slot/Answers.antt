@@ -15,4 +15,4 @@ unfolding slot_bytes
 returns-in-None c =
     let long = ap length c.zeros.ensures ∙ length_copies {A = ℕ} c.args.width 0 in
     adds_same _ _ _ (1 + c.args.width) _ _ (adds_then _ _ _ 1 _ _ _ c.put_byte-in-None.ensures c.put-in-None.ensures)
-        (ap (λ (n : ℕ). 1 + n) long) (ap (λ (t : List ℕ). 0 ∷ t) c.zeros.ensures ∙ ap (λ e. slot_bytes c.args.width (option_copied e)) (sym c.in-None.is))
+    (ap (λ (n : ℕ). 1 + n) long) (ap (λ (t : List ℕ). 0 ∷ t) c.zeros.ensures ∙ ap (λ e. slot_bytes c.args.width (option_copied e)) (sym c.in-None.is))
