@@ -9,3 +9,6 @@ pub mod BodyLaws
 pub mod ImageLaws
 pub mod AgainLaws
 pub mod CutLaws
+pub mod WriterLaws
+pub mod DataLaws
+pub mod TextLaws

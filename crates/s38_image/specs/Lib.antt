@@ -12,4 +12,5 @@ pub mod Bodies
 pub mod Images
 pub mod Fitting
 pub mod Settled
+pub mod Writing
 pub mod Faults

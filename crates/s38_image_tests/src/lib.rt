@@ -7,3 +7,5 @@ mod bodies;
 mod headers;
 #[cfg(test)]
 mod pages;
+#[cfg(test)]
+mod printing;

@@ -9,7 +9,7 @@ use Rattle.std.specs.declared.cmp.Ordering.{Ordering}
 use Rattle.std.specs.declared.cmp.Ordering.TheVariants.{Less, Equal, Greater}
 use Rattle.s38_base.specs.Relations.{is_equal}
 use Rattle.s38_base.specs.declared.words.Relation.TheVariants.{Eq, Lo}
-use Rattle.s38_indexes.specs.Entries.{Entry, EntryIndex, IsCounted, entry_size, fits, image_size, is_held, largest, least, order, with_entry, without_entry}
+use Rattle.s38_indexes.specs.Entries.{AreShort, Entry, EntryIndex, IsCounted, entry_size, fits, image_size, is_held, largest, least, order, with_entry, without_entry}
 use Rattle.s38_indexes.specs.Refusals.{insert_refusal, remove_refusal}
 use Rattle.s38_indexes.specs.declared.fault.IndexFault.{IndexFault}
 use Rattle.s38_indexes.specs.declared.fault.IndexFault.TheVariants.{BadLength, Present, Full, Absent}
@@ -103,6 +103,30 @@ counted_without key count size xs ys h held is =
       sized = omega arith;
       within = omega arith;
     })
+
+pub short_with : (longest : ℕ) (key : Entry) (xs ys : List Entry) → AreShort longest xs → length key ≤ longest → ys ≡ with_entry key xs → AreShort longest ys
+short_with longest key xs ys all one is = subst (λ zs. AreShort longest zs) (sym is) (by xs all)
+  where
+    by : (zs : List Entry) → AreShort longest zs → AreShort longest (with_entry key zs)
+    by [] h = (one, tt)
+    by (z ∷ zs) h =
+        let rest = by zs h.1 in
+        elim (fits Lo key z) as (λ b. AreShort longest (cond b (z ∷ with_entry key zs) (key ∷ z ∷ zs))) [
+          | true ↦ (h.0, rest)
+          | false ↦ (one, h)
+        ]
+
+pub short_without : (longest : ℕ) (key : Entry) (xs ys : List Entry) → AreShort longest xs → ys ≡ without_entry key xs → AreShort longest ys
+short_without longest key xs ys all is = subst (λ zs. AreShort longest zs) (sym is) (by xs all)
+  where
+    by : (zs : List Entry) → AreShort longest zs → AreShort longest (without_entry key zs)
+    by [] h = tt
+    by (z ∷ zs) h =
+        let rest = by zs h.1 in
+        elim (fits Eq key z) as (λ b. AreShort longest (cond b zs (z ∷ without_entry key zs))) [
+          | true ↦ h.1
+          | false ↦ (h.0, rest)
+        ]
 
 -- ---- what is not refused
 

@@ -29,6 +29,10 @@ abbrev pub IsRising : List Entry → Type 0
 IsRising [] = Unit {0}
 IsRising (entry ∷ entries) = IsBelow entry entries × IsRising entries
 
+-- no entry has more than so many bytes
+abbrev pub AreShort : ℕ → List Entry → Type 0
+AreShort longest entries = AllByRecursion (λ entry. length entry ≤ longest) entries
+
 -- whether an entry stands in a relation to a key
 abbrev pub fits : Relation → Entry → Entry → Bool
 fits relation key entry = holds relation (order entry key)

@@ -3,7 +3,7 @@ use Rattle.std.specs.Prelude.{◌≡◌, ℕ, ◌<◌, ◌≤◌, Bool, false, O
 use Rattle.std.specs.List.{AllByRecursion, position_or_len}
 use Rattle.s38_base.specs.declared.words.Relation.{Relation}
 use Rattle.s38_base.specs.declared.words.Relation.TheVariants.{Eq, Lo}
-use Rattle.s38_indexes.specs.Entries.{Entry, IsCounted, IsRising, fits, least, with_entry}
+use Rattle.s38_indexes.specs.Entries.{AreShort, Entry, IsCounted, IsRising, fits, least, with_entry}
 
 -- how many entries a leaf has at most
 abbrev pub most : ℕ
@@ -24,8 +24,9 @@ abbrev pub NoneEmpty : List (List Entry) → Type 0
 NoneEmpty leaves = AllByRecursion (λ leaf. 1 ≤ length leaf) leaves
 
 -- what an index keeps of its leaves
-pub record IsKept (count size : ℕ) (leaves : List (List Entry)) : Type 0 where
+pub record IsKept (longest count size : ℕ) (leaves : List (List Entry)) : Type 0 where
   pub counted : IsCounted count size (joined leaves)
+  pub short : AreShort longest (joined leaves)
   pub none_empty : NoneEmpty leaves
 
 -- whether an entry does not stand in a relation to a key

@@ -1,12 +1,13 @@
 ghost use Rattle.std.specs.Prelude.{◌≡◌, ◌≤◌, [], None, Some, length, IfErr, IfOk, OnOk, OnErr};
 ghost use Rattle.std.specs.Option.{option_copied, unwrap_or};
-ghost use Rattle.s38_indexes.specs.Entries.{IsRising, found, image_size, largest, with_entry, without_entry};
+ghost use Rattle.s38_indexes.specs.Entries.{AreShort, IsRising, found, image_size, largest, with_entry, without_entry};
 ghost use Rattle.s38_indexes.specs.Leaves.{NoneEmpty, first_reaching, joined};
 ghost use Rattle.s38_indexes.specs.Refusals.{insert_refusal, remove_refusal};
 
 use crate::fault::IndexFault;
 use crate::leaf::Leaf;
 use crate::leaves;
+use crate::walk::Entries;
 use s38_base::{Bytes, Relation};
 use std::alloc::Global;
 use std::marker::Model;
@@ -33,7 +34,7 @@ impl Model for Index {
 
     ghost view = { λ i. record { longest = i.longest; entries = joined i.leaves.items } };
 
-    ghost invariant = { λ i. IsKept i.count i.size i.leaves.items };
+    ghost invariant = { λ i. IsKept i.longest i.count i.size i.leaves.items };
 }
 
 /// The first leaf that has an entry that does not come before a new one, or why that one would not be taken.
@@ -107,6 +108,14 @@ impl Index {
             Some(entry) => Some(entry.as_slice()),
             None => None,
         }
+    }
+
+    /// The entries, in rising order, in constant time each.
+    pub fn entries(&self) -> Entries<'_>
+        ensures entries { result ≡ self.now.entries }
+        ensures short { AreShort self.now.longest self.now.entries }
+    {
+        Entries::of(self.leaves.as_slice())
     }
 
     /// Whether an entry would be taken: what `insert` answers, want of memory aside.

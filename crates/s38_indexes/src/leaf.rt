@@ -61,6 +61,13 @@ impl Leaf {
         self.entries.len()
     }
 
+    /// Its entries, in rising order.
+    pub fn entries(&self) -> &[Bytes]
+        ensures { result.now ≡ self.now }
+    {
+        self.entries.as_slice()
+    }
+
     /// Whether it has an entry that stands in LO, NH or LAST to a key.
     pub fn has(&self, relation: Relation, key: &[u8]) -> bool
         requires { asks_for_greatest relation ≡ true }

@@ -6,9 +6,11 @@ mod fault;
 mod index;
 mod leaf;
 mod leaves;
+mod walk;
 
 pub use fault::IndexFault;
 pub use index::Index;
+pub use walk::Entries;
 
 /// What is sent between threads.
 fn sends<T: Send + Sync>() {}

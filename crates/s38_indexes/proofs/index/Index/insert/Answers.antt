@@ -1,7 +1,7 @@
 use Rattle.std.proofs.Common.{◌≡◌, ◌+◌, ◌≤◌, ◌∙◌, ap, arith, false, subst}
 use Rattle.s38_indexes.specs.Entries.{entry_size, image_size, is_held, largest, with_entry}
 use Rattle.s38_indexes.specs.Leaves.{joined}
-use Rattle.s38_indexes.proofs.IndexLaws.{counted_with, few, taken}
+use Rattle.s38_indexes.proofs.IndexLaws.{counted_with, few, short_with, taken}
 use Rattle.s38_indexes.proofs.index.Index.insert.Goals as goal
 
 pub overflow_add-self : goal.overflow_add-self
@@ -17,5 +17,6 @@ invariant_of-self-2 c =
     let room = subst (λ ys. image_size ys + entry_size key ≤ largest) is t.room in
     record {
       counted = counted_with key c.self.inside.count c.self.inside.size xs (joined c.add.new.leaves.items) c.self.invariant.counted new room (c.in-Ok-add.ensures.ok ∙ ap (λ k. with_entry k xs) c.in-Ok.ensures);
+      short = short_with c.self.inside.longest key xs (joined c.add.new.leaves.items) c.self.invariant.short t.short (c.in-Ok-add.ensures.ok ∙ ap (λ k. with_entry k xs) c.in-Ok.ensures);
       none_empty = c.add.ensures.none_empty;
     }

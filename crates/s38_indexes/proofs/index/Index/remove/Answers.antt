@@ -1,7 +1,7 @@
 use Rattle.std.proofs.Common.{◌∙◌, ap, arith, subst, sym}
-use Rattle.s38_indexes.specs.Entries.{EntryIndex, IsCounted}
+use Rattle.s38_indexes.specs.Entries.{AreShort, EntryIndex, IsCounted}
 use Rattle.s38_indexes.specs.Leaves.{joined}
-use Rattle.s38_indexes.proofs.IndexLaws.{counted_without, small}
+use Rattle.s38_indexes.proofs.IndexLaws.{counted_without, short_without, small}
 use Rattle.s38_indexes.proofs.OrderLaws.{without_none}
 use Rattle.s38_indexes.proofs.index.Index.remove.Goals as goal
 
@@ -11,6 +11,7 @@ invariant_of-self c =
     let same = without_none c.args.entry.now xs (sym c.remove.ensures.held ∙ c.if-not-remove.true) ∙ sym c.remove.ensures.rest in
     record {
       counted = subst (λ ys. IsCounted c.self.inside.count c.self.inside.size ys) same c.self.invariant.counted;
+      short = subst (λ ys. AreShort c.self.inside.longest ys) same c.self.invariant.short;
       none_empty = c.remove.ensures.none_empty;
     }
 
@@ -40,5 +41,6 @@ invariant_of-self-2 c =
     let held = sym c.remove.ensures.held ∙ c.if-not-remove.false in
     record {
       counted = counted_without c.args.entry.now c.self.inside.count c.self.inside.size (joined c.self.inside.leaves.items) (joined c.remove.new.leaves.items) c.self.invariant.counted held c.remove.ensures.rest;
+      short = short_without c.self.inside.longest c.args.entry.now (joined c.self.inside.leaves.items) (joined c.remove.new.leaves.items) c.self.invariant.short c.remove.ensures.rest;
       none_empty = c.remove.ensures.none_empty;
     }
