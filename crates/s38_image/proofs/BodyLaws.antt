@@ -282,21 +282,21 @@ context_back : (b : Body) (x : Unit {0}) → context_of b ≡ Some x → b ≡ b
 context_back bodies.Context x e = refl
 context_back _ x e = absurd cc
 
-pub context_is_part : parts.IsPart (Unit {0}) context_part
+context_is_part : parts.IsPart (Unit {0}) context_part
 context_is_part = record { got = λ x. refl; back = context_back }
 
 program_back : (b : Body) (x : Program) → program_in b ≡ Some x → b ≡ bodies.Program x
 program_back (bodies.Program p) x e = cc
 program_back _ x e = absurd cc
 
-pub program_is_part : parts.IsPart Program program_part
+program_is_part : parts.IsPart Program program_part
 program_is_part = record { got = λ x. refl; back = program_back }
 
 profile_back : (b : Body) (x : Special × ℕ) → parts.profile_of b ≡ Some x → b ≡ bodies.Profile x.0 x.1
 profile_back (bodies.Profile s limit) x e = cc
 profile_back _ x e = absurd cc
 
-pub profile_is_part : parts.IsPart (Special × ℕ) parts.profile_part
+profile_is_part : parts.IsPart (Special × ℕ) parts.profile_part
 profile_is_part = record { got = λ x. refl; back = profile_back }
 
 entries_same : (j : JournalList) (es : List journaled.Entry) → j.spare ≡ 0 → j.unforced ≡ 0 → j.entries ≡ es → j ≡ record { spare = 0; unforced = 0; entries = es }
@@ -309,7 +309,7 @@ entries_back (bodies.Journal j) x e =
     ap (λ (k : JournalList). bodies.Journal k) (entries_same j x (eqb-true j.spare 0 f.0) (eqb-true j.unforced 0 f.1) g.1)
 entries_back _ x e = absurd cc
 
-pub entries_is_part : parts.IsPart (List journaled.Entry) entries_part
+entries_is_part : parts.IsPart (List journaled.Entry) entries_part
 entries_is_part = record { got = λ x. refl; back = entries_back }
 
 data_same : (d : DataBody) (sequence : ℕ) → d.space.spare ≡ 0 → held (bodies.DataSpace d) sequence ≡ data_part.make (d.port.0, (sequence, (d.space.fields, d.space.entries)))
@@ -324,7 +324,7 @@ data_back_by (bodies.DataSpace d) sequence x e =
     data_same d sequence (eqb-true d.space.spare 0 g.0) ∙ ap (λ (y : DataParts). data_part.make y) g.1
 data_back_by _ sequence x e = absurd cc
 
-pub data_is_part : IsPart DataParts BodyImage data_part
+data_is_part : IsPart DataParts BodyImage data_part
 data_is_part = record { got = λ x. refl; back = λ i x e. data_back_by i.body i.sequence x e }
 
 nothing_exact : (bs : List ℕ) (x : Unit {0}) → AreBytes bs → nothing_of bs ≡ Some x → (bs ≡ []) × Unit {0}

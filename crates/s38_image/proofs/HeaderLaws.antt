@@ -28,7 +28,7 @@ object_is = seen_is object_by object_number u64 (record { there = λ y. refl; he
 pub rights_is : IsCodec Rights rights
 rights_is = seen_is rights_by rights_bits byte (record { there = λ y. refl; here = λ x h. refl }) byte_is
 
-pub kind_there : (k : Kind) → kind_by (kind_code k) ≡ k
+kind_there : (k : Kind) → kind_by (kind_code k) ≡ k
 kind_there kinds.Context = refl
 kind_there kinds.Program = refl
 kind_there kinds.Profile = refl

@@ -82,7 +82,7 @@ same_stored : {s t : Stored} → ok_stored s ≡ ok_stored t → s ≡ t
 same_stored e = cc
 
 -- what a body of a kind prints does not hang on its tags
-print_same : (k : Kind) (tags : List ℕ) (i : BodyImage) → (body k tags).print i ≡ body_bytes k i
+pub print_same : (k : Kind) (tags : List ℕ) (i : BodyImage) → (body k tags).print i ≡ body_bytes k i
 print_same kinds.Context tags i = refl
 print_same kinds.Program tags i = refl
 print_same kinds.Profile tags i = refl

@@ -9,6 +9,11 @@ pub mod BodyLaws
 pub mod ImageLaws
 pub mod AgainLaws
 pub mod CutLaws
-pub mod WriterLaws
-pub mod DataLaws
-pub mod TextLaws
+pub mod ReadLaws
+pub mod RowLaws
+pub mod JournalReading
+pub mod IndexReading
+pub mod SpaceReading
+pub mod BodyReading
+pub mod PartReading
+pub mod StreamReading

@@ -1,9 +1,11 @@
 -- Steps of the loops over the parts of a stream.
-use Rattle.std.proofs.Common.{◌≡◌, ◌≢◌, ℕ, zero, suc, ◌+◌, ◌-◌, ◌<◌, ◌≤◌, Bool, true, false, List, [], ◌∷◌, ◌++◌, length, get_or, take, drop, refl, sym, ap, ◌∙◌, arith, append_assoc}
+use Rattle.std.proofs.Common.{◌≡◌, ◌≢◌, ℕ, zero, suc, ◌+◌, ◌-◌, ◌<◌, ◌≤◌, Bool, true, false, List, [], ◌∷◌, ◌++◌, length, get_or, take, drop, refl, sym, ap, subst, ◌∙◌, arith, append_assoc}
 use Rattle.std.specs.Prelude.{◌&&◌}
 use Rattle.std.proofs.lemmas.List.{append-nil, at_drop_all, drop_more, take_more}
 use Rattle.s38_base.specs.declared.page.Change.{Change}
 use Rattle.s38_codecs.proofs.CodecLaws.{both_true}
+use Rattle.std.specs.Prelude.{is_some}
+use Rattle.s38_image.specs.Fitting.{AreWhole}
 use Rattle.s38_image.specs.Pages.{are_pages, bytes_of, is_page, stream}
 
 pub pages_step : (number first count i : ℕ) (ps : List Change) (d : Change) → length ps ≡ count → i < count → are_pages number (first + i) (count - i) (drop i ps) ≡ (is_page number (first + i) (get_or ps i d) && are_pages number (first + (i + 1)) (count - (i + 1)) (drop (i + 1) ps))
@@ -66,3 +68,20 @@ stream_append (p ∷ ps) qs = ap (λ (t : List ℕ). bytes_of p.page ++ t) (stre
 pub stream_more : (ps : List Change) (i : ℕ) (d : Change) → i < length ps → stream (take (i + 1) ps) ≡ stream (take i ps) ++ bytes_of (get_or ps i d).page
 stream_more ps i d lt =
     ap stream (take_more ps i d lt) ∙ stream_append (take i ps) (get_or ps i d ∷ []) ∙ ap (λ (t : List ℕ). stream (take i ps) ++ t) (append-nil (bytes_of (get_or ps i d).page))
+
+pub whole_none : (ps : List Change) → AreWhole (take 0 ps)
+unfolding AreWhole
+whole_none ps = tt
+
+whole_added : (xs : List Change) (p : Change) → AreWhole xs → (is_some p.page ≡ true → length (bytes_of p.page) ≡ 512) → AreWhole (xs ++ p ∷ [])
+unfolding AreWhole
+whole_added [] p ok one = (one, tt)
+whole_added (x ∷ xs) p ok one = (ok.0, whole_added xs p ok.1 one)
+
+-- one more whole page
+pub whole_more : (ps : List Change) (i : ℕ) (d : Change) → i < length ps → AreWhole (take i ps) → (is_some (get_or ps i d).page ≡ true → length (bytes_of (get_or ps i d).page) ≡ 512) → AreWhole (take (i + 1) ps)
+whole_more ps i d lt ok one = subst AreWhole (sym (take_more ps i d lt)) (whole_added (take i ps) (get_or ps i d) ok one)
+
+-- the bytes of one more page behind those before
+pub joined_more : (ps : List Change) (i : ℕ) (d : Change) (old new : List ℕ) → i < length ps → new ≡ old ++ bytes_of (get_or ps i d).page → old ≡ stream (take i ps) → new ≡ stream (take (i + 1) ps)
+joined_more ps i d old new lt more so_far = more ∙ ap (λ (t : List ℕ). t ++ bytes_of (get_or ps i d).page) so_far ∙ sym (stream_more ps i d lt)

@@ -12,5 +12,6 @@ pub mod Bodies
 pub mod Images
 pub mod Fitting
 pub mod Settled
-pub mod Writing
 pub mod Faults
+pub mod Steps
+pub mod Telling

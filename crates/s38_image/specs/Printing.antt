@@ -4,8 +4,6 @@ use Rattle.s38_base.specs.Ids.{kind_code}
 use Rattle.s38_base.specs.declared.id.Id.{Id}
 use Rattle.s38_codecs.specs.Codec.{copies}
 use Rattle.s38_codecs.specs.Formats.{u16, u32}
-use Rattle.s38_dataspaces.specs.Entries.{Entry}
-use Rattle.s38_image.specs.DataSpaces.{slot_parts}
 use Rattle.s38_queues.specs.declared.message.Message.{Message}
 use Rattle.s38_image.specs.Headers.{name, object, rights}
 use Rattle.s38_image.specs.declared.header.Header.{Header}
@@ -29,11 +27,3 @@ places_of h = object.print h.context ++ (object.print h.owner ++ (rights.print h
 -- a message: its key, the length of its text, and its text
 unfoldable pub message_bytes : Message → List ℕ
 message_bytes m = m.key ++ (u16.print (length m.text) ++ m.text)
-
--- of a data space 1 and an entry, or 0 and as many zeros where it is deleted
-unfoldable pub slot_bytes : ℕ → Entry → List ℕ
-slot_bytes width entry = (slot_parts width entry).0 ∷ (slot_parts width entry).1
-
--- an entry of an index, behind its length
-abbrev pub index_entry_bytes : List ℕ → List ℕ
-index_entry_bytes entry = length entry ∷ entry

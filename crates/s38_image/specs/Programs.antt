@@ -12,7 +12,8 @@ use Rattle.s38_template.specs.Printing.{printed_lines}
 use Rattle.s38_template.specs.Reading.{read_of}
 use Rattle.s38_template.specs.declared.fault.DeckFault.{DeckFault}
 
-abbrev only_template : List (List (List ℕ)) → List Job → Option (List (List ℕ))
+-- the only template, where there are no jobs
+abbrev pub only_template : List (List (List ℕ)) → List Job → Option (List (List ℕ))
 only_template (template ∷ []) [] = Some template
 only_template _ _ = None
 

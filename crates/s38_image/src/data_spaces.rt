@@ -1,173 +1,149 @@
-//! What is printed of a data space: every uncommitted change is taken back. Nothing here takes memory.
-ghost use Rattle.std.specs.Prelude.{◌≡◌, ◌==◌, ◌+◌, ◌*◌, ◌≤◌, Some, find, if◌then◌else◌, length};
-ghost use Rattle.std.specs.List.{flat_map};
-ghost use Rattle.std.specs.Option.{ForSome, option_copied};
-ghost use Rattle.s38_codecs.specs.Codec.{copies};
-ghost use Rattle.s38_commits.specs.Changes.{is_of};
-ghost use Rattle.s38_commits.specs.Units.{block_of};
-ghost use Rattle.s38_dataspaces.specs.Entries.{entry_at};
-ghost use Rattle.s38_dataspaces.specs.Table.{entry_len, image_size};
-ghost use Rattle.s38_image.specs.DataSpaces.{data_space};
-ghost use Rattle.s38_image.specs.Printing.{slot_bytes};
-ghost use Rattle.s38_image.specs.Scalars.{attr as attribute};
-ghost use Rattle.s38_image.specs.Settled.{AreRestorable, first_change, settled_data, settled_entries, settled_entry};
-ghost use Rattle.s38_image.specs.Writing.{Adds};
+//! The body of a data space.
+ghost use Rattle.std.specs.Prelude.{◌≡◌, ◌≤◌, ◌++◌, ◌∷◌, [], IfErr, IfOk, IsTrue, None, OnOk, Some, length, true, if◌then◌else◌};
+ghost use Rattle.s38_codecs.specs.Codec.{only, times, whole};
+ghost use Rattle.s38_codecs.specs.Formats.{short_list, u64 as long};
+ghost use Rattle.s38_codecs.specs.Reading.{Gives};
+ghost use Rattle.s38_dataspaces.specs.Table.{are_fields, entry_len};
+ghost use Rattle.s38_image.specs.DataSpaces.{data_space, is_sequence, is_slot, slot, slot_by};
+ghost use Rattle.s38_image.specs.Scalars.{attr};
+ghost use Rattle.s38_image.specs.Steps.{data_parts, slot_value};
+ghost use Rattle.s38_dataspaces.specs.Values.{have_values};
 
-use crate::writer::PageWriter;
-use s38_base::{Attr, ObjNum};
-use s38_commits::{UnitChange, Units};
-use s38_dataspaces::DataSpace;
+use crate::scalars::attr_at;
+use s38_base::{Attr, AttrList, ObjNum};
+use s38_codecs::{ReadFault, byte_at, bytes_at, is_zeros, u16_at, u32_at, u64_at};
+use s38_dataspaces::{DataSpace, are_fields, have_values};
 use s38_rules::DataBody;
+use std::alloc::Global;
 
-/// As many zeros as an entry may have bytes.
-static ZEROS: [u8; 4096] = [0; 4096];
-
-/// So many zeros.
-#[tactic(auto, using(crate::proofs::DataLaws::front_zeros))]
-fn zeros(len: usize) -> &'static [u8]
-    requires { len ≤ 4096 }
-    ensures { result.now ≡ copies len 0 }
+/// The last journal entry that is counted in; 0 without a port.
+fn sequence_at(port: u64, from: &[u8]) -> Result<(u64, &[u8]), ReadFault>
+    ensures { Gives (λ x. (x.0, x.1.now)) result ((only (is_sequence port) long).read from.now) }
 {
-    &ZEROS[..len]
+    let (sequence, rest) = u64_at(from)?;
+    if port == 0 && sequence != 0 {
+        return Err(ReadFault::BadForm);
+    }
+    Ok((sequence, rest))
 }
 
-/// The three bytes of an attribute.
-fn attr_bytes(attr: Attr) -> [u8; 3]
-    ensures { result ≡ attribute.print attr }
+/// So many attributes.
+fn attrs_at(alloc: Global, count: u16, from: &[u8]) -> Result<(Vec<Attr>, &[u8]), ReadFault>
+    ensures { Gives (λ x. (x.0.items, x.1.now)) result ((times count attr).read from.now) }
 {
-    match attr {
-        Attr::Packed { digits, fraction } => [1, digits, fraction],
-        Attr::Zoned { digits, fraction } => [2, digits, fraction],
-        Attr::Binary { size } => [3, 0, size],
-        Attr::Chars { len } => [4, (len / 256) as u8, (len % 256) as u8],
-        Attr::Pointer => [0, 0, 0],
+    let mut attrs = Vec::new(alloc);
+    let mut rest = from;
+    for _ in 0..count {
+        let (attr, after) = attr_at(rest)?;
+        attrs.push(attr)?;
+        rest = after;
+    }
+    Ok((attrs, rest))
+}
+
+/// The fields, after their number.
+fn fields_at(alloc: Global, from: &[u8]) -> Result<(AttrList, &[u8]), ReadFault>
+    ensures read { Gives (λ x. (x.0, x.1.now)) result ((only are_fields (short_list attr)).read from.now) }
+    ensures fields { IfOk result (λ x. IsTrue (are_fields x.0)) }
+{
+    let (count, rest) = u16_at(from)?;
+    let (attrs, rest) = match attrs_at(alloc, count, rest) {
+        Ok(found) => found,
+        Err(fault) => return Err(fault),
+    };
+    if !are_fields(&attrs) {
+        return Err(ReadFault::BadForm);
+    }
+    Ok((AttrList::from_vec(attrs), rest))
+}
+
+/// Whether an entry stands, by its number: 1, or 0 where it is deleted and its bytes are zero.
+fn stands(fields: &[Attr], number: u8, entry: &[u8]) -> Result<bool, ReadFault>
+    requires { length entry.now ≡ entry_len fields.now }
+    ensures read { Gives (λ stands. slot_value stands entry.now) result
+        (if is_slot fields.now (number, entry.now) then Some (slot_by (number, entry.now)) else None) }
+    ensures values { IfOk result (λ stands. stands ≡ true → IsTrue (have_values fields.now entry.now)) }
+{
+    let is_right = match number {
+        0 => is_zeros(entry),
+        1 => have_values(fields, entry),
+        _ => false,
+    };
+    if !is_right {
+        return Err(ReadFault::BadForm);
+    }
+    Ok(number == 1)
+}
+
+/// What stands under an ordinal: whether an entry stands, and its bytes.
+fn slot_at<'a>(space: &DataSpace, from: &'a [u8]) -> Result<((bool, &'a [u8]), &'a [u8]), ReadFault>
+    ensures read { Gives (λ x. (slot_value x.0.0 x.0.1.now, x.1.now)) result ((slot space.now.fields).read from.now) }
+    ensures len { IfOk result (λ x. length x.0.1.now ≡ entry_len space.now.fields) }
+    ensures values { IfOk result (λ x. x.0.0 ≡ true → IsTrue (have_values space.now.fields x.0.1.now)) }
+{
+    let (number, rest) = byte_at(from)?;
+    let (entry, rest) = bytes_at(space.entry_len(), rest)?;
+    let stands = stands(space.fields().as_slice(), number, entry)?;
+    Ok(((stands, entry), rest))
+}
+
+/// Adds an ordinal. The image of the data space is no longer than the bytes that are read, so it is never full.
+fn add(space: &mut DataSpace, stands: bool, entry: &[u8]) -> Result<(), ReadFault>
+    requires len { length entry.now ≡ entry_len space.old.fields }
+    requires values { stands ≡ true → IsTrue (have_values space.old.fields entry.now) }
+    ensures ok { OnOk result (space.new ≡ record space.old { spare = 0; entries = space.old.entries ++ slot_value stands entry.now ∷ [] }) }
+    ensures err { IfErr result (λ fault. fault ≡ ReadFault.NoMemory) }
+{
+    let added = if stands {
+        space.insert(entry).is_ok()
+    } else {
+        space.insert_deleted().is_ok()
+    };
+    if added {
+        Ok(())
+    } else {
+        Err(ReadFault::NoMemory)
     }
 }
 
-/// The attributes of the fields.
-fn put_fields(into: &mut PageWriter, fields: &[Attr])
-    requires { 3 * length fields.now ≤ into.old.room }
-    ensures { Adds into.old into.new (3 * length fields.now) (flat_map attribute.print fields.now) }
+/// A data space whose ordinals, so many, are all of the bytes.
+fn slots_in(
+    alloc: Global,
+    fields: AttrList,
+    count: u32,
+    from: &[u8],
+) -> Result<DataSpace, ReadFault>
+    requires { IsTrue (are_fields fields) }
+    ensures read { Gives (λ space. space.entries) result (whole (times count (slot fields)) from.now) }
+    ensures fields { IfOk result (λ space. space.fields ≡ fields) }
+    ensures spare { IfOk result (λ space. space.spare ≡ 0) }
 {
-    for field in fields {
-        into.put(&attr_bytes(*field));
+    let mut space = DataSpace::new(alloc, fields);
+    let mut rest = from;
+    for _ in 0..count {
+        let ((stands, entry), after) = slot_at(&space, rest)?;
+        add(&mut space, stands, entry)?;
+        rest = after;
     }
-}
-
-/// The first change of an entry.
-fn change_of(changes: &[UnitChange], space: ObjNum, at: u32) -> Option<&UnitChange>
-    ensures { option_copied result ≡ find (is_of space.0 at) changes.now }
-{
-    changes
-        .iter()
-        .find(|change| change.space.0 == space.0 && change.at == at)
-}
-
-/// The first change of an entry by the unit of a block that has one.
-fn change_in(units: &Units, block: ObjNum, space: ObjNum, at: u32) -> Option<&UnitChange>
-    requires { block_of units.now space.0 at ≡ Some block.0 }
-    ensures { option_copied result ≡ first_change units.now space.0 at }
-{
-    match units.get(block) {
-        Some(unit) => change_of(unit.changes(), space, at),
-        None => None,
+    if !rest.is_empty() {
+        return Err(ReadFault::BadForm);
     }
+    Ok(space)
 }
 
-/// The first change of an entry by the unit that has changed it.
-fn first_change(units: &Units, space: ObjNum, at: u32) -> Option<&UnitChange>
-    ensures { option_copied result ≡ first_change units.now space.0 at }
+/// The data space that the bytes of a body hold, and the last journal entry that is counted in.
+pub fn data_space_in(alloc: Global, bytes: &[u8]) -> Result<(DataBody, u64), ReadFault>
+    ensures read { Gives (λ x. data_parts x.0 x.1) result (whole data_space bytes.now) }
+    ensures spare { IfOk result (λ x. x.0.space.spare ≡ 0) }
 {
-    match units.block_of(space, at) {
-        Some(block) => change_in(units, block, space, at),
-        None => None,
-    }
-}
-
-/// What a change found.
-fn before(change: &UnitChange) -> Option<&[u8]>
-    ensures { option_copied result ≡ change.now.before }
-{
-    match &change.before {
-        Some(bytes) => Some(bytes.as_slice()),
-        None => None,
-    }
-}
-
-/// The entry that stood before the unit that has changed it.
-fn settled_entry<'a>(
-    held: &'a DataSpace,
-    units: &'a Units,
-    space: ObjNum,
-    at: u32,
-) -> Option<&'a [u8]>
-    requires { AreRestorable units.now space.0 held.now }
-    ensures entry { option_copied result ≡ settled_entry units.now space.0 at (entry_at held.now.entries at) }
-    ensures len { ForSome result (λ bytes. length bytes.now ≡ entry_len held.now.fields) }
-{
-    match first_change(units, space, at) {
-        Some(change) => before(change),
-        None => held.get(at),
-    }
-}
-
-/// 1 and an entry, or 0 and as many zeros where it is deleted.
-#[tactic(auto, unfolding(crate::specs::Printing::slot_bytes))]
-fn put_slot(into: &mut PageWriter, width: usize, entry: Option<&[u8]>)
-    requires room { 1 + width ≤ into.old.room }
-    requires width { width ≤ 4096 }
-    requires len { ForSome entry (λ bytes. length bytes.now ≡ width) }
-    ensures { Adds into.old into.new (1 + width) (slot_bytes width (option_copied entry.entry)) }
-{
-    match entry {
-        Some(bytes) => {
-            into.put_byte(1);
-            into.put(bytes);
-        }
-        None => {
-            into.put_byte(0);
-            into.put(zeros(width));
-        }
-    }
-}
-
-/// The entries, by their ordinals.
-fn put_entries(into: &mut PageWriter, held: &DataSpace, units: &Units, space: ObjNum)
-    requires room { length held.now.entries * (1 + entry_len held.now.fields) ≤ into.old.room }
-    requires units { AreRestorable units.now space.0 held.now }
-    ensures { Adds into.old into.new (length held.now.entries * (1 + entry_len held.now.fields))
-        (flat_map (slot_bytes (entry_len held.now.fields)) (settled_entries units.now space.0 1 held.now.entries)) }
-{
-    let width = held.entry_len();
-    for k in 0..held.ordinals() {
-        put_slot(into, width, settled_entry(held, units, space, k + 1));
-    }
-}
-
-/// The last entry of its journal space, or 0 where it has no port.
-fn sequence_of(held: &DataBody, last: u64) -> u64
-    ensures { result ≡ (if held.now.port.0 == 0 then 0 else last) }
-{
-    if held.port.0 == 0 { 0 } else { last }
-}
-
-/// A data space, with the last entry of its journal space.
-pub fn put_data_space(
-    into: &mut PageWriter,
-    held: &DataBody,
-    units: &Units,
-    number: ObjNum,
-    last: u64,
-)
-    requires room { image_size held.now.space.fields (length held.now.space.entries) ≤ into.old.room }
-    requires units { AreRestorable units.now number.0 held.now.space }
-    ensures { Adds into.old into.new (image_size held.now.space.fields (length held.now.space.entries))
-        (data_space.print (settled_data units.now number.0 last held.now)) }
-{
-    into.put_u64(held.port.0);
-    into.put_u64(sequence_of(held, last));
-    into.put_short_count(held.space.fields().len());
-    put_fields(into, held.space.fields().as_slice());
-    into.put_u32(held.space.ordinals());
-    put_entries(into, &held.space, units, number);
+    let (port, rest) = u64_at(bytes)?;
+    let (sequence, rest) = sequence_at(port, rest)?;
+    let (fields, rest) = match fields_at(alloc, rest) {
+        Ok(found) => found,
+        Err(fault) => return Err(fault),
+    };
+    let (count, rest) = u32_at(rest)?;
+    let space = slots_in(alloc, fields, count, rest)?;
+    let port = ObjNum(port);
+    Ok((DataBody { space, port }, sequence))
 }

@@ -1,41 +1,82 @@
-//! What is printed of an index. Nothing here takes memory.
-ghost use Rattle.std.specs.Prelude.{◌≡◌, ◌+◌, ◌<◌, ◌≤◌, length, sum_by};
-ghost use Rattle.std.specs.List.{flat_map};
-ghost use Rattle.s38_image.specs.Indexes.{index};
-ghost use Rattle.s38_image.specs.Printing.{index_entry_bytes};
-ghost use Rattle.s38_image.specs.Writing.{Adds};
-ghost use Rattle.s38_indexes.specs.Entries.{AreShort, entry_size, image_size};
+//! The body of an index.
+ghost use Rattle.std.specs.Prelude.{◌≡◌, ◌++◌, ◌∷◌, [], IfErr, IfOk, OnOk, true};
+ghost use Rattle.std.specs.Option.{option_copied};
+ghost use Rattle.s38_codecs.specs.Codec.{byte, only, times, whole};
+ghost use Rattle.s38_codecs.specs.Formats.{short_text};
+ghost use Rattle.s38_codecs.specs.Reading.{Gives};
+ghost use Rattle.s38_image.specs.Indexes.{are_rising, index, is_index};
+ghost use Rattle.s38_image.specs.Steps.{is_after};
 
-use crate::writer::PageWriter;
-use s38_indexes::{Entries, Index};
+use s38_base::Relation;
+use s38_codecs::{ReadFault, byte_at, short_text_at, u32_at};
+use s38_indexes::Index;
+use std::alloc::Global;
 
-/// An entry, behind its length.
-fn put_entry(into: &mut PageWriter, entry: &[u8])
-    requires room { 1 + length entry.now ≤ into.old.room }
-    requires short { length entry.now < 256 }
-    ensures { Adds into.old into.new (1 + length entry.now) (index_entry_bytes entry.now) }
+/// How long an entry may be at most.
+const LONGEST_ENTRY: u8 = 120;
+
+/// How long an entry may be: 1 to 120 bytes.
+fn longest_at(from: &[u8]) -> Result<(u8, &[u8]), ReadFault>
+    ensures { Gives (λ x. (x.0, x.1.now)) result ((only is_index byte).read from.now) }
 {
-    into.put_byte(entry.len() as u8);
-    into.put(entry);
+    let (longest, rest) = byte_at(from)?;
+    if longest == 0 || longest > LONGEST_ENTRY {
+        return Err(ReadFault::BadForm);
+    }
+    Ok((longest, rest))
 }
 
-/// Entries, one after another.
-fn put_entries(into: &mut PageWriter, entries: Entries<'_>)
-    requires room { sum_by entry_size entries ≤ into.old.room }
-    requires short { AreShort 255 entries }
-    ensures { Adds into.old into.new (sum_by entry_size entries.entry) (flat_map index_entry_bytes entries.entry) }
+/// Whether an entry comes after the one before it, if there is one.
+fn is_after(previous: Option<&[u8]>, entry: &[u8]) -> bool
+    ensures { result ≡ is_after (option_copied previous.entry) entry.now }
 {
-    for entry in entries {
-        put_entry(into, entry);
+    match previous {
+        Some(previous) => Relation::Lo.holds(previous.cmp(entry)),
+        None => true,
     }
 }
 
-/// An index.
-pub fn put_index(into: &mut PageWriter, held: &Index)
-    requires room { image_size held.now.entries ≤ into.old.room }
-    ensures { Adds into.old into.new (image_size held.now.entries) (index.print held.now) }
+/// Adds an entry that comes after all others and is not too long. The image of the index is no longer than the bytes
+/// that are read, so it is never full.
+fn add(index: &mut Index, entry: &[u8]) -> Result<(), ReadFault>
+    requires { are_rising (index.old.entries ++ entry.now ∷ []) ≡ true }
+    ensures ok { OnOk result (index.new ≡ record index.old { entries = index.old.entries ++ entry.now ∷ [] }) }
+    ensures err { IfErr result (λ fault. fault ≡ ReadFault.NoMemory) }
 {
-    into.put_byte(held.longest());
-    into.put_count(held.len());
-    put_entries(into, held.entries());
+    match index.insert(entry) {
+        Ok(()) => Ok(()),
+        Err(_) => Err(ReadFault::NoMemory),
+    }
+}
+
+/// An index whose entries, so many, are all of the bytes, and rise.
+fn entries_in(alloc: Global, longest: u8, count: u32, from: &[u8]) -> Result<Index, ReadFault>
+    ensures read { Gives (λ index. index.entries) result (whole (only are_rising (times count (short_text longest))) from.now) }
+    ensures longest { IfOk result (λ index. index.longest ≡ longest) }
+{
+    let mut index = Index::new(alloc, longest);
+    let mut previous = None;
+    let mut rest = from;
+    for _ in 0..count {
+        let (entry, after) = short_text_at(longest, rest)?;
+        if !is_after(previous, entry) {
+            return Err(ReadFault::BadForm);
+        }
+        add(&mut index, entry)?;
+        previous = Some(entry);
+        rest = after;
+    }
+    if !rest.is_empty() {
+        return Err(ReadFault::BadForm);
+    }
+    Ok(index)
+}
+
+/// The index that the bytes of a body hold.
+pub fn index_in(alloc: Global, bytes: &[u8]) -> Result<Index, ReadFault>
+    ensures { Gives (λ index. index) result (whole index bytes.now) }
+{
+    let (longest, rest) = longest_at(bytes)?;
+    let (count, rest) = u32_at(rest)?;
+    entries_in(alloc, longest, count, rest)
 }

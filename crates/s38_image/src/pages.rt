@@ -1,12 +1,8 @@
 //! Bytes as the parts of an object, in room that was taken before.
-ghost use Rattle.std.specs.Prelude.{◌≡◌, ◌+◌, ◌*◌, ◌^◌, ◌≤◌, ◌<◌, ◌++◌, All, drop, length, map, replicate, take, vec_capacity, vec_len};
-ghost use Rattle.s38_image.specs.Pages.{filled, needed, page_at, stream_parts};
-ghost use Rattle.s38_image.specs.Spaces.{is_tagged, space_tags, tag_number};
-ghost use Rattle.s38_memory.specs.Cell.{IsCell};
-ghost use Rattle.s38_memory.specs.Tagged.{bytes_in};
+ghost use Rattle.std.specs.Prelude.{◌≡◌, ◌+◌, ◌*◌, ◌^◌, ◌≤◌, ◌<◌, ◌++◌, drop, length, map, replicate, take, vec_capacity, vec_len};
+ghost use Rattle.s38_image.specs.Pages.{cut, filled, numbered, page_at};
+ghost use Rattle.s38_image.specs.Spaces.{is_tagged, tag_number, tag_numbers};
 
-use crate::stream::needed;
-use arrayvec::ArrayVec;
 use s38_base::{Change, Key, Page};
 use s38_memory::Cell;
 
@@ -50,7 +46,7 @@ fn padded(bytes: &[u8]) -> [u8; 512]
 
 /// A page of a part.
 #[tactic(auto, using(crate::proofs::CutLaws::page_filled))]
-pub fn page_of(number: u64, part: u32, bytes: &[u8], tags: u32) -> Change
+fn page_of(number: u64, part: u32, bytes: &[u8], tags: u32) -> Change
     requires { length bytes.now ≤ 512 }
     ensures { result ≡ page_at number part (filled 512 bytes.now) tags }
 {
@@ -66,6 +62,18 @@ pub fn page_of(number: u64, part: u32, bytes: &[u8], tags: u32) -> Change
     }
 }
 
+/// So many bytes of a page, and those after them.
+fn split_bytes(bytes: &[u8]) -> (&[u8], &[u8])
+    ensures page { result.0.now ≡ take 512 bytes.now }
+    ensures short { length result.0.now ≤ 512 }
+    ensures more { result.1.now ≡ drop 512 bytes.now }
+{
+    if bytes.len() <= 512 {
+        return (bytes, &[]);
+    }
+    bytes.split_at(512)
+}
+
 /// The cells of a page, and those after them.
 fn split_cells(cells: &[Cell]) -> (&[Cell], &[Cell])
     ensures page { result.0.now ≡ take 32 cells.now }
@@ -78,41 +86,28 @@ fn split_cells(cells: &[Cell]) -> (&[Cell], &[Cell])
     cells.split_at(PAGE_CELLS)
 }
 
-/// The bytes of the cells of a page.
-fn bytes_in(cells: &[Cell]) -> ArrayVec<u8, 512>
-    requires cells { All IsCell cells.now }
-    requires few { length cells.now ≤ 32 }
-    ensures { result.items ≡ bytes_in cells.now }
+/// Adds so many pages, for which there is room: the bytes, and the tags of the cells that they hold, if they hold any.
+pub fn push_pages(
+    into: &mut Vec<Change>,
+    number: u64,
+    first: u32,
+    count: u32,
+    bytes: &[u8],
+    cells: &[Cell],
+)
+    requires room { vec_len into.old + count ≤ vec_capacity into.old }
+    requires part { first + count ≤ 65535 }
+    ensures parts { into.new.items ≡ into.old.items ++ numbered number first (cut count (filled (512 * count) bytes.now)) (tag_numbers count (map is_tagged cells.now)) }
+    ensures len { vec_len into.new ≡ vec_len into.old + count }
+    ensures kept { vec_capacity into.new ≡ vec_capacity into.old }
 {
-    let mut bytes = ArrayVec::new();
-    for cell in cells {
-        bytes.try_extend_from_slice(&cell.bytes()).unwrap();
-    }
-    bytes
-}
-
-/// A page of cells, with their tags.
-fn cells_page(number: u64, part: u32, cells: &[Cell]) -> Change
-    requires cells { All IsCell cells.now }
-    requires few { length cells.now ≤ 32 }
-    ensures { result ≡ page_at number part (filled 512 (bytes_in cells.now)) (tag_number (map is_tagged cells.now)) }
-{
-    page_of(number, part, bytes_in(cells).as_slice(), tag_number(cells))
-}
-
-/// Adds the pages of cells, for which there is room, and the tags of their pointers.
-pub fn push_cells(into: &mut Vec<Change>, number: u64, first: u32, cells: &[Cell])
-    requires cells { All IsCell cells.now }
-    requires near { length cells.now ≤ 1048576 }
-    requires first { first ≤ 128 }
-    requires room { vec_len into.old + needed (16 * length cells.now) ≤ vec_capacity into.old }
-    ensures parts { into.new.items ≡ into.old.items ++ stream_parts number first (bytes_in cells.now) (space_tags cells.now) }
-    ensures capacity { vec_capacity into.new ≡ vec_capacity into.old }
-{
-    let mut rest = cells;
-    for k in 0..needed(16 * cells.len() as u32) {
-        let (page, more) = split_cells(rest);
-        into.push_reserved(cells_page(number, first + k, page));
+    let mut rest = bytes;
+    let mut others = cells;
+    for k in 0..count {
+        let (page, more) = split_bytes(rest);
+        let (held, after) = split_cells(others);
+        into.push_reserved(page_of(number, first + k, page, tag_number(held)));
         rest = more;
+        others = after;
     }
 }

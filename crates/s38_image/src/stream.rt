@@ -1,5 +1,6 @@
 //! The stream of bytes that some parts hold.
-ghost use Rattle.std.specs.Prelude.{◌≡◌, ◌+◌, ◌≤◌, ◌<◌, ◌^◌, ◌++◌, IfErr, OnOk, Some};
+ghost use Rattle.std.specs.Prelude.{◌≡◌, ◌+◌, ◌≤◌, ◌<◌, ◌^◌, ◌++◌, IfErr, IfOk, OnOk, Some, is_some, length, true};
+ghost use Rattle.s38_image.specs.Fitting.{AreWhole};
 ghost use Rattle.std.specs.List.{list_all};
 ghost use Rattle.s38_codecs.specs.Codec.{is_zero};
 ghost use Rattle.s38_codecs.specs.Reading.{Gives};
@@ -20,7 +21,7 @@ pub fn needed(len: u32) -> u32
 }
 
 /// Whether a change puts the page of a part of an object.
-fn is_page(number: u64, part: u32, change: &Change) -> bool
+pub fn is_page(number: u64, part: u32, change: &Change) -> bool
     ensures { result ≡ is_page number part change.now }
 {
     change.key.object == number && change.key.part == part && change.page.is_some()
@@ -47,6 +48,7 @@ pub fn are_pages(number: u64, first: u32, count: u32, parts: &[Change]) -> bool
 /// Adds the bytes of a page.
 fn push_page(bytes: &mut Vec<u8>, page: &Option<Page>) -> Result<(), ReadFault>
     ensures ok { OnOk result (bytes.new.items ≡ bytes.old.items ++ bytes_of page.now) }
+    ensures whole { is_some page.now ≡ true → length (bytes_of page.now) ≡ 512 }
     ensures err { IfErr result (λ fault. fault ≡ ReadFault.NoMemory) }
 {
     if let Some(page) = page {
@@ -55,10 +57,10 @@ fn push_page(bytes: &mut Vec<u8>, page: &Option<Page>) -> Result<(), ReadFault>
     Ok(())
 }
 
-/// The bytes of all pages.
-#[tactic(auto, using(crate::proofs::StreamLaws::stream_more))]
+/// The bytes of all pages. Each page is whole.
 fn joined(alloc: Global, parts: &[Change]) -> Result<Vec<u8>, ReadFault>
-    ensures { Gives (λ bytes. bytes.items) result (Some (stream parts.now)) }
+    ensures whole { OnOk result (AreWhole parts.now) }
+    ensures read { Gives (λ bytes. bytes.items) result (Some (stream parts.now)) }
 {
     let mut bytes = Vec::new(alloc);
     for change in parts {
@@ -92,12 +94,14 @@ pub fn stream_of(
 ) -> Result<Vec<u8>, ReadFault>
     requires len { len ≤ 16777216 }
     requires first { first ≤ 128 }
-    ensures { Gives (λ bytes. bytes.items) result (stream_of number first len parts.now) }
+    ensures read { Gives (λ bytes. bytes.items) result (stream_of number first len parts.now) }
+    ensures pages { IfOk result (λ bytes. needed (length bytes.items) ≡ length parts.now) }
 {
     if !are_pages(number, first, needed(len), parts) {
         return Err(ReadFault::BadForm);
     }
-    unfilled(joined(alloc, parts)?, len as usize)
+    let bytes = joined(alloc, parts)?;
+    unfilled(bytes, len as usize)
 }
 
 /// The tags of the pages.

@@ -7,5 +7,3 @@ mod bodies;
 mod headers;
 #[cfg(test)]
 mod pages;
-#[cfg(test)]
-mod printing;

@@ -76,3 +76,10 @@ impl<T: TableRows + Drop> Core<T, Profiles> {
         })
     }
 }
+
+impl<T: Table, P: UserMaps> Core<T, P> {
+    /// There is no store yet, which could be full.
+    pub fn has_no_store(&self)
+        ensures { self.now.room ≡ None }
+    {}
+}

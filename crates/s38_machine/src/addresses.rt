@@ -1,5 +1,5 @@
 //! The address rules: what a pointer has to be, and where an item in a space has to lie.
-ghost use Rattle.std.specs.Prelude.{◌≡◌, ℕ, [], Option};
+ghost use Rattle.std.specs.Prelude.{◌≡◌, ◌∷◌, ℕ, [], Option};
 ghost use Rattle.std.specs.Option.{option_copied, option_map, unwrap_or};
 ghost use Rattle.s38_machine.specs.Plain.{are_plain};
 ghost use Rattle.s38_machine.specs.Resolved.{Each, IsResolved, facts_of, needs_of};
@@ -225,10 +225,22 @@ fn each_address(objects: &Objects, operands: &[Operand], needs: &[Resolved]) -> 
     by_operand(&Addresses { objects, operands }, needs, 1, operands)
 }
 
-/// The first address rule that fails: those of each operand in order, and then those of objects that no operand
-/// names. Where no operand lies in a space, one need is asked alone.
+/// The first address rule that fails with one need. Where no operand lies in a space it is asked alone.
 #[inline(always)]
 #[tactic(auto, using(crate::proofs::SoleLaws::sole_rule))]
+fn sole_address(objects: &Objects, operands: &[Operand], need: &Resolved) -> Option<Exception>
+    requires { IsResolved objects.now operands.now need.now }
+    ensures { result ≡ address_rules objects.now operands.now (need.now.need ∷ []) }
+{
+    if need.need.place as usize <= operands.len() && are_plain(operands) {
+        return address_rule(objects, operands, need);
+    }
+    each_address(objects, operands, &[*need])
+}
+
+/// The first address rule that fails: those of each operand in order, and then those of objects that no operand
+/// names.
+#[inline(always)]
 pub fn address_rules(
     objects: &Objects,
     operands: &[Operand],
@@ -237,10 +249,8 @@ pub fn address_rules(
     requires { Each (IsResolved objects.now operands.now) needs.now }
     ensures { result ≡ address_rules objects.now operands.now (needs_of needs.now) }
 {
-    if let [need] = needs {
-        if need.need.place as usize <= operands.len() && are_plain(operands) {
-            return address_rule(objects, operands, need);
-        }
+    match needs {
+        [need] => sole_address(objects, operands, need),
+        _ => each_address(objects, operands, needs),
     }
-    each_address(objects, operands, needs)
 }

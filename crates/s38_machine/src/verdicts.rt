@@ -205,6 +205,7 @@ fn ruled_verdict(world: &Core<Objects, Profiles>, process: u32, event: &Event) -
 pub fn awake_verdict(world: &Core<Objects, Profiles>, process: u32, event: &Event) -> Verdict
     ensures { result ≡ awake_verdict world.now process event.now }
 {
+    world.has_no_store();
     ruled_verdict(world, process, event)
 }
 

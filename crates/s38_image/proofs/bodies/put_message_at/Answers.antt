@@ -6,7 +6,7 @@ pub put_message-requires : goal.put_message-requires
 put_message-requires c = record { room = omega (arith, message_left c.args.held.now.messages c.args.at c.in-Some.message.now (sym c.in-Some.ensures), c.requires.room) }
 
 pub returns-clause-bytes : goal.returns-clause-bytes
-returns-clause-bytes c = message_put c.args.held.now.messages c.args.at c.in-Some.message.now c.args.into.now.bytes c.put_message.new.into.bytes (sym c.in-Some.ensures) c.put_message.ensures.bytes
+returns-clause-bytes c = message_put c.args.held.now.messages c.args.at c.in-Some.message.now c.args.into.now.items c.put_message.new.into.items (sym c.in-Some.ensures) c.put_message.ensures.bytes
 
-pub returns-clause-room : goal.returns-clause-room
-returns-clause-room c = omega (arith, message_left c.args.held.now.messages c.args.at c.in-Some.message.now (sym c.in-Some.ensures), c.put_message.ensures.room)
+pub returns-clause-len : goal.returns-clause-len
+returns-clause-len c = omega (arith, message_left c.args.held.now.messages c.args.at c.in-Some.message.now (sym c.in-Some.ensures), c.put_message.ensures.len)

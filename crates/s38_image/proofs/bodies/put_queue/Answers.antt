@@ -1,22 +1,22 @@
-use Rattle.std.proofs.Common.{ap, sym, refl, ◌≡◌, ◌∙◌, ◌+◌, List, ℕ, length, ◌++◌, ◌∷◌, [], arith}
-use Rattle.std.specs.Prelude.{sum_by}
+use Rattle.std.proofs.Common.{ap, sym, ◌∙◌, List, ℕ, length, ◌++◌, ◌∷◌, []}
 use Rattle.std.specs.List.{flat_map}
 use Rattle.s38_codecs.specs.Formats.{u16, u32}
 use Rattle.s38_image.specs.Printing.{message_bytes}
 use Rattle.s38_image.specs.Queues.{order_number}
-use Rattle.s38_image.specs.Writing.{Adds}
-use Rattle.s38_image.proofs.PrintLaws.{queue_bytes}
-use Rattle.s38_image.proofs.WriterLaws.{adds_same, adds_then}
-use Rattle.s38_queues.specs.MessageQueue.{image_size, message_size}
+use Rattle.s38_image.proofs.PrintLaws.{before, queue_bytes}
 use Rattle.s38_image.proofs.bodies.put_queue.Goals as goal
 
-pub returns : goal.returns
-returns c =
+pub returns-clause-bytes : goal.returns-clause-bytes
+returns-clause-bytes c =
     let q = c.args.held.now in
-    let order = c.order_number.ensures ∙ ap order_number c.order.ensures in
-    let front = adds_same _ _ 1 1 _ (order_number q.order ∷ []) c.put_byte.ensures refl (ap (λ (n : ℕ). n ∷ []) order) in
-    let key = adds_same _ _ 1 1 _ (q.key_len ∷ []) c.put_byte-2.ensures refl (ap (λ (n : ℕ). n ∷ []) c.key_len.ensures) in
-    let longest = adds_same _ _ 2 2 _ (u16.print q.longest) c.put_u16.ensures refl (ap u16.print c.longest.ensures) in
-    let count = adds_same _ _ 4 4 _ (u32.print (length q.messages)) c.put_count.ensures refl (ap u32.print c.len.ensures) in
-    let all = adds_then _ _ _ 1 (1 + (2 + (4 + sum_by message_size q.messages))) _ _ front (adds_then _ _ _ 1 (2 + (4 + sum_by message_size q.messages)) _ _ key (adds_then _ _ _ 2 (4 + sum_by message_size q.messages) _ _ longest (adds_then _ _ _ 4 (sum_by message_size q.messages) _ _ count c.put_messages.ensures))) in
-    adds_same _ _ _ (image_size q.messages) _ _ all (omega arith) (sym (queue_bytes q))
+    let old = c.args.into.now.items in
+    let a = c.put_byte.new.into.items in
+    let b = c.put_byte-2.new.into.items in
+    let d = c.put_u16.new.into.items in
+    let e = c.put_count.new.into.items in
+    let f = c.put_messages.new.into.items in
+    before old a f (order_number q.order ∷ []) (q.key_len ∷ (u16.print q.longest ++ (u32.print (length q.messages) ++ flat_map message_bytes q.messages))) (c.put_byte.ensures.bytes ∙ ap (λ (n : ℕ). old ++ n ∷ []) (c.order_number.ensures ∙ ap order_number c.order.ensures))
+    (before a b f (q.key_len ∷ []) (u16.print q.longest ++ (u32.print (length q.messages) ++ flat_map message_bytes q.messages)) (c.put_byte-2.ensures.bytes ∙ ap (λ (n : ℕ). a ++ n ∷ []) c.key_len.ensures)
+    (before b d f (u16.print q.longest) (u32.print (length q.messages) ++ flat_map message_bytes q.messages) (c.put_u16.ensures.bytes ∙ ap (λ (n : ℕ). b ++ u16.print n) c.longest.ensures)
+    (before d e f (u32.print (length q.messages)) (flat_map message_bytes q.messages) (c.put_count.ensures.bytes ∙ ap (λ (n : ℕ). d ++ u32.print n) c.len.ensures) c.put_messages.ensures.bytes)))
+    ∙ ap (λ (t : List ℕ). old ++ t) (sym (queue_bytes q))

@@ -1,8 +1,17 @@
-use Rattle.std.proofs.Common.{refl, sym}
-use Rattle.s38_image.proofs.PrintLaws.{header_bytes}
-use Rattle.s38_image.proofs.WriterLaws.{adds_same, adds_then}
+use Rattle.std.proofs.Common.{ap, sym, ◌∙◌, List, ℕ, ◌++◌}
+use Rattle.s38_codecs.specs.Formats.{u32}
+use Rattle.s38_image.specs.Headers.{mark}
+use Rattle.s38_image.specs.Printing.{id_bytes, places_of}
+use Rattle.s38_image.proofs.PrintLaws.{before, header_bytes}
 use Rattle.s38_image.proofs.printing.put_header.Goals as goal
 
-pub returns : goal.returns
-returns c =
-    adds_same _ _ 512 512 _ _ (adds_then _ _ _ 4 508 _ _ c.put_u32.ensures (adds_then _ _ _ 34 474 _ _ c.put_id.ensures c.put_places.ensures)) refl (sym (header_bytes c.args.held.now))
+pub returns-clause-bytes : goal.returns-clause-bytes
+returns-clause-bytes c =
+    let h = c.args.held.now in
+    let old = c.args.into.now.items in
+    let marked = c.put_u32.new.into.items in
+    let named = c.put_id.new.into.items in
+    let final = c.put_places.new.into.items in
+    before old marked final (u32.print mark) (id_bytes h.id ++ places_of h) c.put_u32.ensures.bytes
+    (before marked named final (id_bytes h.id) (places_of h) c.put_id.ensures.bytes c.put_places.ensures.bytes)
+    ∙ ap (λ (t : List ℕ). old ++ t) (sym (header_bytes h))

@@ -1,7 +1,6 @@
-use Rattle.std.proofs.Common.{refl}
+use Rattle.std.proofs.Common.{ap, ◌∙◌, List, ℕ, ◌++◌}
 use Rattle.s38_image.proofs.HeaderLaws.{zeros}
-use Rattle.s38_image.proofs.WriterLaws.{adds_same}
 use Rattle.s38_image.proofs.printing.put_zeros.Goals as goal
 
-pub returns : goal.returns
-returns c = adds_same _ _ 448 448 _ _ c.put.ensures refl (zeros 448)
+pub returns-clause-bytes : goal.returns-clause-bytes
+returns-clause-bytes c = c.put.ensures.bytes ∙ ap (λ (t : List ℕ). c.args.into.now.items ++ t) (zeros 448)
