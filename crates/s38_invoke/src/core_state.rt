@@ -81,5 +81,7 @@ impl<T: Table, P: UserMaps> Core<T, P> {
     /// There is no store yet, which could be full.
     pub fn has_no_store(&self)
         ensures { self.now.room ≡ None }
-    {}
+    {
+        let _limit = self.limit;
+    }
 }
