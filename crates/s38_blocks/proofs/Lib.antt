@@ -1,3 +1,4 @@
+pub mod HomeLaws
 pub mod Words
 pub mod Again
 pub mod Crash

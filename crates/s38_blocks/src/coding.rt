@@ -1,5 +1,5 @@
 //! Blocks as they are written and read.
-ghost use Rattle.std.specs.Prelude.{◌≡◌, ◌⊎◌, ◌+◌, ◌≤◌, ◌<◌, ℕ, false, true, get_or, length};
+ghost use Rattle.std.specs.Prelude.{◌≡◌, ◌⊎◌, ◌+◌, ◌≤◌, ◌<◌, ◌^◌, ℕ, false, true, get_or, length};
 ghost use Rattle.s38_blocks.specs.Coding.{home_block, is_label, is_up, is_used, key_in, page_in, word_at, word_in};
 
 use s38_base::{Key, Page};
@@ -8,15 +8,27 @@ use s38_disk::Block;
 /// How many bytes a block has.
 const BYTES: usize = 528;
 
-/// The block of a home that holds a page.
-#[tactic(auto, unfolding(crate::specs::Coding::home_block))]
+/// The block of a home that holds a page. The key and the page are read of it again.
 pub fn block_of(key: Key, page: &Page) -> Block
-    ensures { result ≡ home_block key page.now }
+    ensures block { result ≡ home_block key page.now }
+    ensures key { key_in result ≡ key }
+    ensures page { page_in result ≡ page.now }
 {
+    encoded(key, page)
+}
+
+/// A key and a page, one after the other.
+#[tactic(auto, unfolding(crate::specs::Coding::home_block))]
+fn encoded(key: Key, page: &Page) -> Block
+    ensures block { result ≡ home_block key page.now }
+    ensures size { length page.now.bytes ≡ 512 }
+    ensures tags { page.now.tags < 2 ^ 32 }
+{
+    let tags = page.tags;
     let mut bytes = [0; BYTES];
     bytes[0..8].copy_from_slice(&key.object.to_be_bytes());
     bytes[8..12].copy_from_slice(&key.part.to_be_bytes());
-    bytes[12..16].copy_from_slice(&page.tags.to_be_bytes());
+    bytes[12..16].copy_from_slice(&tags.to_be_bytes());
     bytes[16..528].copy_from_slice(&page.bytes);
     Block { bytes }
 }

@@ -1,0 +1,4 @@
+pub mod Contents
+pub mod Marking
+pub mod Planning
+pub mod Tallies

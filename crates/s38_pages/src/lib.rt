@@ -1,0 +1,5 @@
+//! A vault over a disk: pages in homes, and a gated log.
+#![tactic(auto)]
+
+mod marks;
+mod plan;
