@@ -1,9 +1,11 @@
 -- The four phases of a put, one behind another.
-use Rattle.std.proofs.Common.{◌≡◌, ℕ, zero, suc, ◌+◌, ◌/◌, ◌<◌, ◌≤◌, Bool, true, false, List, [], ◌∷◌, length, refl, sym, ◌∙◌, ap, arith, inl, inr, ⊎_elim}
+use Rattle.std.proofs.Common.{◌≡◌, length-append, IsFalse, ◌⊎◌, ℕ, zero, suc, ◌+◌, ◌/◌, ◌<◌, ◌≤◌, Bool, true, false, List, [], ◌∷◌, length, refl, sym, ◌∙◌, ap, arith, inl, inr, ⊎_elim}
 use Rattle.std.proofs.lemmas.Bool.{ltb-true, and_parts}
 use Rattle.s38_disk.specs.declared.block.Block.{Block}
 use Rattle.s38_disk.specs.Blocks.{State, put, after}
-use Rattle.s38_disk.specs.Disk.{DiskView}
+use Rattle.s38_disk.specs.Disk.{DiskView, Notes, Past, adding, moment_of}
+use Rattle.s38_disk.specs.Disk.Past.{Told, Untold}
+use Rattle.s38_disk.specs.declared.block.Call.{Call}
 use Rattle.s38_disk.specs.Moves.{Moves, Ends, Near, IsSettled, SameBut}
 use Rattle.s38_disk.proofs.Runs.{joins, weaker, near_end, now_at}
 use Rattle.s38_vault.specs.Content.{Content}
@@ -162,3 +164,24 @@ module _ (lay : Layout) (is : IsLayout lay) (es : List Slot) (good : IsLog lay e
         rests = λ n may. leads_rests lay is es t.now n n (leads_gate lay is es mid.now t.now n n (leads_done lay is es s.now mid.now n may.ready known.1) (same_gate lay is es good mid.now t.now block step.1))
             (ap (λ (h : ℕ → Block). is_up (h 1)) step.1 ∙ ap is_up (put_here 1 block mid.now 1 refl) ∙ down);
       }
+
+-- ---- the moment
+
+moment_adding : (p : Past) (calls : List Call) → moment_of (adding calls p) ≡ moment_of p + length calls
+moment_adding (Told first was) calls = length-append was calls
+moment_adding (Untold n) calls = refl
+
+-- no run takes the moment back
+pub moment_later : {v w : DiskView} {most : ℕ} {R : State → State → Type 0} → Moves v w most R → moment_of v.past ≤ moment_of w.past
+moment_later {v} {w} x = let same = ap moment_of x.past ∙ moment_adding v.past x.calls in omega arith
+
+-- a call that went well is counted
+pub moment_rises : {v w : DiskView} {call : Call} → Notes v w true call → moment_of v.past < moment_of w.past
+moment_rises {v} {w} {call} n = by n.past
+  where
+    by : (w.past ≡ adding (call ∷ []) v.past) ⊎ ((w.past ≡ v.past) × IsFalse true) → moment_of v.past < moment_of w.past
+    by (inl made) = let same = ap moment_of made ∙ moment_adding v.past (call ∷ []) in omega arith
+    by (inr none) = absurd (true_false none.1)
+      where
+        true_false : IsFalse true → ⊥
+        true_false e = cc

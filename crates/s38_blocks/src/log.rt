@@ -46,6 +46,7 @@ fn write_numbers<D: Disk>(disk: &mut D, slots: &[Slot]) -> Result<(), Failed>
     ensures moves { Moves (D.view disk.old) (D.view disk.new) (length slots.now / 132 + 1) (Near (between 2 (3 + length slots.now / 132))) }
     ensures done { OnOk result (Ends (D.view disk.old) (D.view disk.new) (λ s t. HasNumbers slots.now t.now)) }
     ensures cause { HasCause (D.view disk.old).faults (D.view disk.new).faults result }
+    ensures count { OnOk result ((D.view disk.new).faults ≡ (D.view disk.old).faults) }
 {
     for j in 0..slots.len() / 132 + 1 {
         disk.write(2 + j as u32, &number_block(slots, 132 * j))?;
@@ -60,6 +61,7 @@ fn write_data<D: Disk>(disk: &mut D, slots: &[Slot]) -> Result<(), Failed>
     ensures moves { Moves (D.view disk.old) (D.view disk.new) (length slots.now) (Near (between (3 + length slots.now / 132) (3 + length slots.now / 132 + length slots.now))) }
     ensures done { OnOk result (Ends (D.view disk.old) (D.view disk.new) (λ s t. HasData slots.now t.now)) }
     ensures cause { HasCause (D.view disk.old).faults (D.view disk.new).faults result }
+    ensures count { OnOk result ((D.view disk.new).faults ≡ (D.view disk.old).faults) }
 {
     let data = 3 + slots.len() / 132;
     for k in 0..slots.len() {
@@ -75,6 +77,7 @@ pub fn write_log<D: Disk>(disk: &mut D, slots: &[Slot]) -> Result<(), Failed>
     ensures moves { Moves (D.view disk.old) (D.view disk.new) (length slots.now / 132 + length slots.now + 2) (Near (between 2 (3 + length slots.now / 132 + length slots.now))) }
     ensures done { OnOk result (Ends (D.view disk.old) (D.view disk.new) (λ s t. IsSettled t × (log_count t.now ≡ length slots.now) × (log_of t.now ≡ slots.now))) }
     ensures cause { HasCause (D.view disk.old).faults (D.view disk.new).faults result }
+    ensures count { OnOk result ((D.view disk.new).faults ≡ (D.view disk.old).faults) }
 {
     write_numbers(disk, slots)?;
     write_data(disk, slots)?;

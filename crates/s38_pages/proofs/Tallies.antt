@@ -83,7 +83,7 @@ rising_apart (c ∷ cs) r (suc k) d le (inr has) = rising_apart cs (rising_rest 
 
 -- ---- one change more
 
-freed-push : (es : List Slot) (e : Slot) → count_freed (es ++ e ∷ []) ≡ count_freed es + cond (frees e) 1 0
+pub freed-push : (es : List Slot) (e : Slot) → count_freed (es ++ e ∷ []) ≡ count_freed es + cond (frees e) 1 0
 freed-push [] e = omega arith
 freed-push (x ∷ es) e = let rest = freed-push es e in omega arith
 
@@ -184,3 +184,10 @@ room_for old now was used es cs i d le room t is =
     let all = sum_by_more_le (λ c. cond (is_new (keys_of old) c) 1 0) cs i d le in
     let one : ◌≡◌ {A = ℕ} (cond (is_new (keys_of old) (get_or cs i d)) 1 0) 1 = ap (λ b. cond {A = ℕ} b 1 0) is in
     omega (arith, t.marks, all, one, room)
+
+pub new_here : (m : Homes) (c : Change) (page : Page) → c.page ≡ Some page → get m c.key ≡ None → is_new (keys_of m) c ≡ true
+new_here m c page is at = λ i. is_some (is i) && not ((contains-keys_of m c.key ∙ ap is_some at) i)
+
+-- a key is new to the index now where it was new at first
+pub new_same : (old now : Homes) (was used : List Bool) (es : List Slot) (cs : List Change) → Tallied old now was used es cs → (c : Change) → (HasKey cs c.key → ⊥) → is_new (keys_of now) c ≡ is_new (keys_of old) c
+new_same old now was used es cs t c new = ap (λ b. is_some c.page && not b) (contains-keys_of now c.key ∙ sym (was_there old now was used es cs t c new))

@@ -79,6 +79,11 @@ abbrev pub count_freed : List Slot → ℕ
 count_freed [] = 0
 count_freed (e ∷ es) = cond (frees e) 1 0 + count_freed es
 
+-- no two slots have one home
+abbrev pub AreApart : List Slot → Type 0
+AreApart [] = Unit {0}
+AreApart (e ∷ es) = (targets es e.home ≡ false) × AreApart es
+
 -- Behind these changes: their slots, and the index as it then is.
 pub record Planned (lay : Layout) (old now : Index) (used : ℕ → Bool) (es : List Slot) (cs : List Change) : Type 0 where
   pub index : IsIndex lay now used

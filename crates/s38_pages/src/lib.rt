@@ -2,4 +2,8 @@
 #![tactic(auto)]
 
 mod marks;
+mod page_vault;
 mod plan;
+mod reading;
+mod vaulted;
+mod writing;

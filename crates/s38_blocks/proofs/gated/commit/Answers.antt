@@ -1,7 +1,7 @@
 use Rattle.std.proofs.Common.{◌+◌, ◌*◌, ◌/◌, arith, length}
 use Rattle.s38_disk.proofs.Runs.{weaker}
 use Rattle.s38_blocks.specs.Phases.{IsAllOrNone}
-use Rattle.s38_blocks.proofs.CommitLemmas.{log_all_or_none, log_ends, gate_all_or_none, gate_ends, homes_all_or_none, homes_ends, down_all_or_none, down_ends, homes_below}
+use Rattle.s38_blocks.proofs.CommitLemmas.{log_all_or_none, log_ends, gate_all_or_none, gate_ends, homes_all_or_none, homes_ends, down_all_or_none, down_ends, homes_below, moment_later}
 use Rattle.s38_blocks.proofs.gated.commit.Goals as goal
 
 pub write_homes-requires : goal.write_homes-requires
@@ -61,3 +61,10 @@ returns-clause-done g c =
     let three = homes_all_or_none lay is es good two raised c.write_homes.ensures.moves in
     let homed = homes_ends lay is es good two raised c.write_homes.ensures.moves c.in_ok-write_homes.ensures.done in
     down_ends lay is es good c.zero_block.result three homed c.write_gate-2.ensures.moves c.zero_block.ensures.down c.in_ok-write_gate-2.ensures.done
+
+pub returns-clause-rises : goal.returns-clause-rises
+returns-clause-rises g c =
+    let one = moment_later c.write_log.ensures.moves in
+    let two = moment_later c.write_gate.ensures.moves in
+    let three = moment_later c.write_homes.ensures.moves in
+    omega (arith, one, two, three, c.in_ok-write_gate-2.ensures.rises)

@@ -7,7 +7,7 @@ use Rattle.s38_blocks.proofs.LogLemmas.{between_in, data_more}
 use Rattle.s38_blocks.proofs.log.write_data.Goals as goal
 
 pub loop-k-init : goal.loop-k-init
-loop-k-init g c = record { moves = stays _ _; done = λ s t is at i le. absurd (omega arith) }
+loop-k-init g c = record { moves = stays _ _; done = λ s t is at i le. absurd (omega arith); count = refl }
 
 pub returns-in_err-write-clause-moves : goal.returns-in_err-write-clause-moves
 returns-in_err-write-clause-moves g c =
@@ -26,4 +26,5 @@ loop-k-preserved g c =
           let next = step_at c.in_ok-write.ensures.notes _ mid in
           let here = c.loop-k.invariant.done s _ is mid in
           ap (λ (u : State). u.now (3 + n / 132 + i)) (at_one _ t _ at next) ∙ data_more c.args.slots.now (3 + n / 132) c.loop-k.k (after s c.loop-k.invariant.moves.calls).now _ here refl i le;
+      count = c.in_ok-write.ensures.count ∙ c.loop-k.invariant.count;
     }

@@ -7,4 +7,5 @@ abbrev pub invariant-loop-k : goal.invariant-loop-k
 invariant-loop-k g l = record {
   moves : Moves (g.D.Disk.view l.initial.disk) (g.D.Disk.view l.disk) l.k (Near (between (3 + length l.slots / 132) (3 + length l.slots / 132 + length l.slots)));
   done : Ends (g.D.Disk.view l.initial.disk) (g.D.Disk.view l.disk) (λ s t. (i : ℕ) → i < l.k → t.now (3 + length l.slots / 132 + i) ≡ (slot_at l.slots i).block);
+  count : (g.D.Disk.view l.disk).faults ≡ (g.D.Disk.view l.initial.disk).faults;
 }

@@ -8,4 +8,5 @@ abbrev pub invariant-loop-j : goal.invariant-loop-j
 invariant-loop-j g l = record {
   moves : Moves (g.D.Disk.view l.initial.disk) (g.D.Disk.view l.disk) l.j (Near (between 2 (3 + length l.slots / 132)));
   done : Ends (g.D.Disk.view l.initial.disk) (g.D.Disk.view l.disk) (λ s t. (k : ℕ) → k < 132 * l.j → log_word t.now k ≡ number_at l.slots k);
+  count : (g.D.Disk.view l.disk).faults ≡ (g.D.Disk.view l.initial.disk).faults;
 }

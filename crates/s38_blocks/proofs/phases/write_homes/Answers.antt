@@ -1,4 +1,4 @@
-use Rattle.std.proofs.Common.{◌≡◌, ◌+◌, ◌∙◌, ap, arith, length, take}
+use Rattle.std.proofs.Common.{refl, ◌≡◌, ◌+◌, ◌∙◌, ap, arith, length, take}
 use Rattle.std.proofs.lemmas.List.{take_all}
 use Rattle.s38_disk.specs.Blocks.{State, after}
 use Rattle.s38_disk.specs.Moves.{Near}
@@ -11,6 +11,7 @@ pub loop-slot-init : goal.loop-slot-init
 loop-slot-init g c = record {
   moves = stays _ _;
   done = λ s t is at i. ap (λ (u : State). u.now i) (at_one _ t s at is);
+  count = refl;
 }
 
 pub returns-in_err-write-clause-moves : goal.returns-in_err-write-clause-moves
@@ -28,6 +29,7 @@ loop-slot-preserved g c =
           let next = step_at c.in_ok-write.ensures.notes _ mid in
           let here = c.loop-slot.invariant.done s _ is mid in
           ap (λ (u : State). u.now i) (at_one _ t _ at next) ∙ step_more c.args.slots.now c.loop-slot.slot-index _ (after s c.loop-slot.invariant.moves.calls).now s.now i c.loop-slot-test.true (here i);
+      count = c.in_ok-write.ensures.count ∙ c.loop-slot.invariant.count;
     }
 
 pub returns-in_err-sync-clause-moves : goal.returns-in_err-sync-clause-moves

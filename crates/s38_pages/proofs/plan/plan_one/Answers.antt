@@ -8,7 +8,7 @@ use Rattle.s38_blocks.specs.Coding.{is_used}
 use Rattle.s38_pages.specs.Index.{Homes, Index, Planned, Tallied, marked}
 use Rattle.s38_pages.proofs.Marking.{more_marked, set_there}
 use Rattle.s38_pages.proofs.Planning.{planned_over, planned_new, planned_gone, planned_none, used_block, with_itself}
-use Rattle.s38_pages.proofs.Tallies.{get_inserted, get_removed, tallied_over, tallied_new, tallied_gone, tallied_none}
+use Rattle.s38_pages.proofs.Tallies.{get_inserted, get_removed, new_here, tallied_over, tallied_new, tallied_gone, tallied_none}
 use Rattle.s38_pages.proofs.plan.plan_one.Goals as goal
 
 -- along the equations of the calls
@@ -17,6 +17,9 @@ moved lay old m n used later es fs cs e u f p = subst (λ x. Planned lay old x (
 
 counted : (old m n : Homes) (was used later : List Bool) (es fs : List Slot) (cs : List Change) → n ≡ m → later ≡ used → fs ≡ es → Tallied old m was used es cs → Tallied old n was later fs cs
 counted old m n was used later es fs cs e u f t = subst (λ x. Tallied old x was later fs cs) (sym e) (subst (λ x. Tallied old m was x fs cs) (sym u) (subst (λ x. Tallied old m was used x cs) (sym f) t))
+
+pub take_lowest-home-requires : goal.take_lowest-home-requires
+take_lowest-home-requires c = c.requires.free (new_here c.args.homes.now.values c.args.change.now c.in-Some-None.page c.in-Some-None.is-0 (sym c.get.ensures ∙ c.in-Some-None.is-1))
 
 same : {A : Type 0} (x : A) → x ≡ x
 same x = λ i. x
