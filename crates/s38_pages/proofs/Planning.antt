@@ -29,7 +29,7 @@ has_last : (cs : List Change) (c : Change) → HasKey (cs ++ c ∷ []) c.key
 has_last [] c = inl refl
 has_last (x ∷ cs) c = inr (has_last cs c)
 
-targets-push : (es : List Slot) (e : Slot) (i : ℕ) → targets (es ++ e ∷ []) i ≡ true → (targets es i ≡ true) ⊎ (i ≡ e.home)
+pub targets-push : (es : List Slot) (e : Slot) (i : ℕ) → targets (es ++ e ∷ []) i ≡ true → (targets es i ≡ true) ⊎ (i ≡ e.home)
 targets-push [] e i hit = inr (eqb-true i e.home (one (i == e.home) hit))
   where
     one : (b : Bool) → (b || false) ≡ true → b ≡ true
@@ -41,14 +41,14 @@ targets-push (x ∷ es) e i hit = by (targets-push es e i) (i == x.home) hit
     by rest true h = inl refl
     by rest false h = rest h
 
-not_target : (es : List Slot) (e : Slot) (i : ℕ) → targets es i ≡ false → (i ≡ e.home → ⊥) → targets (es ++ e ∷ []) i ≡ false
+pub not_target : (es : List Slot) (e : Slot) (i : ℕ) → targets es i ≡ false → (i ≡ e.home → ⊥) → targets (es ++ e ∷ []) i ≡ false
 not_target es e i none other = ⊎_elim (λ hit. absurd (⊎_elim (λ t. both_ways _ none t) other (targets-push es e i hit))) (λ f. f) (cases_Bool (targets (es ++ e ∷ []) i))
 
-apart_now : (x : Bool) (y : Bool) → (x || y) ≡ false → (x ≡ false) × (y ≡ false)
+pub apart_now : (x : Bool) (y : Bool) → (x || y) ≡ false → (x ≡ false) × (y ≡ false)
 apart_now true y e = absurd (true≢false e)
 apart_now false y e = (refl, e)
 
-homes-push : (lay : Layout) (es : List Slot) (e : Slot) → AreHomes lay es → targets es e.home ≡ false → is_home lay e.home ≡ true → AreHomes lay (es ++ e ∷ [])
+pub homes-push : (lay : Layout) (es : List Slot) (e : Slot) → AreHomes lay es → targets es e.home ≡ false → is_home lay e.home ≡ true → AreHomes lay (es ++ e ∷ [])
 homes-push lay [] e all none home = (home, refl, tt)
 homes-push lay (x ∷ es) e all none home =
     let parts = apart_now (e.home == x.home) (targets es e.home) none in
@@ -81,7 +81,7 @@ with_itself ix k h at = λ i q. same q i
     same : (q : Key) → with_home ix k (Some h) q ≡ ix q
     same q = ⊎_elim (λ e. with_here ix k (Some h) q e ∙ sym (ap ix e ∙ at)) (λ other. with_other ix k (Some h) q other) (key_cases q k)
 
-longer : {A : Type 0} (xs : List A) (x : A) → length (xs ++ x ∷ []) ≡ length xs + 1
+pub longer : {A : Type 0} (xs : List A) (x : A) → length (xs ++ x ∷ []) ≡ length xs + 1
 longer xs x = length-append xs (x ∷ [])
 
 module _ (lay : Layout) (old : Index) where

@@ -1,5 +1,5 @@
 -- The index in memory: at which home each key stands, and which homes are used.
-use Rattle.std.specs.Prelude.{◌≡◌, ◌≤◌, ◌<◌, ◌+◌, ◌-◌, ◌==◌, ◌&&◌, ◌||◌, ◌⊎◌, not, ℕ, suc, nat_le, nat_lt, Bool, true, false, cond, List, [], ◌∷◌, length, get_or, Option, Some, None}
+use Rattle.std.specs.Prelude.{◌≡◌, ◌≤◌, ◌<◌, ◌+◌, ◌-◌, ◌==◌, ◌&&◌, ◌||◌, ◌⊎◌, not, ℕ, suc, nat_le, nat_lt, Bool, true, false, cond, List, [], ◌∷◌, length, get_or, replicate, slice_set, ◌++◌, Option, Some, None}
 use Rattle.std.specs.FinMap.{FinMap, get}
 use Rattle.std.specs.Ordering.{eq_by_cmp}
 use Rattle.s38_disk.specs.declared.block.Block.{Block}
@@ -42,6 +42,12 @@ unmarked (false ∷ used) = suc (unmarked used)
 -- what is not marked is a home
 abbrev pub AreFreeHomes : Layout → List Bool → Type 0
 AreFreeHomes lay used = (h : ℕ) → h < length used → marked used h ≡ false → is_home lay h ≡ true
+
+-- the marks of a store without a page
+abbrev pub first_marks : Layout → List Bool
+first_marks lay =
+    let homes = replicate lay.first true ++ replicate (lay.size - lay.first) false in
+    cond (nat_le lay.first lay.hole && nat_lt lay.hole lay.size) (slice_set homes lay.hole true) homes
 
 -- how many homes there are
 abbrev pub parts_of : Layout → ℕ

@@ -1,6 +1,9 @@
-ghost use Rattle.std.specs.Prelude.{◌≡◌, ◌≤◌, ◌<◌, ℕ, false, length, slice_set, true};
-ghost use Rattle.s38_pages.specs.Index.{marked, unmarked};
+ghost use Rattle.std.specs.Prelude.{◌≡◌, ◌≤◌, ◌<◌, ℕ, IfOk, false, length, slice_set, true};
+ghost use Rattle.s38_pages.specs.Index.{first_marks, marked, unmarked};
 
+use s38_base::NoMemory;
+use s38_blocks::Layout;
+use std::alloc::Global;
 use std::marker::Model;
 
 /// Which blocks are no free homes. Contracts see the list of marks.
@@ -39,6 +42,20 @@ fn lowest_from(used: &[bool], from: usize) -> usize
 }
 
 impl Marks {
+    /// The marks of a store without a page.
+    pub fn new(alloc: Global, layout: &Layout) -> Result<Self, NoMemory>
+        requires { layout.now.first ≤ layout.now.size }
+        ensures { IfOk result (λ marks. marks ≡ first_marks layout.now) }
+    {
+        let mut used = Vec::new(alloc);
+        used.resize(layout.first as usize, true)?;
+        used.resize(layout.size as usize, false)?;
+        if layout.first <= layout.hole && layout.hole < layout.size {
+            used[layout.hole as usize] = true;
+        }
+        Ok(Marks { used, lowest: 0 })
+    }
+
     /// Marks the lowest free home, and gives it.
     pub fn take_lowest(&mut self) -> usize
         requires { 1 ≤ unmarked self.old }
