@@ -65,6 +65,13 @@ pub record IsFinished (lay : Layout) (s t : State) : Type 0 where
   pub log : is_up (s.now 1) ≡ true → IsLog lay (log_of s.now)
   pub rests : (m : Content) → IsSettled s → Stands lay s.now m → Rests lay t.now m
 
+-- the same, and nothing is pending
+pub record IsReady (lay : Layout) (s t : State) : Type 0 where
+  pub settled : IsSettled t
+  pub homes : (i : ℕ) → is_home lay i ≡ true → t.now i ≡ redone s.now i
+  pub log : is_up (s.now 1) ≡ true → IsLog lay (log_of s.now)
+  pub rests : (m : Content) → Stands lay s.now m → Rests lay t.now m
+
 -- the entry of the log at a place
 abbrev pub entry_at : (ℕ → Block) → ℕ → Slot
 entry_at f k = record { home = log_word f (k + 1); block = f (log_data (log_count f) + k) }

@@ -11,3 +11,6 @@ mod reading;
 mod scan;
 mod vaulted;
 mod writing;
+
+pub use fault::StoreFault;
+pub use page_vault::PageVault;

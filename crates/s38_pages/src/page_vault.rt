@@ -1,19 +1,25 @@
-ghost use Rattle.std.specs.Prelude.{◌≡◌, ◌<◌, ◌≤◌, ◌+◌, ◌/◌, ◌*◌, ℕ, length, is_ok, true, OnOk};
+ghost use Rattle.std.specs.Prelude.{◌≡◌, ◌<◌, ◌≤◌, ◌+◌, ◌/◌, ◌*◌, ℕ, length, is_ok, true, IfErr, IfOk, OnOk};
 ghost use Rattle.std.specs.FinMap.{get};
-ghost use Rattle.s38_base.specs.Faults.{HasCause};
-ghost use Rattle.s38_disk.specs.Disk.{moment_of};
+ghost use Rattle.s38_base.specs.Faults.{HasCause, Rose};
+ghost use Rattle.s38_blocks.specs.Store.{Stands};
+ghost use Rattle.s38_disk.specs.Blocks.{State};
+ghost use Rattle.s38_pages.specs.Mounts.{IsMounted, IsRefused, layout_of};
+ghost use Rattle.s38_disk.specs.Disk.{IsAt, moment_of};
 ghost use Rattle.s38_disk.specs.Moves.{Moves};
 ghost use Rattle.s38_vault.specs.Content.{AreRising, Content, HaveObjects, changed};
 ghost use Rattle.s38_vault.specs.Directory.{changed_keys, keys_of, new_keys};
 ghost use Rattle.s38_pages.specs.Vaults.{IsOneOf, page_holds, page_leaves, page_view};
 
+use crate::fault::StoreFault;
 use crate::marks::Marks;
+use crate::mounting::{Opened, open};
 use crate::plan::{give_back, plan};
 use crate::writing::write_all;
 use s38_base::{Change, Failed};
 use s38_blocks::{Layout, Slot};
 use s38_disk::Disk;
 use s38_vault::Keyed;
+use std::alloc::Global;
 use std::marker::Model;
 
 /// A vault over a disk. After a put that failed it no longer tells what it holds, and each further put is refused.
@@ -44,6 +50,52 @@ impl<D: Disk> Model for PageVault<D> {
 }
 
 impl<D: Disk> PageVault<D> {
+    /// Mounts the store on a disk: a log behind a raised gate is done again. The disk comes back with the reason where
+    /// the store is refused. Whenever a crash comes meanwhile, the store mounts to the same content.
+    pub fn mount(alloc: Global, mut disk: D) -> Result<Self, (D, StoreFault)>
+        ensures vault { IfOk result (λ v. (v.good ≡ true) × (v.refused ≡ 0) × (v.layout ≡ layout_of (D.view disk).size)) }
+        ensures content { IfOk result (λ v. (s : State) → IsAt (D.view disk).past s → (m : Content) × (Stands (layout_of (D.view disk).size) s.now m × page_holds v m)) }
+        ensures moves { IfOk result (λ v. Moves (D.view disk) v.disk 2290 (IsMounted (layout_of (D.view disk).size))) }
+        ensures count { IfOk result (λ v. v.disk.faults ≡ (D.view disk).faults) }
+        ensures refused { IfErr result (λ e. (s : State) → IsAt (D.view disk).past s → IsRefused (D.view disk).size s.now e.1) }
+        ensures crash { IfErr result (λ e. Moves (D.view disk) (D.view e.0) 2290 (IsMounted (layout_of (D.view disk).size))) }
+        ensures cause { IfErr result (λ e. e.1 ≡ StoreFault.Failed → Rose (D.view disk).faults (D.view e.0).faults) }
+    {
+        match open(alloc, &mut disk) {
+            Ok(Opened {
+                layout,
+                homes,
+                marks,
+                slots,
+            }) => Ok(PageVault {
+                disk,
+                layout,
+                homes,
+                marks,
+                slots,
+                good: true,
+                refused: 0,
+            }),
+            Err(fault) => Err((disk, fault)),
+        }
+    }
+
+    /// Gives the disk back.
+    pub fn release(self) -> D
+        ensures { D.view result ≡ self.disk }
+    {
+        let PageVault {
+            disk,
+            homes: _homes,
+            marks: _marks,
+            slots: _slots,
+            layout: _layout,
+            good: _good,
+            refused: _refused,
+        } = self;
+        disk
+    }
+
     /// Makes changes for which there is room.
     pub(crate) fn put_all(&mut self, changes: &[Change]) -> Result<(), Failed>
         requires good { self.old.good ≡ true }
