@@ -1,0 +1,31 @@
+use Rattle.std.proofs.Common.{refl, ◌+◌, ◌/◌, ◌∙◌, ap, arith, length}
+use Rattle.s38_disk.specs.Blocks.{State, after}
+use Rattle.s38_disk.specs.Moves.{Near}
+use Rattle.s38_disk.proofs.Runs.{write_near, near_then, weaker, step_at, at_one, stays, now_at}
+use Rattle.s38_blocks.specs.Store.{log_word}
+use Rattle.s38_blocks.specs.Phases.{between}
+use Rattle.s38_blocks.proofs.LogLemmas.{between_in, numbers_more}
+use Rattle.s38_blocks.proofs.log.write_numbers.Goals as goal
+
+pub loop-j-init : goal.loop-j-init
+loop-j-init g c = record { moves = stays _ _; done = λ s t is at k le. absurd (omega arith); count = refl }
+
+pub returns-in_err-write-clause-moves : goal.returns-in_err-write-clause-moves
+returns-in_err-write-clause-moves g c =
+    let n = length c.args.slots.now in
+    let A = between 2 (3 + n / 132) in
+    weaker (n / 132 + 1) (Near A) (near_then A c.loop-j.invariant.moves (write_near A c.write.ensures.notes c.write.ensures.cause.later (between_in 2 (3 + n / 132) _ (omega arith) (omega arith)))) (omega arith) (λ s u is near. near)
+
+pub loop-j-preserved : goal.loop-j-preserved
+loop-j-preserved g c =
+    let n = length c.args.slots.now in
+    let A = between 2 (3 + n / 132) in
+    record {
+      moves = near_then A c.loop-j.invariant.moves (write_near A c.write.ensures.notes c.write.ensures.cause.later (between_in 2 (3 + n / 132) _ (omega arith) (omega arith)));
+      done = λ s t is at k le.
+          let mid = now_at c.loop-j.invariant.moves s is in
+          let next = step_at c.in_ok-write.ensures.notes _ mid in
+          let here = c.loop-j.invariant.done s _ is mid in
+          ap (λ (u : State). log_word u.now k) (at_one _ t _ at next) ∙ numbers_more c.args.slots.now (after s c.loop-j.invariant.moves.calls).now _ c.loop-j.j here c.number_block.ensures k le;
+      count = c.in_ok-write.ensures.count ∙ c.loop-j.invariant.count;
+    }

@@ -1,0 +1,3 @@
+pub mod Coding
+pub mod Phases
+pub mod Store

@@ -1,0 +1,11 @@
+pub mod Beginning
+pub mod Contents
+pub mod Entries
+pub mod Finishing
+pub mod Giving
+pub mod Keeping
+pub mod Marking
+pub mod Planning
+pub mod Scanning
+pub mod Tallies
+pub mod VaultLemmas

@@ -1,0 +1,32 @@
+use Rattle.std.proofs.Common.{◌≡◌, ◌≤◌, ◌-◌, ap, subst, sym, arith, ◌∙◌}
+use Rattle.std.specs.FinMap.{len}
+use Rattle.std.specs.Vec.{vec_capacity}
+use Rattle.s38_vault.specs.Directory.{keys_of, new_keys}
+use Rattle.s38_disk.specs.Disk.{moment_of}
+use Rattle.s38_blocks.specs.declared.layout.Layout.{Layout}
+use Rattle.s38_pages.specs.Index.{parts_of}
+use Rattle.s38_pages.specs.Vaults.{IsVault, LeavesAt, PageStore}
+use Rattle.s38_pages.proofs.VaultLemmas.{free_after, told_moments}
+use Rattle.s38_pages.proofs.vaulted.PageVaultVault.put.Goals as goal
+
+pub returns-in-Ok-clause-free : goal.returns-in-Ok-clause-free
+returns-in-Ok-clause-free g c =
+    let old = c.args.self.now in
+    let fits = subst (λ (v : PageStore). len v.homes ≤ parts_of v.layout) c.self.view_is (omega (arith, c.self.invariant.parts)) in
+    let moved = ap (λ (v : PageStore). new_keys (keys_of v.homes) c.args.changes.now) c.self.view_is in
+    let is : c.free-free.result ≡ parts_of old.layout - len old.homes = c.free-free.ensures.free in
+    let room : new_keys (keys_of old.homes) c.args.changes.now ≤ parts_of old.layout - len old.homes = omega (arith, c.count_new-needed.ensures, moved, is, c.if-needed-free.false) in
+    free_after old.homes c.put_all.new.self.homes c.args.changes.now (parts_of old.layout) (parts_of c.put_all.new.self.layout) c.requires.rising fits (ap parts_of c.put_all.ensures.layout) room c.put_all.ensures.keys
+
+pub returns-in-Ok-clause-during : goal.returns-in-Ok-clause-during
+returns-in-Ok-clause-during g c m holds t n low high left =
+    let vault = subst (λ (v : PageStore). IsVault v.layout v.disk v.homes c.self.inside.marks c.self.inside.slots.items (vec_capacity c.self.inside.slots) v.good) c.self.view_is c.self.invariant in
+    told_moments vault c.put_all.ensures.moves m holds t n low high (subst (λ (l : Layout). LeavesAt l c.put_all.new.self.disk.past t n) c.put_all.ensures.layout left)
+
+pub returns-in-Ok-clause-after : goal.returns-in-Ok-clause-after
+returns-in-Ok-clause-after g c m n holds left = (c.in-Ok.ensures.rises, c.in-Ok.ensures.after m n holds left)
+
+pub returns-in-Err-clause-during : goal.returns-in-Err-clause-during
+returns-in-Err-clause-during g c m holds t n low high left =
+    let vault = subst (λ (v : PageStore). IsVault v.layout v.disk v.homes c.self.inside.marks c.self.inside.slots.items (vec_capacity c.self.inside.slots) v.good) c.self.view_is c.self.invariant in
+    told_moments vault c.put_all.ensures.moves m holds t n low high (subst (λ (l : Layout). LeavesAt l c.put_all.new.self.disk.past t n) c.put_all.ensures.layout left)

@@ -1,0 +1,4 @@
+pub mod Index
+pub mod Mounts
+pub mod Scan
+pub mod Vaults

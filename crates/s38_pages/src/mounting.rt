@@ -1,0 +1,191 @@
+//! What is done as a store is mounted.
+ghost use Rattle.std.specs.Prelude.{◌≡◌, ◌≤◌, ◌<◌, ◌+◌, ◌^◌, [], true, IfErr, IfOk, OnOk, length};
+ghost use Rattle.std.specs.FinMap.{get};
+ghost use Rattle.std.specs.Vec.{vec_capacity};
+ghost use Rattle.s38_base.specs.Faults.{HasCause, HasCauseOf};
+ghost use Rattle.s38_blocks.specs.Coding.{is_label, is_up};
+ghost use Rattle.s38_blocks.specs.Store.{IsLayout};
+ghost use Rattle.s38_disk.specs.Blocks.{State};
+ghost use Rattle.s38_disk.specs.Disk.{IsAt};
+ghost use Rattle.s38_blocks.specs.Store.{Stands};
+ghost use Rattle.s38_blocks.specs.declared.layout.Layout.{Layout};
+ghost use Rattle.s38_disk.specs.Moves.{Ends, IsSettled, Moves};
+ghost use Rattle.s38_vault.specs.Content.{Content};
+ghost use Rattle.s38_pages.specs.Vaults.{HoldsNow, IsVault};
+ghost use Rattle.s38_pages.specs.Mounts.{IsFinished, IsFinishFault, IsIndexFault, IsMounted, IsReady, IsRefused, fewest, layout_of};
+ghost use Rattle.s38_pages.specs.Scan.{Keeps, Scanned};
+
+use crate::fault::StoreFault;
+use crate::log_reading::read_log;
+use crate::marks::Marks;
+use crate::scan::scan;
+use s38_base::Failed;
+use s38_blocks::{Layout, Slot, is_label, is_up, redo, zero_block};
+use s38_disk::Disk;
+use s38_vault::Keyed;
+use std::alloc::Global;
+
+/// The fewest blocks of a store.
+const FEWEST: u32 = 4096;
+
+/// Where things stand in a store on a disk of so many blocks.
+fn layout_of(blocks: u32) -> Layout
+    ensures { result ≡ layout_of blocks }
+{
+    Layout {
+        first: 2306,
+        hole: 0,
+        size: blocks.min(131_072),
+        most: 2286,
+    }
+}
+
+/// Whether block 0 is a label.
+fn has_label<D: Disk>(disk: &mut D) -> Result<bool, Failed>
+    requires { 0 < (D.view disk.old).size }
+    ensures gives { IfOk result (λ there. (s : State) → IsAt (D.view disk.old).past s → there ≡ is_label (s.now 0)) }
+    ensures size { (D.view disk.new).size ≡ (D.view disk.old).size }
+    ensures past { (D.view disk.new).past ≡ (D.view disk.old).past }
+    ensures cause { HasCause (D.view disk.old).faults (D.view disk.new).faults result }
+    ensures count { OnOk result ((D.view disk.new).faults ≡ (D.view disk.old).faults) }
+{
+    let mut block = zero_block();
+    disk.read(0, &mut block)?;
+    Ok(is_label(&block))
+}
+
+/// Whether the gate is up.
+fn gate_is_up<D: Disk>(disk: &mut D) -> Result<bool, Failed>
+    requires { 1 < (D.view disk.old).size }
+    ensures gives { IfOk result (λ up. (s : State) → IsAt (D.view disk.old).past s → up ≡ is_up (s.now 1)) }
+    ensures size { (D.view disk.new).size ≡ (D.view disk.old).size }
+    ensures past { (D.view disk.new).past ≡ (D.view disk.old).past }
+    ensures cause { HasCause (D.view disk.old).faults (D.view disk.new).faults result }
+    ensures count { OnOk result ((D.view disk.new).faults ≡ (D.view disk.old).faults) }
+{
+    let mut block = zero_block();
+    disk.read(1, &mut block)?;
+    Ok(is_up(&block))
+}
+
+/// Does a log behind a raised gate again.
+fn finish<D: Disk>(alloc: Global, disk: &mut D, layout: &Layout) -> Result<(), StoreFault>
+    requires layout { IsLayout layout.now }
+    requires few { layout.now.most < 2 ^ 31 }
+    requires size { layout.now.size ≤ (D.view disk.old).size }
+    ensures moves { Moves (D.view disk.old) (D.view disk.new) (layout.now.most + 3) (IsMounted layout.now) }
+    ensures done { OnOk result (Ends (D.view disk.old) (D.view disk.new) (IsFinished layout.now)) }
+    ensures refused { IfErr result (λ fault. (s : State) → IsAt (D.view disk.old).past s → IsFinishFault layout.now s.now fault) }
+    ensures cause { HasCauseOf (D.view disk.old).faults (D.view disk.new).faults result StoreFault.Failed }
+    ensures count { OnOk result ((D.view disk.new).faults ≡ (D.view disk.old).faults) }
+{
+    if gate_is_up(disk)? {
+        let slots = read_log(alloc, disk, layout)?;
+        redo(disk, layout, &slots)?;
+    }
+    Ok(())
+}
+
+/// Makes all that was written stay.
+fn settle<D: Disk>(disk: &mut D) -> Result<(), Failed>
+    ensures moves { (lay : Layout) → Moves (D.view disk.old) (D.view disk.new) 1 (IsMounted lay) }
+    ensures done { OnOk result (Ends (D.view disk.old) (D.view disk.new) (λ s t. IsSettled t × (t.now ≡ s.now))) }
+    ensures cause { HasCause (D.view disk.old).faults (D.view disk.new).faults result }
+    ensures count { OnOk result ((D.view disk.new).faults ≡ (D.view disk.old).faults) }
+{
+    disk.sync()
+}
+
+/// Makes all that was written stay, and does a log behind a raised gate again.
+fn make_ready<D: Disk>(alloc: Global, disk: &mut D, layout: &Layout) -> Result<(), StoreFault>
+    requires layout { IsLayout layout.now }
+    requires few { layout.now.most < 2 ^ 31 }
+    requires size { layout.now.size ≤ (D.view disk.old).size }
+    ensures moves { Moves (D.view disk.old) (D.view disk.new) (layout.now.most + 4) (IsMounted layout.now) }
+    ensures done { OnOk result (Ends (D.view disk.old) (D.view disk.new) (IsReady layout.now)) }
+    ensures refused { IfErr result (λ fault. (s : State) → IsAt (D.view disk.old).past s → IsFinishFault layout.now s.now fault) }
+    ensures cause { HasCauseOf (D.view disk.old).faults (D.view disk.new).faults result StoreFault.Failed }
+    ensures count { OnOk result ((D.view disk.new).faults ≡ (D.view disk.old).faults) }
+{
+    settle(disk)?;
+    finish(alloc, disk, layout)
+}
+
+/// Where things stand on a disk that has a store.
+fn locate<D: Disk>(disk: &mut D) -> Result<Layout, StoreFault>
+    ensures layout { IfOk result (λ layout. layout ≡ layout_of (D.view disk.old).size) }
+    ensures large { OnOk result (fewest ≤ (D.view disk.old).size) }
+    ensures label { OnOk result ((s : State) → IsAt (D.view disk.old).past s → is_label (s.now 0) ≡ true) }
+    ensures refused { IfErr result (λ fault. (s : State) → IsAt (D.view disk.old).past s → IsRefused (D.view disk.old).size s.now fault) }
+    ensures size { (D.view disk.new).size ≡ (D.view disk.old).size }
+    ensures past { (D.view disk.new).past ≡ (D.view disk.old).past }
+    ensures cause { HasCauseOf (D.view disk.old).faults (D.view disk.new).faults result StoreFault.Failed }
+    ensures count { OnOk result ((D.view disk.new).faults ≡ (D.view disk.old).faults) }
+{
+    let blocks = disk.blocks();
+    if blocks < FEWEST {
+        return Err(StoreFault::TooSmall { blocks });
+    }
+    if !has_label(disk)? {
+        return Err(StoreFault::NotInstalled);
+    }
+    Ok(layout_of(blocks))
+}
+
+/// The index of a store, and memory for its puts.
+pub struct Opened {
+    pub layout: Layout,
+    pub homes: Keyed<u32>,
+    pub marks: Marks,
+    pub slots: Vec<Slot>,
+}
+
+/// Reads all homes in order.
+fn index_homes<D: Disk>(
+    alloc: Global,
+    disk: &mut D,
+    layout: &Layout,
+) -> Result<Opened, StoreFault>
+    requires layout { IsLayout layout.now }
+    requires size { layout.now.size ≤ (D.view disk.old).size }
+    ensures layout { IfOk result (λ opened. opened.layout ≡ layout.now) }
+    ensures keeps { IfOk result (λ opened. Keeps layout.now opened.homes.values opened.marks layout.now.size) }
+    ensures scanned { IfOk result (λ opened. (s : State) → IsAt (D.view disk.old).past s → Scanned layout.now s.now (get opened.homes.values) layout.now.size) }
+    ensures slots { IfOk result (λ opened. opened.slots.items ≡ []) }
+    ensures room { IfOk result (λ opened. layout.now.most ≤ vec_capacity opened.slots) }
+    ensures refused { IfErr result (λ fault. (s : State) → IsAt (D.view disk.old).past s → IsIndexFault layout.now s.now fault) }
+    ensures size { (D.view disk.new).size ≡ (D.view disk.old).size }
+    ensures past { (D.view disk.new).past ≡ (D.view disk.old).past }
+    ensures cause { HasCauseOf (D.view disk.old).faults (D.view disk.new).faults result StoreFault.Failed }
+    ensures count { OnOk result ((D.view disk.new).faults ≡ (D.view disk.old).faults) }
+{
+    let mut homes = Keyed::new(alloc);
+    homes.reserve((layout.size - layout.first) as usize)?;
+    let mut marks = Marks::new(alloc, layout)?;
+    let mut slots = Vec::new(alloc);
+    slots.reserve(layout.most as usize)?;
+    match scan(disk, layout, &mut homes, &mut marks)? {
+        Some((first, second)) => Err(StoreFault::TwoBlocks { first, second }),
+        None => Ok(Opened {
+            layout: *layout,
+            homes,
+            marks,
+            slots,
+        }),
+    }
+}
+
+/// Opens the store on a disk.
+pub fn open<D: Disk>(alloc: Global, disk: &mut D) -> Result<Opened, StoreFault>
+    ensures layout { IfOk result (λ opened. opened.layout ≡ layout_of (D.view disk.old).size) }
+    ensures vault { IfOk result (λ opened. IsVault (layout_of (D.view disk.old).size) (D.view disk.new) opened.homes.values opened.marks opened.slots.items (vec_capacity opened.slots) true) }
+    ensures content { IfOk result (λ opened. (s : State) → IsAt (D.view disk.old).past s → (m : Content) × (Stands (layout_of (D.view disk.old).size) s.now m × HoldsNow (layout_of (D.view disk.old).size) (D.view disk.new) true m)) }
+    ensures moves { Moves (D.view disk.old) (D.view disk.new) 2290 (IsMounted (layout_of (D.view disk.old).size)) }
+    ensures refused { IfErr result (λ fault. (s : State) → IsAt (D.view disk.old).past s → IsRefused (D.view disk.old).size s.now fault) }
+    ensures cause { HasCauseOf (D.view disk.old).faults (D.view disk.new).faults result StoreFault.Failed }
+    ensures count { OnOk result ((D.view disk.new).faults ≡ (D.view disk.old).faults) }
+{
+    let layout = locate(disk)?;
+    make_ready(alloc, disk, &layout)?;
+    index_homes(alloc, disk, &layout)
+}

@@ -1,0 +1,127 @@
+ghost use Rattle.std.specs.Prelude.{◌≡◌, ◌<◌, ◌≤◌, ◌+◌, ◌/◌, ◌*◌, ℕ, length, is_ok, true, IfErr, IfOk, OnOk};
+ghost use Rattle.std.specs.FinMap.{get};
+ghost use Rattle.s38_base.specs.Faults.{HasCause, Rose};
+ghost use Rattle.s38_blocks.specs.Store.{Stands};
+ghost use Rattle.s38_disk.specs.Blocks.{State};
+ghost use Rattle.s38_pages.specs.Mounts.{IsMounted, IsRefused, layout_of};
+ghost use Rattle.s38_disk.specs.Disk.{IsAt, moment_of};
+ghost use Rattle.s38_disk.specs.Moves.{Moves};
+ghost use Rattle.s38_vault.specs.Content.{AreRising, Content, HaveObjects, changed};
+ghost use Rattle.s38_vault.specs.Directory.{changed_keys, keys_of, new_keys};
+ghost use Rattle.s38_pages.specs.Vaults.{IsOneOf, page_holds, page_leaves, page_view};
+
+use crate::fault::StoreFault;
+use crate::marks::Marks;
+use crate::mounting::{Opened, open};
+use crate::plan::{give_back, plan};
+use crate::writing::write_all;
+use s38_base::{Change, Failed};
+use s38_blocks::{Layout, Slot};
+use s38_disk::Disk;
+use s38_vault::Keyed;
+use std::alloc::Global;
+use std::marker::Model;
+
+/// A vault over a disk. After a put that failed it no longer tells what it holds, and each further put is refused.
+/// Contracts see the disk and the layout, at which home each key stands, for how many new keys memory is reserved,
+/// whether no put has failed, and how many puts were refused since one failed.
+pub struct PageVault<D: Disk> {
+    pub(crate) disk: D,
+    pub(crate) layout: Layout,
+    pub(crate) homes: Keyed<u32>,
+    marks: Marks,
+    slots: Vec<Slot>,
+    pub(crate) good: bool,
+    pub(crate) refused: u64,
+}
+
+impl<D: Disk> Model for PageVault<D> {
+    ghost use Rattle.std.specs.Vec.{vec_capacity};
+    ghost use Rattle.std.specs.Coded.{codes};
+    ghost use Rattle.s38_pages.specs.Vaults.{IsVault, PageStore, homes_code};
+
+    ghost Value = { PageStore };
+
+    ghost coded = { Prim.hlevel (codes, homes_code) };
+
+    ghost view = { λ v. record { disk = D.view v.disk; layout = v.layout; homes = v.homes.values; spare = v.homes.spare; good = v.good; refused = v.refused } };
+
+    ghost invariant = { λ v. IsVault v.layout (D.view v.disk) v.homes.values v.marks v.slots.items (vec_capacity v.slots) v.good };
+}
+
+impl<D: Disk> PageVault<D> {
+    /// Mounts the store on a disk: a log behind a raised gate is done again. The disk comes back with the reason where
+    /// the store is refused. Whenever a crash comes meanwhile, the store mounts to the same content.
+    pub fn mount(alloc: Global, mut disk: D) -> Result<Self, (D, StoreFault)>
+        ensures vault { IfOk result (λ v. (v.good ≡ true) × (v.refused ≡ 0) × (v.layout ≡ layout_of (D.view disk).size)) }
+        ensures content { IfOk result (λ v. (s : State) → IsAt (D.view disk).past s → (m : Content) × (Stands (layout_of (D.view disk).size) s.now m × page_holds v m)) }
+        ensures moves { IfOk result (λ v. Moves (D.view disk) v.disk 2290 (IsMounted (layout_of (D.view disk).size))) }
+        ensures count { IfOk result (λ v. v.disk.faults ≡ (D.view disk).faults) }
+        ensures refused { IfErr result (λ e. (s : State) → IsAt (D.view disk).past s → IsRefused (D.view disk).size s.now e.1) }
+        ensures crash { IfErr result (λ e. Moves (D.view disk) (D.view e.0) 2290 (IsMounted (layout_of (D.view disk).size))) }
+        ensures cause { IfErr result (λ e. e.1 ≡ StoreFault.Failed → Rose (D.view disk).faults (D.view e.0).faults) }
+    {
+        match open(alloc, &mut disk) {
+            Ok(Opened {
+                layout,
+                homes,
+                marks,
+                slots,
+            }) => Ok(PageVault {
+                disk,
+                layout,
+                homes,
+                marks,
+                slots,
+                good: true,
+                refused: 0,
+            }),
+            Err(fault) => Err((disk, fault)),
+        }
+    }
+
+    /// Gives the disk back.
+    pub fn release(self) -> D
+        ensures { D.view result ≡ self.disk }
+    {
+        let PageVault {
+            disk,
+            homes: _homes,
+            marks: _marks,
+            slots: _slots,
+            layout: _layout,
+            good: _good,
+            refused: _refused,
+        } = self;
+        disk
+    }
+
+    /// Makes changes for which there is room.
+    pub(crate) fn put_all(&mut self, changes: &[Change]) -> Result<(), Failed>
+        requires good { self.old.good ≡ true }
+        requires few { length changes.now ≤ self.old.layout.most }
+        requires rising { AreRising changes.now }
+        requires objects { HaveObjects changes.now }
+        requires room { length changes.now ≤ self.old.spare }
+        requires free { new_keys (keys_of self.old.homes) changes.now ≤ (page_view self.old).free }
+        ensures layout { self.new.layout ≡ self.old.layout }
+        ensures moves { Moves self.old.disk self.new.disk (2 * length changes.now + length changes.now / 132 + 7) (IsOneOf self.old.layout (get self.old.homes) changes.now) }
+        ensures keys { keys_of self.new.homes ≡ changed_keys (keys_of self.old.homes) changes.now }
+        ensures good { self.new.good ≡ is_ok result }
+        ensures refused { self.new.refused ≡ self.old.refused }
+        ensures spare { self.old.spare ≤ self.new.spare + length changes.now }
+        ensures holds { OnOk result ((m : Content) → page_holds self.old m → page_holds self.new (changed m changes.now)) }
+        ensures told { OnOk result ((n : Content) → page_holds self.new n → (m : Content) × (page_holds self.old m × (n ≡ changed m changes.now))) }
+        ensures after { OnOk result ((m n : Content) → page_holds self.old m → page_leaves self.new (moment_of self.new.disk.past) n → n ≡ changed m changes.now) }
+        ensures rises { OnOk result (moment_of self.old.disk.past < moment_of self.new.disk.past) }
+        ensures cause { HasCause self.old.disk.faults self.new.disk.faults result }
+        ensures count { OnOk result (self.new.disk.faults ≡ self.old.disk.faults) }
+    {
+        plan(&mut self.homes, &mut self.marks, &mut self.slots, changes);
+        let written = write_all(&mut self.disk, &self.layout, &self.slots);
+        give_back(&mut self.marks, &self.slots);
+        self.slots.clear();
+        self.good = written.is_ok();
+        written
+    }
+}

@@ -1,0 +1,10 @@
+//! What no clause of the pages says: that calls succeed where memory is left, and worked crashes and refusals over a disk
+//! in memory.
+#![tactic(auto)]
+
+#[cfg(test)]
+mod crashes;
+#[cfg(test)]
+mod refusals;
+#[cfg(test)]
+mod stores;
