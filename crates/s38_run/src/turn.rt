@@ -19,11 +19,11 @@ use std::alloc::Global;
 
 /// A process goes on by a reply; `ends` says whether it asked for its end.
 #[inline(always)]
-fn absorb(process: &mut Process, reply: &Reply, ends: bool) -> Result<Outcome, NoMemory>
+fn absorb(process: &mut Process, reply: &Reply, ends: bool) -> Result<Outcome, StepFault>
     ensures { IfOk result (λ outcome. (process.new ≡ absorbed process.old reply.now) × ((event : Event) → ends ≡ is_finish event → outcome ≡ outcome_of event reply.now)) }
 {
     match process.absorb(reply) {
-        Err(fault) => Err(fault),
+        Err(_) => Err(StepFault::NoMemory),
         Ok(()) => Ok(outcome_of(ends, reply)),
     }
 }
@@ -34,7 +34,7 @@ fn absorb_asked<S: Stepper>(
     process: &mut Process,
     asked: Asked,
     ends: bool,
-) -> Result<Outcome, NoMemory>
+) -> Result<Outcome, StepFault>
     requires { is_some (reply_by asked (S.history machine.now)) ≡ true }
     ensures { IfOk result (λ outcome. (reply : Reply) → reply_by asked (S.history machine.now) ≡ Some reply
         → (process.new ≡ absorbed process.old reply) × ((event : Event) → ends ≡ is_finish event → outcome ≡ outcome_of event reply)) }
@@ -50,6 +50,7 @@ fn absorb_asked<S: Stepper>(
 
 /// One event of a process that has not ended is asked of a machine, and answered. Where the machine makes no answer, the
 /// process stands as it stood.
+#[tactic(auto, using(crate::proofs::Asking::none_asked))]
 pub fn turn<S: Stepper>(
     machine: &mut S,
     process: &mut Process,
@@ -67,10 +68,7 @@ pub fn turn<S: Stepper>(
             let ends = is_finish(&event);
             match machine.ask(number, event) {
                 Err(fault) => Err(fault),
-                Ok(asked) => match absorb_asked(machine, process, asked, ends) {
-                    Ok(outcome) => Ok(outcome),
-                    Err(_) => Err(StepFault::NoMemory),
-                },
+                Ok(asked) => absorb_asked(machine, process, asked, ends),
             }
         }
     }

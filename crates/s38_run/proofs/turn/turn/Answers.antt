@@ -1,4 +1,4 @@
-use Rattle.std.proofs.Common.{◌≡◌, ℕ, Bool, sym, ◌∙◌, ap, subst}
+use Rattle.std.proofs.Common.{◌≡◌, ℕ, Bool, refl, sym, ◌∙◌, ap, subst}
 use Rattle.std.specs.Prelude.{List, Option, Some, None, Result, Ok, Err, IfOk, IfSome, is_some, true}
 use Rattle.std.specs.Option.{option_map}
 use Rattle.s38_code.specs.declared.asked.Asked.{Asked}
@@ -40,3 +40,10 @@ replied steps e x history stepped = by (reply_by x history) stepped
 -- asking left it as it was
 stood : {E : Type 0} (d now d' : ProcessState) (ends : Bool) (last : Option Reply) (r : Result Outcome E) → now ≡ d → GoesOn now d' ends last r → GoesOn d d' ends last r
 stood d now d' ends last r same on = subst (λ (k : ProcessState). GoesOn k d' ends last r) same on
+
+pub returns-in-Ok : goal.returns-in-Ok
+returns-in-Ok g c =
+    went (λ e a. g.S.Stepper.steps c.args.machine.now c.args.number e a c.ask.new.self) c.args.process.now c.absorb_asked.new.process c.in-Ok-Step.event c.is_finish-ends.result _ c.absorb_asked.result
+    (sym c.in-Ok-Step.ensures.asked ∙ ap asked c.in-Ok-Step.field-0-is) c.is_finish-ends.ensures c.in-Ok.ensures.replied
+    (replied (λ e a. g.S.Stepper.steps c.args.machine.now c.args.number e a c.ask.new.self) c.in-Ok-Step.event c.in-Ok.asked (g.S.Stepper.history c.ask.new.self) c.in-Ok.ensures.steps)
+    (stood c.args.process.now c.next.new.self c.absorb_asked.new.process c.is_finish-ends.result _ c.absorb_asked.result c.in-Ok-Step.ensures.same c.absorb_asked.ensures)
