@@ -22,7 +22,10 @@ use s38_changes::{
 use s38_code::{Operand, Val};
 use s38_invoke::{Core, Profiles};
 use s38_objects::{Objects, kind_of};
-use s38_operands::{Act, Needs, fails, fitted, id_at, is_given, is_machine, on_implied, on_object, rights_at, room_at, target};
+use s38_operands::{
+    Act, Needs, fails, fitted, id_at, is_given, is_machine, on_implied, on_object, rights_at,
+    room_at, target,
+};
 use s38_rules::{Body, Creating, Named, Object, Sought};
 use std::alloc::Global;
 
@@ -35,7 +38,11 @@ fn new_context(objects: &Objects, operands: &[Operand]) -> Creating
 }
 
 #[tactic(auto, unfolding(s38_rules::specs::Contexts::crtctx_fails))]
-fn crtctx_fails(world: &Core<Objects, Profiles>, process: u32, operands: &[Operand]) -> Option<Exception>
+fn crtctx_fails(
+    world: &Core<Objects, Profiles>,
+    process: u32,
+    operands: &[Operand],
+) -> Option<Exception>
     ensures { result ≡ crtctx_fails world.now process operands.now }
 {
     let created = new_context(&world.objects, operands);
@@ -321,7 +328,11 @@ pub fn conditions(world: &Core<Objects, Profiles>, act: Act<'_>) -> Option<Excep
 
 /// The value for its receiver.
 #[tactic(auto, unfolding(s38_rules::specs::Contexts::contexts_row))]
-pub fn value(alloc: Global, world: &Core<Objects, Profiles>, act: Act<'_>) -> Result<Option<Val>, NoMemory>
+pub fn value(
+    alloc: Global,
+    world: &Core<Objects, Profiles>,
+    act: Act<'_>,
+) -> Result<Option<Val>, NoMemory>
     ensures { IfOk result (λ value. value ≡ (contexts_row act.entry.request.now.op).gives world.now act.entry.process act.entry.depth act.entry.request.now) }
 {
     let objects = &world.objects;
@@ -335,7 +346,11 @@ pub fn value(alloc: Global, world: &Core<Objects, Profiles>, act: Act<'_>) -> Re
 
 /// What it changes, where it doesn't fail; where memory is refused nothing changes.
 #[tactic(auto, unfolding(s38_rules::specs::Contexts::contexts_row))]
-pub fn apply(alloc: Global, world: &mut Core<Objects, Profiles>, act: Act<'_>) -> Result<(), NoMemory>
+pub fn apply(
+    alloc: Global,
+    world: &mut Core<Objects, Profiles>,
+    act: Act<'_>,
+) -> Result<(), NoMemory>
     requires { (contexts_row act.request.now.op).fails world.old act.process act.depth act.request.now ≡ None }
     ensures ok { OnOk result (world.new ≡ done world.old act.entry.process ((contexts_row act.entry.request.now.op).changes world.old act.entry.process act.entry.depth act.entry.request.now)) }
     ensures err { OnErr result (world.new ≡ world.old) }

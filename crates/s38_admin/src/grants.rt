@@ -21,7 +21,10 @@ use s38_changes::{give_to, set_public, set_row, taker_rule};
 use s38_code::{Operand, Val};
 use s38_invoke::{Core, Profiles};
 use s38_objects::Objects;
-use s38_operands::{Act, Needs, fails, fitted, governed, is_given, on_object, pointer_at, rights_at, room_at, target};
+use s38_operands::{
+    Act, Needs, fails, fitted, governed, is_given, on_object, pointer_at, rights_at, room_at,
+    target,
+};
 use s38_rules::{Claim, Object, Sought};
 use std::alloc::Global;
 
@@ -293,7 +296,12 @@ pub fn special(world: &Core<Objects, Profiles>, act: Act<'_>) -> Special
     ensures { result.0 ≡ (grants_row act.entry.request.now.op).special world.now act.entry.process act.entry.depth act.entry.request.now }
 {
     match act.request.op {
-        Op::Matauobj => matauobj_special(world, act.process, act.depth, act.request.operands.as_slice()),
+        Op::Matauobj => matauobj_special(
+            world,
+            act.process,
+            act.depth,
+            act.request.operands.as_slice(),
+        ),
         _ => Special(0),
     }
 }
@@ -313,7 +321,11 @@ pub fn conditions(world: &Core<Objects, Profiles>, act: Act<'_>) -> Option<Excep
 
 /// The value for its receiver.
 #[tactic(auto, unfolding(s38_rules::specs::Grants::grants_row))]
-pub fn value(alloc: Global, world: &Core<Objects, Profiles>, act: Act<'_>) -> Result<Option<Val>, NoMemory>
+pub fn value(
+    alloc: Global,
+    world: &Core<Objects, Profiles>,
+    act: Act<'_>,
+) -> Result<Option<Val>, NoMemory>
     ensures { IfOk result (λ value. value ≡ (grants_row act.entry.request.now.op).gives world.now act.entry.process act.entry.depth act.entry.request.now) }
 {
     let operands = act.request.operands.as_slice();
@@ -327,7 +339,11 @@ pub fn value(alloc: Global, world: &Core<Objects, Profiles>, act: Act<'_>) -> Re
 
 /// What it changes, where it doesn't fail; where memory is refused nothing changes.
 #[tactic(auto, unfolding(s38_rules::specs::Grants::grants_row))]
-pub fn apply(alloc: Global, world: &mut Core<Objects, Profiles>, act: Act<'_>) -> Result<(), NoMemory>
+pub fn apply(
+    alloc: Global,
+    world: &mut Core<Objects, Profiles>,
+    act: Act<'_>,
+) -> Result<(), NoMemory>
     requires { (grants_row act.request.now.op).fails world.old act.process act.depth act.request.now ≡ None }
     ensures ok { OnOk result (world.new ≡ done world.old act.entry.process ((grants_row act.entry.request.now.op).changes world.old act.entry.process act.entry.depth act.entry.request.now)) }
     ensures err { OnErr result (world.new ≡ world.old) }

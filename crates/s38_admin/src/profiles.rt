@@ -60,7 +60,11 @@ fn profile_body(operands: &[Operand]) -> Body
 }
 
 #[tactic(auto, unfolding(s38_rules::specs::Profiles::crtup_fails))]
-fn crtup_fails(world: &Core<Objects, Profiles>, process: u32, operands: &[Operand]) -> Option<Exception>
+fn crtup_fails(
+    world: &Core<Objects, Profiles>,
+    process: u32,
+    operands: &[Operand],
+) -> Option<Exception>
     ensures { result ≡ crtup_fails world.now process operands.now }
 {
     let created = new_profile(&world.objects, operands);
@@ -188,7 +192,11 @@ pub fn conditions(world: &Core<Objects, Profiles>, act: Act<'_>) -> Option<Excep
 
 /// The value for its receiver.
 #[tactic(auto, unfolding(s38_rules::specs::Profiles::profiles_row))]
-pub fn value(alloc: Global, world: &Core<Objects, Profiles>, act: Act<'_>) -> Result<Option<Val>, NoMemory>
+pub fn value(
+    alloc: Global,
+    world: &Core<Objects, Profiles>,
+    act: Act<'_>,
+) -> Result<Option<Val>, NoMemory>
     ensures { IfOk result (λ value. value ≡ (profiles_row act.entry.request.now.op).gives world.now act.entry.process act.entry.depth act.entry.request.now) }
 {
     let operands = act.request.operands.as_slice();
@@ -203,7 +211,11 @@ pub fn value(alloc: Global, world: &Core<Objects, Profiles>, act: Act<'_>) -> Re
 
 /// What it changes, where it doesn't fail; where memory is refused nothing changes.
 #[tactic(auto, unfolding(s38_rules::specs::Profiles::profiles_row))]
-pub fn apply(alloc: Global, world: &mut Core<Objects, Profiles>, act: Act<'_>) -> Result<(), NoMemory>
+pub fn apply(
+    alloc: Global,
+    world: &mut Core<Objects, Profiles>,
+    act: Act<'_>,
+) -> Result<(), NoMemory>
     requires { (profiles_row act.request.now.op).fails world.old act.process act.depth act.request.now ≡ None }
     ensures ok { OnOk result (world.new ≡ done world.old act.entry.process ((profiles_row act.entry.request.now.op).changes world.old act.entry.process act.entry.depth act.entry.request.now)) }
     ensures err { OnErr result (world.new ≡ world.old) }

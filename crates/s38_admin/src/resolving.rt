@@ -27,7 +27,12 @@ fn is_context_in(object_used: Option<&Object>) -> bool
     }
 }
 
-fn may_search(world: &Core<Objects, Profiles>, process: u32, users: &[UserNum], context: ObjNum) -> bool
+fn may_search(
+    world: &Core<Objects, Profiles>,
+    process: u32,
+    users: &[UserNum],
+    context: ObjNum,
+) -> bool
     ensures { result ≡ may_search world.now process (map (λ u. u.0) users.now) context.0 }
 {
     is_context_in(world.objects.get(context))
@@ -161,7 +166,12 @@ fn listed_need(located: Option<Located>) -> Needs
 }
 
 #[tactic(auto, unfolding(s38_rules::specs::Resolving::rslvsp_needs))]
-fn rslvsp_needs(world: &Core<Objects, Profiles>, process: u32, depth: u16, operands: &[Operand]) -> Needs
+fn rslvsp_needs(
+    world: &Core<Objects, Profiles>,
+    process: u32,
+    depth: u16,
+    operands: &[Operand],
+) -> Needs
     ensures { result ≡ rslvsp_needs world.now process depth operands.now }
 {
     if is_list(operands, 2) {
@@ -225,7 +235,12 @@ fn pointer_to(rights: Rights, located: Option<Located>) -> Option<Pointer>
 }
 
 #[tactic(auto, unfolding(s38_rules::specs::Resolving::rslvsp_gives))]
-fn rslvsp_gives(world: &Core<Objects, Profiles>, process: u32, depth: u16, operands: &[Operand]) -> Val
+fn rslvsp_gives(
+    world: &Core<Objects, Profiles>,
+    process: u32,
+    depth: u16,
+    operands: &[Operand],
+) -> Val
     ensures { result ≡ rslvsp_gives world.now process depth operands.now }
 {
     let located = resolved(world, process, depth, operands);
@@ -256,7 +271,12 @@ pub fn needs(world: &Core<Objects, Profiles>, act: Act<'_>) -> Needs
     ensures { result ≡ (resolving_row act.entry.request.now.op).needs world.now act.entry.process act.entry.depth act.entry.request.now }
 {
     match act.request.op {
-        Op::Rslvsp => rslvsp_needs(world, act.process, act.depth, act.request.operands.as_slice()),
+        Op::Rslvsp => rslvsp_needs(
+            world,
+            act.process,
+            act.depth,
+            act.request.operands.as_slice(),
+        ),
         Op::Setspfp => need(
             2,
             Named::Written,
@@ -275,14 +295,23 @@ pub fn conditions(world: &Core<Objects, Profiles>, act: Act<'_>) -> Option<Excep
     ensures { result ≡ (resolving_row act.entry.request.now.op).fails world.now act.entry.process act.entry.depth act.entry.request.now }
 {
     match act.request.op {
-        Op::Rslvsp => rslvsp_fails(world, act.process, act.depth, act.request.operands.as_slice()),
+        Op::Rslvsp => rslvsp_fails(
+            world,
+            act.process,
+            act.depth,
+            act.request.operands.as_slice(),
+        ),
         _ => None,
     }
 }
 
 /// The value for its receiver.
 #[tactic(auto, unfolding(s38_rules::specs::Resolving::resolving_row))]
-pub fn value(alloc: Global, world: &Core<Objects, Profiles>, act: Act<'_>) -> Result<Option<Val>, NoMemory>
+pub fn value(
+    alloc: Global,
+    world: &Core<Objects, Profiles>,
+    act: Act<'_>,
+) -> Result<Option<Val>, NoMemory>
     ensures { IfOk result (λ value. value ≡ (resolving_row act.entry.request.now.op).gives world.now act.entry.process act.entry.depth act.entry.request.now) }
 {
     let operands = act.request.operands.as_slice();

@@ -19,7 +19,10 @@ use s38_code::{Operand, Val};
 use s38_invoke::{Core, Profiles};
 use s38_memory::Tagged;
 use s38_objects::Objects;
-use s38_operands::{Act, Needs, attr_at, count_at, fails, first_pointer, is_aligned, is_in_space, is_within, need, number_at, on_object, place, pointer_at, source_cells, target};
+use s38_operands::{
+    Act, Needs, attr_at, count_at, fails, first_pointer, is_aligned, is_in_space, is_within, need,
+    number_at, on_object, place, pointer_at, source_cells, target,
+};
 use s38_rules::{Body, Creating, Named, PointerKind, Sought};
 use std::alloc::Global;
 
@@ -66,7 +69,11 @@ fn new_space(world: &Core<Objects, Profiles>, operands: &[Operand]) -> Creating
 }
 
 #[tactic(auto, unfolding(s38_rules::specs::Spaces::crts_fails))]
-fn crts_fails(world: &Core<Objects, Profiles>, process: u32, operands: &[Operand]) -> Option<Exception>
+fn crts_fails(
+    world: &Core<Objects, Profiles>,
+    process: u32,
+    operands: &[Operand],
+) -> Option<Exception>
     ensures { result ≡ crts_fails world.now process operands.now }
 {
     let created = new_space(world, operands);
@@ -255,7 +262,11 @@ fn cpybwp_gives(
 }
 
 /// Cells go with their tags into the space.
-fn cpybwp(alloc: Global, world: &mut Core<Objects, Profiles>, operands: &[Operand]) -> Result<(), NoMemory>
+fn cpybwp(
+    alloc: Global,
+    world: &mut Core<Objects, Profiles>,
+    operands: &[Operand],
+) -> Result<(), NoMemory>
     ensures ok { OnOk result (world.new ≡ record world.old { held = cells_put world.old.held (place operands.now 1) (source_cells world.old.held operands.now 2) }) }
     ensures err { OnErr result (world.new ≡ world.old) }
 {
@@ -310,7 +321,11 @@ pub fn conditions(world: &Core<Objects, Profiles>, act: Act<'_>) -> Option<Excep
 
 /// The value for its receiver.
 #[tactic(auto, unfolding(s38_rules::specs::Spaces::spaces_row))]
-pub fn value(alloc: Global, world: &Core<Objects, Profiles>, act: Act<'_>) -> Result<Option<Val>, NoMemory>
+pub fn value(
+    alloc: Global,
+    world: &Core<Objects, Profiles>,
+    act: Act<'_>,
+) -> Result<Option<Val>, NoMemory>
     ensures { IfOk result (λ value. value ≡ (spaces_row act.entry.request.now.op).gives world.now act.entry.process act.entry.depth act.entry.request.now) }
 {
     let objects = &world.objects;
@@ -326,7 +341,11 @@ pub fn value(alloc: Global, world: &Core<Objects, Profiles>, act: Act<'_>) -> Re
 
 /// What it changes, where it doesn't fail; where memory is refused nothing changes.
 #[tactic(auto, unfolding(s38_rules::specs::Spaces::spaces_row))]
-pub fn apply(alloc: Global, world: &mut Core<Objects, Profiles>, act: Act<'_>) -> Result<(), NoMemory>
+pub fn apply(
+    alloc: Global,
+    world: &mut Core<Objects, Profiles>,
+    act: Act<'_>,
+) -> Result<(), NoMemory>
     requires { (spaces_row act.request.now.op).fails world.old act.process act.depth act.request.now ≡ None }
     ensures ok { OnOk result (world.new ≡ done world.old act.entry.process ((spaces_row act.entry.request.now.op).changes world.old act.entry.process act.entry.depth act.entry.request.now)) }
     ensures err { OnErr result (world.new ≡ world.old) }

@@ -24,7 +24,12 @@ pub fn has_rights(needed: Rights, there: Rights) -> bool
 
 /// The rights that a user brings to an object with these rights of everybody.
 #[tactic(auto, unfolding(s38_rules::specs::Authority::source_by))]
-fn source_by<T: Table, P: UserMaps>(world: &Core<T, P>, number: ObjNum, public: Rights, user: UserNum) -> Rights
+fn source_by<T: Table, P: UserMaps>(
+    world: &Core<T, P>,
+    number: ObjNum,
+    public: Rights,
+    user: UserNum,
+) -> Rights
     requires { public.0 ≡ public_in (object world.now.held number.0) }
     ensures { result.0 ≡ source_by world.now.held number.0 user.0 }
 {
@@ -35,7 +40,12 @@ fn source_by<T: Table, P: UserMaps>(world: &Core<T, P>, number: ObjNum, public: 
     }
 }
 
-fn sources_by<T: Table, P: UserMaps>(world: &Core<T, P>, number: ObjNum, public: Rights, users: &[UserNum]) -> u8
+fn sources_by<T: Table, P: UserMaps>(
+    world: &Core<T, P>,
+    number: ObjNum,
+    public: Rights,
+    users: &[UserNum],
+) -> u8
     requires { public.0 ≡ public_in (object world.now.held number.0) }
     ensures { result ≡ sources_by world.now.held number.0 (map (λ u. u.0) users.now) }
 {

@@ -9,7 +9,11 @@ use s38_invoke::Core;
 use s38_rules::{Table, UserMaps};
 
 /// Whether a user's profile gives it a special authority.
-pub fn has_special<T: Table, P: UserMaps>(world: &Core<T, P>, special: Special, user: UserNum) -> bool
+pub fn has_special<T: Table, P: UserMaps>(
+    world: &Core<T, P>,
+    special: Special,
+    user: UserNum,
+) -> bool
     ensures { result ≡ has_special world.now.held special.0 user.0 }
 {
     let there = world.specials(user);
@@ -19,7 +23,11 @@ pub fn has_special<T: Table, P: UserMaps>(world: &Core<T, P>, special: Special, 
 // ---- special authorities
 
 /// Whether some of the users has a special authority.
-pub fn is_special<T: Table, P: UserMaps>(world: &Core<T, P>, users: &[UserNum], special: Special) -> bool
+pub fn is_special<T: Table, P: UserMaps>(
+    world: &Core<T, P>,
+    users: &[UserNum],
+    special: Special,
+) -> bool
     ensures { result ≡ is_special world.now.held (map (λ u. u.0) users.now) special.0 }
 {
     match users {
@@ -42,7 +50,12 @@ fn owner_in<T: Table, P: UserMaps>(world: &Core<T, P>, number: ObjNum) -> UserNu
 }
 
 /// Whether a user owns the object that this owner has, or has all-object authority.
-fn governs<T: Table, P: UserMaps>(world: &Core<T, P>, number: ObjNum, owner: UserNum, user: UserNum) -> bool
+fn governs<T: Table, P: UserMaps>(
+    world: &Core<T, P>,
+    number: ObjNum,
+    owner: UserNum,
+    user: UserNum,
+) -> bool
     requires { owner.0 ≡ owner_in (object world.now.held number.0) }
     ensures { result ≡ governs world.now.held number.0 user.0 }
 {
@@ -68,7 +81,11 @@ fn is_governed_by<T: Table, P: UserMaps>(
 }
 
 /// Whether one of the users owns the object of a number, or has all-object authority.
-pub fn is_governed<T: Table, P: UserMaps>(world: &Core<T, P>, users: &[UserNum], number: ObjNum) -> bool
+pub fn is_governed<T: Table, P: UserMaps>(
+    world: &Core<T, P>,
+    users: &[UserNum],
+    number: ObjNum,
+) -> bool
     ensures { result ≡ is_governed world.now.held number.0 (map (λ u. u.0) users.now) }
 {
     is_governed_by(world, number, owner_in(world, number), users)

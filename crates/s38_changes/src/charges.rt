@@ -80,7 +80,11 @@ pub fn owner_pays(world: &Core<Objects, Profiles>, number: ObjNum, pages: u64) -
 
 /// A user may own the pages of the object of a number beside its others.
 #[tactic(auto, using(crate::proofs::LimitLaws::own_allowed, crate::proofs::LimitLaws::taker_allowed))]
-pub fn taker_rule(world: &Core<Objects, Profiles>, number: ObjNum, user: UserNum) -> Option<Exception>
+pub fn taker_rule(
+    world: &Core<Objects, Profiles>,
+    number: ObjNum,
+    user: UserNum,
+) -> Option<Exception>
     ensures { result ≡ taker_rule world.now.held number.0 user.0 (object_at world.now.held number.0) }
 {
     match found(&world.objects, number) {

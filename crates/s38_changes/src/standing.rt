@@ -80,7 +80,11 @@ pub fn set_public(world: &mut Core<Objects, Profiles>, number: ObjNum, rights: R
 
 /// A user owns an object, pays for it, and has all eight rights on it by a row; where memory is refused nothing
 /// changes.
-pub fn give_to(world: &mut Core<Objects, Profiles>, number: ObjNum, user: UserNum) -> Result<(), NoMemory>
+pub fn give_to(
+    world: &mut Core<Objects, Profiles>,
+    number: ObjNum,
+    user: UserNum,
+) -> Result<(), NoMemory>
     requires { taker_rule world.old.held number.0 user.0 (object world.old.held number.0) ≡ None }
     ensures ok { OnOk result (world.new ≡ record world.old { held = restand world.old.held number.0 (λ s. owned_by user (granted user (record { 0 = 255 }) s)) }) }
     ensures err { OnErr result (world.new ≡ world.old) }
@@ -114,7 +118,11 @@ pub fn give_to(world: &mut Core<Objects, Profiles>, number: ObjNum, user: UserNu
 
 /// An object has another identification; where memory is refused nothing changes.
 #[tactic(auto, using(crate::proofs::KeptLaws::renamed_kept))]
-pub fn rename_to(world: &mut Core<Objects, Profiles>, number: ObjNum, id: &Id) -> Result<(), NoMemory>
+pub fn rename_to(
+    world: &mut Core<Objects, Profiles>,
+    number: ObjNum,
+    id: &Id,
+) -> Result<(), NoMemory>
     requires { is_taken_beside world.old.held number.0 (context_in (object world.old.held number.0)).0 id.now ≡ false }
     ensures ok { OnOk result (world.new ≡ record world.old { held = renamed world.old.held number.0 id.now }) }
     ensures err { OnErr result (world.new ≡ world.old) }
@@ -124,7 +132,11 @@ pub fn rename_to(world: &mut Core<Objects, Profiles>, number: ObjNum, id: &Id) -
 
 /// An object is in another context, or in none; where memory is refused nothing changes.
 #[tactic(auto, using(crate::proofs::KeptLaws::moved_kept))]
-pub fn move_to(world: &mut Core<Objects, Profiles>, number: ObjNum, context: ObjNum) -> Result<(), NoMemory>
+pub fn move_to(
+    world: &mut Core<Objects, Profiles>,
+    number: ObjNum,
+    context: ObjNum,
+) -> Result<(), NoMemory>
     requires placed { is_place world.old.held context.0 ≡ true }
     requires free { is_name_beside world.old.held number.0 context.0 (object world.old.held number.0) ≡ false }
     ensures ok { OnOk result (world.new ≡ record world.old { held = moved world.old.held number.0 context }) }
@@ -135,7 +147,12 @@ pub fn move_to(world: &mut Core<Objects, Profiles>, number: ObjNum, context: Obj
 
 /// A user has these special authorities and this limit.
 #[tactic(auto, using(crate::proofs::StandingLaws::profile_absent))]
-pub fn set_profile(world: &mut Core<Objects, Profiles>, number: ObjNum, special: Special, limit: u32)
+pub fn set_profile(
+    world: &mut Core<Objects, Profiles>,
+    number: ObjNum,
+    special: Special,
+    limit: u32,
+)
     ensures { world.new ≡ record world.old { held = set_profile world.old.held number.0 special limit } }
 {
     if world.profiles.has(number) {

@@ -24,7 +24,11 @@ pub fn created_journal(objects: &Objects, operands: &[Operand]) -> Creating
 }
 
 #[tactic(auto, unfolding(s38_rules::specs::Journals::crtjs_fails))]
-pub fn crtjs_fails(world: &Core<Objects, Profiles>, process: u32, operands: &[Operand]) -> Option<Exception>
+pub fn crtjs_fails(
+    world: &Core<Objects, Profiles>,
+    process: u32,
+    operands: &[Operand],
+) -> Option<Exception>
     ensures { result ≡ crtjs_fails world.now process operands.now }
 {
     let created = created_journal(&world.objects, operands);
@@ -68,7 +72,11 @@ pub fn crtjp_needs(operands: &[Operand]) -> Needs
 
 /// No port leads to the journal space yet.
 #[tactic(auto, unfolding(s38_rules::specs::Journals::crtjp_fails))]
-pub fn crtjp_fails(world: &Core<Objects, Profiles>, process: u32, operands: &[Operand]) -> Option<Exception>
+pub fn crtjp_fails(
+    world: &Core<Objects, Profiles>,
+    process: u32,
+    operands: &[Operand],
+) -> Option<Exception>
     ensures { result ≡ crtjp_fails world.now process operands.now }
 {
     let objects = &world.objects;
@@ -122,7 +130,11 @@ pub fn crtcb_needs(operands: &[Operand]) -> Needs
 }
 
 #[tactic(auto, unfolding(s38_rules::specs::Journals::crtcb_fails))]
-pub fn crtcb_fails(world: &Core<Objects, Profiles>, process: u32, operands: &[Operand]) -> Option<Exception>
+pub fn crtcb_fails(
+    world: &Core<Objects, Profiles>,
+    process: u32,
+    operands: &[Operand],
+) -> Option<Exception>
     ensures { result ≡ crtcb_fails world.now process operands.now }
 {
     let created = created_block(&world.objects, operands);

@@ -22,7 +22,11 @@ pub fn unit_needs() -> Needs
 
 /// The unit of the commit block, where it has one, is of the process.
 #[tactic(auto, unfolding(s38_rules::specs::Journals::unit_fails))]
-pub fn unit_fails(world: &Core<Objects, Profiles>, process: u32, operands: &[Operand]) -> Option<Exception>
+pub fn unit_fails(
+    world: &Core<Objects, Profiles>,
+    process: u32,
+    operands: &[Operand],
+) -> Option<Exception>
     ensures { result ≡ unit_fails world.now process operands.now }
 {
     let block = target(&world.objects, operands, 1);

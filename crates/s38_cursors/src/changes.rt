@@ -64,7 +64,11 @@ fn insert_in(objects: &mut Objects, number: ObjNum, entry: &[u8]) -> Result<u32,
 }
 
 /// The same, among the objects of a world.
-pub fn insert_at(world: &mut Core<Objects, Profiles>, number: ObjNum, entry: &[u8]) -> Result<u32, NoMemory>
+pub fn insert_at(
+    world: &mut Core<Objects, Profiles>,
+    number: ObjNum,
+    entry: &[u8],
+) -> Result<u32, NoMemory>
     requires { IsTrue (have_values (table_at world.old.held number.0).fields entry.now) }
     ensures ordinal { IfOk result (λ at. at ≡ next_ordinal (table_at world.old.held number.0)) }
     ensures ok { OnOk result (world.new ≡ record world.old { held = on_table world.old.held number.0 (with_inserted entry.now) }) }

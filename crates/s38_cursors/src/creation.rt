@@ -24,7 +24,11 @@ pub fn created_data_space(objects: &Objects, operands: &[Operand]) -> Creating
 }
 
 #[tactic(auto, unfolding(s38_rules::specs::DataSpaces::crtds_fails))]
-pub fn crtds_fails(world: &Core<Objects, Profiles>, process: u32, operands: &[Operand]) -> Option<Exception>
+pub fn crtds_fails(
+    world: &Core<Objects, Profiles>,
+    process: u32,
+    operands: &[Operand],
+) -> Option<Exception>
     ensures { result ≡ crtds_fails world.now process operands.now }
 {
     let created = created_data_space(&world.objects, operands);
@@ -113,7 +117,11 @@ pub fn crtcr_needs(operands: &[Operand]) -> Needs
 }
 
 #[tactic(auto, unfolding(s38_rules::specs::DataSpaces::crtcr_fails))]
-pub fn crtcr_fails(world: &Core<Objects, Profiles>, process: u32, operands: &[Operand]) -> Option<Exception>
+pub fn crtcr_fails(
+    world: &Core<Objects, Profiles>,
+    process: u32,
+    operands: &[Operand],
+) -> Option<Exception>
     ensures { result ≡ crtcr_fails world.now process operands.now }
 {
     let created = created_cursor(&world.objects, operands);

@@ -85,7 +85,12 @@ fn position_rule(objects: &Objects, operands: &[Operand], k: u8) -> Option<Excep
 // ---- what a change must be
 
 /// No unit of others holds the entry, and the change may belong to the cursor's commit block.
-fn change_rules(world: &Core<Objects, Profiles>, process: u32, cursor: &Cursor, at: u32) -> Option<Exception>
+fn change_rules(
+    world: &Core<Objects, Profiles>,
+    process: u32,
+    cursor: &Cursor,
+    at: u32,
+) -> Option<Exception>
     ensures { result ≡ change_rules world.now process cursor.now at }
 {
     let held = held_rule(&world.units, process, cursor.block, cursor.space, at);
@@ -213,7 +218,11 @@ pub fn current_fails(
 
 /// It is an entry of the data space, and the one at which the cursor stands may be changed.
 #[tactic(auto, using(crate::proofs::CursorLaws::entry_sized), unfolding(s38_rules::specs::DataSpaces::updsen_fails))]
-pub fn updsen_fails(world: &Core<Objects, Profiles>, process: u32, operands: &[Operand]) -> Option<Exception>
+pub fn updsen_fails(
+    world: &Core<Objects, Profiles>,
+    process: u32,
+    operands: &[Operand],
+) -> Option<Exception>
     ensures { result ≡ updsen_fails world.now process operands.now }
 {
     if let Some(failure) = entry_failure(world, operands) {

@@ -18,7 +18,10 @@ use s38_code::{Operand, Val};
 use s38_indexes::Index;
 use s38_invoke::{Core, Profiles};
 use s38_objects::Objects;
-use s38_operands::{Act, Needs, Question, ask_at, fails, fitted, on_object, piece_at, relation_at, room_at, size_at, target, whole_at};
+use s38_operands::{
+    Act, Needs, Question, ask_at, fails, fitted, on_object, piece_at, relation_at, room_at,
+    size_at, target, whole_at,
+};
 use s38_rules::{Body, Creating, Sought};
 use std::alloc::Global;
 
@@ -34,7 +37,11 @@ fn created_index(objects: &Objects, operands: &[Operand]) -> Creating
 }
 
 #[tactic(auto, unfolding(s38_rules::specs::Indexes::crtinx_fails))]
-fn crtinx_fails(world: &Core<Objects, Profiles>, process: u32, operands: &[Operand]) -> Option<Exception>
+fn crtinx_fails(
+    world: &Core<Objects, Profiles>,
+    process: u32,
+    operands: &[Operand],
+) -> Option<Exception>
     ensures { result ≡ crtinx_fails world.now process operands.now }
 {
     let created = created_index(&world.objects, operands);
@@ -171,7 +178,11 @@ fn enter_in(objects: &mut Objects, number: ObjNum, entry: &[u8]) -> Result<(), N
 }
 
 /// The same, among the objects of a world.
-fn enter_at(world: &mut Core<Objects, Profiles>, number: ObjNum, entry: &[u8]) -> Result<(), NoMemory>
+fn enter_at(
+    world: &mut Core<Objects, Profiles>,
+    number: ObjNum,
+    entry: &[u8],
+) -> Result<(), NoMemory>
     ensures ok { OnOk result (world.new ≡ record world.old { held = on_index world.old.held number.0 (entered entry.now) }) }
     ensures err { OnErr result (world.new ≡ world.old) }
 {
@@ -182,7 +193,11 @@ fn enter_at(world: &mut Core<Objects, Profiles>, number: ObjNum, entry: &[u8]) -
 }
 
 /// The entry stands in its place; where memory is refused nothing changes.
-fn insinxen(alloc: Global, world: &mut Core<Objects, Profiles>, operands: &[Operand]) -> Result<(), NoMemory>
+fn insinxen(
+    alloc: Global,
+    world: &mut Core<Objects, Profiles>,
+    operands: &[Operand],
+) -> Result<(), NoMemory>
     ensures ok { OnOk result (world.new ≡ record world.old { held = on_index world.old.held (target world.old.held operands.now 1) (entered (bytes_at world.old.held operands.now 2)) }) }
     ensures err { OnErr result (world.new ≡ world.old) }
 {
@@ -275,7 +290,11 @@ fn remove_at(world: &mut Core<Objects, Profiles>, number: ObjNum, entry: &[u8])
 }
 
 /// The entry is there no more; where memory is refused nothing changes.
-fn rmvinxen(alloc: Global, world: &mut Core<Objects, Profiles>, operands: &[Operand]) -> Result<(), NoMemory>
+fn rmvinxen(
+    alloc: Global,
+    world: &mut Core<Objects, Profiles>,
+    operands: &[Operand],
+) -> Result<(), NoMemory>
     ensures ok { OnOk result (world.new ≡ record world.old { held = on_index world.old.held (target world.old.held operands.now 1) (removed (bytes_at world.old.held operands.now 2)) }) }
     ensures err { OnErr result (world.new ≡ world.old) }
 {
@@ -323,7 +342,11 @@ pub fn conditions(world: &Core<Objects, Profiles>, act: Act<'_>) -> Option<Excep
 
 /// The value for its receiver.
 #[tactic(auto, unfolding(s38_rules::specs::Indexes::indexes_row))]
-pub fn value(alloc: Global, world: &Core<Objects, Profiles>, act: Act<'_>) -> Result<Option<Val>, NoMemory>
+pub fn value(
+    alloc: Global,
+    world: &Core<Objects, Profiles>,
+    act: Act<'_>,
+) -> Result<Option<Val>, NoMemory>
     ensures { IfOk result (λ value. value ≡ (indexes_row act.entry.request.now.op).gives world.now act.entry.process act.entry.depth act.entry.request.now) }
 {
     let objects = &world.objects;
@@ -337,7 +360,11 @@ pub fn value(alloc: Global, world: &Core<Objects, Profiles>, act: Act<'_>) -> Re
 
 /// What it changes, where it doesn't fail; where memory is refused nothing changes.
 #[tactic(auto, unfolding(s38_rules::specs::Indexes::indexes_row))]
-pub fn apply(alloc: Global, world: &mut Core<Objects, Profiles>, act: Act<'_>) -> Result<(), NoMemory>
+pub fn apply(
+    alloc: Global,
+    world: &mut Core<Objects, Profiles>,
+    act: Act<'_>,
+) -> Result<(), NoMemory>
     requires { (indexes_row act.request.now.op).fails world.old act.process act.depth act.request.now ≡ None }
     ensures ok { OnOk result (world.new ≡ done world.old act.entry.process ((indexes_row act.entry.request.now.op).changes world.old act.entry.process act.entry.depth act.entry.request.now)) }
     ensures err { OnErr result (world.new ≡ world.old) }

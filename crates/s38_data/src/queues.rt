@@ -17,7 +17,11 @@ use s38_changes::{
 use s38_code::{Operand, Val};
 use s38_invoke::{Core, Profiles};
 use s38_objects::Objects;
-use s38_operands::{Act, Needs, Question, QueueFacts, ask_at, bytes_at, facts_of_queue, fails, fitted, is_given, lent_at, on_object, piece_at, queue_facts, relation_at, room_at, size_at, target, whole_at, word_at};
+use s38_operands::{
+    Act, Needs, Question, QueueFacts, ask_at, bytes_at, facts_of_queue, fails, fitted, is_given,
+    lent_at, on_object, piece_at, queue_facts, relation_at, room_at, size_at, target, whole_at,
+    word_at,
+};
 use s38_queues::{Message, Order, Queue};
 use s38_rules::{Body, Creating, Sought};
 use std::alloc::Global;
@@ -38,7 +42,11 @@ fn created_queue(objects: &Objects, operands: &[Operand]) -> Creating
 }
 
 #[tactic(auto, unfolding(s38_rules::specs::Queues::crtq_fails))]
-fn crtq_fails(world: &Core<Objects, Profiles>, process: u32, operands: &[Operand]) -> Option<Exception>
+fn crtq_fails(
+    world: &Core<Objects, Profiles>,
+    process: u32,
+    operands: &[Operand],
+) -> Option<Exception>
     ensures { result ≡ crtq_fails world.now process operands.now }
 {
     let created = created_queue(&world.objects, operands);
@@ -157,7 +165,12 @@ fn put_in(objects: &mut Objects, number: ObjNum, key: &[u8], text: &[u8]) -> Res
 
 /// A message stands last in the queue of a number; where memory is refused nothing changes.
 #[inline(always)]
-fn put(world: &mut Core<Objects, Profiles>, number: ObjNum, key: &[u8], text: &[u8]) -> Result<(), NoMemory>
+fn put(
+    world: &mut Core<Objects, Profiles>,
+    number: ObjNum,
+    key: &[u8],
+    text: &[u8],
+) -> Result<(), NoMemory>
     ensures ok { OnOk result (world.new ≡ record world.old { held = on_queue world.old.held number.0 (λ q. with_message q (message key.now text.now)) }) }
     ensures err { OnErr result (world.new ≡ world.old) }
 {
@@ -169,7 +182,11 @@ fn put(world: &mut Core<Objects, Profiles>, number: ObjNum, key: &[u8], text: &[
 
 /// The message stands last in the queue, where its key or its text lies in a space.
 #[inline(never)]
-fn enq_read(alloc: Global, world: &mut Core<Objects, Profiles>, operands: &[Operand]) -> Result<(), NoMemory>
+fn enq_read(
+    alloc: Global,
+    world: &mut Core<Objects, Profiles>,
+    operands: &[Operand],
+) -> Result<(), NoMemory>
     ensures ok { OnOk result (world.new ≡ record world.old { held = on_queue world.old.held (target world.old.held operands.now 1) (with_put world.old.held operands.now) }) }
     ensures err { OnErr result (world.new ≡ world.old) }
 {
@@ -184,7 +201,11 @@ fn enq_read(alloc: Global, world: &mut Core<Objects, Profiles>, operands: &[Oper
 }
 
 /// The message stands last in the queue.
-fn enq(alloc: Global, world: &mut Core<Objects, Profiles>, operands: &[Operand]) -> Result<(), NoMemory>
+fn enq(
+    alloc: Global,
+    world: &mut Core<Objects, Profiles>,
+    operands: &[Operand],
+) -> Result<(), NoMemory>
     ensures ok { OnOk result (world.new ≡ record world.old { held = on_queue world.old.held (target world.old.held operands.now 1) (with_put world.old.held operands.now) }) }
     ensures err { OnErr result (world.new ≡ world.old) }
 {
@@ -380,7 +401,11 @@ fn take(world: &mut Core<Objects, Profiles>, number: ObjNum, relation: Relation,
 
 /// The message leaves the queue, where the key lies in a space; where memory is refused nothing changes.
 #[inline(never)]
-fn deq_read(alloc: Global, world: &mut Core<Objects, Profiles>, operands: &[Operand]) -> Result<(), NoMemory>
+fn deq_read(
+    alloc: Global,
+    world: &mut Core<Objects, Profiles>,
+    operands: &[Operand],
+) -> Result<(), NoMemory>
     ensures ok { OnOk result (world.new ≡ record world.old { held = on_queue world.old.held (target world.old.held operands.now 2) (left_by (relation_at operands.now 3) (bytes_at world.old.held operands.now 4)) }) }
     ensures err { OnErr result (world.new ≡ world.old) }
 {
@@ -394,7 +419,11 @@ fn deq_read(alloc: Global, world: &mut Core<Objects, Profiles>, operands: &[Oper
 }
 
 /// The message leaves the queue; where memory is refused nothing changes.
-fn deq(alloc: Global, world: &mut Core<Objects, Profiles>, operands: &[Operand]) -> Result<(), NoMemory>
+fn deq(
+    alloc: Global,
+    world: &mut Core<Objects, Profiles>,
+    operands: &[Operand],
+) -> Result<(), NoMemory>
     ensures ok { OnOk result (world.new ≡ record world.old { held = on_queue world.old.held (target world.old.held operands.now 2) (left_by (relation_at operands.now 3) (bytes_at world.old.held operands.now 4)) }) }
     ensures err { OnErr result (world.new ≡ world.old) }
 {
@@ -439,7 +468,11 @@ pub fn conditions(world: &Core<Objects, Profiles>, act: Act<'_>) -> Option<Excep
 
 /// The value for its receiver.
 #[tactic(auto, unfolding(s38_rules::specs::Queues::queues_row))]
-pub fn value(alloc: Global, world: &Core<Objects, Profiles>, act: Act<'_>) -> Result<Option<Val>, NoMemory>
+pub fn value(
+    alloc: Global,
+    world: &Core<Objects, Profiles>,
+    act: Act<'_>,
+) -> Result<Option<Val>, NoMemory>
     ensures { IfOk result (λ value. value ≡ (queues_row act.entry.request.now.op).gives world.now act.entry.process act.entry.depth act.entry.request.now) }
 {
     let objects = &world.objects;
@@ -453,7 +486,11 @@ pub fn value(alloc: Global, world: &Core<Objects, Profiles>, act: Act<'_>) -> Re
 
 /// What it changes, where it doesn't fail; where memory is refused nothing changes.
 #[tactic(auto, unfolding(s38_rules::specs::Queues::queues_row))]
-pub fn apply(alloc: Global, world: &mut Core<Objects, Profiles>, act: Act<'_>) -> Result<(), NoMemory>
+pub fn apply(
+    alloc: Global,
+    world: &mut Core<Objects, Profiles>,
+    act: Act<'_>,
+) -> Result<(), NoMemory>
     requires { (queues_row act.request.now.op).fails world.old act.process act.depth act.request.now ≡ None }
     ensures ok { OnOk result (world.new ≡ done world.old act.entry.process ((queues_row act.entry.request.now.op).changes world.old act.entry.process act.entry.depth act.entry.request.now)) }
     ensures err { OnErr result (world.new ≡ world.old) }

@@ -147,7 +147,11 @@ fn started_of<T: Table, P: UserMaps>(
 
 /// A process starts: it has its user, the contexts of its list as they are found now, and the job's own template
 /// as its one program. Where memory is refused nothing changes.
-pub fn start<T: Table, P: UserMaps>(alloc: Global, world: &mut Core<T, P>, process: u32) -> Result<(), NoMemory>
+pub fn start<T: Table, P: UserMaps>(
+    alloc: Global,
+    world: &mut Core<T, P>,
+    process: u32,
+) -> Result<(), NoMemory>
     ensures ok { OnOk result (world.new ≡ start_at world.old process (process_entry world.old process)) }
     ensures err { OnErr result (world.new ≡ world.old) }
 {

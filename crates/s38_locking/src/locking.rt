@@ -84,7 +84,11 @@ fn lock_needs(operands: &[Operand]) -> Needs
 
 /// No lock of another process is in the way, and the object may have one more.
 #[tactic(auto, unfolding(s38_rules::specs::Locking::lock_fails))]
-fn lock_fails(world: &Core<Objects, Profiles>, process: u32, operands: &[Operand]) -> Option<Exception>
+fn lock_fails(
+    world: &Core<Objects, Profiles>,
+    process: u32,
+    operands: &[Operand],
+) -> Option<Exception>
     ensures { result ≡ lock_fails world.now process operands.now }
 {
     let object = target(&world.objects, operands, 1);
@@ -95,7 +99,11 @@ fn lock_fails(world: &Core<Objects, Profiles>, process: u32, operands: &[Operand
 }
 
 /// The process holds one more lock.
-fn lock(world: &mut Core<Objects, Profiles>, process: u32, operands: &[Operand]) -> Result<(), NoMemory>
+fn lock(
+    world: &mut Core<Objects, Profiles>,
+    process: u32,
+    operands: &[Operand],
+) -> Result<(), NoMemory>
     requires { lock_fails world.old process operands.now ≡ None }
     ensures ok { OnOk result (world.new ≡ done world.old process (lock_changes world.old process operands.now)) }
     ensures err { OnErr result (world.new ≡ world.old) }
@@ -118,7 +126,11 @@ fn unlock_needs() -> Needs
 }
 
 /// Why a process does not give a lock up.
-fn not_held(world: &Core<Objects, Profiles>, process: u32, operands: &[Operand]) -> Option<Exception>
+fn not_held(
+    world: &Core<Objects, Profiles>,
+    process: u32,
+    operands: &[Operand],
+) -> Option<Exception>
     ensures { result ≡ of_lock_fault (unlock_refusal process (state_asked operands.now) (locks_at world.now operands.now 1)) }
 {
     let object = target(&world.objects, operands, 1);
@@ -133,7 +145,11 @@ fn not_held(world: &Core<Objects, Profiles>, process: u32, operands: &[Operand])
 
 /// The process holds such a lock.
 #[tactic(auto, unfolding(s38_rules::specs::Locking::unlock_fails))]
-fn unlock_fails(world: &Core<Objects, Profiles>, process: u32, operands: &[Operand]) -> Option<Exception>
+fn unlock_fails(
+    world: &Core<Objects, Profiles>,
+    process: u32,
+    operands: &[Operand],
+) -> Option<Exception>
     ensures { result ≡ unlock_fails world.now process operands.now }
 {
     not_held(world, process, operands)
@@ -175,7 +191,11 @@ fn not_given(
 
 /// The process holds such a lock, the job is another's that goes on, and no other lock is in its way.
 #[tactic(auto, unfolding(s38_rules::specs::Locking::xfrlock_fails))]
-fn xfrlock_fails(world: &Core<Objects, Profiles>, process: u32, operands: &[Operand]) -> Option<Exception>
+fn xfrlock_fails(
+    world: &Core<Objects, Profiles>,
+    process: u32,
+    operands: &[Operand],
+) -> Option<Exception>
     ensures { result ≡ xfrlock_fails world.now process operands.now }
 {
     if let Some(failure) = not_held(world, process, operands) {
@@ -261,7 +281,11 @@ pub fn conditions(world: &Core<Objects, Profiles>, act: Act<'_>) -> Option<Excep
 
 /// The value for its receiver.
 #[tactic(auto, unfolding(s38_rules::specs::Locking::locks_row))]
-pub fn value(alloc: Global, world: &Core<Objects, Profiles>, act: Act<'_>) -> Result<Option<Val>, NoMemory>
+pub fn value(
+    alloc: Global,
+    world: &Core<Objects, Profiles>,
+    act: Act<'_>,
+) -> Result<Option<Val>, NoMemory>
     ensures { IfOk result (λ value. value ≡ (locks_row act.entry.request.now.op).gives world.now act.entry.process act.entry.depth act.entry.request.now) }
 {
     match act.request.op {

@@ -41,7 +41,12 @@ pub fn parted(
 }
 
 /// A value goes into the space of its receiver, so many bytes behind its beginning; it takes no memory.
-pub fn put(world: &mut Core<Objects, Profiles>, shift: u16, receiver: Option<&Operand>, value: Option<Val>)
+pub fn put(
+    world: &mut Core<Objects, Profiles>,
+    shift: u16,
+    receiver: Option<&Operand>,
+    value: Option<Val>,
+)
     ensures { world.new ≡ (delivered world.old shift (option_copied receiver.entry) value).state }
 {
     match value {

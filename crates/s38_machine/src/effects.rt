@@ -8,7 +8,6 @@ ghost use Rattle.s38_rules.specs.Operands.{delivered};
 ghost use Rattle.s38_rules.specs.Rows.{row};
 ghost use Rattle.s38_rules.specs.State.{State};
 ghost use Rattle.s38_rules.specs.Step.{awake, awake_verdict};
-
 ghost use Rattle.s38_machine.specs.Events.{GoesAsThatOf};
 
 use crate::deliveries::{parted, put};

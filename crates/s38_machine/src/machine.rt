@@ -10,7 +10,6 @@ ghost use Rattle.s38_rules.specs.Opening.{state_of};
 ghost use Rattle.s38_rules.specs.State.{ready, ready_list};
 ghost use Rattle.s38_rules.specs.Step.{awake_verdict, by_verdict, step, verdict_of};
 
-
 use crate::effects::{apply, parted_values};
 use crate::log::Log;
 use crate::opening::opened;

@@ -56,12 +56,7 @@ fn pointer_for(objects: &Objects, operands: &[Operand], need: &Need) -> Option<P
 
 /// The object that a need speaks of, by the pointer at its operand.
 #[inline(always)]
-fn subject(
-    objects: &Objects,
-    operands: &[Operand],
-    need: &Need,
-    pointer: Option<Pointer>,
-) -> ObjNum
+fn subject(objects: &Objects, operands: &[Operand], need: &Need, pointer: Option<Pointer>) -> ObjNum
     requires { pointer ≡ pointer_for objects.now operands.now need.now.place need.now.named }
     ensures { result.0 ≡ subject objects.now operands.now need.now.place need.now.named }
 {

@@ -12,8 +12,8 @@ ghost use Rattle.s38_rules.specs.Step.{awake_verdict, verdict_of};
 
 use crate::addresses::address_rules;
 use crate::blocking::lock_rules;
-use crate::rights::first_unmet;
 use crate::resolved::{Resolved, resolve, resolve_all};
+use crate::rights::first_unmet;
 use crate::rows;
 use s38_authority::lacks_special;
 use s38_base::exceptions::{ALL_WAIT, LOCK_NOT_GRANTABLE, NO_MESSAGE};
@@ -166,7 +166,11 @@ fn of_request(
     }
 }
 
-fn start_verdict(world: &Core<Objects, Profiles>, process: u32, entry: Option<&ProcessEntry>) -> Verdict
+fn start_verdict(
+    world: &Core<Objects, Profiles>,
+    process: u32,
+    entry: Option<&ProcessEntry>,
+) -> Verdict
     ensures { result ≡ start_verdict world.now process (option_copied entry.entry) }
 {
     match entry {

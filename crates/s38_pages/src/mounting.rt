@@ -141,11 +141,7 @@ pub struct Opened {
 }
 
 /// Reads all homes in order.
-fn index_homes<D: Disk>(
-    alloc: Global,
-    disk: &mut D,
-    layout: &Layout,
-) -> Result<Opened, StoreFault>
+fn index_homes<D: Disk>(alloc: Global, disk: &mut D, layout: &Layout) -> Result<Opened, StoreFault>
     requires layout { IsLayout layout.now }
     requires size { layout.now.size ≤ (D.view disk.old).size }
     ensures layout { IfOk result (λ opened. opened.layout ≡ layout.now) }

@@ -62,12 +62,14 @@ impl<D: Disk> PageVault<D> {
         ensures cause { IfErr result (λ e. e.1 ≡ StoreFault.Failed → Rose (D.view disk).faults (D.view e.0).faults) }
     {
         match open(alloc, &mut disk) {
-            Ok(Opened {
-                layout,
-                homes,
-                marks,
-                slots,
-            }) => Ok(PageVault {
+            Ok(
+                Opened {
+                    layout,
+                    homes,
+                    marks,
+                    slots,
+                },
+            ) => Ok(PageVault {
                 disk,
                 layout,
                 homes,

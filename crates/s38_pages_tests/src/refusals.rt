@@ -55,7 +55,10 @@ fn a_damaged_log_is_refused(rt: HostRuntime) -> Result<(), Fail> {
         let mut disk = empty_store(rt.alloc())?;
         disk.write(1, &up_block())?;
         disk.write(2, &numbers(count, first, second))?;
-        assert!(rt; refusal(rt.alloc(), disk) == refused, "{count} {first} {second}");
+        assert!(rt;
+            refusal(rt.alloc(), disk) == refused,
+            "{count} {first} {second}"
+        );
     }
     Ok(())
 }

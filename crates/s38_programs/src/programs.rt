@@ -23,7 +23,10 @@ use std::alloc::Global;
 // ---- CRTPG
 
 /// The template that operand 5 names.
-fn template_at<'a>(world: &'a Core<Objects, Profiles>, operands: &[Operand]) -> Option<&'a CheckedTemplate>
+fn template_at<'a>(
+    world: &'a Core<Objects, Profiles>,
+    operands: &[Operand],
+) -> Option<&'a CheckedTemplate>
     ensures { option_copied result ≡ template_at world.now operands.now }
 {
     template_in(world.templates.as_slice(), place(operands, 5))
@@ -37,7 +40,11 @@ fn new_program(objects: &Objects, operands: &[Operand]) -> Creating
 
 /// The name is free, the template makes a program, the owner pays for it, and its text is not too long.
 #[tactic(auto, unfolding(s38_rules::specs::Programs::crtpg_fails))]
-fn crtpg_fails(world: &Core<Objects, Profiles>, process: u32, operands: &[Operand]) -> Option<Exception>
+fn crtpg_fails(
+    world: &Core<Objects, Profiles>,
+    process: u32,
+    operands: &[Operand],
+) -> Option<Exception>
     ensures { result ≡ crtpg_fails world.now process operands.now }
 {
     let objects = &world.objects;
@@ -116,7 +123,11 @@ pub fn conditions(world: &Core<Objects, Profiles>, act: Act<'_>) -> Option<Excep
 
 /// The value for its receiver.
 #[tactic(auto, unfolding(s38_rules::specs::Programs::programs_row))]
-pub fn value(alloc: Global, world: &Core<Objects, Profiles>, act: Act<'_>) -> Result<Option<Val>, NoMemory>
+pub fn value(
+    alloc: Global,
+    world: &Core<Objects, Profiles>,
+    act: Act<'_>,
+) -> Result<Option<Val>, NoMemory>
     ensures { IfOk result (λ value. value ≡ (programs_row act.entry.request.now.op).gives world.now act.entry.process act.entry.depth act.entry.request.now) }
 {
     let objects = &world.objects;
@@ -130,7 +141,11 @@ pub fn value(alloc: Global, world: &Core<Objects, Profiles>, act: Act<'_>) -> Re
 
 /// What it changes, where it doesn't fail; where memory is refused nothing changes.
 #[tactic(auto, unfolding(s38_rules::specs::Programs::programs_row))]
-pub fn apply(alloc: Global, world: &mut Core<Objects, Profiles>, act: Act<'_>) -> Result<(), NoMemory>
+pub fn apply(
+    alloc: Global,
+    world: &mut Core<Objects, Profiles>,
+    act: Act<'_>,
+) -> Result<(), NoMemory>
     requires { (programs_row act.request.now.op).fails world.old act.process act.depth act.request.now ≡ None }
     ensures ok { OnOk result (world.new ≡ done world.old act.entry.process ((programs_row act.entry.request.now.op).changes world.old act.entry.process act.entry.depth act.entry.request.now)) }
     ensures err { OnErr result (world.new ≡ world.old) }

@@ -21,10 +21,20 @@ returns-then-not-is_unseen_home-clause-damaged g c s is count =
     let lt : c.loop-k.k < log_count s.now = omega (arith, c.loop-k-test.true, count) in
     let so_far = i.read s is count in
     let more = log_more s.now c.loop-k.k slots slot lt so_far entry in
-    inr (omega (arith, count, c.requires.some), omega (arith, count, c.requires.most), (c.loop-k.k, lt, subst (AreHomes lay) so_far i.homes, λ all.
-    let last = homes-last lay slots slot (subst (AreHomes lay) more all) in
-    let unseen = ap (λ xs. marked xs slot.home) c.deref.ensures.value ∙ i.seen slot.home ∙ last.1 in
-    both_ways _ (sym c.is_unseen_home.ensures ∙ c.if-not-is_unseen_home.true) (λ j. last.0 j && not (unseen j)), refl))
+    inr (
+      omega (arith, count, c.requires.some),
+      omega (arith, count, c.requires.most),
+      (
+        c.loop-k.k,
+        lt,
+        subst (AreHomes lay) so_far i.homes,
+        λ all.
+            let last = homes-last lay slots slot (subst (AreHomes lay) more all) in
+            let unseen = ap (λ xs. marked xs slot.home) c.deref.ensures.value ∙ i.seen slot.home ∙ last.1 in
+            both_ways _ (sym c.is_unseen_home.ensures ∙ c.if-not-is_unseen_home.true) (λ j. last.0 j && not (unseen j)),
+        refl,
+      ),
+    )
 
 pub loop-k-preserved : goal.loop-k-preserved
 loop-k-preserved g c =

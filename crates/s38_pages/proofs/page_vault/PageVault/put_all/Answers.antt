@@ -104,6 +104,6 @@ returns-clause-after g c =
     let here = subst (λ (v : PageStore). page_holds v m) (sym c.self.view_is) holds in
     let held = put_holds lay (get homes) (get now) (marked later) es cs p moves ended (r.told good) m (refl, here.1) in
     let vault : IsVault lay w now c.give_back.new.marks c.clear.new.self.items _ true =
-        put_vault r p c.plan.ensures.tallied (c.plan.ensures.free lay r.free) given c.requires.rising c.requires.objects moves c.clear.ensures.items
-        (λ yes. put_told lay (get homes) (get now) (marked later) es cs p moves ended (r.told good)) in
+    put_vault r p c.plan.ensures.tallied (c.plan.ensures.free lay r.free) given c.requires.rising c.requires.objects moves c.clear.ensures.items
+    (λ yes. put_told lay (get homes) (get now) (marked later) es cs p moves ended (r.told good)) in
     present_one vault (changed m cs) n held left)
