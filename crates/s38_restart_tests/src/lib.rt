@@ -1,0 +1,5 @@
+//! What no clause of the restart says: worked data spaces, and that memory that is there suffices.
+#![tactic(auto)]
+
+#[cfg(test)]
+mod data_spaces;
