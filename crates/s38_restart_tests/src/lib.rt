@@ -1,5 +1,7 @@
-//! What no clause of the restart says: worked data spaces, and that memory that is there suffices.
+//! What no clause of the restart says: worked stores and data spaces, and that memory that is there suffices.
 #![tactic(auto)]
 
 #[cfg(test)]
 mod data_spaces;
+#[cfg(test)]
+mod parts;
