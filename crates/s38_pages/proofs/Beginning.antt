@@ -22,14 +22,12 @@ use Rattle.s38_blocks.specs.Coding.{page_in}
 use Rattle.s38_blocks.specs.Store.{is_home}
 use Rattle.s38_blocks.proofs.Again.{home_above}
 use Rattle.s38_blocks.proofs.CommitLemmas.{home_below}
+use Rattle.s38_pages.specs.Formats.{no_homes}
 use Rattle.s38_pages.specs.Index.{Homes, Indexed, first_marks, marked, page_at, parts_of, unmarked}
 use Rattle.s38_pages.specs.Scan.{Keeps, Scanned}
 use Rattle.s38_pages.proofs.Contents.{none_some}
 use Rattle.s38_pages.proofs.Marking.{set_other, set_there, unmarked_set}
 use Rattle.s38_pages.proofs.Scanning.{hole_is, home_is}
-
-abbrev no_homes : Homes
-no_homes = empty
 
 -- ---- marks
 

@@ -2,6 +2,7 @@
 #![tactic(auto)]
 
 mod fault;
+mod formatting;
 mod log_reading;
 mod marks;
 mod mounting;
