@@ -109,7 +109,7 @@ impl<D: Disk> Vault for PageVault<D> {
         ensures cause { HasCauseOf (page_view self.old).faults (page_view self.new).faults result VaultFault.Failed }
         ensures count { OnOk result ((page_view self.new).faults ≡ (page_view self.old).faults) }
 
-        // After a put that failed each further put fails too, and calls nothing of the disk.
+        // After a put that failed each further put fails too, and leaves the disk as it was.
         ensures lost { IsErrOf result VaultFault.Failed → self.new.good ≡ false }
         ensures still { self.old.good ≡ false → IsErr result × (self.new.good ≡ false) × (self.new.disk ≡ self.old.disk) }
 
