@@ -3,7 +3,7 @@ use Rattle.std.proofs.Common.{◌≡◌, ℕ, ◌+◌, ◌<◌, ◌≤◌, ◌^�
 use Rattle.std.specs.Prelude.{IfErr, IfOk, OnOk, is_ok}
 use Rattle.s38_disk.specs.declared.block.Block.{Block}
 use Rattle.std.specs.FinMap.{get}
-use Rattle.s38_disk.specs.Blocks.{State, IsImage, after, stepped}
+use Rattle.s38_disk.specs.Blocks.{State, after, stepped}
 use Rattle.s38_disk.specs.Disk.{DiskView, IsAt, Notes, adding}
 use Rattle.s38_disk.specs.declared.block.Call.TheVariants.{Synced}
 use Rattle.s38_disk.specs.Moves.{Ends, IsSettled, Moves, Near}
@@ -12,8 +12,8 @@ use Rattle.s38_vault.specs.Content.{Content}
 use Rattle.s38_blocks.specs.declared.layout.Layout.{Layout}
 use Rattle.s38_blocks.specs.declared.layout.Slot.{Slot}
 use Rattle.s38_blocks.specs.Coding.{is_label, is_up, is_used, key_in}
-use Rattle.s38_blocks.specs.Store.{IsLayout, IsLog, Holds, Stands, done, is_home, log_count, log_of, redone}
-use Rattle.s38_blocks.specs.Phases.{HasRedone, IsRedone, MayRedo, Rests}
+use Rattle.s38_blocks.specs.Store.{IsLayout, IsLog, Stands, done, is_home, log_count, log_of, redone}
+use Rattle.s38_blocks.specs.Phases.{HasRedone, IsRedone, MayRedo}
 use Rattle.s38_blocks.proofs.Crash.{holds_same, image_same}
 use Rattle.s38_pages.specs.Index.{Homes}
 use Rattle.s38_pages.specs.Mounts.{IsFinished, IsFinishFault, IsIndexFault, IsMounted, IsNotOfSize, IsReady, IsRefused, IsSized, fewest, layout_of}

@@ -1,5 +1,5 @@
 -- A store that is made: zeros, the first homes, and then the label.
-use Rattle.std.proofs.Common.{◌≡◌, ◌⊎◌, ◌==◌, ℕ, suc, ◌+◌, ◌-◌, ◌<◌, ◌≤◌, Bool, true, false, cond, List, [], ◌∷◌, length, Option, Some, None, refl, sym, ◌∙◌, ap, subst, arith, inl, inr, ⊎_elim}
+use Rattle.std.proofs.Common.{◌≡◌, ℕ, ◌+◌, ◌<◌, ◌≤◌, Bool, true, false, cond, List, [], ◌∷◌, length, Option, None, refl, sym, ◌∙◌, ap, subst, arith, inl, inr, ⊎_elim}
 use Rattle.std.proofs.lemmas.Bool.{both_ways, cases_Bool, cases_eq, cases_lt, ne_eqb}
 use Rattle.std.proofs.lemmas.List.Sums.{sum_by-cons}
 use Rattle.std.specs.FinMap.{get, get-empty, same_map}
@@ -7,18 +7,18 @@ use Rattle.std.specs.Option.{option_map}
 use Rattle.s38_base.specs.declared.page.Change.{Change}
 use Rattle.s38_base.specs.declared.page.Key.{Key}
 use Rattle.s38_disk.specs.declared.block.Block.{Block}
-use Rattle.s38_disk.specs.Blocks.{State, IsImage, after, put}
+use Rattle.s38_disk.specs.Blocks.{State, after, put}
 use Rattle.s38_disk.specs.Disk.{DiskView, IsAt}
 use Rattle.s38_disk.specs.Moves.{Ends, IsSettled, Moves, Near, SameBut}
 use Rattle.s38_disk.proofs.Runs.{joins, near_end, now_at, told_before, weaker}
-use Rattle.s38_vault.specs.Content.{Content, changed}
+use Rattle.s38_vault.specs.Content.{Content}
 use Rattle.s38_vault.specs.Directory.{Keys, changed_keys, is_new, keys_of, new_keys}
 use Rattle.s38_vault.specs.Keys.{key_cmp, key_cmp_total}
 use Rattle.s38_vault.proofs.DirectoryLaws.{get-keys_of, keys_of-changed}
 use Rattle.s38_blocks.specs.declared.layout.Layout.{Layout}
 use Rattle.s38_blocks.specs.declared.layout.Slot.{Slot}
-use Rattle.s38_blocks.specs.Coding.{is_label, is_up, is_used}
-use Rattle.s38_blocks.specs.Store.{AreHomes, Holds, IsLayout, Stands, done, is_home, targets}
+use Rattle.s38_blocks.specs.Coding.{is_label, is_up}
+use Rattle.s38_blocks.specs.Store.{AreHomes, IsLayout, done, is_home, targets}
 use Rattle.s38_blocks.specs.Phases.{Rests, between}
 use Rattle.s38_blocks.proofs.Again.{below_homes, done_other, home_above}
 use Rattle.s38_blocks.proofs.CommitLemmas.{home_below}

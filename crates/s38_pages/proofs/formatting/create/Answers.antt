@@ -1,4 +1,4 @@
-use Rattle.std.proofs.Common.{◌≡◌, ◌≤◌, ◌<◌, ◌+◌, ◌^◌, List, Bool, true, false, ap, arith, length, refl, subst, sym, ◌∙◌}
+use Rattle.std.proofs.Common.{◌≡◌, ◌≤◌, ◌<◌, ◌+◌, ◌^◌, List, true, false, ap, arith, length, subst, sym, ◌∙◌}
 use Rattle.std.proofs.lemmas.Bool.{true≢false}
 use Rattle.std.specs.FinMap.{get, len, len-empty}
 use Rattle.std.specs.Vec.{vec_capacity}
@@ -10,7 +10,7 @@ use Rattle.s38_disk.specs.Moves.{Ends, Moves}
 use Rattle.s38_blocks.specs.declared.layout.Layout.{Layout}
 use Rattle.s38_blocks.specs.declared.layout.Slot.{Slot}
 use Rattle.s38_blocks.specs.Store.{IsLayout}
-use Rattle.s38_pages.specs.Formats.{Fills, IsMade, IsMaking, first_content, most_first}
+use Rattle.s38_pages.specs.Formats.{Fills, IsMade, IsMaking, first_content}
 use Rattle.s38_pages.specs.Index.{AreApart, Homes, Planned, marked, parts_of}
 use Rattle.s38_pages.specs.Mounts.{layout_of}
 use Rattle.s38_pages.specs.Vaults.{HoldsNow, IsVault}

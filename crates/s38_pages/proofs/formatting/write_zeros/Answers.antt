@@ -1,4 +1,4 @@
-use Rattle.std.proofs.Common.{refl, ◌≡◌, ◌+◌, ◌-◌, ◌≤◌, ◌<◌, ◌∙◌, ap, arith}
+use Rattle.std.proofs.Common.{refl, ◌+◌, ◌-◌, ◌∙◌, ap, arith}
 use Rattle.s38_disk.specs.Blocks.{State, after}
 use Rattle.s38_disk.specs.Moves.{Near}
 use Rattle.s38_disk.proofs.Runs.{write_near, sync_near, near_then, weaker, step_at, at_one, stays, now_at}

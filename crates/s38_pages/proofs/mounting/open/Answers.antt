@@ -1,15 +1,12 @@
-use Rattle.std.proofs.Common.{◌≡◌, ◌≤◌, ◌<◌, ◌^◌, [], ap, arith, refl, subst, sym, true, ◌∙◌}
-use Rattle.std.specs.FinMap.{get}
+use Rattle.std.proofs.Common.{◌≡◌, ◌≤◌, ◌<◌, ◌^◌, ap, arith, subst, sym, true}
 use Rattle.std.specs.Vec.{vec_capacity}
-use Rattle.s38_disk.specs.Blocks.{State, after}
+use Rattle.s38_disk.specs.Blocks.{after}
 use Rattle.s38_disk.specs.Disk.{IsAt}
 use Rattle.s38_disk.proofs.Runs.{now_at}
 use Rattle.s38_vault.specs.Content.{Content}
 use Rattle.s38_blocks.specs.declared.layout.Layout.{Layout}
 use Rattle.s38_blocks.specs.Store.{IsLayout, Stands}
-use Rattle.s38_pages.specs.declared.mounting.Opened.{Opened}
 use Rattle.s38_pages.specs.Mounts.{IsIndexFault, IsMounted, IsReady, layout_of}
-use Rattle.s38_pages.specs.Scan.{Keeps, Scanned}
 use Rattle.s38_pages.specs.Vaults.{HoldsNow, IsVault}
 use Rattle.s38_pages.proofs.Finishing.{at_ok, each_ok, index_refused, is_layout, large_sized, map_err, only_read, opened_content, opened_tells, opened_vault}
 use Rattle.s38_pages.proofs.mounting.open.Goals as goal

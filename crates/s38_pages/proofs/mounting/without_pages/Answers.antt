@@ -1,4 +1,4 @@
-use Rattle.std.proofs.Common.{◌≡◌, ap, ◌∙◌, ℕ}
+use Rattle.std.proofs.Common.{ap, ◌∙◌, ℕ}
 use Rattle.s38_vault.specs.Keyed.{KeyedMap}
 use Rattle.s38_pages.proofs.Beginning.{keeps_first}
 use Rattle.s38_pages.proofs.Keeping.{keeps_moved}

@@ -1,8 +1,7 @@
-use Rattle.std.proofs.Common.{◌≡◌, ◌≤◌, ◌-◌, ap, refl, subst, sym, arith, ◌∙◌}
+use Rattle.std.proofs.Common.{◌≡◌, ◌≤◌, ◌-◌, ap, refl, subst, arith}
 use Rattle.std.specs.FinMap.{len}
 use Rattle.std.specs.Vec.{vec_capacity}
 use Rattle.s38_vault.specs.Directory.{keys_of, new_keys}
-use Rattle.s38_disk.specs.Disk.{moment_of}
 use Rattle.s38_blocks.specs.declared.layout.Layout.{Layout}
 use Rattle.s38_pages.specs.Index.{parts_of}
 use Rattle.s38_pages.specs.Vaults.{IsVault, LeavesAt, PageStore}
