@@ -1,35 +1,30 @@
 -- The marks of a store without a page, and the content of an index.
-use Rattle.std.proofs.Common.{◌≡◌, ◌⊎◌, ◌&&◌, ℕ, zero, suc, ◌+◌, ◌-◌, ◌<◌, ◌≤◌, nat_le, nat_lt, Bool, true, false, cond, replicate, slice_set, List, [], ◌∷◌, ◌++◌, length, map, Option, Some, None, refl, sym, ◌∙◌, ap, subst, arith, length-append, ⊎_elim}
+use Rattle.std.proofs.Common.{◌≡◌, ◌&&◌, ℕ, zero, suc, ◌+◌, ◌-◌, ◌<◌, ◌≤◌, nat_le, nat_lt, Bool, true, false, cond, replicate, slice_set, List, [], ◌∷◌, ◌++◌, length, map, Some, refl, sym, ◌∙◌, ap, subst, arith, length-append, ⊎_elim}
 use Rattle.std.specs.Prelude.{is_some}
 use Rattle.std.proofs.Math.ListN.{length-set}
-use Rattle.std.proofs.lemmas.Bool.{true≢false, cases_Bool, cases_eq, cases_lt, both_ways, and_parts, and_from, ltb-true, leb-true, le-leb, lt-ltb}
+use Rattle.std.proofs.lemmas.Bool.{true≢false, cases_eq, cases_lt, both_ways, and_parts, and_from, ltb-true, leb-true, le-leb, lt-ltb}
 use Rattle.std.proofs.lemmas.List.{get_or-append_right, get_or_append_left, get_or-replicate}
 use lib.Dec.{T}
 use Rattle.std.specs.FinMap as map_of
-use Rattle.std.specs.FinMap.{FinMap, empty, entries, entries_sorted, from_sorted, get, get-empty, get-entries, get-from_sorted, is_sorted, len, len-empty}
+use Rattle.std.specs.FinMap.{empty, entries, entries_sorted, from_sorted, get, get-empty, get-entries, get-from_sorted, is_sorted, len, len-empty}
 use Rattle.std.specs.FinMap.Entries.{below_all}
-use Rattle.std.specs.Option.{option_map}
 use Rattle.std.specs.Ordering.{eq_by_cmp, is_lt}
 use Rattle.s38_disk.specs.declared.block.Block.{Block}
 use Rattle.s38_base.specs.declared.page.Key.{Key}
 use Rattle.s38_base.specs.declared.page.Page.{Page}
 use Rattle.s38_vault.specs.Content.{Content}
-use Rattle.s38_vault.specs.Directory.{keys_of}
 use Rattle.s38_vault.specs.Keys.{key_cmp}
 use Rattle.s38_vault.proofs.DirectoryLaws.{contains-keys_of}
 use Rattle.s38_blocks.specs.declared.layout.Layout.{Layout}
 use Rattle.s38_blocks.specs.Coding.{page_in}
 use Rattle.s38_blocks.specs.Store.{is_home}
-use Rattle.s38_blocks.proofs.Again.{home_above}
 use Rattle.s38_blocks.proofs.CommitLemmas.{home_below}
-use Rattle.s38_pages.specs.Index.{Homes, Indexed, first_marks, marked, page_at, parts_of, unmarked}
+use Rattle.s38_pages.specs.Formats.{no_homes}
+use Rattle.s38_pages.specs.Index.{Homes, Indexed, first_marks, marked, page_at, unmarked}
 use Rattle.s38_pages.specs.Scan.{Keeps, Scanned}
 use Rattle.s38_pages.proofs.Contents.{none_some}
 use Rattle.s38_pages.proofs.Marking.{set_other, set_there, unmarked_set}
 use Rattle.s38_pages.proofs.Scanning.{hole_is, home_is}
-
-abbrev no_homes : Homes
-no_homes = empty
 
 -- ---- marks
 

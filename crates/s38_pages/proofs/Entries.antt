@@ -1,7 +1,6 @@
 -- Entries of a log that are read one by one.
-use Rattle.std.proofs.Common.{◌≡◌, ◌⊎◌, ◌==◌, ◌||◌, ◌&&◌, ℕ, zero, suc, ◌+◌, ◌<◌, ◌≤◌, Bool, true, false, not, slice_set, List, [], ◌∷◌, ◌++◌, length, get_or, take, refl, sym, ◌∙◌, ap, subst, arith, ⊎_elim}
-use Rattle.std.proofs.Math.ListN.{length-set}
-use Rattle.std.proofs.lemmas.Bool.{true≢false, cases_eq, both_ways, eq-eqb, ne_eqb, cases_Bool}
+use Rattle.std.proofs.Common.{◌≡◌, ◌==◌, ◌||◌, ℕ, zero, suc, ◌+◌, ◌<◌, Bool, true, false, slice_set, List, [], ◌∷◌, ◌++◌, length, get_or, take, refl, sym, ◌∙◌, ap, arith, ⊎_elim}
+use Rattle.std.proofs.lemmas.Bool.{cases_eq, both_ways, eq-eqb, ne_eqb}
 use Rattle.std.proofs.lemmas.List.{take_more}
 use Rattle.s38_disk.specs.declared.block.Block.{Block}
 use Rattle.s38_blocks.specs.declared.layout.Layout.{Layout}
@@ -9,9 +8,7 @@ use Rattle.s38_blocks.specs.declared.layout.Slot.{Slot}
 use Rattle.s38_blocks.specs.Store.{AreHomes, entries_from, is_home, log_count, log_data, log_of, log_word, targets}
 use Rattle.s38_pages.specs.Index.{marked}
 use Rattle.s38_pages.specs.Mounts.{entry_at}
-use Rattle.s38_pages.proofs.Giving.{marked_within}
 use Rattle.s38_pages.proofs.Marking.{set_other, set_there}
-use Rattle.s38_pages.proofs.Planning.{apart_now}
 
 entries_length : (f : ℕ → Block) (at j n : ℕ) → length (entries_from f at j n) ≡ n
 entries_length f at j zero = refl

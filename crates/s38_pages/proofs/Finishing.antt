@@ -3,7 +3,7 @@ use Rattle.std.proofs.Common.{◌≡◌, ℕ, ◌+◌, ◌<◌, ◌≤◌, ◌^�
 use Rattle.std.specs.Prelude.{IfErr, IfOk, OnOk, is_ok}
 use Rattle.s38_disk.specs.declared.block.Block.{Block}
 use Rattle.std.specs.FinMap.{get}
-use Rattle.s38_disk.specs.Blocks.{State, IsImage, after, stepped}
+use Rattle.s38_disk.specs.Blocks.{State, after, stepped}
 use Rattle.s38_disk.specs.Disk.{DiskView, IsAt, Notes, adding}
 use Rattle.s38_disk.specs.declared.block.Call.TheVariants.{Synced}
 use Rattle.s38_disk.specs.Moves.{Ends, IsSettled, Moves, Near}
@@ -12,11 +12,11 @@ use Rattle.s38_vault.specs.Content.{Content}
 use Rattle.s38_blocks.specs.declared.layout.Layout.{Layout}
 use Rattle.s38_blocks.specs.declared.layout.Slot.{Slot}
 use Rattle.s38_blocks.specs.Coding.{is_label, is_up, is_used, key_in}
-use Rattle.s38_blocks.specs.Store.{IsLayout, IsLog, Holds, Stands, done, is_home, log_count, log_of, redone}
-use Rattle.s38_blocks.specs.Phases.{HasRedone, IsRedone, MayRedo, Rests}
+use Rattle.s38_blocks.specs.Store.{IsLayout, IsLog, Stands, done, is_home, log_count, log_of, redone}
+use Rattle.s38_blocks.specs.Phases.{HasRedone, IsRedone, MayRedo}
 use Rattle.s38_blocks.proofs.Crash.{holds_same, image_same}
 use Rattle.s38_pages.specs.Index.{Homes}
-use Rattle.s38_pages.specs.Mounts.{IsFinished, IsFinishFault, IsIndexFault, IsMounted, IsReady, IsRefused, fewest, layout_of}
+use Rattle.s38_pages.specs.Mounts.{IsFinished, IsFinishFault, IsIndexFault, IsMounted, IsNotOfSize, IsReady, IsRefused, IsSized, fewest, layout_of}
 use Rattle.s38_pages.specs.Scan.{AreTwins, Keeps, Scanned}
 use Rattle.s38_pages.specs.Vaults.{HoldsNow, IsVault, Tells}
 use Rattle.s38_vault.specs.Vaults.{most_changes}
@@ -208,8 +208,8 @@ opened_content x lay is m past homes label e scanned s at_s =
     let stands = opened_stands lay is s t homes (label s at_s) ready (scanned t at) in
     (content_of t.now homes, (stands, (refl, (t, subst (λ p. IsAt p t) (sym past) at, ready.rests (content_of t.now homes) stands))))
 
-pub opened_vault : {x : DiskView} {homes : Homes} {used : List Bool} {slots : List Slot} {capacity : ℕ} (lay : Layout) → IsLayout lay → lay.most ≡ most_changes → lay.size ≤ x.size → lay.size < 2 ^ 32 → Keeps lay homes used lay.size → slots ≡ []
-    → lay.most ≤ capacity → Tells lay x (get homes) → IsVault lay x homes used slots capacity true
+pub opened_vault : {x : DiskView} {homes : Homes} {used : List Bool} {slots : List Slot} {capacity h : ℕ} {good : Bool} (lay : Layout) → IsLayout lay → lay.most ≡ most_changes → lay.size ≤ x.size → lay.size < 2 ^ 32 → Keeps lay homes used h → slots ≡ []
+    → lay.most ≤ capacity → (good ≡ true → Tells lay x (get homes)) → IsVault lay x homes used slots capacity good
 opened_vault lay is limits size few k empty room tells = record {
   layout = is;
   limits = limits;
@@ -222,5 +222,15 @@ opened_vault lay is limits size few k empty room tells = record {
   free = k.free;
   objects = k.objects;
   parts = k.parts;
-  told = λ _. tells;
+  told = tells;
 }
+
+-- a disk that is large enough is not too small
+pub large_sized : (blocks : ℕ) (fault : StoreFault) → fewest ≤ blocks → IsNotOfSize fault → IsSized blocks fault
+large_sized blocks (faults.TooSmall size) le other = absurd other
+large_sized blocks faults.AlreadyInstalled le other = le
+large_sized blocks faults.NotInstalled le other = le
+large_sized blocks (faults.LogDamaged block) le other = le
+large_sized blocks (faults.TwoBlocks first second) le other = le
+large_sized blocks faults.Failed le other = le
+large_sized blocks faults.NoMemory le other = le

@@ -1,5 +1,5 @@
 -- One home more is noted, whatever it holds.
-use Rattle.std.proofs.Common.{◌≡◌, ◌⊎◌, ℕ, ◌+◌, ◌-◌, ◌<◌, ◌≤◌, Bool, true, false, cond, slice_set, List, [], ◌∷◌, length, Option, Some, None, refl, sym, ◌∙◌, ap, subst, arith, ⊎_elim}
+use Rattle.std.proofs.Common.{◌≡◌, ℕ, ◌+◌, ◌<◌, ◌≤◌, Bool, true, false, cond, slice_set, List, [], ◌∷◌, length, Option, Some, None, sym, ◌∙◌, ap, subst, arith, ⊎_elim}
 use Rattle.std.specs.Prelude.{is_some}
 use Rattle.std.proofs.Math.ListN.{length-set}
 use Rattle.std.proofs.lemmas.Bool.{cases_eq}
@@ -12,9 +12,9 @@ use Rattle.s38_vault.specs.Keys.{key_cmp, key_cmp_total}
 use Rattle.s38_vault.proofs.DirectoryLaws.{named_after}
 use Rattle.s38_blocks.specs.declared.layout.Layout.{Layout}
 use Rattle.s38_blocks.specs.Store.{is_home}
-use Rattle.s38_pages.specs.Index.{Homes, marked, unmarked, with_home}
+use Rattle.s38_pages.specs.Index.{Homes, marked, with_home}
 use Rattle.s38_pages.specs.Scan.{Keeps}
-use Rattle.s38_pages.proofs.Contents.{key_cases, none_some, some_same, with_here, with_other}
+use Rattle.s38_pages.proofs.Contents.{key_cases, some_same, with_here, with_other}
 use Rattle.s38_pages.proofs.Marking.{more_marked, set_other, set_there, unmarked_set}
 use Rattle.s38_pages.proofs.Tallies.{get_inserted, keys_of-insert}
 

@@ -2,6 +2,7 @@ pub mod Beginning
 pub mod Contents
 pub mod Entries
 pub mod Finishing
+pub mod Making
 pub mod Giving
 pub mod Keeping
 pub mod Marking

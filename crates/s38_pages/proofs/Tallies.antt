@@ -1,10 +1,9 @@
 -- Changes one by one: which keys they bring and take, and how many marks and freed homes that makes.
-use Rattle.std.proofs.Common.{◌≡◌, ◌⊎◌, ◌==◌, ◌||◌, ◌&&◌, ℕ, zero, suc, ◌+◌, ◌<◌, ◌≤◌, Bool, true, false, not, cond, slice_set, List, [], ◌∷◌, ◌++◌, length, get_or, take, Option, Some, None, refl, sym, ◌∙◌, ap, subst, arith, inl, inr, ⊎_elim}
+use Rattle.std.proofs.Common.{◌≡◌, ◌&&◌, ℕ, zero, suc, ◌+◌, ◌<◌, ◌≤◌, Bool, true, false, not, cond, slice_set, List, [], ◌∷◌, ◌++◌, length, get_or, take, Option, Some, None, refl, sym, ◌∙◌, ap, subst, arith, inl, inr, ⊎_elim}
 use Rattle.std.specs.Prelude.{is_none, is_some}
 use Rattle.std.proofs.Math.ListN.{length-set}
-use Rattle.std.proofs.lemmas.List.{take_more}
 use Rattle.std.proofs.lemmas.List.Sums.{sum_by_push, sum_by_more_le}
-use Rattle.std.specs.FinMap.{FinMap, contains_key, get, get-insert, get-remove, insert, remove, same_map}
+use Rattle.std.specs.FinMap.{contains_key, get, get-insert, get-remove, insert, remove, same_map}
 use Rattle.std.specs.List.{AllByRecursion}
 use Rattle.std.specs.Option.{option_map}
 use Rattle.std.specs.Ordering.{eq_by_cmp, is_eq}
@@ -12,7 +11,7 @@ use Rattle.std.proofs.lemmas.Bool.{true≢false}
 use Rattle.s38_base.specs.declared.page.Change.{Change}
 use Rattle.s38_base.specs.declared.page.Key.{Key}
 use Rattle.s38_base.specs.declared.page.Page.{Page}
-use Rattle.s38_vault.specs.Content.{AreRising, HaveObjects}
+use Rattle.s38_vault.specs.Content.{AreRising}
 use Rattle.s38_vault.specs.Directory.{Keys, changed_keys, gone_keys, is_gone, is_new, keys_of, new_keys, with_key}
 use Rattle.s38_vault.specs.Keys.{IsBefore, key_cmp, key_cmp_total}
 use Rattle.s38_vault.proofs.DirectoryLaws.{contains-keys_of, contains-other, get-keys_of, rising_all, rising_rest}

@@ -28,7 +28,7 @@ use Rattle.s38_vault.specs.Directory.{NameObjects, changed_keys, gone_keys, keys
 use Rattle.std.specs.Option.{option_map}
 use Rattle.s38_vault.proofs.DirectoryLaws.{get-keys_of, len-changed_keys, len-keys_of, named_after}
 use Rattle.s38_blocks.proofs.Again.{targets_home}
-use Rattle.s38_pages.specs.Index.{AreFreeHomes, Homes, Index, Indexed, Planned, Tallied, freed, marked, page_at, unmarked}
+use Rattle.s38_pages.specs.Index.{AreFreeHomes, Homes, Index, Indexed, Planned, Tallied, freed, marked, page_at}
 use Rattle.s38_pages.proofs.Giving.{Given, freed_target}
 use Rattle.s38_pages.specs.Vaults.{IsVault, HoldsNow, LeavesAt, IsOneOf, Tells}
 use Rattle.s38_pages.proofs.Contents.{holds_indexed, indexed_same, key_same}

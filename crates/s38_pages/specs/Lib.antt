@@ -1,3 +1,4 @@
+pub mod Formats
 pub mod Index
 pub mod Mounts
 pub mod Scan

@@ -1,5 +1,5 @@
 -- Mounting a store: why it is refused, and what a crash leaves meanwhile.
-use Rattle.std.specs.Prelude.{◌≡◌, ◌⊎◌, ◌+◌, ◌/◌, ◌<◌, ◌≤◌, ℕ, suc, true, false, get_or, take}
+use Rattle.std.specs.Prelude.{◌≡◌, ◌⊎◌, ◌+◌, ◌/◌, ◌<◌, ◌≤◌, ℕ, true, false, take}
 use Rattle.std.specs.Prelude.{min}
 use Rattle.s38_disk.specs.declared.block.Block.{Block}
 use Rattle.s38_disk.specs.Blocks.{State, IsImage}
@@ -90,3 +90,23 @@ IsRefused blocks f faults.NoMemory = Unit {0}
 -- a crash leaves the content that the store stood for
 pub record IsMounted (lay : Layout) (s u : State) : Type 0 where
   pub each : (m : Content) → IsSettled s → Stands lay s.now m → (g : ℕ → Block) → IsImage u g → Stands lay g m
+
+-- a disk is too small for a store exactly where it has fewer than the fewest blocks
+abbrev pub IsSized : ℕ → StoreFault → Type 0
+IsSized blocks (faults.TooSmall size) = (size ≡ blocks) × (blocks < fewest)
+IsSized blocks faults.AlreadyInstalled = fewest ≤ blocks
+IsSized blocks faults.NotInstalled = fewest ≤ blocks
+IsSized blocks (faults.LogDamaged block) = fewest ≤ blocks
+IsSized blocks (faults.TwoBlocks first second) = fewest ≤ blocks
+IsSized blocks faults.Failed = fewest ≤ blocks
+IsSized blocks faults.NoMemory = fewest ≤ blocks
+
+-- a fault that says nothing of the size of the disk
+abbrev pub IsNotOfSize : StoreFault → Type 0
+IsNotOfSize (faults.TooSmall size) = ⊥
+IsNotOfSize faults.AlreadyInstalled = Unit {0}
+IsNotOfSize faults.NotInstalled = Unit {0}
+IsNotOfSize (faults.LogDamaged block) = Unit {0}
+IsNotOfSize (faults.TwoBlocks first second) = Unit {0}
+IsNotOfSize faults.Failed = Unit {0}
+IsNotOfSize faults.NoMemory = Unit {0}

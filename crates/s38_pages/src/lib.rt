@@ -2,6 +2,7 @@
 #![tactic(auto)]
 
 mod fault;
+mod formatting;
 mod log_reading;
 mod marks;
 mod mounting;
@@ -14,3 +15,13 @@ mod writing;
 
 pub use fault::StoreFault;
 pub use page_vault::PageVault;
+use s38_disk::MemDisk;
+
+/// What is sent between threads.
+fn sends<T: Send + Sync>() {}
+
+/// Each value of this crate may be sent and shared, over a disk that may be.
+pub fn all_may_be_sent() {
+    sends::<PageVault<MemDisk>>();
+    sends::<StoreFault>();
+}

@@ -6,7 +6,7 @@ ghost use Rattle.s38_blocks.specs.Store.{AreHomes, IsLayout, IsLog, is_home, log
 ghost use Rattle.s38_disk.specs.Blocks.{State};
 ghost use Rattle.s38_disk.specs.Disk.{IsAt};
 ghost use Rattle.s38_pages.specs.Index.{marked};
-ghost use Rattle.s38_pages.specs.Mounts.{IsLogFault, entry_at};
+ghost use Rattle.s38_pages.specs.Mounts.{IsLogFault, IsNotOfSize, entry_at};
 
 use crate::fault::StoreFault;
 use s38_base::Failed;
@@ -73,6 +73,7 @@ fn read_slots<D: Disk>(
     ensures len { OnOk result (length slots.new.items ≡ count) }
     ensures gives { OnOk result ((s : State) → IsAt (D.view disk.old).past s → log_count s.now ≡ count → log_of s.now ≡ slots.new.items) }
     ensures damaged { IfErr result (λ fault. (s : State) → IsAt (D.view disk.old).past s → log_count s.now ≡ count → IsLogFault layout.now s.now fault) }
+    ensures other { IfErr result IsNotOfSize }
     ensures size { (D.view disk.new).size ≡ (D.view disk.old).size }
     ensures past { (D.view disk.new).past ≡ (D.view disk.old).past }
     ensures cause { HasCauseOf (D.view disk.old).faults (D.view disk.new).faults result StoreFault.Failed }
@@ -103,6 +104,7 @@ pub fn read_log<D: Disk>(
     ensures log { IfOk result (λ slots. IsLog layout.now slots.items) }
     ensures gives { IfOk result (λ slots. (s : State) → IsAt (D.view disk.old).past s → (log_count s.now ≡ length slots.items) × (log_of s.now ≡ slots.items)) }
     ensures damaged { IfErr result (λ fault. (s : State) → IsAt (D.view disk.old).past s → IsLogFault layout.now s.now fault) }
+    ensures other { IfErr result IsNotOfSize }
     ensures size { (D.view disk.new).size ≡ (D.view disk.old).size }
     ensures past { (D.view disk.new).past ≡ (D.view disk.old).past }
     ensures cause { HasCauseOf (D.view disk.old).faults (D.view disk.new).faults result StoreFault.Failed }

@@ -1,16 +1,20 @@
-ghost use Rattle.std.specs.Prelude.{◌≡◌, ◌<◌, ◌≤◌, ◌+◌, ◌/◌, ◌*◌, ℕ, length, is_ok, true, IfErr, IfOk, OnOk};
+ghost use Rattle.std.specs.Prelude.{◌≡◌, ◌<◌, ◌≤◌, ◌+◌, ◌/◌, ◌*◌, ℕ, length, is_ok, false, true, IfErr, IfOk, OnOk};
 ghost use Rattle.std.specs.FinMap.{get};
 ghost use Rattle.s38_base.specs.Faults.{HasCause, Rose};
+ghost use Rattle.s38_blocks.specs.Coding.{is_label};
 ghost use Rattle.s38_blocks.specs.Store.{Stands};
+ghost use Rattle.std.specs.Vec.{vec_capacity};
 ghost use Rattle.s38_disk.specs.Blocks.{State};
-ghost use Rattle.s38_pages.specs.Mounts.{IsMounted, IsRefused, layout_of};
+ghost use Rattle.s38_pages.specs.Formats.{IsMaking, IsUnmade, first_content, most_first};
+ghost use Rattle.s38_pages.specs.Mounts.{IsMounted, IsRefused, IsSized, fewest, layout_of};
 ghost use Rattle.s38_disk.specs.Disk.{IsAt, moment_of};
 ghost use Rattle.s38_disk.specs.Moves.{Moves};
 ghost use Rattle.s38_vault.specs.Content.{AreRising, Content, HaveObjects, changed};
 ghost use Rattle.s38_vault.specs.Directory.{changed_keys, keys_of, new_keys};
-ghost use Rattle.s38_pages.specs.Vaults.{IsOneOf, page_holds, page_leaves, page_view};
+ghost use Rattle.s38_pages.specs.Vaults.{IsOneOf, IsVault, page_holds, page_leaves, page_view};
 
 use crate::fault::StoreFault;
+use crate::formatting::create;
 use crate::marks::Marks;
 use crate::mounting::{Opened, open};
 use crate::plan::{give_back, plan};
@@ -50,6 +54,28 @@ impl<D: Disk> Model for PageVault<D> {
 }
 
 impl<D: Disk> PageVault<D> {
+    /// The vault over a disk whose store was opened.
+    fn over(disk: D, opened: Opened) -> Self
+        requires { IsVault opened.layout (D.view disk) opened.homes.values opened.marks opened.slots.items (vec_capacity opened.slots) true }
+        ensures { result ≡ record { disk = D.view disk; layout = opened.layout; homes = opened.homes.values; spare = opened.homes.spare; good = true; refused = 0 } }
+    {
+        let Opened {
+            layout,
+            homes,
+            marks,
+            slots,
+        } = opened;
+        PageVault {
+            disk,
+            layout,
+            homes,
+            marks,
+            slots,
+            good: true,
+            refused: 0,
+        }
+    }
+
     /// Mounts the store on a disk: a log behind a raised gate is done again. The disk comes back with the reason where
     /// the store is refused. Whenever a crash comes meanwhile, the store mounts to the same content.
     pub fn mount(alloc: Global, mut disk: D) -> Result<Self, (D, StoreFault)>
@@ -58,26 +84,38 @@ impl<D: Disk> PageVault<D> {
         ensures moves { IfOk result (λ v. Moves (D.view disk) v.disk 2290 (IsMounted (layout_of (D.view disk).size))) }
         ensures count { IfOk result (λ v. v.disk.faults ≡ (D.view disk).faults) }
         ensures refused { IfErr result (λ e. (s : State) → IsAt (D.view disk).past s → IsRefused (D.view disk).size s.now e.1) }
+        ensures large { OnOk result (fewest ≤ (D.view disk).size) }
+        ensures sized { IfErr result (λ e. IsSized (D.view disk).size e.1) }
         ensures crash { IfErr result (λ e. Moves (D.view disk) (D.view e.0) 2290 (IsMounted (layout_of (D.view disk).size))) }
         ensures cause { IfErr result (λ e. e.1 ≡ StoreFault.Failed → Rose (D.view disk).faults (D.view e.0).faults) }
     {
         match open(alloc, &mut disk) {
-            Ok(
-                Opened {
-                    layout,
-                    homes,
-                    marks,
-                    slots,
-                },
-            ) => Ok(PageVault {
-                disk,
-                layout,
-                homes,
-                marks,
-                slots,
-                good: true,
-                refused: 0,
-            }),
+            Ok(opened) => Ok(PageVault::over(disk, opened)),
+            Err(fault) => Err((disk, fault)),
+        }
+    }
+
+    /// Makes a store on a disk without a label, with the changes as its first content, and mounts it. The disk comes back
+    /// with the reason where no store is made. Whenever a crash comes meanwhile, the disk has no label, or the store is
+    /// whole.
+    pub fn format(alloc: Global, mut disk: D, first: &[Change]) -> Result<Self, (D, StoreFault)>
+        requires few { length first.now ≤ most_first }
+        requires rising { AreRising first.now }
+        requires objects { HaveObjects first.now }
+        ensures vault { IfOk result (λ v. (v.good ≡ true) × (v.refused ≡ 0) × (v.layout ≡ layout_of (D.view disk).size)) }
+        ensures content { IfOk result (λ v. (s : State) → IsAt (D.view disk).past s → page_holds v (first_content first.now)) }
+        ensures keys { IfOk result (λ v. keys_of v.homes ≡ keys_of (first_content first.now)) }
+        ensures large { OnOk result (fewest ≤ (D.view disk).size) }
+        ensures fresh { OnOk result ((s : State) → IsAt (D.view disk).past s → is_label (s.now 0) ≡ false) }
+        ensures moves { IfOk result (λ v. Moves (D.view disk) v.disk (v.layout.size + length first.now + 3) (IsMaking v.layout (first_content first.now))) }
+        ensures count { IfOk result (λ v. v.disk.faults ≡ (D.view disk).faults) }
+        ensures refused { IfErr result (λ e. IsUnmade (D.view disk) e.1) }
+        ensures kept { IfErr result (λ e. (e.1 ≡ StoreFault.Failed → ⊥) → (D.view e.0).past ≡ (D.view disk).past) }
+        ensures crash { IfErr result (λ e. Moves (D.view disk) (D.view e.0) ((layout_of (D.view disk).size).size + length first.now + 3) (IsMaking (layout_of (D.view disk).size) (first_content first.now))) }
+        ensures cause { IfErr result (λ e. e.1 ≡ StoreFault.Failed → Rose (D.view disk).faults (D.view e.0).faults) }
+    {
+        match create(alloc, &mut disk, first) {
+            Ok(made) => Ok(PageVault::over(disk, made)),
             Err(fault) => Err((disk, fault)),
         }
     }

@@ -1,6 +1,6 @@
 //! A crash at each moment of a put.
 
-use crate::stores::{empty_store, fill_at, gone_at, key, mounted, put_at};
+use crate::stores::{FILLS, NEW, OLD, contents, empty_store, mounted, put_at, put_second};
 use s38_base::Failed;
 use s38_disk::{Disk, MemDisk};
 use s38_vault::Vault;
@@ -17,32 +17,6 @@ fn put_first<V: Vault>(vault: &mut V) -> bool {
         Err(_) => false,
     }
 }
-
-/// One part is put over, one is taken away, and one is new. Whether they are.
-fn put_second<V: Vault>(vault: &mut V) -> bool {
-    match vault.reserve(3) {
-        Ok(()) => {
-            let _most = vault.most();
-            vault
-                .put(&[put_at(7, 0, 3), gone_at(7, 1), put_at(7, 2, 4)])
-                .is_ok()
-        }
-        Err(_) => false,
-    }
-}
-
-/// What the three parts hold.
-fn contents<V: Vault>(vault: &mut V) -> Result<[Option<u8>; 3], Fail> {
-    Ok([
-        fill_at(vault, key(7, 0))?,
-        fill_at(vault, key(7, 1))?,
-        fill_at(vault, key(7, 2))?,
-    ])
-}
-
-const OLD: [Option<u8>; 3] = [Some(1), Some(2), None];
-
-const NEW: [Option<u8>; 3] = [Some(3), None, Some(4)];
 
 /// The disk after both puts, and the moment between them.
 fn two_puts(alloc: Global) -> Result<(MemDisk, u64), Fail> {
@@ -68,9 +42,6 @@ fn left_at(alloc: Global, moment: u64, fill: u8) -> Result<[Option<u8>; 3], Fail
     let _disk = vault.release();
     found
 }
-
-/// The fills of blocks that were not synced: as before, as written, and the first byte of a raised gate.
-const FILLS: &[u8] = &[0, 1, 79];
 
 #[test]
 fn a_crash_leaves_all_of_a_put_or_nothing(rt: HostRuntime) -> Result<(), Fail> {

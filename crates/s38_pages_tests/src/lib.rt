@@ -5,6 +5,10 @@
 #[cfg(test)]
 mod crashes;
 #[cfg(test)]
+mod faults;
+#[cfg(test)]
+mod formats;
+#[cfg(test)]
 mod refusals;
 #[cfg(test)]
 mod stores;

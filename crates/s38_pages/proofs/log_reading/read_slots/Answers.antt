@@ -1,4 +1,4 @@
-use Rattle.std.proofs.Common.{◌≡◌, ◌<◌, ◌≤◌, ◌+◌, ◌++◌, ◌∷◌, ◌&&◌, [], ◌∙◌, true, not, ap, inr, length, refl, subst, sym, take, arith}
+use Rattle.std.proofs.Common.{◌<◌, ◌&&◌, ◌∙◌, true, not, ap, inr, length, refl, subst, sym, arith}
 use Rattle.std.proofs.Math.ListN.{length-set}
 use Rattle.std.proofs.lemmas.Bool.{and_parts, both_ways}
 use Rattle.std.proofs.lemmas.List.{take_all}

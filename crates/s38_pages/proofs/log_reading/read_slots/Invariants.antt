@@ -1,4 +1,4 @@
-use Rattle.std.proofs.Common.{◌≡◌, ◌≤◌, ◌+◌, ℕ, length, take}
+use Rattle.std.proofs.Common.{◌≡◌, ◌≤◌, ℕ, length, take}
 use Rattle.std.specs.Vec.{vec_capacity}
 use Rattle.s38_blocks.specs.Store.{AreHomes, log_count, log_of, targets}
 use Rattle.s38_disk.specs.Blocks.{State}

@@ -1,4 +1,4 @@
-use Rattle.std.proofs.Common.{◌≡◌, ◌≤◌, arith}
+use Rattle.std.proofs.Common.{arith}
 use Rattle.s38_pages.proofs.Marking.{all_marked}
 use Rattle.s38_pages.proofs.marks.lowest_from.Goals as goal
 

@@ -1,4 +1,4 @@
-use Rattle.std.proofs.Common.{◌≡◌, ◌+◌, ◌≤◌, ℕ, arith, subst}
+use Rattle.std.proofs.Common.{◌+◌, ℕ, arith, subst}
 use Rattle.s38_disk.specs.declared.block.Block.{Block}
 use Rattle.s38_disk.specs.Blocks.{after}
 use Rattle.s38_disk.proofs.Runs.{now_at, weaker}

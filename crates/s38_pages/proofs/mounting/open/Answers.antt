@@ -1,17 +1,14 @@
-use Rattle.std.proofs.Common.{◌≡◌, ◌≤◌, ◌<◌, ◌^◌, [], ap, arith, refl, subst, sym, true, ◌∙◌}
-use Rattle.std.specs.FinMap.{get}
+use Rattle.std.proofs.Common.{◌≡◌, ◌≤◌, ◌<◌, ◌^◌, ap, arith, subst, sym, true}
 use Rattle.std.specs.Vec.{vec_capacity}
-use Rattle.s38_disk.specs.Blocks.{State, after}
+use Rattle.s38_disk.specs.Blocks.{after}
 use Rattle.s38_disk.specs.Disk.{IsAt}
 use Rattle.s38_disk.proofs.Runs.{now_at}
 use Rattle.s38_vault.specs.Content.{Content}
 use Rattle.s38_blocks.specs.declared.layout.Layout.{Layout}
 use Rattle.s38_blocks.specs.Store.{IsLayout, Stands}
-use Rattle.s38_pages.specs.declared.mounting.Opened.{Opened}
 use Rattle.s38_pages.specs.Mounts.{IsIndexFault, IsMounted, IsReady, layout_of}
-use Rattle.s38_pages.specs.Scan.{Keeps, Scanned}
 use Rattle.s38_pages.specs.Vaults.{HoldsNow, IsVault}
-use Rattle.s38_pages.proofs.Finishing.{at_ok, each_ok, index_refused, is_layout, map_err, only_read, opened_content, opened_tells, opened_vault}
+use Rattle.s38_pages.proofs.Finishing.{at_ok, each_ok, index_refused, is_layout, large_sized, map_err, only_read, opened_content, opened_tells, opened_vault}
 use Rattle.s38_pages.proofs.mounting.open.Goals as goal
 
 pub returns-in_err-layout-clause-moves : goal.returns-in_err-layout-clause-moves
@@ -32,7 +29,7 @@ returns-clause-vault g c =
     let within : lay.size ≤ x.size = let cut = ap (λ (l : Layout). l.size) same in omega (arith, cut, c.index_homes.ensures.size, m.size, c.locate.ensures.size) in
     let few : lay.size < 2 ^ 32 = let cut = ap (λ (l : Layout). l.size) same in omega (arith, cut) in
     subst (λ (l : Layout). IsVault l x homes opened.marks opened.slots.items (vec_capacity opened.slots) true) same
-    (opened_vault lay is (ap (λ (l : Layout). l.most) same) within few (at_ok _ r opened e c.index_homes.ensures.keeps) (at_ok _ r opened e c.index_homes.ensures.slots) (at_ok _ r opened e c.index_homes.ensures.room) tells))
+    (opened_vault lay is (ap (λ (l : Layout). l.most) same) within few (at_ok _ r opened e c.index_homes.ensures.keeps) (at_ok _ r opened e c.index_homes.ensures.slots) (at_ok _ r opened e c.index_homes.ensures.room) (λ _. tells)))
 
 pub returns-clause-content : goal.returns-clause-content
 returns-clause-content g c =
@@ -59,3 +56,6 @@ returns-clause-refused g c =
     let t = after s m.calls in
     index_refused size s t fault c.in_ok-layout.ensures.large (c.in_ok-layout.ensures.label s is) (subst (λ (l : Layout). IsReady l s t) same (c.in_ok-make_ready.ensures.done s t here at))
     (subst (λ (l : Layout). IsIndexFault l t.now fault) same (p t at)))
+
+pub returns-clause-sized : goal.returns-clause-sized
+returns-clause-sized g c = map_err c.index_homes.result c.index_homes.ensures.other (λ fault other. large_sized (g.D.Disk.view c.args.disk.now).size fault c.in_ok-layout.ensures.large other)

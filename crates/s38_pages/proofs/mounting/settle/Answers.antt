@@ -1,4 +1,4 @@
-use Rattle.std.proofs.Common.{◌≡◌, false}
+use Rattle.std.proofs.Common.{false}
 use Rattle.s38_disk.proofs.Runs.{sync_near}
 use Rattle.s38_pages.proofs.Finishing.{settle_ends, settles}
 use Rattle.s38_pages.proofs.mounting.settle.Goals as goal

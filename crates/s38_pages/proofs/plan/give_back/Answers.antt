@@ -1,5 +1,4 @@
-use Rattle.std.proofs.Common.{◌≡◌, ◌<◌, ◌∙◌, length, refl, sym, subst, arith, take}
-use Rattle.s38_pages.proofs.Giving.{Given, given_more, given_start, home_within}
+use Rattle.s38_pages.proofs.Giving.{given_more, given_start, home_within}
 use Rattle.s38_pages.proofs.plan.give_back.Goals as goal
 
 pub loop-slot-init : goal.loop-slot-init

@@ -1,8 +1,6 @@
-use Rattle.std.proofs.Common.{◌≡◌, ◌≤◌, ◌∙◌, [], List, Bool, ap, length, subst, sym, refl, arith, take, get_or}
-use Rattle.std.proofs.lemmas.List.{take_more, take_all}
+use Rattle.std.proofs.Common.{◌≡◌, ◌≤◌, ◌∙◌, [], ap, length, subst, sym, refl, arith, take}
+use Rattle.std.proofs.lemmas.List.{take_more}
 use Rattle.std.specs.FinMap.{get}
-use Rattle.s38_base.specs.declared.page.Change.{Change}
-use Rattle.s38_vault.specs.Directory.{keys_of}
 use Rattle.s38_pages.specs.Index.{Planned, Tallied, marked}
 use Rattle.s38_pages.proofs.Planning.{planned_start}
 use Rattle.s38_pages.proofs.Tallies.{all_at, new_same, rising_apart, room_for, tallied_start}

@@ -1,10 +1,9 @@
-use Rattle.std.proofs.Common.{◌≡◌, ◌+◌, ◌<◌, ◌∙◌, ap, refl, subst, sym, arith}
+use Rattle.std.proofs.Common.{◌+◌, ◌∙◌, ap, refl, subst, sym, arith}
 use Rattle.std.specs.FinMap.{get, get-empty}
-use Rattle.s38_base.specs.declared.page.Key.{Key}
 use Rattle.s38_disk.specs.Disk.{IsAt}
 use Rattle.s38_vault.specs.Keys.{key_cmp}
 use Rattle.s38_pages.specs.Index.{Homes}
-use Rattle.s38_pages.specs.Scan.{Keeps, Scanned}
+use Rattle.s38_pages.specs.Scan.{Scanned}
 use Rattle.s38_pages.proofs.Keeping.{keeps_skip}
 use Rattle.s38_pages.proofs.Scanning.{home_is, hole_is, low_no_home, scanned_noted, scanned_skip, scanned_start, twins_noted}
 use Rattle.s38_pages.proofs.scan.scan.Goals as goal

@@ -1,14 +1,13 @@
-use Rattle.std.proofs.Common.{◌≡◌, ◌<◌, ◌≤◌, ◌+◌, ◌/◌, ◌*◌, ℕ, Bool, List, true, length, ap, refl, subst, sym, arith, ◌∙◌}
+use Rattle.std.proofs.Common.{◌≡◌, ◌+◌, ◌/◌, ◌*◌, List, true, length, ap, refl, subst, sym, ◌∙◌}
 use Rattle.std.specs.FinMap.{get}
 use Rattle.s38_disk.specs.Disk.{DiskView}
 use Rattle.s38_disk.specs.Moves.{Ends, Moves}
-use Rattle.s38_vault.specs.Content.{Content, changed}
+use Rattle.s38_vault.specs.Content.{changed}
 use Rattle.s38_blocks.specs.declared.layout.Layout.{Layout}
 use Rattle.s38_blocks.specs.declared.layout.Slot.{Slot}
 use Rattle.s38_blocks.specs.Phases.{IsAllOrNone, IsPut}
-use Rattle.s38_blocks.specs.Store.{targets}
-use Rattle.s38_pages.specs.Index.{AreApart, Homes, Planned, Tallied, marked}
-use Rattle.s38_pages.specs.Vaults.{HoldsNow, IsOneOf, IsVault, PageStore, page_holds}
+use Rattle.s38_pages.specs.Index.{AreApart, Planned, marked}
+use Rattle.s38_pages.specs.Vaults.{IsOneOf, IsVault, PageStore, page_holds}
 use Rattle.s38_pages.proofs.Giving.{Given, homes_apart}
 use Rattle.s38_pages.proofs.VaultLemmas.{of_ok, on_ok, present_one, put_back, put_holds, put_moves, put_told, put_vault}
 use Rattle.s38_pages.proofs.page_vault.PageVault.put_all.Goals as goal

@@ -1,5 +1,5 @@
-use Rattle.std.proofs.Common.{◌≡◌, true, false, None, Some, is_some, ap, refl, subst, sym, arith, ◌∙◌}
-use Rattle.std.specs.FinMap.{contains_key, get}
+use Rattle.std.proofs.Common.{◌≡◌, true, false, None, is_some, ap, refl, subst, sym, arith, ◌∙◌}
+use Rattle.std.specs.FinMap.{contains_key}
 use Rattle.s38_vault.specs.Directory.{keys_of}
 use Rattle.s38_vault.proofs.DirectoryLaws.{contains-keys_of}
 use Rattle.s38_blocks.proofs.CommitLemmas.{home_below}

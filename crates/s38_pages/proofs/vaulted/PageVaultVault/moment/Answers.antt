@@ -1,4 +1,4 @@
-use Rattle.std.proofs.Common.{◌≡◌, subst, sym}
+use Rattle.std.proofs.Common.{subst, sym}
 use Rattle.s38_disk.specs.Disk.{moment_of}
 use Rattle.s38_pages.specs.Vaults.{PageStore, page_holds, page_leaves}
 use Rattle.s38_pages.proofs.VaultLemmas.{holds_one, present_one}

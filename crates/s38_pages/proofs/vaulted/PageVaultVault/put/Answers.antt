@@ -1,11 +1,11 @@
-use Rattle.std.proofs.Common.{◌≡◌, ◌≤◌, ◌-◌, ap, subst, sym, arith, ◌∙◌}
+use Rattle.std.proofs.Common.{◌≡◌, ◌≤◌, ◌-◌, ap, refl, subst, arith}
 use Rattle.std.specs.FinMap.{len}
 use Rattle.std.specs.Vec.{vec_capacity}
 use Rattle.s38_vault.specs.Directory.{keys_of, new_keys}
-use Rattle.s38_disk.specs.Disk.{moment_of}
 use Rattle.s38_blocks.specs.declared.layout.Layout.{Layout}
 use Rattle.s38_pages.specs.Index.{parts_of}
 use Rattle.s38_pages.specs.Vaults.{IsVault, LeavesAt, PageStore}
+use Rattle.s38_pages.proofs.Finishing.{only_read}
 use Rattle.s38_pages.proofs.VaultLemmas.{free_after, told_moments}
 use Rattle.s38_pages.proofs.vaulted.PageVaultVault.put.Goals as goal
 
@@ -30,3 +30,11 @@ pub returns-in-Err-clause-during : goal.returns-in-Err-clause-during
 returns-in-Err-clause-during g c m holds t n low high left =
     let vault = subst (λ (v : PageStore). IsVault v.layout v.disk v.homes c.self.inside.marks c.self.inside.slots.items (vec_capacity c.self.inside.slots) v.good) c.self.view_is c.self.invariant in
     told_moments vault c.put_all.ensures.moves m holds t n low high (subst (λ (l : Layout). LeavesAt l c.put_all.new.self.disk.past t n) c.put_all.ensures.layout left)
+
+pub returns-then-needed-free-clause-moves : goal.returns-then-needed-free-clause-moves
+returns-then-needed-free-clause-moves g c = only_read _ _ refl (omega arith) refl
+
+pub returns-then-not-self-clause-moves : goal.returns-then-not-self-clause-moves
+returns-then-not-self-clause-moves g c =
+    let later = ap (λ (v : PageStore). v.disk.faults) c.self.view_is in
+    only_read _ _ (ap (λ (v : PageStore). v.disk.size) c.self.view_is) (omega (arith, later)) (ap (λ (v : PageStore). v.disk.past) c.self.view_is)
