@@ -6,4 +6,8 @@ mod bodies;
 #[cfg(test)]
 mod headers;
 #[cfg(test)]
+mod objects;
+#[cfg(test)]
 mod pages;
+#[cfg(test)]
+mod printing;

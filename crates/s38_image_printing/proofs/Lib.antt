@@ -1,0 +1,5 @@
+pub mod PrintLaws
+pub mod CutLaws
+pub mod WriterLaws
+pub mod DataLaws
+pub mod TextLaws
