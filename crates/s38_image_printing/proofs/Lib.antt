@@ -3,3 +3,5 @@ pub mod CutLaws
 pub mod WriterLaws
 pub mod DataLaws
 pub mod TextLaws
+pub mod LengthLaws
+pub mod PartLaws
