@@ -7,10 +7,10 @@ use Rattle.std.specs.List.{list_all}
 use Rattle.std.specs.Option.{option_copied, option_flatten}
 use Rattle.std.specs.Prelude.{IfSome, IsTrue, Option, Some, None, ◌==◌, if◌then◌else◌, slice_get}
 use Rattle.s38_base.specs.declared.attr.Attr.{Attr}
-use Rattle.s38_dataspaces.specs.Entries.{Entry, Kept, entry_at, put_at, with_entry}
+use Rattle.s38_dataspaces.specs.Entries.{Entry, Kept, entry_at, has_width, put_at, with_entry}
 use Rattle.s38_dataspaces.specs.declared.fault.EntryFault.TheVariants.{BadLength}
 use Rattle.s38_dataspaces.specs.Refusals.{delete_refusal, update_refusal}
-use Rattle.s38_dataspaces.specs.Table.{DataTable, IsDataSpace, entry_len, image_size}
+use Rattle.s38_dataspaces.specs.Table.{DataTable, IsDataSpace, entry_len, image_size, is_entry_of}
 use Rattle.s38_dataspaces.specs.Values.{have_values, is_proper}
 
 both : (a b : Bool) → a ≡ true → b ≡ true → (a && b) ≡ true
@@ -102,3 +102,14 @@ deleted_kept fields size len old new is kept same small =
     subst (λ (k : Kept). IsDataSpace fields k.width (size + (1 + len)) k.entries) (sym is)
     (subst (λ (n : ℕ). IsDataSpace fields old.width (size + (1 + n)) (old.entries ++ None ∷ [])) (sym same)
     (deleted_is fields old.width size old.entries kept (omega (arith, same, small))))
+
+-- an entry of the width of the fields, whose numbers have values, is one of the fields
+is_entry : (fields : List Attr) (entry : Entry) → has_width (entry_len fields) entry ≡ true → is_proper fields entry ≡ true → is_entry_of fields entry ≡ true
+is_entry fields None width proper = refl
+is_entry fields (Some bytes) width proper = both (length bytes == entry_len fields) (have_values fields bytes) width proper
+
+pub are_entries : (fields : List Attr) (entries : List Entry) → list_all (has_width (entry_len fields)) entries ≡ true → list_all (is_proper fields) entries ≡ true → list_all (is_entry_of fields) entries ≡ true
+are_entries fields [] widths proper = refl
+are_entries fields (e ∷ es) widths proper =
+    both (is_entry_of fields e) _ (is_entry fields e (first_of (has_width (entry_len fields) e) _ widths) (first_of (is_proper fields e) _ proper))
+    (are_entries fields es (second_of (has_width (entry_len fields) e) _ widths) (second_of (is_proper fields e) _ proper))

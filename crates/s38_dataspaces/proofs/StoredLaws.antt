@@ -2,11 +2,13 @@
 use Rattle.std.proofs.Common.{◌≡◌, ℕ, zero, suc, ◌+◌, ◌-◌, ◌*◌, ◌<◌, ◌≤◌, Bool, true, false, List, [], ◌∷◌, ◌++◌, length, get_or, set, take, drop, refl, sym, ◌∙◌, ap, arith, length-drop}
 use Rattle.std.proofs.Math.Nat.{suc-mul}
 use Rattle.std.proofs.Math.Seq.{take-length, take-append_seam, drop-append_seam}
-use Rattle.std.proofs.lemmas.List.{take-append-le, drop-append-le, drop-drop, drop-take, length-take, take-take}
+use Rattle.std.proofs.lemmas.List.{take-append-le, drop-append-le, drop-drop, drop-take, length-take, length-take-le, take-take}
+use Rattle.std.proofs.lemmas.Bool.{eq-eqb}
+use Rattle.std.specs.List.{list_all}
 use Rattle.std.proofs.lemmas.Option.{slice_get_past}
 use Rattle.std.specs.Option.{option_flatten}
-use Rattle.std.specs.Prelude.{Some, None, if◌then◌else◌, is_some, map, slice_get}
-use Rattle.s38_dataspaces.specs.Entries.{Entry, entry_at, stored}
+use Rattle.std.specs.Prelude.{IsTrue, Some, None, ◌==◌, if◌then◌else◌, is_some, map, slice_get}
+use Rattle.s38_dataspaces.specs.Entries.{Entry, entry_at, has_width, stored}
 
 -- the bytes of a first slot, and those of the others
 first_slot : (n w m : ℕ) → m ≡ suc n * w → w ≤ m
@@ -110,3 +112,11 @@ past_entry flags bytes w (suc k) past =
 -- bytes that were written back into a vector of the same length
 pub written_back : (n : ℕ) (new old : List ℕ) → length new ≡ n → take n (new ++ drop (length new) old) ≡ new
 written_back n new old e = rw (sym e) (take-append_seam new (drop (length new) old))
+
+-- each slot has the width of all
+pub stored_widths : (flags : List Bool) (bytes : List ℕ) (w : ℕ) → length bytes ≡ length flags * w → IsTrue (list_all (has_width w) (stored w flags bytes))
+stored_widths [] bytes w whole = refl
+stored_widths (true ∷ flags) bytes w whole =
+    let enough = first_slot (length flags) w (length bytes) whole in
+    rw (eq-eqb (length (take w bytes)) w (length-take-le w bytes enough)) (stored_widths flags (drop w bytes) w (later_slots (length flags) w bytes whole))
+stored_widths (false ∷ flags) bytes w whole = stored_widths flags (drop w bytes) w (later_slots (length flags) w bytes whole)

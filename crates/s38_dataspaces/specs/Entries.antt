@@ -1,5 +1,5 @@
 -- Entries of one width, numbered from 1 on by their ordinals: each is its bytes, or it is deleted.
-use Rattle.std.specs.Prelude.{◌≡◌, ℕ, zero, suc, ◌+◌, ◌-◌, ◌*◌, ◌<◌, ◌≤◌, Bool, Option, Some, None, List, [], ◌∷◌, ◌++◌, take, drop, if◌then◌else◌, slice_get, slice_set}
+use Rattle.std.specs.Prelude.{◌≡◌, ℕ, zero, suc, ◌+◌, ◌-◌, ◌*◌, ◌<◌, ◌≤◌, Bool, true, Option, Some, None, List, [], ◌∷◌, ◌++◌, ◌==◌, length, take, drop, if◌then◌else◌, slice_get, slice_set}
 use Rattle.std.specs.Option.{option_flatten}
 
 -- the bytes of an entry, or None where it is deleted
@@ -10,6 +10,11 @@ Entry = Option (List ℕ)
 abbrev pub entry_at : List Entry → ℕ → Entry
 entry_at entries zero = None
 entry_at entries (suc k) = option_flatten (slice_get entries k)
+
+-- an entry has so many bytes, where it is not deleted
+abbrev pub has_width : ℕ → Entry → Bool
+has_width width None = true
+has_width width (Some entry) = length entry == width
 
 -- one more entry, under the next ordinal
 abbrev pub with_entry : List Entry → List ℕ → List Entry

@@ -1,6 +1,7 @@
-ghost use Rattle.std.specs.Prelude.{◌≡◌, ◌==◌, ◌≤◌, ◌<◌, ◌++◌, ◌∷◌, [], Some, None, IfSome, IsErr, IsOk, OnOk, OnErr, length, map, is_some, not};
+ghost use Rattle.std.specs.Prelude.{◌≡◌, ◌==◌, ◌≤◌, ◌<◌, ◌++◌, ◌∷◌, [], Some, None, IfSome, IsErr, IsOk, IsTrue, OnOk, OnErr, length, map, is_some, not};
+ghost use Rattle.std.specs.List.{list_all};
 ghost use Rattle.std.specs.Option.{option_copied};
-ghost use Rattle.s38_dataspaces.specs.Entries.{entry_at, put_at, with_entry};
+ghost use Rattle.s38_dataspaces.specs.Entries.{entry_at, has_width, put_at, with_entry};
 
 use crate::slots;
 use s38_base::NoMemory;
@@ -47,10 +48,11 @@ impl Records {
         self.width
     }
 
-    /// How many ordinals there are, deleted ones included.
+    /// How many ordinals there are, deleted ones included. Each entry has the width of all.
     #[tactic(auto, using(crate::proofs::StoredLaws::stored_count))]
     pub fn count(&self) -> usize
-        ensures { result ≡ length self.now.entries }
+        ensures count { result ≡ length self.now.entries }
+        ensures widths { IsTrue (list_all (has_width self.now.width) self.now.entries) }
     {
         self.standing.len()
     }

@@ -1,10 +1,11 @@
 ghost use Rattle.std.specs.Bool.{OnTrue};
 ghost use Rattle.std.specs.Prelude.{◌⊎◌, ◌==◌, ◌&&◌, IsOk, ◌≡◌, ◌+◌, ◌≤◌, ◌<◌, [], Some, None, IfErr, IfNone, IfOk, IfSome, IsErrOf, IsTrue, OnOk, OnErr, length, map, is_some, not};
+ghost use Rattle.std.specs.List.{list_all};
 ghost use Rattle.std.specs.Option.{ForSome, option_copied, unwrap_or};
 ghost use Rattle.s38_dataspaces.specs.Entries.{entry_at};
 ghost use Rattle.s38_dataspaces.specs.Refusals.{delete_refusal, insert_refusal, update_refusal};
 ghost use Rattle.s38_dataspaces.specs.Seeks.{IsNowhere, IsSought, sought};
-ghost use Rattle.s38_dataspaces.specs.Table.{are_fields, changed, entry_len, image_size, inserted, inserted_deleted, may_restore, restored};
+ghost use Rattle.s38_dataspaces.specs.Table.{are_fields, changed, entry_len, image_size, inserted, inserted_deleted, is_entry_of, may_restore, restored};
 ghost use Rattle.s38_dataspaces.specs.Values.{have_values};
 
 use crate::fault::EntryFault;
@@ -73,9 +74,11 @@ impl DataSpace {
         &self.fields
     }
 
-    /// How many ordinals there are, deleted ones included.
+    /// How many ordinals there are, deleted ones included. Each entry is one of the fields: it has their length, and
+    /// each numeric field has a value.
     pub fn ordinals(&self) -> u32
-        ensures { result ≡ length self.now.entries }
+        ensures count { result ≡ length self.now.entries }
+        ensures entries { IsTrue (list_all (is_entry_of self.now.fields) self.now.entries) }
     {
         self.records.count() as u32
     }
