@@ -5,3 +5,4 @@ pub mod DataLaws
 pub mod TextLaws
 pub mod LengthLaws
 pub mod PartLaws
+pub mod KindLaws

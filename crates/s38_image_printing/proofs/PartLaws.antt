@@ -21,6 +21,7 @@ use Rattle.s38_image.specs.declared.header.Header.{Header}
 use Rattle.s38_image_printing.proofs.LengthLaws.{header_long}
 use Rattle.s38_image_printing.proofs.PrintLaws.{times_print}
 use Rattle.s38_image_printing.specs.Parts.{CanSettle, header_with, own_bytes, own_parts, part_count}
+use Rattle.s38_image_printing.specs.Writing.{Adds, Place, Written}
 use Rattle.s38_memory.specs.Tagged.{bytes_in}
 use Rattle.s38_memory.specs.declared.cell.Cell.{Cell}
 use Rattle.s38_rules.specs.Held.{kind_of}
@@ -46,6 +47,26 @@ pub stream_long : (number first : ℕ) (bytes tags : List ℕ) → length (strea
 stream_long number first bytes tags =
     let n = needed (length bytes) in
     pages_long number first n _ (pages_numbered number first n (filled (512 * n) bytes) tags)
+
+-- what was put from the beginning of a stream on is its bytes
+pub streamed : (w v : Written) (before : List Change) (number first capacity len count : ℕ) (xs : List ℕ) (whole : List Change)
+    → w ≡ record { place = record { before = before; number = number; first = first; capacity = capacity }; bytes = []; room = len } → Adds w v count xs
+    → whole ≡ v.place.before ++ stream_parts v.place.number v.place.first v.bytes [] → whole ≡ before ++ stream_parts number first xs []
+streamed w v before number first capacity len count xs whole new adds is =
+    is
+    ∙ ap (λ (p : Place). p.before ++ stream_parts p.number p.first v.bytes []) (adds.place ∙ ap (λ (u : Written). u.place) new)
+    ∙ ap (λ (bs : List ℕ). before ++ stream_parts number first bs []) (adds.bytes ∙ ap (λ (u : Written). u.bytes ++ xs) new)
+
+pub capacity_kept : (w v : Written) (before : List Change) (number first capacity len count kept : ℕ) (xs : List ℕ)
+    → w ≡ record { place = record { before = before; number = number; first = first; capacity = capacity }; bytes = []; room = len } → Adds w v count xs
+    → kept ≡ v.place.capacity → kept ≡ capacity
+capacity_kept w v before number first capacity len count kept xs new adds is =
+    is ∙ ap (λ (p : Place). p.capacity) (adds.place ∙ ap (λ (u : Written). u.place) new)
+
+-- how many parts there are behind a stream
+pub streamed_len : (number first len : ℕ) (xs : List ℕ) (before whole : List Change) → whole ≡ before ++ stream_parts number first xs [] → length xs ≡ len → length whole ≡ length before + needed len
+streamed_len number first len xs before whole is long =
+    ap length is ∙ length-append before (stream_parts number first xs []) ∙ ap (λ (n : ℕ). length before + n) (stream_long number first xs [] ∙ ap needed long)
 
 -- ---- a body
 

@@ -1,6 +1,8 @@
 //! What is printed of a body of any kind, with every uncommitted change taken back. Nothing here takes memory.
-ghost use Rattle.std.specs.Prelude.{◌≡◌, ◌+◌, ◌*◌, ◌≤◌, ◌++◌, ℕ, [], length, vec_capacity, vec_len};
+ghost use Rattle.std.specs.Prelude.{◌≡◌, ◌+◌, ◌*◌, ◌≤◌, ◌++◌, ℕ, IsTrue, [], length, vec_capacity, vec_len};
+ghost use Rattle.std.specs.List.{list_all};
 ghost use Rattle.s38_commits.specs.Units.{UnitMap};
+ghost use Rattle.s38_dataspaces.specs.Table.{image_size, is_entry_of};
 ghost use Rattle.s38_image.specs.Pages.{needed, stream_parts};
 ghost use Rattle.s38_image_printing.specs.Parts.{CanSettle, HasShortText, own_bytes, own_parts};
 ghost use Rattle.s38_image_printing.specs.Writing.{Adds};
@@ -19,6 +21,7 @@ use crate::writer::PageWriter;
 use s38_base::{Change, ObjNum};
 use s38_code::Code;
 use s38_commits::Units;
+use s38_dataspaces::DataSpace;
 use s38_memory::Tagged;
 use s38_rules::{Body, BodyPart};
 
@@ -53,6 +56,16 @@ fn cells_len(cells: &Tagged) -> u32
     cells.len()
 }
 
+/// How many bytes a data space has. Each entry is one of its fields.
+fn data_len(held: &DataSpace) -> u32
+    ensures len { result ≡ image_size held.now.fields (length held.now.entries) }
+    ensures most { result ≤ 16777216 }
+    ensures entries { IsTrue (list_all (is_entry_of held.now.fields) held.now.entries) }
+{
+    let _ordinals = held.ordinals();
+    held.image_len()
+}
+
 /// How many bytes the image of a body has, also with every uncommitted change taken back.
 pub fn image_len(body: &Body) -> u32
     requires { HasShortText body.now }
@@ -67,7 +80,7 @@ pub fn image_len(body: &Body) -> u32
         Body::Space(cells) => cells_len(cells),
         Body::Queue(queue) => queue.image_len(),
         Body::Index(index) => index.image_len(),
-        Body::DataSpace(held) => held.space.image_len(),
+        Body::DataSpace(held) => data_len(&held.space),
         Body::Cursor(_) => 20,
         Body::Port(_) => 8,
         Body::Journal(journal) => journal.len(),
