@@ -3,7 +3,7 @@ use Rattle.std.proofs.Common.{◌≡◌, ℕ, zero, suc, ◌+◌, ◌-◌, ◌*�
 use Rattle.std.proofs.lemmas.Bool.{eqb-true}
 use Rattle.std.proofs.lemmas.List.{length-append, length-drop}
 use Rattle.std.proofs.lemmas.List.Sums.{sum_by-cons}
-use Rattle.std.specs.Prelude.{◌&&◌, ◌==◌, All, IsTrue, nat_le, nat_lt, replicate, sum_by}
+use Rattle.std.specs.Prelude.{◌&&◌, ◌==◌, All, IsTrue, if◌then◌else◌, nat_le, nat_lt, replicate, sum_by}
 use Rattle.std.specs.List.{flat_map, list_all}
 use Rattle.s38_base.specs.NameText.{are_name_bytes, is_name, padded}
 use Rattle.s38_base.specs.declared.attr.Attr.{Attr}
@@ -28,6 +28,7 @@ use Rattle.s38_image.specs.declared.header.Header.{Header}
 use Rattle.s38_image_printing.proofs.DataLaws.{data_bytes, first_restorable, settled_length}
 use Rattle.s38_image_printing.proofs.PrintLaws.{journal_bytes, journal_length, queue_bytes}
 use Rattle.s38_image_printing.proofs.TextLaws.{index_bytes}
+use Rattle.s38_image_printing.specs.Parts.{CanSettle, own_bytes}
 use Rattle.s38_image_printing.specs.Printing.{index_entry_bytes, message_bytes, slot_bytes}
 use Rattle.s38_image_printing.specs.Restoring.{AreRestorable, settled_data}
 use Rattle.s38_indexes.specs.Entries as indexes
@@ -35,12 +36,17 @@ use Rattle.s38_journals.specs.Entries as journaled
 use Rattle.s38_journals.specs.Journals.{entries_len}
 use Rattle.s38_queues.specs.MessageQueue as queues
 use Rattle.s38_queues.specs.declared.message.Message.{Message}
-use Rattle.s38_rules.specs.Room.{line_size}
+use Rattle.s38_rules.specs.Room.{image_len, line_size}
+use Rattle.s38_rules.specs.declared.object.Body.{Body}
 use Rattle.s38_rules.specs.declared.data_body.DataBody.{DataBody}
 use Rattle.s38_template.specs.Grammar.{with_feed}
 use Rattle.s38_template.specs.Printing.{printed_lines}
 
 -- ---- bodies
+
+-- a body has so many bytes as its image, with every uncommitted change taken back
+abbrev pub IsLong : Body → Type 0
+IsLong b = (units : UnitMap) (number last : ℕ) → CanSettle units number b → length (own_bytes units number last b) ≡ image_len b
 
 pub text_long : (lines : List (List ℕ)) → length (printed_lines lines) ≡ sum_by line_size lines
 text_long [] = refl
@@ -86,14 +92,16 @@ settled_fits units space at t entry all fits =
 
 slots_long : (units : UnitMap) (space at : ℕ) (t : DataTable) (entries : List Entry) → AreRestorable units space t → list_all (is_entry_of t.fields) entries ≡ true
     → length (flat_map (slot_bytes (entry_len t.fields)) (settled_entries units space at entries)) ≡ length entries * (1 + entry_len t.fields)
-slots_long units space at t [] all fit = refl
+slots_long units space at t [] all fit = omega arith
 slots_long units space at t (e ∷ entries) all fit =
     let both = both_true (is_entry_of t.fields e) (list_all (is_entry_of t.fields) entries) fit in
     let here = slot_long t.fields (settled_entry units space at e) (settled_fits units space at t e all both.0) in
     let rest = slots_long units space (at + 1) t entries all both.1 in
+    let more : (1 + entry_len t.fields) + length entries * (1 + entry_len t.fields) ≡ suc (length entries) * (1 + entry_len t.fields) = omega arith in
     length-append (slot_bytes (entry_len t.fields) (settled_entry units space at e)) (flat_map (slot_bytes (entry_len t.fields)) (settled_entries units space (at + 1) entries))
     ∙ ap (λ (n : ℕ). n + length (flat_map (slot_bytes (entry_len t.fields)) (settled_entries units space (at + 1) entries))) here
     ∙ ap (λ (n : ℕ). (1 + entry_len t.fields) + n) rest
+    ∙ more
 
 pub data_long : (units : UnitMap) (number last : ℕ) (d : DataBody) → AreRestorable units number d.space → list_all (is_entry_of d.space.fields) d.space.entries ≡ true
     → length (data_space.print (settled_data units number last d)) ≡ tables.image_size d.space.fields (length d.space.entries)
@@ -101,7 +109,7 @@ data_long units number last d all fit =
     let entries = settled_entries units number 1 d.space.entries in
     let slots = flat_map (slot_bytes (entry_len d.space.fields)) entries in
     let long = slots_long units number 1 d.space d.space.entries all fit in
-    ap length (data_bytes d.port.0 _ d.space.fields entries)
+    ap length (data_bytes d.port.0 (if d.port.0 == 0 then 0 else last) d.space.fields entries)
     ∙ omega (arith, length-append (flat_map attr.print d.space.fields) (u32.print (length entries) ++ slots), attrs_long d.space.fields, long)
 
 -- ---- a header

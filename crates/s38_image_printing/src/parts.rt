@@ -13,7 +13,7 @@ ghost use Rattle.s38_rules.specs.Room.{image_len, rows_pages};
 use crate::body::{image_len, with_body};
 use crate::printing::{put_header, put_rows};
 use crate::writer::PageWriter;
-use s38_base::{Change, Id, NoMemory};
+use s38_base::{Change, NoMemory};
 use s38_commits::Units;
 use s38_image::{Header, needed};
 use s38_rules::Object;
@@ -26,15 +26,6 @@ const ROWS_PART: u32 = 1;
 const HEADER_BYTES: u32 = 512;
 /// How many bytes a row has.
 const ROW_BYTES: u32 = 9;
-
-/// The pages of a header: one.
-fn header_pages(id: &Id) -> u32
-    ensures value { result ≡ 1 }
-    ensures name { IsTrue (is_name id.now.name) }
-{
-    let _name = id.name.as_bytes();
-    1
-}
 
 /// The header of an object whose body has so many bytes.
 fn header_with(object: &Object, len: u32) -> Header
@@ -102,9 +93,10 @@ pub fn part_count(object: &Object) -> u32
     ensures count { result ≡ part_count object.now }
     ensures parts { (units : UnitMap) (last : ℕ) → CanSettle units object.now.number.0 object.now.body → length (parts_of (settled units last object.now)) ≡ part_count object.now }
 {
+    let _name = object.id.name.as_bytes();
     let rows = needed(ROW_BYTES * object.rows.len() as u32);
     let body = needed(image_len(&object.body));
-    header_pages(&object.id) + (rows + body)
+    1 + (rows + body)
 }
 
 /// Adds the parts of an object, for which there is room, and takes no memory. Of a data space every change of the units is
