@@ -18,7 +18,7 @@ use Rattle.s38_memory.specs.Tagged.{bytes_in}
 use Rattle.s38_memory.specs.declared.cell.Cell.{Cell}
 use Rattle.s38_memory.specs.declared.cell.Cell.TheVariants as cells
 
-same_zeros : (a b : ℕ) → a ≡ b → copies {A = ℕ} a 0 ≡ copies b 0
+pub same_zeros : (a b : ℕ) → a ≡ b → copies {A = ℕ} a 0 ≡ copies b 0
 same_zeros a b e = ap (λ (k : ℕ). copies {A = ℕ} k 0) e
 
 take_zeros : (k m : ℕ) → k ≤ m → take {A = ℕ} k (copies m 0) ≡ copies k 0

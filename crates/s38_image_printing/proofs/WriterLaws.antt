@@ -5,6 +5,7 @@ use Rattle.s38_base.specs.Limits.{page_bytes}
 use Rattle.s38_base.specs.declared.page.Change.{Change}
 use Rattle.s38_codecs.specs.Codec.{copies}
 use Rattle.s38_image.specs.Pages.{cut, filled, needed, numbered, page_at, stream, stream_parts}
+use Rattle.s38_image_printing.proofs.CutLaws.{same_zeros}
 use Rattle.s38_image_printing.specs.Writing.{Adds, IsCut, Written}
 use Rattle.s38_image.proofs.PageLaws.{length_filled}
 use Rattle.s38_image.proofs.StreamLaws.{stream_append}
@@ -123,9 +124,6 @@ turned_before number first at len from most free old new tail front is long fill
 
 -- ---- the end
 
-zeros_left : (n m : ℕ) → n ≡ m → copies {A = ℕ} n 0 ≡ copies m 0
-zeros_left n m e = ap (λ (k : ℕ). copies {A = ℕ} k 0) e
-
 -- a last page that is not full
 pub finished_short : (number first at len from most : ℕ) (old new : List Change) (tail : List ℕ) → IsCut number first at len from most old tail → 0 < length tail
     → new ≡ old ++ turned_page number at tail ∷ [] → new ≡ take from old ++ stream_parts number first (stream (drop from old) ++ tail) []
@@ -138,7 +136,7 @@ finished_short number first at len from most old new tail is some more =
     let zeros : page_bytes - length tail ≡ page_bytes * needed (length (bytes ++ tail)) - length (bytes ++ tail) = omega (arith, pages, count, size, is.start, is.short) in
     let whole : bytes ++ filled page_bytes tail ≡ filled (page_bytes * needed (length (bytes ++ tail))) (bytes ++ tail) =
     sym (append_assoc bytes tail (copies (page_bytes - length tail) 0))
-    ∙ ap (λ (q : List ℕ). (bytes ++ tail) ++ q) (zeros_left (page_bytes - length tail) (page_bytes * needed (length (bytes ++ tail)) - length (bytes ++ tail)) zeros) in
+    ∙ ap (λ (q : List ℕ). (bytes ++ tail) ++ q) (same_zeros (page_bytes - length tail) (page_bytes * needed (length (bytes ++ tail)) - length (bytes ++ tail)) zeros) in
     sym (take-append-drop from new)
     ∙ ap (λ (q : List Change). q ++ drop from new) t.before
     ∙ ap (λ (q : List Change). take from old ++ q) (t.pages
@@ -156,7 +154,7 @@ finished_full number first at len from most old tail is none =
     let pages : length old - from ≡ needed (length (bytes ++ tail)) = omega (arith, is.full, ap length all) in
     let zeros : page_bytes * needed (length (bytes ++ tail)) - length (bytes ++ tail) ≡ 0 = omega (arith, pages, is.full, ap length all) in
     let whole : bytes ≡ filled (page_bytes * needed (length (bytes ++ tail))) (bytes ++ tail) =
-    sym all ∙ sym (append-nil (bytes ++ tail)) ∙ ap (λ (q : List ℕ). (bytes ++ tail) ++ q) (sym (zeros_left (page_bytes * needed (length (bytes ++ tail)) - length (bytes ++ tail)) 0 zeros)) in
+    sym all ∙ sym (append-nil (bytes ++ tail)) ∙ ap (λ (q : List ℕ). (bytes ++ tail) ++ q) (sym (same_zeros (page_bytes * needed (length (bytes ++ tail)) - length (bytes ++ tail)) 0 zeros)) in
     sym (take-append-drop from old)
     ∙ ap (λ (q : List Change). take from old ++ q) (is.pages
     ∙ ap (λ (q : List ℕ). numbered number first (cut (length old - from) q) []) whole

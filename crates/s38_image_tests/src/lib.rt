@@ -2,6 +2,8 @@
 #![tactic(auto)]
 
 #[cfg(test)]
+mod bits;
+#[cfg(test)]
 mod bodies;
 #[cfg(test)]
 mod headers;
@@ -10,4 +12,8 @@ mod objects;
 #[cfg(test)]
 mod pages;
 #[cfg(test)]
+mod printed;
+#[cfg(test)]
 mod printing;
+#[cfg(test)]
+mod samples;

@@ -17,7 +17,7 @@ returns c =
     let few = adds_same _ _ 2 2 _ (u16.print (length t.fields)) c.put_short_count.ensures refl (ap u16.print (c.len.ensures ∙ ap length c.fields.ensures.fields)) in
     let are : c.as_slice.result.now ≡ t.fields = c.as_slice.ensures.items ∙ c.fields-2.ensures.fields in
     let fields = adds_same _ _ _ (3 * length t.fields) _ (flat_map attr.print t.fields) c.put_fields.ensures (ap (λ (fs : List Attr). 3 * length fs) are) (ap (λ (fs : List Attr). flat_map attr.print fs) are) in
-    let count = adds_same _ _ 4 4 _ (u32.print (length t.entries)) c.put_u32.ensures refl (ap u32.print c.ordinals.ensures) in
+    let count = adds_same _ _ 4 4 _ (u32.print (length t.entries)) c.put_u32.ensures refl (ap u32.print c.ordinals.ensures.count) in
     let es = settled_entries c.args.units.now c.args.number.0 1 t.entries in
     data_adds _ _ _ _ _ _ _ d.port.0 (if d.port.0 == 0 then 0 else c.args.last) (length t.entries) t.fields es (sym (settled_length c.args.units.now c.args.number.0 1 t.entries))
     c.put_u64.ensures sequence few fields count c.put_entries.ensures
