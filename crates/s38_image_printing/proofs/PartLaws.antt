@@ -70,18 +70,22 @@ streamed_len number first len xs before whole is long =
 
 -- ---- a body
 
+-- the parts of a body without tags
+own_untagged : (units : UnitMap) (number last : ℕ) (b : Body) → stream_parts number 128 (own_bytes units number last b) (copies (needed (length (own_bytes units number last b))) 0) ≡ stream_parts number 128 (own_bytes units number last b) []
+own_untagged units number last b = untagged number 128 (needed (length (own_bytes units number last b))) (own_bytes units number last b)
+
 pub own_stream : (units : UnitMap) (number last : ℕ) (b : Body) → space_of b ≡ None → own_parts units number last b ≡ stream_parts number 128 (own_bytes units number last b) []
-own_stream units number last bodies.Context none = untagged number 128 _ _
-own_stream units number last (bodies.Program p) none = untagged number 128 _ _
-own_stream units number last (bodies.Profile s limit) none = untagged number 128 _ _
+own_stream units number last bodies.Context none = own_untagged units number last bodies.Context
+own_stream units number last (bodies.Program p) none = own_untagged units number last (bodies.Program p)
+own_stream units number last (bodies.Profile s limit) none = own_untagged units number last (bodies.Profile s limit)
 own_stream units number last (bodies.Space cs) none = absurd cc
-own_stream units number last (bodies.Queue q) none = untagged number 128 _ _
-own_stream units number last (bodies.Index i) none = untagged number 128 _ _
-own_stream units number last (bodies.DataSpace d) none = untagged number 128 _ _
-own_stream units number last (bodies.Cursor c) none = untagged number 128 _ _
-own_stream units number last (bodies.Port p) none = untagged number 128 _ _
-own_stream units number last (bodies.Journal j) none = untagged number 128 _ _
-own_stream units number last (bodies.Block b) none = untagged number 128 _ _
+own_stream units number last (bodies.Queue q) none = own_untagged units number last (bodies.Queue q)
+own_stream units number last (bodies.Index i) none = own_untagged units number last (bodies.Index i)
+own_stream units number last (bodies.DataSpace d) none = own_untagged units number last (bodies.DataSpace d)
+own_stream units number last (bodies.Cursor c) none = own_untagged units number last (bodies.Cursor c)
+own_stream units number last (bodies.Port p) none = own_untagged units number last (bodies.Port p)
+own_stream units number last (bodies.Journal j) none = own_untagged units number last (bodies.Journal j)
+own_stream units number last (bodies.Block b) none = own_untagged units number last (bodies.Block b)
 
 pub own_cells : (units : UnitMap) (number last : ℕ) (b : Body) (cs : List Cell) → space_of b ≡ Some cs → own_parts units number last b ≡ stream_parts number 128 (bytes_in cs) (space_tags cs)
 own_cells units number last b cs some = ap (λ (v : Body). own_parts units number last v) (space_lawful.back b cs some)
