@@ -77,7 +77,7 @@ order_is = seen_is order_by order_number _ (record { there = order_there; here =
 message_is : (key_len longest : ℕ) → IsCodec Message (message key_len longest)
 message_is key_len longest = seen_is message_by message_parts (behind (bytes key_len) (λ _. text longest)) (record { there = λ y. refl; here = λ x h. refl }) (behind_is (bytes key_len) (λ _. text longest) (bytes_is key_len) (λ _. text_is longest))
 
-queue_head_is : IsCodec QueueHead queue_head
+pub queue_head_is : IsCodec QueueHead queue_head
 queue_head_is = only_is is_queue_head _ (behind_is order _ order_is (λ _. behind_is byte _ byte_is (λ _. u16_is)))
 
 pub queue_is : IsCodec MessageQueue queue

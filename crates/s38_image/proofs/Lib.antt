@@ -1,6 +1,5 @@
 pub mod PageLaws
 pub mod StreamLaws
-pub mod PrintLaws
 pub mod QueueLaws
 pub mod HeaderLaws
 pub mod ScalarLaws
@@ -8,7 +7,6 @@ pub mod SpaceLaws
 pub mod BodyLaws
 pub mod ImageLaws
 pub mod AgainLaws
-pub mod CutLaws
 pub mod ReadLaws
 pub mod RowLaws
 pub mod JournalReading

@@ -95,7 +95,7 @@ cells_bytes (f ∷ fs) (c ∷ cs) h =
 
 -- ---- a space
 
-length_pointer : (p : Pointer) → length (image p) ≡ 16
+pub length_pointer : (p : Pointer) → length (image p) ≡ 16
 unfolding fields
 length_pointer (pointers.System object rights) = refl
 length_pointer (pointers.Space object offset) = refl

@@ -15,10 +15,23 @@ use Rattle.s38_codecs.specs.Reading.{Fails}
 use Rattle.s38_codecs.specs.declared.fault.ReadFault.{ReadFault}
 use Rattle.s38_codecs.specs.declared.fault.ReadFault.TheVariants as faults
 use Rattle.s38_codecs.proofs.Loop.{with_front}
-use Rattle.s38_image.proofs.PrintLaws.{found_first, found_none}
 use Rattle.s38_image.specs.Pages.{same_list}
 use Rattle.s38_image.specs.Spaces.{bits, cell, cells_by, flags_in, is_tagged, page_cells, tag_number, tag_numbers}
 use Rattle.s38_memory.specs.declared.cell.Cell.{Cell}
+
+-- the value at a place, and those after it
+next_place : (n : ℕ) → suc (n + 1) ≡ suc n + 1
+next_place n = omega arith
+
+pub found_first : {A : Type 0} (xs : List A) (at : ℕ) (x : A) → slice_get xs at ≡ Some x → drop at xs ≡ x ∷ drop (at + 1) xs
+found_first [] at x e = absurd cc
+found_first (y ∷ xs) zero x e = cc
+found_first (y ∷ xs) (suc n) x e = found_first xs n x e ∙ ap (λ (k : ℕ). x ∷ drop k (y ∷ xs)) (next_place n)
+
+found_none : {A : Type 0} (xs : List A) (at : ℕ) → slice_get xs at ≡ None → length xs ≤ at
+found_none [] at e = omega arith
+found_none (y ∷ xs) zero e = absurd cc
+found_none (y ∷ xs) (suc n) e = let h = found_none xs n e in omega arith
 
 regroup : (front : List Cell) (x : Cell) (o : Option (List Cell × List ℕ)) → with_front front (o >>= λ y. Some (x ∷ y.0, y.1)) ≡ with_front (front ++ x ∷ []) o
 regroup front x None = refl

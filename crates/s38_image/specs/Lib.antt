@@ -1,6 +1,5 @@
 pub mod Pages
 pub mod Headers
-pub mod Printing
 pub mod Scalars
 pub mod Spaces
 pub mod Queues

@@ -63,6 +63,7 @@ pub fn body_of(
     tags: &[u32],
     bytes: &[u8],
 ) -> Result<(Body, u64), ReadFault>
+    requires { length bytes.now ≤ 16777216 }
     ensures { Gives (λ x. body_image x.0 x.1) result ((body kind tags.now).read bytes.now) }
 {
     match kind {
@@ -103,7 +104,8 @@ fn body_from(
     parts: &[Change],
     bytes: &[u8],
 ) -> Result<(Body, u64), ReadFault>
-    requires { needed (length bytes.now) ≡ length parts.now }
+    requires pages { needed (length bytes.now) ≡ length parts.now }
+    requires len { length bytes.now ≤ 16777216 }
     ensures { Gives (λ x. body_image x.0 x.1) result
         (read_tagged (body kind (tags_in parts.now)) (body_tags kind) parts.now bytes.now) }
 {

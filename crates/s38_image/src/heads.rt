@@ -11,7 +11,7 @@ use s38_codecs::{ReadFault, byte_at, bytes_at, is_zeros, u16_at, u32_at, u64_at}
 use s38_rules::PrivateRow;
 
 /// The mark of a header.
-const MARK: u32 = 0x5333_3848;
+pub const HEADER_MARK: u32 = 0x5333_3848;
 
 /// How many bytes of a header's page say nothing.
 const UNUSED: usize = 448;
@@ -107,7 +107,7 @@ fn mark_at(from: &[u8]) -> Result<&[u8], ReadFault>
     ensures { Gives (λ x. (mark, x.now)) result ((only is_mark word).read from.now) }
 {
     let (number, rest) = u32_at(from)?;
-    if number != MARK {
+    if number != HEADER_MARK {
         return Err(ReadFault::BadForm);
     }
     Ok(rest)

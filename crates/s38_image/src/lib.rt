@@ -2,7 +2,6 @@
 #![tactic(auto)]
 
 mod assembly;
-mod bodies;
 mod body_images;
 mod data_spaces;
 mod fault;
@@ -11,8 +10,6 @@ mod heads;
 mod indexes;
 mod journals;
 mod laws;
-mod pages;
-mod printing;
 mod programs;
 mod queues;
 mod rows;
@@ -23,21 +20,18 @@ mod stored;
 mod stream;
 
 pub use assembly::from_parts;
-pub use bodies::{put_cells, put_journal, put_queue};
 pub use data_spaces::data_space_in;
 pub use fault::ImageFault;
 pub use header::Header;
-pub use heads::{header_of, object_at, row_at};
+pub use heads::{HEADER_MARK, header_of, object_at, row_at};
 pub use indexes::index_in;
 pub use journals::journal_in;
 pub use laws::{an_image_is_read_again, parts_are_those_of_their_object};
-pub use pages::push_pages;
-pub use printing::{put_block, put_cursor, put_header, put_port, put_profile, put_rows};
 pub use programs::program_in;
 pub use queues::queue_in;
 pub use rows::rows_of;
 pub use scalars::{attr_at, pointer_at};
 pub use small_bodies::{block_in, cursor_in, port_in, profile_in};
-pub use spaces::space_in;
+pub use spaces::{page_tags, space_in};
 pub use stored::Stored;
-pub use stream::{are_untagged, stream_of, tags_in};
+pub use stream::{are_untagged, needed, stream_of, tags_in};

@@ -1,13 +1,13 @@
 //! The body of a queue.
-ghost use Rattle.std.specs.Prelude.{◌≡◌, ◌≤◌, [], IfErr, IfOk, OnOk, length};
+ghost use Rattle.std.specs.Prelude.{◌≡◌, ◌+◌, ◌≤◌, [], IfErr, IfOk, OnOk, length};
 ghost use Rattle.s38_codecs.specs.Codec.{times, whole};
 ghost use Rattle.s38_codecs.specs.Reading.{Gives};
 ghost use Rattle.s38_image.specs.Queues.{is_queue, message as message_format, order, queue, queue_head};
-ghost use Rattle.s38_queues.specs.MessageQueue.{message, with_message};
+ghost use Rattle.s38_queues.specs.MessageQueue.{image_size, message, message_size, with_message};
 
 use s38_base::limits::LONGEST_MESSAGE;
 use s38_codecs::{ReadFault, byte_at, bytes_at, text_at, u16_at, u32_at};
-use s38_queues::{Order, Queue};
+use s38_queues::{Order, Queue, QueueFault};
 use std::alloc::Global;
 
 /// The longest key.
@@ -56,22 +56,25 @@ fn message_at(key_len: u8, longest: u16, from: &[u8]) -> Result<((&[u8], &[u8]),
     ensures read { Gives (λ x. (message x.0.0.now x.0.1.now, x.1.now)) result ((message_format key_len longest).read from.now) }
     ensures key { IfOk result (λ x. length x.0.0.now ≡ key_len) }
     ensures text { IfOk result (λ x. length x.0.1.now ≤ longest) }
+    ensures len { IfOk result (λ x. length from.now ≡ message_size (message x.0.0.now x.0.1.now) + length x.1.now) }
 {
     let (key, rest) = bytes_at(usize::from(key_len), from)?;
     let (text, rest) = text_at(longest, rest)?;
     Ok(((key, text), rest))
 }
 
-/// Puts a message that the queue may have. Its image is no longer than the bytes that are read, so it is never full.
+/// Puts a message that the queue may have and for which its image has room.
 fn put(queue: &mut Queue, key: &[u8], text: &[u8]) -> Result<(), ReadFault>
     requires key { length key.now ≡ queue.old.key_len }
     requires text { length text.now ≤ queue.old.longest }
+    requires room { image_size queue.old.messages + message_size (message key.now text.now) ≤ 16777216 }
     ensures ok { OnOk result (queue.new ≡ with_message queue.old (message key.now text.now)) }
     ensures err { IfErr result (λ fault. fault ≡ ReadFault.NoMemory) }
 {
     match queue.put(key, text) {
         Ok(()) => Ok(()),
-        Err(_) => Err(ReadFault::NoMemory),
+        Err(QueueFault::NoMemory) => Err(ReadFault::NoMemory),
+        Err(_) => unreachable!(),
     }
 }
 
@@ -84,7 +87,8 @@ fn messages_in(
     count: u32,
     from: &[u8],
 ) -> Result<Queue, ReadFault>
-    requires { key_len ≤ 120 }
+    requires key { key_len ≤ 120 }
+    requires near { 8 + length from.now ≤ 16777216 }
     ensures read { Gives (λ queue. queue.messages) result (whole (times count (message_format key_len longest)) from.now) }
     ensures order { IfOk result (λ queue. queue.order ≡ order) }
     ensures key_len { IfOk result (λ queue. queue.key_len ≡ key_len) }
@@ -105,6 +109,7 @@ fn messages_in(
 
 /// The queue that the bytes of a body hold.
 pub fn queue_in(alloc: Global, bytes: &[u8]) -> Result<Queue, ReadFault>
+    requires { length bytes.now ≤ 16777216 }
     ensures { Gives (λ queue. queue) result (whole queue bytes.now) }
 {
     let ((order, key_len, longest), rest) = queue_head_at(bytes)?;

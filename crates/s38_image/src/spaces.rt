@@ -92,7 +92,7 @@ pub fn space_in(alloc: Global, tags: &[u32], bytes: &[u8]) -> Result<Tagged, Rea
 }
 
 /// The tags of a page of cells: bit k belongs to cell k.
-fn page_tags(cells: &[Cell]) -> u32
+pub fn page_tags(cells: &[Cell]) -> u32
     requires { length cells.now ≤ 32 }
     ensures value { result ≡ tag_number (map is_tagged cells.now) }
     ensures bound { result < 2 ^ length cells.now }

@@ -95,6 +95,7 @@ pub fn stream_of(
     requires len { len ≤ 16777216 }
     requires first { first ≤ 128 }
     ensures read { Gives (λ bytes. bytes.items) result (stream_of number first len parts.now) }
+    ensures len { IfOk result (λ bytes. length bytes.items ≡ len) }
     ensures pages { IfOk result (λ bytes. needed (length bytes.items) ≡ length parts.now) }
 {
     if !are_pages(number, first, needed(len), parts) {

@@ -1,10 +1,10 @@
 //! Bodies of queues, users, cursors, ports and commit blocks: their images, and each single bit of them changed.
 
+ghost use Rattle.std.specs.Prelude.{◌≡◌, ◌≤◌, IfOk};
+
 use s38_base::{ObjNum, Special};
-use s38_image::{
-    block_in, cursor_in, port_in, profile_in, put_block, put_cursor, put_port, put_profile,
-    put_queue, queue_in,
-};
+use s38_image::{block_in, cursor_in, port_in, profile_in, queue_in, stream_of};
+use s38_image_printing::{PageWriter, put_block, put_cursor, put_port, put_profile, put_queue};
 use s38_queues::{Order, Queue};
 use s38_rules::{Block, Cursor, Port};
 use std::alloc::Global;
@@ -30,9 +30,26 @@ fn queue(alloc: Global) -> Result<Queue, Fail> {
 }
 
 fn printed(alloc: Global, queue: &Queue) -> Result<Vec<u8>, Fail> {
-    let mut bytes = Vec::with_capacity(alloc, queue.image_len() as usize)?;
-    put_queue(&mut bytes, queue);
-    Ok(bytes)
+    let len = queue.image_len();
+    let room = Vec::with_capacity(alloc, len as usize / 512 + 1)?;
+    let mut writer = PageWriter::new(room, 7, 128, len);
+    put_queue(&mut writer, queue);
+    Ok(stream_of(alloc, 7, 128, len, &writer.finish())?)
+}
+
+/// Room for a body of so many bytes.
+fn room_for(alloc: Global, len: u32) -> Result<PageWriter, Fail>
+    requires { len ≤ 512 }
+    ensures { IfOk result (λ writer. writer.room ≡ len) }
+{
+    Ok(PageWriter::new(Vec::with_capacity(alloc, 1)?, 7, 128, len))
+}
+
+/// The bytes of a body.
+fn bytes_of(alloc: Global, writer: PageWriter, len: u32) -> Result<Vec<u8>, Fail>
+    requires { len ≤ 512 }
+{
+    Ok(stream_of(alloc, 7, 128, len, &writer.finish())?)
 }
 
 #[test]
@@ -59,26 +76,30 @@ fn each_bit_of_a_queue_is_refused_or_another_queue(rt: HostRuntime) -> Result<()
 
 #[test]
 fn small_bodies_have_their_images(rt: HostRuntime) -> Result<(), Fail> {
-    let mut bytes = Vec::with_capacity(rt.alloc(), 5)?;
-    put_profile(&mut bytes, Special(0xc0), 100);
+    let mut writer = room_for(rt.alloc(), 5)?;
+    put_profile(&mut writer, Special(0xc0), 100);
+    let bytes = bytes_of(rt.alloc(), writer, 5)?;
     assert!(rt; bytes.as_slice() == PROFILE && profile_in(PROFILE) == Ok((Special(0xc0), 100)));
     let cursor = Cursor {
         space: ObjNum(7),
         block: ObjNum(9),
         position: 258,
     };
-    let mut bytes = Vec::with_capacity(rt.alloc(), 20)?;
-    put_cursor(&mut bytes, &cursor);
+    let mut writer = room_for(rt.alloc(), 20)?;
+    put_cursor(&mut writer, &cursor);
+    let bytes = bytes_of(rt.alloc(), writer, 20)?;
     assert!(rt; bytes.as_slice() == CURSOR && cursor_in(CURSOR) == Ok(cursor));
     let port = Port {
         journal: ObjNum(513),
     };
-    let mut bytes = Vec::with_capacity(rt.alloc(), 8)?;
-    put_port(&mut bytes, &port);
+    let mut writer = room_for(rt.alloc(), 8)?;
+    put_port(&mut writer, &port);
+    let bytes = bytes_of(rt.alloc(), writer, 8)?;
     assert!(rt; bytes.as_slice() == NUMBER && port_in(NUMBER) == Ok(port));
     let block = Block { port: ObjNum(513) };
-    let mut bytes = Vec::with_capacity(rt.alloc(), 8)?;
-    put_block(&mut bytes, &block);
+    let mut writer = room_for(rt.alloc(), 8)?;
+    put_block(&mut writer, &block);
+    let bytes = bytes_of(rt.alloc(), writer, 8)?;
     assert!(rt; bytes.as_slice() == NUMBER && block_in(NUMBER) == Ok(block));
     Ok(())
 }

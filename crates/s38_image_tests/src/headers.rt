@@ -1,7 +1,8 @@
 //! The header of a queue: its page, and each single bit of it changed.
 
 use s38_base::{Id, Kind, Name, ObjNum, Rights};
-use s38_image::{Header, header_of, put_header};
+use s38_image::{Header, header_of, stream_of};
+use s38_image_printing::{PageWriter, put_header};
 use std::alloc::Global;
 use std::test::Fail;
 
@@ -16,9 +17,9 @@ fn page(alloc: Global) -> Result<Vec<u8>, Fail> {
 }
 
 fn printed(alloc: Global, header: &Header) -> Result<Vec<u8>, Fail> {
-    let mut bytes = Vec::with_capacity(alloc, 512)?;
-    put_header(&mut bytes, header);
-    Ok(bytes)
+    let mut writer = PageWriter::new(Vec::with_capacity(alloc, 1)?, 7, 0, 512);
+    put_header(&mut writer, header);
+    Ok(stream_of(alloc, 7, 0, 512, &writer.finish())?)
 }
 
 #[test]

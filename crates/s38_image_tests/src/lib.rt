@@ -2,8 +2,18 @@
 #![tactic(auto)]
 
 #[cfg(test)]
+mod bits;
+#[cfg(test)]
 mod bodies;
 #[cfg(test)]
 mod headers;
 #[cfg(test)]
+mod objects;
+#[cfg(test)]
 mod pages;
+#[cfg(test)]
+mod printed;
+#[cfg(test)]
+mod printing;
+#[cfg(test)]
+mod samples;

@@ -3,7 +3,8 @@
 ghost use Rattle.std.specs.Prelude.{◌≤◌};
 
 use s38_base::Change;
-use s38_image::{push_pages, stream_of};
+use s38_image::stream_of;
+use s38_image_printing::PageWriter;
 use std::alloc::Global;
 use std::test::Fail;
 
@@ -14,18 +15,20 @@ fn stream(alloc: Global) -> Result<Vec<u8>, Fail> {
     Ok(bytes)
 }
 
-/// The first of its pages.
-fn parts(alloc: Global, count: u32) -> Result<Vec<Change>, Fail>
-    requires { count ≤ 2 }
+/// Its first bytes, in pages.
+fn parts(alloc: Global, len: u32) -> Result<Vec<Change>, Fail>
+    requires { len ≤ 513 }
 {
-    let mut parts = Vec::with_capacity(alloc, count as usize)?;
-    push_pages(&mut parts, 5, 128, count, &stream(alloc)?, &[]);
-    Ok(parts)
+    let mut writer = PageWriter::new(Vec::with_capacity(alloc, 2)?, 5, 128, len);
+    for byte in stream(alloc)?.iter().take(len as usize) {
+        writer.put_byte(*byte);
+    }
+    Ok(writer.finish())
 }
 
 #[test]
 fn a_stream_is_cut_into_pages(rt: HostRuntime) -> Result<(), Fail> {
-    let parts = parts(rt.alloc(), 2)?;
+    let parts = parts(rt.alloc(), 513)?;
     let keys = [(5, 128, 7), (5, 129, 9)];
     for (part, (object, number, first)) in parts.iter().zip(keys) {
         assert!(rt; part.key.object == object && part.key.part == number);
@@ -45,8 +48,8 @@ fn a_stream_is_cut_into_pages(rt: HostRuntime) -> Result<(), Fail> {
 
 #[test]
 fn a_stream_is_read_of_its_pages_alone(rt: HostRuntime) -> Result<(), Fail> {
-    let one = parts(rt.alloc(), 1)?;
-    let parts = parts(rt.alloc(), 2)?;
+    let one = parts(rt.alloc(), 512)?;
+    let parts = parts(rt.alloc(), 513)?;
     let read = stream_of(rt.alloc(), 5, 128, 513, &parts)?;
     assert!(rt; read.as_slice() == stream(rt.alloc())?.as_slice());
     assert!(rt; stream_of(rt.alloc(), 6, 128, 513, &parts).is_err());

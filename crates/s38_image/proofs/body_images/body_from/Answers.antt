@@ -13,7 +13,7 @@ returns-then-not-has_tags c =
     let n = c.in_ok-body.sequence in
     let read = subst (λ (t : List ℕ). (body k t).read bytes ≡ Some (body_image b n)) c.deref.ensures.value c.in_ok-body.ensures in
     let has = ap (λ (t : List ℕ). has_tags k b t) (sym c.deref-2.ensures.value) ∙ sym c.has_tags.ensures ∙ c.if-not-has_tags.true in
-    body_read k c.args.parts.now tags bytes b n (λ i. (c.type_inv.bytes i).fits) c.requires (c.in_ok-tags.ensures) read
+    body_read k c.args.parts.now tags bytes b n (λ i. (c.type_inv.bytes i).fits) c.requires.pages (c.in_ok-tags.ensures) read
     ∙ ap (λ (t : Bool). cond t (some_image (body_image b n)) None) has
 
 pub returns : goal.returns
@@ -25,5 +25,5 @@ returns c =
     let n = c.in_ok-body.sequence in
     let read = subst (λ (t : List ℕ). (body k t).read bytes ≡ Some (body_image b n)) c.deref.ensures.value c.in_ok-body.ensures in
     let has = ap (λ (t : List ℕ). has_tags k b t) (sym c.deref-2.ensures.value) ∙ sym c.has_tags.ensures ∙ c.if-not-has_tags.false in
-    body_read k c.args.parts.now tags bytes b n (λ i. (c.type_inv.bytes i).fits) c.requires (c.in_ok-tags.ensures) read
+    body_read k c.args.parts.now tags bytes b n (λ i. (c.type_inv.bytes i).fits) c.requires.pages (c.in_ok-tags.ensures) read
     ∙ ap (λ (t : Bool). cond t (some_image (body_image b n)) None) has

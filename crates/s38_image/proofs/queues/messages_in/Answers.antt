@@ -1,9 +1,10 @@
-use Rattle.std.proofs.Common.{◌-◌, ◌+◌, Bool, cond, List, Some, None, ap, sym, ◌∙◌}
+use Rattle.std.proofs.Common.{◌≡◌, ◌≤◌, ℕ, ◌-◌, ◌+◌, Bool, cond, List, length, Some, None, ap, sym, ◌∙◌, arith}
+use Rattle.std.proofs.lemmas.List.Sums.{sum_by_push}
 use Rattle.std.proofs.lemmas.Result.{err_from_is_err_and}
 use Rattle.s38_codecs.specs.Codec.{times}
 use Rattle.s38_codecs.proofs.Loop.{goes_on, whole_done, whole_ends, with_front}
 use Rattle.s38_image.specs.Queues.{message}
-use Rattle.s38_queues.specs.MessageQueue.{MessageQueue}
+use Rattle.s38_queues.specs.MessageQueue.{MessageQueue, image_size, message as with_key, message_size}
 use Rattle.s38_queues.specs.declared.message.Message.{Message}
 use Rattle.s38_image.proofs.queues.messages_in.Goals as goal
 
@@ -11,6 +12,9 @@ pub returns-in_err-key-clause-read : goal.returns-in_err-key-clause-read
 returns-in_err-key-clause-read c =
     let p = err_from_is_err_and c.from_residual.result c.from_residual.ensures.1 in
     rw (p.1, p.2) (whole_ends (message c.args.key_len c.args.longest) c.in_err-key.field-0.0 c.loop.queue.messages c.args.count c.loop.counter c.loop.rest.now c.args.from.now c.loop-test.true c.in_err-key.ensures.read c.loop.invariant.read)
+
+pub put-requires-clause-room : goal.put-requires-clause-room
+put-requires-clause-room c = omega (arith, c.in_ok-key.ensures.len, c.loop.invariant.near, c.requires.near)
 
 pub loop-preserved : goal.loop-preserved
 loop-preserved c =
@@ -21,6 +25,7 @@ loop-preserved c =
       order = ap (λ (q : MessageQueue). q.order) same ∙ c.loop.invariant.order;
       key_len = ap (λ (q : MessageQueue). q.key_len) same ∙ c.loop.invariant.key_len;
       longest = ap (λ (q : MessageQueue). q.longest) same ∙ c.loop.invariant.longest;
+      near = omega (arith, c.in_ok-key.ensures.len, c.loop.invariant.near, ap (λ (q : MessageQueue). image_size q.messages) same, sum_by_push message_size c.loop.queue.messages (with_key c.in_ok-key.key.now c.in_ok-key.text.now));
     }
 
 pub returns-then-not-is_empty-clause-read : goal.returns-then-not-is_empty-clause-read

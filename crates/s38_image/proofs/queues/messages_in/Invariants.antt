@@ -1,7 +1,8 @@
-use Rattle.std.proofs.Common.{◌≡◌, ◌-◌}
+use Rattle.std.proofs.Common.{◌≡◌, ◌≤◌, ◌+◌, ◌-◌, length}
 use Rattle.s38_codecs.specs.Codec.{times}
 use Rattle.s38_codecs.proofs.Loop.{with_front}
 use Rattle.s38_image.specs.Queues.{message}
+use Rattle.s38_queues.specs.MessageQueue.{image_size}
 use Rattle.s38_image.proofs.queues.messages_in.Given as goal
 
 abbrev pub invariant-loop : goal.invariant-loop
@@ -11,4 +12,5 @@ invariant-loop l =
       order : l.queue.order ≡ l.fn.order;
       key_len : l.queue.key_len ≡ l.fn.key_len;
       longest : l.queue.longest ≡ l.fn.longest;
+      near : image_size l.queue.messages + length l.rest ≤ 8 + length l.fn.from;
     }

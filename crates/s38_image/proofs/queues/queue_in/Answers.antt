@@ -1,9 +1,15 @@
-use Rattle.std.proofs.Common.{sym, subst, Option}
+use Rattle.std.proofs.Common.{sym, subst, Option, arith}
 use Rattle.s38_codecs.specs.Reading.{Gives}
-use Rattle.s38_image.proofs.QueueLaws.{gives_queue, queue_whole}
+use Rattle.s38_image.proofs.QueueLaws.{gives_queue, head_len, queue_whole}
 use Rattle.s38_image.specs.Queues.{QueueHead}
 use Rattle.s38_queues.specs.MessageQueue.{MessageQueue}
 use Rattle.s38_image.proofs.queues.queue_in.Goals as goal
+
+pub messages_in-requires-clause-near : goal.messages_in-requires-clause-near
+messages_in-requires-clause-near c =
+    let h : QueueHead = (c.in_ok-order.order, (c.in_ok-order.key_len, c.in_ok-order.longest)) in
+    let size = head_len c.args.bytes.now c.in_ok-order.rest.now c.in_ok-count.rest.now h c.in_ok-count.count (λ i. (c.type_inv.bytes i).fits) c.in_ok-order.ensures.read c.in_ok-count.ensures in
+    omega (arith, size, c.requires)
 
 pub returns : goal.returns
 returns c =
