@@ -34,7 +34,7 @@ both_true false b h = cc
 
 -- ---- the first of failures
 
-or_none : (a : Option Exception) → first a None ≡ a
+pub or_none : (a : Option Exception) → first a None ≡ a
 or_none None = refl
 or_none (Some x) = refl
 

@@ -84,7 +84,7 @@ pub fn resolve(objects: &Objects, operands: &[Operand], need: &Need) -> Resolved
 }
 
 /// How many needs an instruction has at most.
-const MOST: usize = 6;
+const MOST: usize = 3;
 
 /// Needs, resolved, in a list that takes no memory.
 #[derive(Drop)]
@@ -101,7 +101,7 @@ impl Model for ResolvedNeeds {
 
     ghost view = { λ n. take n.count n.held };
 
-    ghost invariant = { λ n. n.count ≤ 6 };
+    ghost invariant = { λ n. n.count ≤ 3 };
 }
 
 const NOTHING: Resolved = Resolved {
@@ -130,7 +130,7 @@ impl ResolvedNeeds {
     }
 
     fn add(&mut self, need: Resolved)
-        requires { length self.old < 6 }
+        requires { length self.old < 3 }
         ensures { self.new ≡ self.old ++ need ∷ [] }
     {
         self.held[self.count] = need;
@@ -147,7 +147,7 @@ impl ResolvedNeeds {
 
 /// These needs, resolved behind others.
 fn add_all(all: &mut ResolvedNeeds, objects: &Objects, operands: &[Operand], needs: &[Need])
-    requires room { length all.old + length needs.now ≤ 6 }
+    requires room { length all.old + length needs.now ≤ 3 }
     ensures needs { needs_of all.new ≡ needs_of all.old ++ needs.now }
     ensures each { Each (IsResolved objects.now operands.now) all.old → Each (IsResolved objects.now operands.now) all.new }
 {
@@ -162,7 +162,7 @@ fn add_all(all: &mut ResolvedNeeds, objects: &Objects, operands: &[Operand], nee
 
 /// Needs, resolved.
 pub fn resolve_all(objects: &Objects, operands: &[Operand], needs: &[Need]) -> ResolvedNeeds
-    requires { length needs.now ≤ 6 }
+    requires { length needs.now ≤ 3 }
     ensures needs { needs_of result ≡ needs.now }
     ensures each { Each (IsResolved objects.now operands.now) result }
 {

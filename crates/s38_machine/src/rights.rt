@@ -108,8 +108,8 @@ fn rights_rule(
     )
 }
 
-/// The first claim that the acting users don't meet.
-pub fn first_unmet(
+/// The first claim of these that the users don't meet.
+fn each_unmet(
     world: &Core<Objects, Profiles>,
     users: &[UserNum],
     operands: &[Operand],
@@ -124,7 +124,25 @@ pub fn first_unmet(
             if let Some(failure) = rights_rule(world, users, operands, need) {
                 return Some(failure);
             }
-            first_unmet(world, users, operands, more)
+            each_unmet(world, users, operands, more)
         }
+    }
+}
+
+/// The first claim that the acting users don't meet. One need is asked alone.
+#[inline(always)]
+#[tactic(auto, using(crate::proofs::SoleLaws::or_none))]
+pub fn first_unmet(
+    world: &Core<Objects, Profiles>,
+    users: &[UserNum],
+    operands: &[Operand],
+    needs: &[Resolved],
+) -> Option<Exception>
+    requires { Each (IsResolved world.now.held operands.now) needs.now }
+    ensures { result ≡ first_of (rights_rule world.now.held (map (λ u. u.0) users.now) operands.now) (needs_of needs.now) }
+{
+    match needs {
+        [need] => rights_rule(world, users, operands, need),
+        _ => each_unmet(world, users, operands, needs),
     }
 }

@@ -1,5 +1,5 @@
 //! What becomes of an event: the first rule that fails.
-ghost use Rattle.std.specs.Prelude.{◌≡◌, map};
+ghost use Rattle.std.specs.Prelude.{◌≡◌, ◌≤◌, length, map};
 ghost use Rattle.std.specs.Option.{option_copied};
 ghost use Rattle.s38_base.specs.Signals.{first};
 ghost use Rattle.s38_machine.specs.Resolved.{Each, IsResolved, needs_of};
@@ -22,7 +22,7 @@ use s38_code::{Event, Operand, Request};
 use s38_invoke::{Acting, Core, Profiles, start_failure};
 use s38_objects::Objects;
 use s38_operands::{Act, word_at};
-use s38_rules::{ProcessEntry, Verdict};
+use s38_rules::{Need, ProcessEntry, Verdict};
 
 /// The special authority, and then the authority over each object, that an instruction needs of these users.
 fn authority_of(
@@ -42,6 +42,29 @@ fn authority_of(
     first_unmet(world, users, operands, needs)
 }
 
+/// What an instruction needs of the acting users of a process, if there may be several.
+#[inline(never)]
+fn authority_of_all(
+    world: &Core<Objects, Profiles>,
+    act: Act<'_>,
+    special: Special,
+    needs: &[Resolved],
+) -> Option<Exception>
+    requires { Each (IsResolved world.now.held act.request.now.operands) needs.now }
+    ensures { result ≡ first (lacks_special world.now.held (acting world.now act.entry.process act.entry.depth) special.0)
+        (first_of (rights_rule world.now.held (acting world.now act.entry.process act.entry.depth) act.entry.request.now.operands) (needs_of needs.now)) }
+{
+    let mut users = Acting::nobody();
+    world.act(act.process, act.depth, &mut users);
+    authority_of(
+        world,
+        users.as_slice(),
+        special,
+        act.request.operands.as_slice(),
+        needs,
+    )
+}
+
 /// The special authority, and then the authority over each object, that an instruction needs of the acting users.
 #[tactic(auto, unfolding(s38_rules::specs::Verdict::rights_rules))]
 fn authority_rules(
@@ -53,14 +76,17 @@ fn authority_rules(
     ensures { result ≡ first (lacks_special world.now.held (acting world.now act.entry.process act.entry.depth) ((row act.entry.request.now.op).special world.now act.entry.process act.entry.depth act.entry.request.now))
         (rights_rules world.now act.entry.process act.entry.depth act.entry.request.now.operands (needs_of needs.now)) }
 {
-    let operands = act.request.operands.as_slice();
     let special = rows::special(world, act);
-    if let Some(user) = world.sole_user(act.process, act.depth) {
-        return authority_of(world, &[user], special, operands, needs);
+    match world.sole_user(act.process, act.depth) {
+        Some(user) => authority_of(
+            world,
+            &[user],
+            special,
+            act.request.operands.as_slice(),
+            needs,
+        ),
+        None => authority_of_all(world, act, special, needs),
     }
-    let mut users = Acting::nobody();
-    world.act(act.process, act.depth, &mut users);
-    authority_of(world, users.as_slice(), special, operands, needs)
 }
 
 /// The first rule that an instruction fails with these needs: address rules, then a special authority, then authority
@@ -86,22 +112,32 @@ fn refused_with(
     rows::conditions(world, act)
 }
 
+/// The first rule that an instruction fails with several needs, or with none.
+#[inline(never)]
+fn refused_with_all(
+    world: &Core<Objects, Profiles>,
+    act: Act<'_>,
+    needs: &[Need],
+) -> Option<Exception>
+    requires { length needs.now ≤ 3 }
+    ensures { result ≡ refused_with (row act.entry.request.now.op) world.now act.entry.process act.entry.depth act.entry.request.now needs.now }
+{
+    let all = resolve_all(&world.objects, act.request.operands.as_slice(), needs);
+    refused_with(world, act, all.as_slice())
+}
+
 /// The first rule that an instruction fails. Each of its needs is resolved once, and all rules go over that.
 #[tactic(auto, unfolding(s38_rules::specs::Verdict::refused_by))]
 fn refused_by(world: &Core<Objects, Profiles>, act: Act<'_>) -> Option<Exception>
     ensures { result ≡ refused_by (row act.entry.request.now.op) world.now act.entry.process act.entry.depth act.entry.request.now }
 {
     let needs = rows::needs(world, act);
-    let operands = act.request.operands.as_slice();
     match needs.as_slice() {
         [need] => {
-            let sole = resolve(&world.objects, operands, need);
+            let sole = resolve(&world.objects, act.request.operands.as_slice(), need);
             refused_with(world, act, &[sole])
         }
-        more => {
-            let all = resolve_all(&world.objects, operands, more);
-            refused_with(world, act, all.as_slice())
-        }
+        more => refused_with_all(world, act, more),
     }
 }
 

@@ -7,7 +7,7 @@ use s38_rules::{Claim, Named, Need, PointerKind, Sought};
 use std::marker::Model;
 
 /// How many needs an instruction has at most.
-const MOST: usize = 6;
+const MOST: usize = 3;
 
 const NOTHING: Need = Need {
     place: 0,
@@ -19,14 +19,14 @@ const NOTHING: Need = Need {
     category: None,
 };
 
-/// Up to six needs, in order.
+/// What an instruction needs, in order: at most three needs.
 #[derive(Drop)]
-struct Several {
+pub struct Needs {
     held: [Need; MOST],
     count: usize,
 }
 
-impl Model for Several {
+impl Model for Needs {
     ghost use Rattle.std.specs.Prelude.{◌≤◌, List, take};
     ghost use Rattle.s38_rules.specs.declared.need.Need.{Need};
 
@@ -34,39 +34,12 @@ impl Model for Several {
 
     ghost view = { λ n. take n.count n.held };
 
-    ghost invariant = { λ n. n.count ≤ 6 };
+    ghost invariant = { λ n. n.count ≤ 3 };
 }
 
-impl Several {
-    fn none() -> Several
-        ensures { result ≡ [] }
-    {
-        Several {
-            held: [NOTHING; MOST],
-            count: 0,
-        }
-    }
-
-    /// One need more, behind the others.
-    fn add(&mut self, need: Need)
-        requires { length self.old < 6 }
-        ensures { self.new ≡ self.old ++ need ∷ [] }
-    {
-        self.held[self.count] = need;
-        self.count += 1;
-    }
-
-    fn as_slice(&self) -> &[Need]
-        ensures value { result.now ≡ self.now }
-        ensures few { length result.now ≤ 6 }
-    {
-        &self.held[..self.count]
-    }
-}
-
-/// The needs, and these behind them.
-fn add_all(all: &mut Several, needs: &[Need])
-    requires { length all.old + length needs.now ≤ 6 }
+/// These needs, and others behind them.
+fn add_all(all: &mut Needs, needs: &[Need])
+    requires { length all.old + length needs.now ≤ 3 }
     ensures { all.new ≡ all.old ++ needs.now }
 {
     match needs {
@@ -78,38 +51,15 @@ fn add_all(all: &mut Several, needs: &[Need])
     }
 }
 
-/// One need in place, or several.
-#[derive(Drop)]
-enum Held {
-    One([Need; 1]),
-    Several(Several),
-}
-
-/// What an instruction needs, in order.
-#[derive(Drop)]
-pub struct Needs {
-    held: Held,
-}
-
-impl Model for Needs {
-    ghost use Rattle.std.specs.Prelude.{◌≤◌, List, length};
-    ghost use Rattle.s38_rules.specs.declared.need.Need.{Need};
-    ghost use Rattle.s38_operands.specs.NeedLists.{listed};
-
-    ghost Value = { List Need };
-
-    ghost view = { λ n. listed n.held };
-
-    ghost invariant = { λ n. length (listed n.held) ≤ 6 };
-}
-
 impl Needs {
     /// No need.
+    #[inline(always)]
     pub fn none() -> Needs
         ensures { result ≡ [] }
     {
         Needs {
-            held: Held::Several(Several::none()),
+            held: [NOTHING; MOST],
+            count: 0,
         }
     }
 
@@ -119,32 +69,36 @@ impl Needs {
         ensures { result ≡ need ∷ [] }
     {
         Needs {
-            held: Held::One([need]),
+            held: [need, NOTHING, NOTHING],
+            count: 1,
         }
+    }
+
+    /// One need more, behind the others.
+    fn add(&mut self, need: Need)
+        requires { length self.old < 3 }
+        ensures { self.new ≡ self.old ++ need ∷ [] }
+    {
+        self.held[self.count] = need;
+        self.count += 1;
     }
 
     /// These needs, and others behind them; there is room for all.
     pub fn and(self, others: Needs) -> Needs
-        requires { length self + length others ≤ 6 }
+        requires { length self + length others ≤ 3 }
         ensures { result ≡ self ++ others }
     {
-        let mut all = Several::none();
-        add_all(&mut all, self.as_slice());
+        let mut all = self;
         add_all(&mut all, others.as_slice());
-        Needs {
-            held: Held::Several(all),
-        }
+        all
     }
 
-    /// The needs; there are at most six.
+    /// The needs; there are at most three.
     pub fn as_slice(&self) -> &[Need]
         ensures value { result.now ≡ self.now }
-        ensures few { length result.now ≤ 6 }
+        ensures few { length result.now ≤ 3 }
     {
-        match &self.held {
-            Held::One(need) => need,
-            Held::Several(needs) => needs.as_slice(),
-        }
+        &self.held[..self.count]
     }
 }
 
