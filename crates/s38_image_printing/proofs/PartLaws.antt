@@ -1,7 +1,7 @@
 -- The parts of an object in their pieces, and how many they are.
-use Rattle.std.proofs.Common.{◌≡◌, ℕ, zero, suc, ◌+◌, ◌*◌, ◌≤◌, List, [], ◌∷◌, ◌++◌, length, Some, None, refl, sym, ap, subst, ◌∙◌, arith, append_assoc}
+use Rattle.std.proofs.Common.{◌≡◌, ℕ, zero, suc, ◌+◌, ◌*◌, List, [], ◌∷◌, ◌++◌, length, Some, None, refl, sym, ap, subst, ◌∙◌, arith, append_assoc}
 use Rattle.std.proofs.lemmas.List.{length-append}
-use Rattle.std.specs.Prelude.{Option, IsTrue}
+use Rattle.std.specs.Prelude.{IsTrue}
 use Rattle.std.specs.List.{flat_map}
 use Rattle.s38_base.specs.NameText.{is_name}
 use Rattle.s38_base.specs.declared.id.Kind.{Kind}
@@ -105,10 +105,13 @@ nothing_to_settle units number _ none = tt
 
 -- ---- an object
 
+-- the body of an object has so many bytes as its image
+pub body_long : (units : UnitMap) (last : ℕ) (o : Object) → kind_of o.body ≡ o.id.kind → length (own_bytes units o.number.0 last o.body) ≡ image_len o.body → length (body_bytes o.id.kind (image_of (settled units last o))) ≡ image_len o.body
+body_long units last o kind long = ap (λ (k : Kind). length (body_bytes k (image_of (settled units last o)))) (sym kind) ∙ long
+
 -- the object has the header that says the length of its body
 header_says : (units : UnitMap) (last : ℕ) (o : Object) → kind_of o.body ≡ o.id.kind → length (own_bytes units o.number.0 last o.body) ≡ image_len o.body → header_of (settled units last o) ≡ header_with o (image_len o.body)
-header_says units last o kind long =
-    ap (λ (n : ℕ). header_with o n) (ap (λ (k : Kind). length (body_bytes k (image_of (settled units last o)))) (sym kind) ∙ long)
+header_says units last o kind long = ap (λ (n : ℕ). header_with o n) (body_long units last o kind long)
 
 header_pieces : (units : UnitMap) (last : ℕ) (o : Object) → kind_of o.body ≡ o.id.kind → length (own_bytes units o.number.0 last o.body) ≡ image_len o.body → header_parts (settled units last o) ≡ stream_parts o.number.0 0 (header.print (header_with o (image_len o.body))) []
 header_pieces units last o kind long =
