@@ -5,13 +5,12 @@ use Rattle.std.proofs.lemmas.Bool.Decides.{nat_tests}
 use Rattle.std.proofs.lemmas.List.Elements.{All-head, All-tail}
 use Rattle.std.proofs.lemmas.Map.Keys.{sorted_tail}
 use Rattle.std.proofs.lemmas.Map.Views.{All-after_first}
-use Rattle.std.specs.Prelude.{◌&&◌, All, IsTrue, Option, Some, None, find, nat_le, replicate}
+use Rattle.std.specs.Prelude.{◌&&◌, All, Some, None, find, nat_le, replicate}
 use Rattle.std.specs.declared.cmp.Ordering.TheVariants.{Less}
 use Rattle.std.specs.List.{flat_map}
-use Rattle.std.specs.Map.{keys_of, lookup}
+use Rattle.std.specs.Map.{keys_of}
 use Rattle.std.specs.Option.{option_map}
 use Rattle.std.specs.Ordering.{nat_cmp}
-use Rattle.std.specs.BTreeMap.{is_at}
 use Rattle.s38_base.specs.declared.attr.Attr.{Attr}
 use Rattle.s38_codecs.proofs.CodecLaws.{both_true}
 use Rattle.s38_codecs.specs.Codec.{copies, print_each}
@@ -22,12 +21,12 @@ use Rattle.s38_commits.specs.Unit.{CommitUnit}
 use Rattle.s38_commits.specs.Units.{IsRising, UnitMap, block_of, owner, unit_of}
 use Rattle.s38_commits.specs.declared.change.UnitChange.{UnitChange}
 use Rattle.s38_dataspaces.specs.Entries.{Entry, entry_at}
-use Rattle.s38_dataspaces.specs.Table.{DataTable, entry_len, image_size, is_entry_of, may_restore}
+use Rattle.s38_dataspaces.specs.Table.{DataTable, entry_len, image_size, is_entry_of}
 use Rattle.s38_image.proofs.HeaderLaws.{zeros}
 use Rattle.s38_image_printing.proofs.PrintLaws.{times_print}
 use Rattle.s38_image_printing.proofs.WriterLaws.{adds_same, adds_then}
 use Rattle.s38_image_printing.specs.Writing.{Adds, Written}
-use Rattle.s38_image.specs.DataSpaces.{DataParts, data_space, slot}
+use Rattle.s38_image.specs.DataSpaces.{data_space, slot}
 use Rattle.s38_image_printing.specs.Printing.{slot_bytes}
 use Rattle.s38_image.specs.Scalars.{attr}
 use Rattle.s38_image.specs.Settled.{first_change, first_of, settled_entries, settled_entry}

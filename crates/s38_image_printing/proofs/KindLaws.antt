@@ -16,7 +16,7 @@ use Rattle.s38_image_printing.specs.Parts.{HasShortText, IsPrintable}
 use Rattle.s38_rules.specs.Held.{kind_of}
 use Rattle.s38_rules.specs.declared.object.Body.{Body}
 use Rattle.s38_rules.specs.declared.object.Body.TheVariants as bodies
-use Rattle.std.specs.Prelude.{◌&&◌, nat_le}
+use Rattle.std.specs.Prelude.{nat_le}
 
 abbrev held : Body → ℕ → BodyImage
 held b sequence = record { body = b; sequence = sequence }

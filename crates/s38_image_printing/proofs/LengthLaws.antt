@@ -1,22 +1,21 @@
 -- How many bytes bodies and headers have.
-use Rattle.std.proofs.Common.{◌≡◌, ℕ, zero, suc, ◌+◌, ◌-◌, ◌*◌, ◌≤◌, Bool, true, List, [], ◌∷◌, ◌++◌, length, take, drop, Some, None, refl, sym, ap, ◌∙◌, arith}
+use Rattle.std.proofs.Common.{◌≡◌, ℕ, suc, ◌+◌, ◌-◌, ◌*◌, true, List, [], ◌∷◌, ◌++◌, length, drop, Some, None, refl, sym, ap, ◌∙◌, arith}
 use Rattle.std.proofs.lemmas.Bool.{eqb-true}
 use Rattle.std.proofs.lemmas.List.{length-append, length-drop}
 use Rattle.std.proofs.lemmas.List.Sums.{sum_by-cons}
-use Rattle.std.specs.Prelude.{◌&&◌, ◌==◌, All, IsTrue, if◌then◌else◌, nat_le, nat_lt, replicate, sum_by}
+use Rattle.std.specs.Prelude.{◌==◌, IsTrue, if◌then◌else◌, nat_le, nat_lt, replicate, sum_by}
 use Rattle.std.specs.List.{flat_map, list_all}
 use Rattle.s38_base.specs.NameText.{are_name_bytes, is_name, padded}
 use Rattle.s38_base.specs.declared.attr.Attr.{Attr}
 use Rattle.s38_codecs.proofs.CodecLaws.{both_true}
 use Rattle.s38_codecs.proofs.FormatLaws.{length_copies}
 use Rattle.s38_codecs.specs.Codec.{copies}
-use Rattle.s38_codecs.specs.Formats.{u16, u32, u64}
+use Rattle.s38_codecs.specs.Formats.{u16, u32}
 use Rattle.s38_commits.specs.Units.{UnitMap}
-use Rattle.s38_commits.specs.declared.change.UnitChange.{UnitChange}
 use Rattle.s38_dataspaces.specs.Entries.{Entry}
 use Rattle.s38_dataspaces.specs.Table as tables
 use Rattle.s38_dataspaces.specs.Table.{DataTable, entry_len, is_entry_of}
-use Rattle.s38_image.proofs.HeaderLaws.{at_most, zeros}
+use Rattle.s38_image.proofs.HeaderLaws.{at_most}
 use Rattle.s38_image.specs.DataSpaces.{data_space}
 use Rattle.s38_image.specs.Headers.{header, object, rights}
 use Rattle.s38_image.specs.Indexes.{index}
@@ -25,7 +24,7 @@ use Rattle.s38_image.specs.Queues.{queue}
 use Rattle.s38_image.specs.Scalars.{attr}
 use Rattle.s38_image.specs.Settled.{before_change, first_change, settled_entries, settled_entry}
 use Rattle.s38_image.specs.declared.header.Header.{Header}
-use Rattle.s38_image_printing.proofs.DataLaws.{data_bytes, first_restorable, settled_length}
+use Rattle.s38_image_printing.proofs.DataLaws.{data_bytes, first_restorable}
 use Rattle.s38_image_printing.proofs.PrintLaws.{journal_bytes, journal_length, queue_bytes}
 use Rattle.s38_image_printing.proofs.TextLaws.{index_bytes}
 use Rattle.s38_image_printing.specs.Parts.{CanSettle, own_bytes}

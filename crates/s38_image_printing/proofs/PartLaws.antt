@@ -1,13 +1,14 @@
 -- The parts of an object in their pieces, and how many they are.
-use Rattle.std.proofs.Common.{◌≡◌, ℕ, zero, suc, ◌+◌, ◌*◌, ◌≤◌, List, [], ◌∷◌, ◌++◌, length, Some, None, refl, sym, ap, ◌∙◌, arith, append_assoc}
+use Rattle.std.proofs.Common.{◌≡◌, ℕ, zero, suc, ◌+◌, ◌*◌, List, [], ◌∷◌, ◌++◌, length, Some, None, refl, sym, ap, subst, ◌∙◌, arith, append_assoc}
 use Rattle.std.proofs.lemmas.List.{length-append}
-use Rattle.std.specs.Prelude.{Option, IsTrue}
+use Rattle.std.specs.Prelude.{IsTrue}
 use Rattle.std.specs.List.{flat_map}
 use Rattle.s38_base.specs.NameText.{is_name}
 use Rattle.s38_base.specs.declared.id.Kind.{Kind}
 use Rattle.s38_base.specs.declared.page.Change.{Change}
 use Rattle.s38_codecs.specs.Codec.{copies}
 use Rattle.s38_commits.specs.Units.{UnitMap}
+use Rattle.s38_dataspaces.specs.Table.{DataTable}
 use Rattle.s38_image.proofs.AgainLaws.{rows_bytes_long}
 use Rattle.s38_image.proofs.PageLaws.{pages_numbered}
 use Rattle.s38_image.proofs.StreamLaws.{pages_long}
@@ -21,6 +22,7 @@ use Rattle.s38_image.specs.declared.header.Header.{Header}
 use Rattle.s38_image_printing.proofs.LengthLaws.{header_long}
 use Rattle.s38_image_printing.proofs.PrintLaws.{times_print}
 use Rattle.s38_image_printing.specs.Parts.{CanSettle, header_with, own_bytes, own_parts, part_count}
+use Rattle.s38_image_printing.specs.Restoring.{AreRestorable}
 use Rattle.s38_image_printing.specs.Writing.{Adds, Place, Written}
 use Rattle.s38_memory.specs.Tagged.{bytes_in}
 use Rattle.s38_memory.specs.declared.cell.Cell.{Cell}
@@ -93,12 +95,23 @@ own_cells units number last b cs some = ap (λ (v : Body). own_parts units numbe
 pub cells_size : (b : Body) (cs : List Cell) → space_of b ≡ Some cs → image_len b ≡ 16 * length cs
 cells_size b cs some = ap image_len (space_lawful.back b cs some)
 
+-- where nothing is uncommitted nothing need be taken back
+none_to_settle : (number : ℕ) (t : DataTable) → AreRestorable [] number t
+none_to_settle number t = λ k d lt. absurd (omega (arith, lt))
+
+pub nothing_to_settle : (units : UnitMap) (number : ℕ) (b : Body) → units ≡ [] → CanSettle units number b
+nothing_to_settle units number (bodies.DataSpace d) none = subst (λ (us : UnitMap). AreRestorable us number d.space) (sym none) (none_to_settle number d.space)
+nothing_to_settle units number _ none = tt
+
 -- ---- an object
+
+-- the body of an object has so many bytes as its image
+pub body_long : (units : UnitMap) (last : ℕ) (o : Object) → kind_of o.body ≡ o.id.kind → length (own_bytes units o.number.0 last o.body) ≡ image_len o.body → length (body_bytes o.id.kind (image_of (settled units last o))) ≡ image_len o.body
+body_long units last o kind long = ap (λ (k : Kind). length (body_bytes k (image_of (settled units last o)))) (sym kind) ∙ long
 
 -- the object has the header that says the length of its body
 header_says : (units : UnitMap) (last : ℕ) (o : Object) → kind_of o.body ≡ o.id.kind → length (own_bytes units o.number.0 last o.body) ≡ image_len o.body → header_of (settled units last o) ≡ header_with o (image_len o.body)
-header_says units last o kind long =
-    ap (λ (n : ℕ). header_with o n) (ap (λ (k : Kind). length (body_bytes k (image_of (settled units last o)))) (sym kind) ∙ long)
+header_says units last o kind long = ap (λ (n : ℕ). header_with o n) (body_long units last o kind long)
 
 header_pieces : (units : UnitMap) (last : ℕ) (o : Object) → kind_of o.body ≡ o.id.kind → length (own_bytes units o.number.0 last o.body) ≡ image_len o.body → header_parts (settled units last o) ≡ stream_parts o.number.0 0 (header.print (header_with o (image_len o.body))) []
 header_pieces units last o kind long =

@@ -1,12 +1,12 @@
 -- Pieces that are printed one after another.
-use Rattle.std.proofs.Common.{◌≡◌, ℕ, zero, suc, ◌+◌, ◌≤◌, List, [], ◌∷◌, length, ◌++◌, arith, refl, sym, ap, ◌∙◌, append_assoc}
+use Rattle.std.proofs.Common.{◌≡◌, ℕ, suc, ◌+◌, List, [], ◌∷◌, length, ◌++◌, arith, refl, sym, ap, ◌∙◌, append_assoc}
 use Rattle.std.specs.List.{flat_map}
 use Rattle.s38_codecs.specs.Codec.{Codec, copies, print_each}
 use Rattle.s38_codecs.specs.Formats.{print_from, u16, u32}
 use Rattle.s38_image.specs.Journals.{entry, journal}
 use Rattle.s38_image.proofs.SpaceReading.{found_first}
 use Rattle.s38_image.specs.Queues.{message, order_number, queue}
-use Rattle.std.specs.Prelude.{Some, None, drop, slice_get, sum_by}
+use Rattle.std.specs.Prelude.{Some, drop, slice_get, sum_by}
 use Rattle.std.proofs.lemmas.List.{length-append}
 use Rattle.std.proofs.lemmas.List.Sums.{sum_by-cons}
 use Rattle.s38_journals.specs.Entries.{Entry, entry_image, entry_len, head}

@@ -8,7 +8,7 @@ use Rattle.s38_image_printing.proofs.PrintLaws.{times_print}
 use Rattle.s38_image.specs.Indexes.{index}
 use Rattle.s38_codecs.specs.Formats.{short_text, u32}
 use Rattle.s38_image_printing.specs.Printing.{index_entry_bytes}
-use Rattle.s38_indexes.specs.Entries.{AreShort, Entry, EntryIndex, entry_size, image_size}
+use Rattle.s38_indexes.specs.Entries.{AreShort, Entry, EntryIndex, entry_size}
 use Rattle.s38_template.specs.Grammar.{with_feed}
 use Rattle.s38_template.specs.Printing.{printed_lines}
 

@@ -3,8 +3,9 @@ ghost use Rattle.std.specs.Prelude.{◌≡◌, ◌+◌, ◌*◌, ◌≤◌, ◌+
 ghost use Rattle.std.specs.List.{flat_map};
 ghost use Rattle.s38_base.specs.NameText.{is_name};
 ghost use Rattle.s38_commits.specs.Units.{UnitMap};
+ghost use Rattle.s38_image.specs.Bodies.{body_bytes};
 ghost use Rattle.s38_image.specs.Headers.{header, row};
-ghost use Rattle.s38_image.specs.Images.{parts_of};
+ghost use Rattle.s38_image.specs.Images.{image_of, parts_of};
 ghost use Rattle.s38_image.specs.Pages.{needed, stream_parts};
 ghost use Rattle.s38_image.specs.Settled.{settled};
 ghost use Rattle.s38_image_printing.specs.Parts.{CanSettle, IsPrintable, header_with, part_count};
@@ -87,10 +88,11 @@ fn with_parts(parts: Vec<Change>, object: &Object, units: &Units, last: u64) -> 
 }
 
 /// How many parts an object has: its header, and the pages of its rows and of its body. With every uncommitted change
-/// taken back it has as many.
+/// taken back it has as many, and its body has as many bytes.
 pub fn part_count(object: &Object) -> u32
     requires { IsPrintable object.now }
     ensures count { result ≡ part_count object.now }
+    ensures body { (units : UnitMap) (last : ℕ) → CanSettle units object.now.number.0 object.now.body → length (body_bytes object.now.id.kind (image_of (settled units last object.now))) ≡ image_len object.now.body }
     ensures parts { (units : UnitMap) (last : ℕ) → CanSettle units object.now.number.0 object.now.body → length (parts_of (settled units last object.now)) ≡ part_count object.now }
 {
     let _name = object.id.name.as_bytes();

@@ -12,6 +12,8 @@ mod objects;
 #[cfg(test)]
 mod pages;
 #[cfg(test)]
+mod parts;
+#[cfg(test)]
 mod printed;
 #[cfg(test)]
 mod printing;

@@ -88,7 +88,10 @@ fn what_is_read_is_written_again(rt: HostRuntime) -> Result<(), Fail> {
         };
         let more = appended(rt.alloc(), first, &stored)?;
         assert!(rt; more.len() == more.capacity());
-        assert!(rt; more.split_first().is_some_and(|(_, rest)| rest == parts.as_slice()));
+        assert!(rt;
+            more.split_first()
+                .is_some_and(|(_, rest)| rest == parts.as_slice())
+        );
     }
     Ok(())
 }

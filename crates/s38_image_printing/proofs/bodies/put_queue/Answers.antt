@@ -1,10 +1,7 @@
-use Rattle.std.proofs.Common.{ap, sym, refl, ◌≡◌, ◌∙◌, ◌+◌, List, ℕ, length, ◌++◌, ◌∷◌, [], arith}
+use Rattle.std.proofs.Common.{ap, sym, refl, ◌∙◌, ◌+◌, ℕ, length, ◌∷◌, [], arith}
 use Rattle.std.specs.Prelude.{sum_by}
-use Rattle.std.specs.List.{flat_map}
 use Rattle.s38_codecs.specs.Formats.{u16, u32}
-use Rattle.s38_image_printing.specs.Printing.{message_bytes}
 use Rattle.s38_image.specs.Queues.{order_number}
-use Rattle.s38_image_printing.specs.Writing.{Adds}
 use Rattle.s38_image_printing.proofs.PrintLaws.{queue_bytes}
 use Rattle.s38_image_printing.proofs.WriterLaws.{adds_same, adds_then}
 use Rattle.s38_queues.specs.MessageQueue.{image_size, message_size}

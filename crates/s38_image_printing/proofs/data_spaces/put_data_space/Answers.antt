@@ -1,4 +1,4 @@
-use Rattle.std.proofs.Common.{◌≡◌, ◌+◌, ◌*◌, ◌∙◌, ℕ, List, length, ap, sym, refl, arith}
+use Rattle.std.proofs.Common.{◌≡◌, ◌*◌, ◌∙◌, List, length, ap, sym, refl}
 use Rattle.std.specs.List.{flat_map}
 use Rattle.s38_base.specs.declared.attr.Attr.{Attr}
 use Rattle.s38_codecs.specs.Formats.{u16, u32, u64}

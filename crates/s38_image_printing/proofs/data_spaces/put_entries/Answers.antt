@@ -1,4 +1,4 @@
-use Rattle.std.proofs.Common.{◌≡◌, ◌+◌, ◌*◌, ◌∙◌, ℕ, List, ap, sym, arith, subst}
+use Rattle.std.proofs.Common.{◌+◌, ◌∙◌, ℕ, ap, arith}
 use Rattle.std.specs.Option.{option_copied}
 use Rattle.s38_dataspaces.specs.Entries.{Entry}
 use Rattle.s38_dataspaces.specs.Table.{entry_len}

@@ -1,4 +1,4 @@
-use Rattle.std.proofs.Common.{◌≡◌, ◌+◌, ◌∙◌, ◌∷◌, ℕ, List, length, ap, sym, arith}
+use Rattle.std.proofs.Common.{◌+◌, ◌∙◌, ◌∷◌, ℕ, List, length, ap, sym, arith}
 use Rattle.std.specs.Option.{option_copied}
 use Rattle.s38_codecs.proofs.FormatLaws.{length_copies}
 use Rattle.s38_image_printing.proofs.WriterLaws.{adds_same, adds_then}

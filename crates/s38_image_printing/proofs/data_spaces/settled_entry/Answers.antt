@@ -1,4 +1,4 @@
-use Rattle.std.proofs.Common.{◌≡◌, ◌∙◌, ap, sym}
+use Rattle.std.proofs.Common.{◌∙◌, ap, sym}
 use Rattle.std.specs.Option.{option_copied}
 use Rattle.s38_image_printing.proofs.DataLaws.{first_len}
 use Rattle.s38_image_printing.proofs.data_spaces.settled_entry.Goals as goal

@@ -1,4 +1,4 @@
-use Rattle.std.proofs.Common.{◌≡◌, ◌≤◌, ◌+◌, ◌∙◌, ◌∷◌, [], ℕ, List, length, ap, sym, refl, subst, arith}
+use Rattle.std.proofs.Common.{◌≤◌, ◌∷◌, [], ℕ, List, length, ap, sym, refl, subst, arith}
 use Rattle.std.specs.Prelude.{sum_by}
 use Rattle.s38_codecs.specs.Formats.{u32}
 use Rattle.s38_indexes.specs.Entries.{AreShort, Entry, entry_size, image_size}

@@ -1,4 +1,4 @@
-use Rattle.std.proofs.Common.{◌≡◌, ◌+◌, ◌*◌, ◌≤◌, ◌<◌, ◌∙◌, ◌++◌, List, ℕ, All, length, arith, ap, sym, subst}
+use Rattle.std.proofs.Common.{◌*◌, ◌≤◌, ◌∙◌, ◌++◌, List, All, length, arith, ap, sym, subst}
 use Rattle.std.proofs.lemmas.List.Elements.{All-drop}
 use Rattle.s38_base.specs.declared.page.Change.{Change}
 use Rattle.s38_memory.specs.Cell.{IsCell}

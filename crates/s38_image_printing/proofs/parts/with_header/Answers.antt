@@ -1,6 +1,5 @@
-use Rattle.std.proofs.Common.{◌+◌, ◌++◌, ◌∙◌, [], length, ap, arith}
+use Rattle.std.proofs.Common.{◌∙◌, length, ap, arith}
 use Rattle.s38_image.specs.Headers.{header}
-use Rattle.s38_image.specs.Pages.{stream_parts}
 use Rattle.s38_image.specs.declared.header.Header.{Header}
 use Rattle.s38_image_printing.proofs.LengthLaws.{header_long}
 use Rattle.s38_image_printing.proofs.PartLaws.{streamed, streamed_len}

@@ -1,4 +1,4 @@
-use Rattle.std.proofs.Common.{◌≡◌, ℕ, ◌++◌, ◌∙◌, List, [], ap, sym, arith}
+use Rattle.std.proofs.Common.{ℕ, ◌++◌, ◌∙◌, [], ap}
 use Rattle.s38_image.specs.Headers.{header}
 use Rattle.s38_image.specs.Pages.{stream_parts}
 use Rattle.s38_image_printing.proofs.PartLaws.{all_pieces}

@@ -1,4 +1,4 @@
-use Rattle.std.proofs.Common.{◌+◌, ◌*◌, ◌++◌, ◌∙◌, List, length, ap, arith}
+use Rattle.std.proofs.Common.{◌*◌, ◌∙◌, List, length, ap, arith}
 use Rattle.std.specs.List.{flat_map}
 use Rattle.s38_image.specs.Headers.{row}
 use Rattle.s38_image_printing.proofs.PartLaws.{rows_long, streamed, streamed_len}

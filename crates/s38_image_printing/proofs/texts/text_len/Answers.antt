@@ -1,4 +1,4 @@
-use Rattle.std.proofs.Common.{arith, sym}
+use Rattle.std.proofs.Common.{arith}
 use Rattle.s38_image_printing.proofs.TextLaws.{text_left}
 use Rattle.s38_image_printing.proofs.texts.text_len.Goals as goal
 

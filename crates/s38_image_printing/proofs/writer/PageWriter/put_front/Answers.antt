@@ -1,4 +1,4 @@
-use Rattle.std.proofs.Common.{◌≡◌, ◌+◌, ◌-◌, ◌<◌, ◌≤◌, ◌++◌, ◌∷◌, [], List, ℕ, length, ap, sym, ◌∙◌, arith, append_assoc, subst, drop}
+use Rattle.std.proofs.Common.{◌≡◌, ◌+◌, ◌-◌, ◌≤◌, ◌++◌, ◌∷◌, [], List, ℕ, length, ap, sym, ◌∙◌, arith, subst, drop}
 use Rattle.s38_base.specs.declared.page.Change.{Change}
 use Rattle.s38_image_printing.proofs.WriterLaws.{split_whole, turned_bytes, turned_cut}
 use Rattle.s38_image.specs.Pages.{filled, page_at, stream}
