@@ -20,9 +20,12 @@ fn parts(alloc: Global, len: u32) -> Result<Vec<Change>, Fail>
     requires { len ≤ 513 }
 {
     let mut writer = PageWriter::new(Vec::with_capacity(alloc, 2)?, 5, 128, len);
-    for byte in stream(alloc)?.iter().take(len as usize) {
-        writer.put_byte(*byte);
+    let bytes = stream(alloc)?;
+    if bytes.len() < len as usize {
+        return Err(Fail::new("a short stream"));
     }
+    let (front, _) = bytes.split_at(len as usize);
+    writer.put(front);
     Ok(writer.finish())
 }
 

@@ -45,9 +45,10 @@ fn finished(len: u32, writer: PageWriter) -> Image {
 
 fn program(alloc: Global, code: &Code) -> Result<Image, Fail> {
     let text = print_template(alloc, code.program().template())?;
-    let mut writer = page(alloc, 128, text.len() as u32)?;
+    let len = u32::try_from(text.len())?;
+    let mut writer = page(alloc, 128, len)?;
     writer.put(&text);
-    Ok(finished(text.len() as u32, writer))
+    Ok(finished(len, writer))
 }
 
 fn space(alloc: Global, space: &Tagged) -> Result<Image, Fail> {
