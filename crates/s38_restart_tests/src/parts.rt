@@ -1,40 +1,33 @@
 //! The parts of a store in memory.
 
+ghost use Rattle.std.specs.Prelude.{◌≡◌};
+
 use s38_base::{Change, Key, Page};
 use s38_restart::read_parts;
 use s38_vault::{MapVault, Vault};
-use std::alloc::Global;
 use std::test::Fail;
 
-/// The keys, in their order.
-const KEYS: [Key; 3] = [
-    Key { object: 1, part: 0 },
-    Key {
-        object: 1,
-        part: 128,
-    },
-    Key { object: 2, part: 0 },
-];
-
-/// Three parts, each filled with another byte.
-fn store(alloc: Global) -> Result<(MapVault, [Change; 3]), Fail> {
-    let changes = KEYS.map(|key| Change {
-        key,
+/// A part, filled with one byte.
+fn part(object: u64, part: u32, fill: u8) -> Change
+    ensures { result.key ≡ record { object = object; part = part } }
+{
+    Change {
+        key: Key { object, part },
         page: Some(Page {
-            bytes: [key.part as u8; 512],
+            bytes: [fill; 512],
             tags: 0,
         }),
-    });
-    let mut vault = MapVault::new(alloc, 3);
-    vault.reserve(3)?;
-    vault.put(&changes)?;
-    Ok((vault, changes))
+    }
 }
 
 #[test]
 fn all_parts_are_read(rt: HostRuntime) -> Result<(), Fail> {
-    let (mut vault, changes) = store(rt.alloc())?;
+    let mut vault = MapVault::new(rt.alloc(), 3);
+    vault.reserve(4)?;
+    vault.put(&[part(1, 128, 6)])?;
+    vault.put(&[part(1, 0, 5), part(2, 0, 7)])?;
     let parts = read_parts(rt.alloc(), &mut vault)?;
-    assert!(rt; parts.as_slice() == changes.as_slice());
+    let wanted = [part(1, 0, 5), part(1, 128, 6), part(2, 0, 7)];
+    assert!(rt; parts.as_slice() == wanted.as_slice());
     Ok(())
 }
