@@ -1,5 +1,6 @@
 ghost use Rattle.std.specs.Prelude.{◌≡◌, ◌<◌, ◌≤◌, ◌+◌, ◌/◌, ◌*◌, ◌^◌, ℕ, List, length, true, false, OnOk, OnErr};
 ghost use Rattle.s38_base.specs.Faults.{HasCause};
+ghost use Rattle.s38_disk.specs.Costs.{Costs};
 ghost use Rattle.s38_disk.specs.Disk.{DiskView, moment_of};
 ghost use Rattle.s38_disk.specs.Moves.{Moves, Ends};
 ghost use Rattle.s38_blocks.specs.Coding.{is_up};
@@ -20,6 +21,7 @@ pub fn commit<D: Disk>(disk: &mut D, layout: &Layout, slots: &[Slot]) -> Result<
     requires log { IsLog layout.now slots.now }
     requires size { layout.now.size ≤ (D.view disk.old).size }
     ensures moves { Moves (D.view disk.old) (D.view disk.new) (2 * length slots.now + length slots.now / 132 + 7) (IsAllOrNone layout.now slots.now) }
+    ensures cost { Costs (D.view disk.old) (D.view disk.new) (2 * length slots.now + length slots.now / 132 + 3) 4 }
     ensures done { OnOk result (Ends (D.view disk.old) (D.view disk.new) (IsPut layout.now slots.now)) }
     ensures rises { OnOk result (moment_of (D.view disk.old).past < moment_of (D.view disk.new).past) }
     ensures cause { HasCause (D.view disk.old).faults (D.view disk.new).faults result }

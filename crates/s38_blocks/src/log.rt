@@ -1,6 +1,7 @@
 ghost use Rattle.std.specs.Prelude.{◌≡◌, ◌<◌, ◌≤◌, ◌+◌, ◌/◌, ◌*◌, ◌^◌, ℕ, List, length, get_or, true, OnOk, OnErr};
 ghost use Rattle.s38_disk.specs.Blocks.{State, put};
 ghost use Rattle.s38_base.specs.Faults.{HasCause};
+ghost use Rattle.s38_disk.specs.Costs.{Costs};
 ghost use Rattle.s38_disk.specs.Disk.{DiskView, IsAt};
 ghost use Rattle.s38_disk.specs.Moves.{Moves, Ends, Near, IsSettled, SameBut};
 ghost use Rattle.s38_blocks.specs.Coding.{word_in};
@@ -44,6 +45,7 @@ fn write_numbers<D: Disk>(disk: &mut D, slots: &[Slot]) -> Result<(), Failed>
     requires few { length slots.now < 2 ^ 31 }
     requires room { 3 + length slots.now / 132 ≤ (D.view disk.old).size }
     ensures moves { Moves (D.view disk.old) (D.view disk.new) (length slots.now / 132 + 1) (Near (between 2 (3 + length slots.now / 132))) }
+    ensures cost { Costs (D.view disk.old) (D.view disk.new) (length slots.now / 132 + 1) 0 }
     ensures done { OnOk result (Ends (D.view disk.old) (D.view disk.new) (λ s t. HasNumbers slots.now t.now)) }
     ensures cause { HasCause (D.view disk.old).faults (D.view disk.new).faults result }
     ensures count { OnOk result ((D.view disk.new).faults ≡ (D.view disk.old).faults) }
@@ -59,6 +61,7 @@ fn write_data<D: Disk>(disk: &mut D, slots: &[Slot]) -> Result<(), Failed>
     requires few { length slots.now < 2 ^ 31 }
     requires room { 3 + length slots.now / 132 + length slots.now ≤ (D.view disk.old).size }
     ensures moves { Moves (D.view disk.old) (D.view disk.new) (length slots.now) (Near (between (3 + length slots.now / 132) (3 + length slots.now / 132 + length slots.now))) }
+    ensures cost { Costs (D.view disk.old) (D.view disk.new) (length slots.now) 0 }
     ensures done { OnOk result (Ends (D.view disk.old) (D.view disk.new) (λ s t. HasData slots.now t.now)) }
     ensures cause { HasCause (D.view disk.old).faults (D.view disk.new).faults result }
     ensures count { OnOk result ((D.view disk.new).faults ≡ (D.view disk.old).faults) }
@@ -75,6 +78,7 @@ pub fn write_log<D: Disk>(disk: &mut D, slots: &[Slot]) -> Result<(), Failed>
     requires few { length slots.now < 2 ^ 31 }
     requires room { 3 + length slots.now / 132 + length slots.now ≤ (D.view disk.old).size }
     ensures moves { Moves (D.view disk.old) (D.view disk.new) (length slots.now / 132 + length slots.now + 2) (Near (between 2 (3 + length slots.now / 132 + length slots.now))) }
+    ensures cost { Costs (D.view disk.old) (D.view disk.new) (length slots.now / 132 + length slots.now + 1) 1 }
     ensures done { OnOk result (Ends (D.view disk.old) (D.view disk.new) (λ s t. IsSettled t × (log_count t.now ≡ length slots.now) × (log_of t.now ≡ slots.now))) }
     ensures cause { HasCause (D.view disk.old).faults (D.view disk.new).faults result }
     ensures count { OnOk result ((D.view disk.new).faults ≡ (D.view disk.old).faults) }

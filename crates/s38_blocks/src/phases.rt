@@ -1,6 +1,7 @@
 ghost use Rattle.std.specs.Prelude.{◌≡◌, ◌<◌, ◌≤◌, ◌+◌, ◌/◌, ◌*◌, ℕ, List, length, true, OnOk, OnErr};
 ghost use Rattle.s38_disk.specs.Blocks.{State, put};
 ghost use Rattle.s38_base.specs.Faults.{HasCause};
+ghost use Rattle.s38_disk.specs.Costs.{Costs};
 ghost use Rattle.s38_disk.specs.Disk.{DiskView, IsAt, moment_of};
 ghost use Rattle.s38_disk.specs.Moves.{Moves, Ends, Near, IsSettled, SameBut};
 ghost use Rattle.s38_blocks.specs.Store.{done, targets};
@@ -14,6 +15,7 @@ use s38_disk::{Block, Disk};
 pub fn write_gate<D: Disk>(disk: &mut D, block: &Block) -> Result<(), Failed>
     requires { 1 < (D.view disk.old).size }
     ensures moves { Moves (D.view disk.old) (D.view disk.new) 2 (Near gate) }
+    ensures cost { Costs (D.view disk.old) (D.view disk.new) 1 1 }
     ensures rises { OnOk result (moment_of (D.view disk.old).past < moment_of (D.view disk.new).past) }
     ensures done { OnOk result (Ends (D.view disk.old) (D.view disk.new) (λ s t. IsSettled t × (t.now ≡ put 1 block.now s.now))) }
     ensures cause { HasCause (D.view disk.old).faults (D.view disk.new).faults result }
@@ -28,6 +30,7 @@ pub fn write_gate<D: Disk>(disk: &mut D, block: &Block) -> Result<(), Failed>
 pub fn write_homes<D: Disk>(disk: &mut D, slots: &[Slot]) -> Result<(), Failed>
     requires { AreBelow (D.view disk.old).size slots.now }
     ensures moves { Moves (D.view disk.old) (D.view disk.new) (length slots.now + 1) (Near (targets slots.now)) }
+    ensures cost { Costs (D.view disk.old) (D.view disk.new) (length slots.now) 1 }
     ensures done { OnOk result (Ends (D.view disk.old) (D.view disk.new) (λ s t. IsSettled t × ((i : ℕ) → t.now i ≡ done slots.now s.now i))) }
     ensures cause { HasCause (D.view disk.old).faults (D.view disk.new).faults result }
     ensures count { OnOk result ((D.view disk.new).faults ≡ (D.view disk.old).faults) }

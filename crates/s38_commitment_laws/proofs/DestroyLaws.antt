@@ -10,23 +10,16 @@ use Rattle.std.specs.Prelude.{◌||◌, All, None, Option, Some, is_some}
 use Rattle.s38_base.specs.Ids.{same_kind}
 use Rattle.s38_base.specs.declared.id.Kind.TheVariants as kinds
 use Rattle.s38_base.specs.declared.id.Kind.{Kind}
-use Rattle.s38_code.specs.declared.event.Request.{Request}
 use Rattle.s38_commits.proofs.MapLaws.{nat_same}
 use Rattle.s38_commits.specs.Changes.{is_in}
 use Rattle.s38_commits.specs.Units.{UnitMap, is_space_changed, is_unit_in, unit_of}
 use Rattle.s38_commits.specs.declared.change.UnitChange.{UnitChange}
 use Rattle.s38_journals.specs.Journals.{JournalList}
-use Rattle.s38_rules.proofs.RuleLaws.{first_none}
-use Rattle.s38_rules.specs.Authority.{lacks_special}
 use Rattle.s38_rules.specs.Creation.{destroyed, is_of_kind}
 use Rattle.s38_rules.specs.Held.{Held, kind_of, object, object_in, without}
-use Rattle.s38_rules.specs.Instruction.{Instruction}
 use Rattle.s38_rules.specs.Journaling.{block_port, data_port, data_port_in, goes_to, is_journal, is_number, journal_for, journal_for_block, journal_named, open_units}
 use Rattle.s38_rules.specs.Journals.{is_attached, is_data_of, is_port_to, is_used, leads_to, names_port}
 use Rattle.s38_rules.specs.Parts.{Part, block_of, block_part, data_of, data_part, journal_at, journal_of, journal_part, no_journal, part_at, part_in, port_of, port_part}
-use Rattle.s38_rules.specs.State.{State}
-use Rattle.s38_rules.specs.Users.{acting}
-use Rattle.s38_rules.specs.Verdict.{address_rules, lock_rules, refused_by, rights_rules}
 use Rattle.s38_rules.specs.declared.object.Body.TheVariants as bodies
 use Rattle.s38_rules.specs.declared.object.Body.{Body}
 use Rattle.s38_rules.specs.declared.object.Object.{Object}
@@ -34,16 +27,6 @@ use Rattle.s38_commitment_laws.proofs.HeldLaws.{Follows, IsOther, destroyed_carr
 use Rattle.s38_commitment_laws.proofs.KeptLaws.{LastsAt, Spares, all_by, all_then, grows_by, lasts_by, stays_by, journal_number, right_carried, right_kept}
 use Rattle.s38_commitment_laws.proofs.UnitLaws.{Both, StandsIn, all_stand, count_first, one_if}
 use Rattle.s38_commitment_laws.specs.Right.{AreRight, IsChangeOf, IsData, IsLogged, IsUnit}
-
--- ---- what a permitted instruction has met
-
-pub rule_met : (i : Instruction) (s : State) (p d : ℕ) (t : Request) → refused_by i s p d t ≡ None → i.fails s p d t ≡ None
-unfolding refused_by
-rule_met i s p d t h =
-    let one = first_none (address_rules s.held t.operands (i.needs s p d t)) _ h in
-    let two = first_none (lacks_special s.held (acting s p d) (i.special s p d t)) _ one.1 in
-    let three = first_none (rights_rules s p d t.operands (i.needs s p d t)) _ two.1 in
-    (first_none (lock_rules s p t (i.needs s p d t)) _ three.1).1
 
 -- an object, where it is there, is of a kind
 abbrev pub IsKind : Kind → Option Object → Type 0

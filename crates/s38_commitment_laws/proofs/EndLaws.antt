@@ -12,7 +12,7 @@ use Rattle.s38_commits.specs.Units.{IsRising, UnitMap, ended, unit_of}
 use Rattle.s38_commits.specs.declared.change.UnitChange.{UnitChange}
 use Rattle.s38_dataspaces.specs.Table.{changed, may_restore}
 use Rattle.s38_journals.specs.Entries.{Entry, entry_len, is_end}
-use Rattle.s38_journals.specs.Journals.{JournalList, appended, can_write, written}
+use Rattle.s38_journals.specs.Journals.{JournalList, appended, can_write, forced, written}
 use Rattle.s38_journals.specs.declared.entry.EntryKind.TheVariants as entry_kinds
 use Rattle.s38_journals.specs.declared.entry.EntryKind.{EntryKind}
 use Rattle.s38_rules.proofs.PartLaws.{part_apart}
@@ -272,6 +272,22 @@ end_right : (h : Held) (units : UnitMap) (block : ℕ) (unit : CommitUnit) (kind
     → AreRight (end_written h journal (end_entry kind p unit)) (ended units block)
 end_right h units block unit kind p None right found is = right_ended h units block unit right found
 end_right h units block unit kind p (Some journal) right found is = right_written h units block unit kind p journal right found (ap (λ r. unwrap_or r 0) is)
+
+-- ---- a journal space of which the store keeps all bytes
+
+forced_room : (x : Option JournalList) (opened : ℕ) → opened ≤ (unwrap_or x no_journal).spare → opened ≤ (unwrap_or (option_map forced x) no_journal).spare
+forced_room None opened room = room
+forced_room (Some j) opened room = room
+
+pub forced_right : (h : Held) (units : UnitMap) (n : ℕ) → AreRight h units → AreRight (on_journal h n forced) units
+forced_right h units n right =
+    right_kept h (on_journal h n forced) units right (all_by (Spares h (on_journal h n forced)) units (journal_spares h n forced (λ j. omega arith)))
+    (λ m. subst IsData (sym (data_by_journal h n m forced)) (right.tables m))
+    (λ m. subst (λ (r : Option JournalList). 41 * open_units h units m ≤ (unwrap_or r no_journal).spare) (sym (part_over journal_part journal_lawful h n m forced))
+    (cond_both (n == m) (option_map forced (part_at journal_part h m)) (part_at journal_part h m) (λ r. 41 * open_units h units m ≤ (unwrap_or r no_journal).spare)
+    (λ q. forced_room (part_at journal_part h m) (41 * open_units h units m) (right.room m))
+    (λ q. right.room m)))
+    (over_unused journal_part h n forced right.unused)
 
 -- ---- COMMIT and DECOMMIT
 

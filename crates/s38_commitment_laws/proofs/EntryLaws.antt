@@ -15,6 +15,7 @@ use Rattle.s38_dataspaces.specs.Entries as spaces
 use Rattle.s38_dataspaces.specs.Entries.{entry_at}
 use Rattle.s38_dataspaces.specs.Table.{DataTable}
 use Rattle.s38_journals.specs.Journals.{JournalList}
+use Rattle.s38_rules.proofs.VerdictLaws.{rule_met}
 use Rattle.s38_rules.proofs.RuleLaws.{fails_none, first_none, not_false}
 use Rattle.s38_rules.specs.Changing.{change_of, held_rule, logged, logged_in}
 use Rattle.s38_rules.specs.DataSpaces.{change_at, change_rules, current_fails, cursor_of, deldsen, entry_rule, insdsen, insdsen_fails, insertion, insertion_limits, journal_room, next_ordinal, position_rule, table_of, updsen, updsen_fails, with_changed, with_inserted}
@@ -27,7 +28,6 @@ use Rattle.s38_rules.specs.State.{State}
 use Rattle.s38_rules.specs.Verdict.{refused_by}
 use Rattle.s38_rules.specs.declared.data_body.DataBody.{DataBody}
 use Rattle.s38_commitment_laws.proofs.ChangeLaws.{IsBlock, IsKnown, block_met, change_written, holding_free, journaled_there, right_logged}
-use Rattle.s38_commitment_laws.proofs.DestroyLaws.{rule_met}
 use Rattle.s38_commitment_laws.proofs.EndLaws.{block_by_data, data_tables, journal_by_data, port_by_data, right_data}
 use Rattle.s38_commitment_laws.proofs.HeldLaws.{over_unused, part_over}
 use Rattle.s38_commitment_laws.proofs.JoinLaws.{IsFree}

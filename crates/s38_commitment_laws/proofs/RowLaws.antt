@@ -1,6 +1,6 @@
 -- Units stay right whatever a permitted instruction changes: one case for each word of change. Most words must meet
 -- nothing; where one must, the rules of its row say that it does.
-use Rattle.std.proofs.Common.{◌∷◌, ◌≡◌, Bool, List, [], ap, cond, false, refl, true, ℕ}
+use Rattle.std.proofs.Common.{◌∷◌, ◌≡◌, Bool, List, [], cond, false, refl, true, ℕ}
 use Rattle.std.proofs.lemmas.List.Elements.{All-nil}
 use Rattle.std.specs.Option.{option_map}
 use Rattle.std.specs.Prelude.{None, Option, Some, is_some}
@@ -13,7 +13,6 @@ use Rattle.s38_base.specs.declared.id.Kind.{Kind}
 use Rattle.s38_base.specs.declared.id.ObjNum.{ObjNum}
 use Rattle.s38_base.specs.declared.op.Op.TheVariants.{Crtctx, Crtds, Crtinx, Crtpg, Crtq, Crts, Crtup, Deldsen, Descb, Desds, Desjp, Desjs, Grant, Insdsen, Jrnlobj, Lock, Rslvsp, Updsen}
 use Rattle.s38_base.specs.declared.op.Op.{Op}
-use Rattle.s38_base.specs.declared.rights.Special.{Special}
 use Rattle.s38_code.specs.Operations.{family_of}
 use Rattle.s38_code.specs.declared.event.Request.{Request}
 use Rattle.s38_code.specs.declared.family.Family.TheVariants as families
@@ -27,6 +26,7 @@ use Rattle.s38_commits.specs.Units.{is_space_changed, unit_of}
 use Rattle.s38_dataspaces.specs.Table.{are_fields}
 use Rattle.s38_memory.specs.Tagged.{resized}
 use Rattle.s38_memory.specs.declared.cell.Cell.{Cell}
+use Rattle.s38_rules.proofs.VerdictLaws.{rule_met}
 use Rattle.s38_rules.proofs.RuleLaws.{fails_none, first_none}
 use Rattle.s38_rules.specs.Cells.{with_bytes, with_cells, with_pointer}
 use Rattle.s38_rules.specs.Changes.{Changes, CellsPut, Committed, Decommitted, Ensured, Entered, Framed, Gone, Journaled, Locked, Made, Moved, Named, OnCursor, OnIndex, OnQueue, Profiled, Resized, Stands, Stays, Then, done, made_by, renamed_by}
@@ -44,7 +44,7 @@ use Rattle.s38_rules.specs.Invocations.{restack_at}
 use Rattle.s38_rules.specs.Journals.{descb, descb_fails, desjp, desjp_fails, desjs, desjs_fails, is_attached, is_used, journals_row, jrnlobj, jrnlobj_fails}
 use Rattle.s38_rules.specs.Locking.{locks_row}
 use Rattle.s38_rules.specs.Operands.{cells_put, deliver, delivered, place, put_value}
-use Rattle.s38_rules.specs.Parts.{IsPart, cursor_lawful, cursor_part, data_of, index_lawful, index_part, on_space, profile_of, profile_part, queue_lawful, queue_part, space_lawful, space_part}
+use Rattle.s38_rules.specs.Parts.{cursor_lawful, cursor_part, data_of, index_lawful, index_part, on_space, profile_lawful, profile_part, queue_lawful, queue_part, space_lawful, space_part}
 use Rattle.s38_rules.specs.Profiles.{profiles_row}
 use Rattle.s38_rules.specs.Programs.{program_in, programs_row, template_at}
 use Rattle.s38_rules.specs.Queues.{queues_row}
@@ -59,7 +59,7 @@ use Rattle.s38_rules.specs.declared.data_body.DataBody.{DataBody}
 use Rattle.s38_rules.specs.declared.object.Body.TheVariants as bodies
 use Rattle.s38_rules.specs.declared.object.Body.{Body}
 use Rattle.s38_rules.specs.declared.process.ProcessEntry.{ProcessEntry}
-use Rattle.s38_commitment_laws.proofs.DestroyLaws.{right_block_gone, right_gone, right_journal_gone, right_port_gone, right_space_gone, rule_met}
+use Rattle.s38_commitment_laws.proofs.DestroyLaws.{right_block_gone, right_gone, right_journal_gone, right_port_gone, right_space_gone}
 use Rattle.s38_commitment_laws.proofs.EndLaws.{commit_right, decommit_right}
 use Rattle.s38_commitment_laws.proofs.EntryLaws.{MayEnter, deldsen_may, entered_right, insdsen_may, journaling_right, updsen_may}
 use Rattle.s38_commitment_laws.proofs.HeldLaws.{Carries, carries_same, cursor_other, index_other, profile_other, queue_other, space_other, creation_carries, header_carries, other_carries}
@@ -78,13 +78,6 @@ cells_carry h _ piece = carries_same h
 renamed_carries : (h : Held) (n : ℕ) (id : Option Id) → Carries h (renamed_by h n id)
 renamed_carries h n None = carries_same h
 renamed_carries h n (Some id) = header_carries h n (λ x. record x { id = id }) (λ x. refl) (λ x. refl)
-
-profile_back : (b : Body) (x : Special × ℕ) → profile_of b ≡ Some x → b ≡ bodies.Profile x.0 x.1
-profile_back (bodies.Profile special limit) x h = let same : (special, limit) ≡ x = cc in ap (λ (y : Special × ℕ). bodies.Profile y.0 y.1) same
-profile_back _ x h = cc
-
-profile_lawful : IsPart (Special × ℕ) profile_part
-profile_lawful = record { got = λ x. refl; back = profile_back }
 
 abbrev pub data_in : Option Body → Option DataBody
 data_in None = None

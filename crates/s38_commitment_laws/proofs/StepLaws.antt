@@ -13,11 +13,12 @@ use Rattle.s38_code.specs.declared.event.Request.{Request}
 use Rattle.s38_code.specs.declared.made.CheckedTemplate.{CheckedTemplate}
 use Rattle.s38_commits.specs.declared.change.UnitChange.{UnitChange}
 use Rattle.s38_commits.specs.Unit.{CommitUnit}
-use Rattle.s38_commits.specs.Units.{unit_of}
+use Rattle.s38_commits.specs.Units.{UnitMap, unit_of}
 use Rattle.s38_journals.specs.Journals.{can_write}
 use Rattle.s38_journals.specs.declared.entry.EntryKind.{EntryKind}
 use Rattle.s38_rules.specs.Units.{all_undone, end_entry}
 use Rattle.s38_rules.proofs.RoomLaws.{permitted_by_rules}
+use Rattle.s38_rules.proofs.StoreLaws.{stored_beside, stored_holds}
 use Rattle.s38_rules.proofs.VerdictLaws.{permitted_none}
 use Rattle.s38_rules.specs.Changes.{Changes, Entered, Then}
 use Rattle.s38_rules.specs.Journaling.{journal_for}
@@ -29,12 +30,13 @@ use Rattle.s38_rules.specs.Parts.{data_of, data_part, part_at, part_in}
 use Rattle.s38_rules.specs.Rows.{row}
 use Rattle.s38_rules.specs.State.{State, process_entry, waits}
 use Rattle.s38_rules.specs.Step.{awake_verdict, by_verdict, by_waiting, step}
+use Rattle.s38_rules.specs.Storing.{stored}
 use Rattle.s38_rules.specs.Verdict.{refused_by, ruled_verdict}
 use Rattle.s38_rules.specs.declared.object.Object.{Object}
 use Rattle.s38_rules.specs.declared.process.ProcessEntry.{ProcessEntry}
 use Rattle.s38_rules.specs.declared.verdict.Verdict.TheVariants.{Permit}
 use Rattle.s38_rules.specs.declared.verdict.Verdict.{Verdict}
-use Rattle.s38_commitment_laws.proofs.EndLaws.{all_decommitted_right, can_end, undone_right, unit_put_back}
+use Rattle.s38_commitment_laws.proofs.EndLaws.{all_decommitted_right, can_end, forced_right, undone_right, unit_put_back}
 use Rattle.s38_commitment_laws.proofs.EntryLaws.{entered_written}
 use Rattle.s38_commitment_laws.proofs.RowLaws.{May, effect_right, row_may}
 use Rattle.s38_commitment_laws.proofs.UnitLaws.{all_stand, rising_none}
@@ -82,8 +84,14 @@ event_right s p Start right may = start_right s p (process_entry s p) right
 event_right s p (Act d t) right may = effect_right s p d t right (permitted_none s p t (refused_by (row t.op) s p d t) (permitted_by_rules s p (Act d t) may))
 event_right s p (Finish cause) right may = finish_right s p (process_entry s p) right
 
+-- what a store keeps leaves them right
+stored_right : (s : State) (p : ℕ) (e : Event) (t : State) → IsRight t → IsRight (stored s p e t)
+stored_right s p e t right =
+    subst (λ (units : UnitMap). AreRight (stored s p e t).held units) (sym (stored_beside s p e t).units)
+    (stored_holds (λ (h : Held). AreRight h t.units) (λ h n so_far. forced_right h t.units n so_far) s p e t right)
+
 verdict_right : (s : State) (p : ℕ) (e : Event) (v : Verdict) → IsRight s → awake_verdict s p e ≡ v → IsRight (by_verdict s p e v).state
-verdict_right s p e Permit right is = event_right s p e right is
+verdict_right s p e Permit right is = stored_right s p e (effect_of s p e).state (event_right s p e right is)
 verdict_right s p e _ right is = right
 
 pub step_right : (s : State) (p : ℕ) (e : Event) → IsRight s → IsRight (step s p e).state

@@ -7,20 +7,25 @@ use Rattle.s38_code.specs.declared.entry.Entry.{Entry}
 use Rattle.s38_code.specs.declared.event.Event.TheVariants.{Act, Finish, Start}
 use Rattle.s38_code.specs.declared.event.Event.{Event}
 use Rattle.s38_code.specs.declared.event.Request.{Request}
+use Rattle.s38_journals.specs.Journals as journals
+use Rattle.s38_rules.specs.Held.{Held}
 use Rattle.s38_rules.specs.Effect.{effect_of, end_at, start_at}
+use Rattle.s38_rules.specs.Parts.{on_journal}
 use Rattle.s38_rules.specs.Rows.{row}
 use Rattle.s38_rules.specs.State.{State, process_entry, waits}
 use Rattle.s38_rules.specs.Step.{Stepped, awake_verdict, by_verdict, by_waiting, step}
+use Rattle.s38_rules.specs.Storing.{stored}
 use Rattle.s38_rules.specs.Users.{acting}
 use Rattle.s38_rules.specs.Verdict.{refused_by, ruled_verdict}
 use Rattle.s38_rules.specs.declared.verdict.Verdict.TheVariants.{Permit}
 use Rattle.s38_rules.specs.declared.verdict.Verdict.{Verdict}
 use Rattle.s38_rules.proofs.RoomLaws.{permitted_by_rules}
+use Rattle.s38_rules.proofs.StoreLaws.{stored_holds}
 use Rattle.s38_rules.proofs.VerdictLaws.{permitted_none}
 use Rattle.s38_confinement.proofs.EffectLaws.{effect_lessens}
-use Rattle.s38_confinement.proofs.PlainLaws.{all_decommitted_keeps}
+use Rattle.s38_confinement.proofs.PlainLaws.{all_decommitted_keeps, journal_keeps}
 use Rattle.s38_confinement.proofs.RightLaws.{among, unused}
-use Rattle.s38_confinement.proofs.StandingLaws.{IsShut, Lessens, kept_lessens, lessens_same, stays_shut}
+use Rattle.s38_confinement.proofs.StandingLaws.{IsShut, Lessens, kept_lessens, lessens_same, lessens_then, stays_shut}
 use Rattle.s38_confinement.specs.Confined.{ActsWithin, Exercises, UsesBy}
 use Rattle.s38_confinement.specs.NoWay.{IsHarmless, NoWay}
 use Rattle.s38_confinement.specs.OfPointers.{OfEvent, OfReply, OfVal, OfVals}
@@ -50,11 +55,18 @@ event_lessens s p (Finish cause) users o r some closed asked within may = (
   λ uses. uses,
 )
 
+-- neither does what a store keeps
+stored_lessens : (before : Held) (s : State) (p : ℕ) (e : Event) (t : State) (o r : ℕ) → Lessens before t.held o r → Lessens before (stored s p e t).held o r
+stored_lessens before s p e t o r lessens =
+    stored_holds (λ (h : Held). Lessens before h o r)
+    (λ h n so_far. lessens_then before h (on_journal h n journals.forced) o r so_far (kept_lessens h _ o r (journal_keeps (IsHarmless o r) h n journals.forced)))
+    s p e t lessens
+
 verdict_kept : (users : List ℕ) (o r : ℕ) (s : State) (e : Entry) (v : Verdict) → o ≢ 0 → IsShut s.held users o r → OfEvent (IsHarmless o r) e.event → ActsWithin users s e.process e.event
     → awake_verdict s e.process e.event ≡ v → KeepsOut users o r s e (by_verdict s e.process e.event v)
 verdict_kept users o r s e Permit some shut asked within is =
     let done = event_lessens s e.process e.event users o r some shut.way asked within is in
-    record { shut = stays_shut s.held _ users o r done.0 shut; reply = done.1; unused = done.2 }
+    record { shut = stays_shut s.held _ users o r (stored_lessens s.held s e.process e.event (effect_of s e.process e.event).state o r done.0) shut; reply = done.1; unused = done.2 }
 verdict_kept users o r s e _ some shut asked within is = record { shut = shut; reply = tt; unused = λ uses. uses }
 
 pub step_kept : (users : List ℕ) (o r : ℕ) (s : State) (e : Entry) → o ≢ 0 → IsShut s.held users o r → OfEvent (IsHarmless o r) e.event → ActsWithin users s e.process e.event

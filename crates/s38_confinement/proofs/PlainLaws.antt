@@ -1,5 +1,5 @@
 -- What most instructions do is plain: one case for each word of change, and what each row gives.
-use Rattle.std.proofs.Common.{arith, ◌+◌, ◌==◌, ◌∙◌, ◌∷◌, ◌≡◌, Bool, List, [], ap, cond, false, refl, subst, sym, true, ℕ}
+use Rattle.std.proofs.Common.{arith, ◌+◌, ◌==◌, ◌∙◌, ◌∷◌, ◌≡◌, Bool, List, [], cond, false, refl, subst, sym, true, ℕ}
 use Rattle.std.proofs.lemmas.Bool.Decides.{nat_tests}
 use Rattle.std.proofs.lemmas.Bool.{and_parts, cond_both, true≢false}
 use Rattle.std.proofs.lemmas.List.Elements.{All-cons, All-filter, All-nil}
@@ -48,6 +48,7 @@ use Rattle.s38_rules.specs.Held.{Held, change, ensured, has_number, kept_on_disk
 use Rattle.s38_rules.specs.Instruction.{Instruction}
 use Rattle.s38_rules.specs.Invocations.{restack_at}
 use Rattle.s38_rules.specs.Operands.{Done, cells_put, deliver, delivered, is_in_space, place, put_value, source_cells}
+use Rattle.s38_rules.proofs.PartLaws.{over_same}
 use Rattle.s38_rules.specs.Parts.{IsPart, Part, cursor_lawful, cursor_part, data_lawful, data_part, index_lawful, index_part, journal_lawful, journal_part, on_cursor, on_data, on_journal, on_space, over, over_object, over_part, over_table, queue_lawful, queue_part, space_lawful, space_part}
 use Rattle.s38_rules.specs.Profiles.{profiles_row}
 use Rattle.s38_rules.specs.Programs.{call_gives, program_at, programs_row}
@@ -125,11 +126,6 @@ renamed_keeps q h n (Some id) = change_keeps q h n (λ x. record x { id = id }) 
 moved_keeps : (q : Pointer → Type 0) (h : Held) (n : ℕ) (context : ObjNum) → Keeps q h (moved h n context)
 moved_keeps q h n context = change_keeps q h n (λ x. record x { context = context }) (λ x. refl) (λ x. record { standing = refl; special = refl; user = refl }) (λ x of. of)
 
--- what is the same of each body of a kind is the same of a body that holds something else
-over_same : {T A : Type 0} (p : Part T) → IsPart T p → (g : Body → A) (a : A) → ((x : T) → g (p.make x) ≡ a) → (f : T → T) (b : Body) (x : Option T) → p.of b ≡ x → g (over p f b x) ≡ g b
-over_same p lawful g a same f b None e = refl
-over_same p lawful g a same f b (Some x) e = same (f x) ∙ sym (ap g (lawful.back b x e) ∙ same x)
-
 over_of : {T : Type 0} (q : Pointer → Type 0) (part : Part T) (f : T → T) (b : Body) (r : Option T) → ((x : T) → r ≡ Some x → OfBody q (part.make (f x))) → OfBody q b → OfBody q (over part f b r)
 over_of q part f b None puts of = of
 over_of q part f b (Some x) puts of = puts x refl
@@ -165,7 +161,7 @@ data_keeps q h n f = part_keeps q data_part data_lawful (λ x. refl) (λ x. refl
 cursor_keeps : (q : Pointer → Type 0) (h : Held) (n : ℕ) (f : Cursor → Cursor) → Keeps q h (on_cursor h n f)
 cursor_keeps q h n f = part_keeps q cursor_part cursor_lawful (λ x. refl) (λ x. refl) h n f (λ b x e here. tt)
 
-journal_keeps : (q : Pointer → Type 0) (h : Held) (n : ℕ) (f : JournalList → JournalList) → Keeps q h (on_journal h n f)
+pub journal_keeps : (q : Pointer → Type 0) (h : Held) (n : ℕ) (f : JournalList → JournalList) → Keeps q h (on_journal h n f)
 journal_keeps q h n f = part_keeps q journal_part journal_lawful (λ x. refl) (λ x. refl) h n f (λ b x e here. tt)
 
 logged_in_keeps : (q : Pointer → Type 0) (s : State) (p block : ℕ) (change : UnitChange) (journal : Option ℕ) → Keeps q s.held (logged_in s p block change journal).held

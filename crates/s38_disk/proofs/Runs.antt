@@ -11,11 +11,11 @@ use Rattle.s38_disk.specs.Disk.Past.{Told, Untold}
 use Rattle.s38_disk.specs.Moves.{Along, Moves, Ends, Near}
 use Rattle.s38_disk.proofs.States.{after-append}
 
-adding-nil : (p : Past) → p ≡ adding [] p
+pub adding-nil : (p : Past) → p ≡ adding [] p
 adding-nil (Told base calls) = ap (λ cs. Told base cs) (sym (append-nil calls))
 adding-nil (Untold n) = ap (λ k. Untold k) (omega arith)
 
-adding-append : (p : Past) (xs ys : List Call) → adding ys (adding xs p) ≡ adding (xs ++ ys) p
+pub adding-append : (p : Past) (xs ys : List Call) → adding ys (adding xs p) ≡ adding (xs ++ ys) p
 adding-append (Told base calls) xs ys = ap (λ cs. Told base cs) (append_assoc calls xs ys)
 adding-append (Untold n) xs ys = ap (λ k. Untold k) (omega (arith, length-append xs ys))
 

@@ -292,13 +292,6 @@ program_back _ x e = absurd cc
 program_is_part : parts.IsPart Program program_part
 program_is_part = record { got = λ x. refl; back = program_back }
 
-profile_back : (b : Body) (x : Special × ℕ) → parts.profile_of b ≡ Some x → b ≡ bodies.Profile x.0 x.1
-profile_back (bodies.Profile s limit) x e = cc
-profile_back _ x e = absurd cc
-
-profile_is_part : parts.IsPart (Special × ℕ) parts.profile_part
-profile_is_part = record { got = λ x. refl; back = profile_back }
-
 entries_same : (j : JournalList) (es : List journaled.Entry) → j.spare ≡ 0 → j.unforced ≡ 0 → j.entries ≡ es → j ≡ record { spare = 0; unforced = 0; entries = es }
 entries_same j es a b c = λ i. record { spare = a i; unforced = b i; entries = c i }
 
@@ -352,7 +345,7 @@ block_is = seen_is block_by block_number _ (record { there = λ y. refl; here = 
 pub body_is : (k : Kind) (tags : List ℕ) → IsSpelling BodyImage (body k tags) (FitsBody k tags)
 body_is kinds.Context tags = case_by_is (held_in context_part) nothing (λ x. Unit {0}) (held_is context_part context_is_part) nothing_is
 body_is kinds.Program tags = case_by_is (held_in program_part) program IsCreated (held_is program_part program_is_part) program_is
-body_is kinds.Profile tags = case_by_is (held_in parts.profile_part) (all_by profile) (λ x. profile.fits x ≡ true) (held_is parts.profile_part profile_is_part) (all_by_is profile profile_is)
+body_is kinds.Profile tags = case_by_is (held_in parts.profile_part) (all_by profile) (λ x. profile.fits x ≡ true) (held_is parts.profile_part parts.profile_lawful) (all_by_is profile profile_is)
 body_is kinds.Space tags = case_by_is (held_in parts.space_part) (space tags) (FitsSpace tags) (held_is parts.space_part parts.space_lawful) (space_is tags)
 body_is kinds.Queue tags = case_by_is (held_in parts.queue_part) (all_by queue) (λ x. queue.fits x ≡ true) (held_is parts.queue_part parts.queue_lawful) (all_by_is queue queue_is)
 body_is kinds.Index tags = case_by_is (held_in parts.index_part) (all_by index) (λ x. index.fits x ≡ true) (held_is parts.index_part parts.index_lawful) (all_by_is index index_codec_is)

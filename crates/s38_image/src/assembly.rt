@@ -44,7 +44,7 @@ fn fault_of(number: u64, part: u32, fault: ReadFault) -> ImageFault
 }
 
 /// The parts below a number that lead a list, and the others.
-fn split_at_part(limit: u32, parts: &[Change]) -> (&[Change], &[Change])
+pub fn split_at_part(limit: u32, parts: &[Change]) -> (&[Change], &[Change])
     ensures front { result.0.now ≡ leading limit parts.now }
     ensures rest { result.1.now ≡ after_leading limit parts.now }
 {
@@ -68,8 +68,8 @@ fn header_from(front: &[Change], bytes: &[u8]) -> Result<Header, ReadFault>
     Ok(found)
 }
 
-/// The header, from the parts below 1.
-fn header_in(alloc: Global, number: u64, front: &[Change]) -> Result<Header, ReadFault>
+/// The header of a number, from its parts below 1. Its limits are not looked at.
+pub fn header_in(alloc: Global, number: u64, front: &[Change]) -> Result<Header, ReadFault>
     ensures { Gives (λ header. header) result (header_in number front.now) }
 {
     let bytes = stream_of(alloc, number, 0, 512, front)?;

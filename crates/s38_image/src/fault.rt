@@ -1,3 +1,7 @@
+ghost use Rattle.std.specs.Prelude.{◌≡◌};
+ghost use Rattle.s38_image.specs.declared.fault.ImageFault.TheVariants as faults;
+
+use s38_base::NoMemory;
 use thiserror::Error;
 
 /// Why parts hold no object.
@@ -9,4 +13,12 @@ pub enum ImageFault {
     /// Memory was refused.
     #[error("no memory")]
     NoMemory,
+}
+
+impl From<NoMemory> for ImageFault {
+    ghost from_gives = { λ _ fault. fault ≡ faults.NoMemory };
+
+    fn from(_: NoMemory) -> ImageFault {
+        ImageFault::NoMemory
+    }
 }

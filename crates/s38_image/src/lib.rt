@@ -19,7 +19,7 @@ mod spaces;
 mod stored;
 mod stream;
 
-pub use assembly::from_parts;
+pub use assembly::{from_parts, header_in, split_at_part};
 pub use data_spaces::data_space_in;
 pub use fault::ImageFault;
 pub use header::Header;

@@ -12,7 +12,7 @@ use Rattle.s38_image.specs.Headers.{longest_body}
 use Rattle.s38_image.specs.Images.{header_of, image_of}
 use Rattle.s38_image.specs.declared.stored.Stored.{Stored}
 use Rattle.s38_image_printing.proofs.LengthLaws.{text_long}
-use Rattle.s38_image_printing.specs.Parts.{HasShortText, IsPrintable}
+use Rattle.s38_rules.specs.Storable.{HasShortText, IsStorable}
 use Rattle.s38_rules.specs.Held.{kind_of}
 use Rattle.s38_rules.specs.declared.object.Body.{Body}
 use Rattle.s38_rules.specs.declared.object.Body.TheVariants as bodies
@@ -68,7 +68,7 @@ short_fits k tags (bodies.Program p) sequence limit h le small =
     short_program p tags sequence limit fits len small
 short_fits k tags _ sequence limit h le small = tt
 
-pub read_printable : (limit : ℕ) (s : Stored) → limit ≤ 16777216 → IsImage limit s → IsPrintable s.object
+pub read_printable : (limit : ℕ) (s : Stored) → limit ≤ 16777216 → IsImage limit s → IsStorable s.object
 read_printable limit s small is =
     let k = s.object.id.kind in
     let h = header_of s in

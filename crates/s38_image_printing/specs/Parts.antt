@@ -1,6 +1,5 @@
 -- What can be printed of an object as it stands, with every uncommitted change taken back, and in how many parts.
-use Rattle.std.specs.Prelude.{◌≡◌, ℕ, ◌≤◌, List, length, None}
-use Rattle.s38_base.specs.Limits.{most_rows}
+use Rattle.std.specs.Prelude.{ℕ, List, length, None}
 use Rattle.s38_base.specs.declared.page.Change.{Change}
 use Rattle.s38_commits.specs.Units.{UnitMap}
 use Rattle.s38_image.specs.Bodies.{body_bytes, tags_by}
@@ -10,7 +9,7 @@ use Rattle.s38_image.specs.Settled.{settled_body, settled_sequence}
 use Rattle.s38_image.specs.declared.header.Header.{Header}
 use Rattle.s38_image_printing.specs.Restoring.{AreRestorable}
 use Rattle.s38_rules.specs.Held.{kind_of}
-use Rattle.s38_rules.specs.Room.{extent_of, more_parts, program_size}
+use Rattle.s38_rules.specs.Room.{extent_of, more_parts}
 use Rattle.s38_rules.specs.declared.object.Body.{Body}
 use Rattle.s38_rules.specs.declared.object.Body.TheVariants as bodies
 use Rattle.s38_rules.specs.declared.object.Object.{Object}
@@ -21,17 +20,6 @@ use Rattle.s38_rules.specs.declared.object.Object.{Object}
 abbrev pub CanSettle : UnitMap → ℕ → Body → Type 0
 CanSettle units number (bodies.DataSpace d) = AreRestorable units number d.space
 CanSettle units number _ = Unit {0}
-
--- the text of a program is not too long; other bodies keep to their limits by themselves
-abbrev pub HasShortText : Body → Type 0
-HasShortText (bodies.Program p) = program_size p ≤ 16777216
-HasShortText _ = Unit {0}
-
--- an object whose body is of its kind, with not too many rows and no text that is too long
-pub record IsPrintable (o : Object) : Type 0 where
-  pub kind : kind_of o.body ≡ o.id.kind
-  pub rows : length o.rows ≤ most_rows
-  pub text : HasShortText o.body
 
 -- the header, and the pages of rows and body: all that a store takes of an object that is new to it
 abbrev pub part_count : Object → ℕ

@@ -2,9 +2,9 @@
 ghost use Rattle.std.specs.Prelude.{◌≤◌, ℕ};
 ghost use Rattle.s38_image.specs.Fitting.{IsImage};
 ghost use Rattle.s38_image.specs.declared.stored.Stored.{Stored};
-ghost use Rattle.s38_image_printing.specs.Parts.{IsPrintable};
+ghost use Rattle.s38_rules.specs.Storable.{IsStorable};
 
 /// An object that was read can be printed.
 pub fn what_is_read_can_be_printed()
-    ensures { (limit : ℕ) (s : Stored) → limit ≤ 16777216 → IsImage limit s → IsPrintable s.object }
+    ensures { (limit : ℕ) (s : Stored) → limit ≤ 16777216 → IsImage limit s → IsStorable s.object }
 {}

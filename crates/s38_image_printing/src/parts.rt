@@ -8,7 +8,8 @@ ghost use Rattle.s38_image.specs.Headers.{header, row};
 ghost use Rattle.s38_image.specs.Images.{image_of, parts_of};
 ghost use Rattle.s38_image.specs.Pages.{needed, stream_parts};
 ghost use Rattle.s38_image.specs.Settled.{settled};
-ghost use Rattle.s38_image_printing.specs.Parts.{CanSettle, IsPrintable, header_with, part_count};
+ghost use Rattle.s38_image_printing.specs.Parts.{CanSettle, header_with, part_count};
+ghost use Rattle.s38_rules.specs.Storable.{IsStorable};
 ghost use Rattle.s38_rules.specs.Room.{image_len, rows_pages};
 
 use crate::body::{image_len, with_body};
@@ -75,7 +76,7 @@ fn with_rows(parts: Vec<Change>, object: &Object) -> Vec<Change>
 
 /// Adds the parts of an object, for which there is room.
 fn with_parts(parts: Vec<Change>, object: &Object, units: &Units, last: u64) -> Vec<Change>
-    requires object { IsPrintable object.now }
+    requires object { IsStorable object.now }
     requires units { CanSettle units.now object.now.number.0 object.now.body }
     requires room { vec_len parts + part_count object.now ≤ vec_capacity parts }
     ensures parts { result.items ≡ parts.items ++ parts_of (settled units.now last object.now) }
@@ -90,7 +91,7 @@ fn with_parts(parts: Vec<Change>, object: &Object, units: &Units, last: u64) -> 
 /// How many parts an object has: its header, and the pages of its rows and of its body. With every uncommitted change
 /// taken back it has as many, and its body has as many bytes.
 pub fn part_count(object: &Object) -> u32
-    requires { IsPrintable object.now }
+    requires { IsStorable object.now }
     ensures count { result ≡ part_count object.now }
     ensures body { (units : UnitMap) (last : ℕ) → CanSettle units object.now.number.0 object.now.body → length (body_bytes object.now.id.kind (image_of (settled units last object.now))) ≡ image_len object.now.body }
     ensures parts { (units : UnitMap) (last : ℕ) → CanSettle units object.now.number.0 object.now.body → length (parts_of (settled units last object.now)) ≡ part_count object.now }
@@ -104,7 +105,7 @@ pub fn part_count(object: &Object) -> u32
 /// Adds the parts of an object, for which there is room, and takes no memory. Of a data space every change of the units is
 /// taken back, and its sequence is `last`, or 0 without a port; of other objects both count for nothing.
 pub fn write_parts(into: &mut Vec<Change>, object: &Object, units: &Units, last: u64)
-    requires object { IsPrintable object.now }
+    requires object { IsStorable object.now }
     requires units { CanSettle units.now object.now.number.0 object.now.body }
     requires room { vec_len into.old + part_count object.now ≤ vec_capacity into.old }
     ensures parts { into.new.items ≡ into.old.items ++ parts_of (settled units.now last object.now) }
@@ -123,7 +124,7 @@ pub fn to_parts(
     units: &Units,
     last: u64,
 ) -> Result<Vec<Change>, NoMemory>
-    requires object { IsPrintable object.now }
+    requires object { IsStorable object.now }
     requires units { CanSettle units.now object.now.number.0 object.now.body }
     ensures { IfOk result (λ parts. parts.items ≡ parts_of (settled units.now last object.now)) }
 {

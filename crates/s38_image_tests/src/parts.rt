@@ -2,7 +2,7 @@
 
 ghost use Rattle.std.specs.Bool.{OnTrue};
 ghost use Rattle.std.specs.Prelude.{◌≡◌, OnOk};
-ghost use Rattle.s38_image_printing.specs.Parts.{HasShortText, IsPrintable};
+ghost use Rattle.s38_rules.specs.Storable.{HasShortText, IsStorable};
 ghost use Rattle.s38_rules.specs.Held.{kind_of};
 
 use crate::samples::{LIMIT, SAMPLES, parts_of};
@@ -50,7 +50,7 @@ fn short_text(alloc: Global, body: &Body) -> Result<(), Fail>
 
 /// Nothing where an object can be printed.
 fn printable(alloc: Global, object: &Object) -> Result<(), Fail>
-    ensures { OnOk result (IsPrintable object.now) }
+    ensures { OnOk result (IsStorable object.now) }
 {
     short_text(alloc, &object.body)?;
     if object.rows.len() > 4096 || !is_of_its_kind(object) {

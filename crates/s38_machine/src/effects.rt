@@ -8,6 +8,7 @@ ghost use Rattle.s38_rules.specs.Operands.{delivered};
 ghost use Rattle.s38_rules.specs.Rows.{row};
 ghost use Rattle.s38_rules.specs.State.{State};
 ghost use Rattle.s38_rules.specs.Step.{awake, awake_verdict};
+ghost use Rattle.s38_rules.specs.Storing.{stored};
 ghost use Rattle.s38_machine.specs.Events.{GoesAsThatOf};
 
 use crate::deliveries::{parted, put};
@@ -119,8 +120,8 @@ fn take_effect(
 }
 
 /// A permitted event takes effect, with the value that goes into the space of its receiver, and nobody waits any
-/// more; where memory is refused nothing changes.
-#[tactic(auto, using(s38_rules::proofs::Laws::effect_keeps))]
+/// more; where memory is refused nothing changes. There is no store yet, which would keep what it forces.
+#[tactic(auto, using(s38_rules::proofs::Laws::effect_keeps, s38_rules::proofs::StoreLaws::without_store))]
 pub fn apply(
     alloc: Global,
     world: &mut Core<Objects, Profiles>,
@@ -130,10 +131,11 @@ pub fn apply(
 ) -> Result<(), NoMemory>
     requires permit { awake_verdict world.old process event.now ≡ Verdict.Permit }
     requires value { GoesAsThatOf world.old process event.now value }
-    ensures ok { OnOk result (world.new ≡ awake (effect_of world.old process event.now).state) }
+    ensures ok { OnOk result (world.new ≡ awake (stored world.old process event.now (effect_of world.old process event.now).state)) }
     ensures err { OnErr result (world.new ≡ world.old) }
     ensures kept { length world.new.processes ≡ length world.old.processes }
 {
+    world.has_no_store();
     match take_effect(alloc, world, process, event, value) {
         Err(fault) => Err(fault),
         Ok(()) => {

@@ -192,7 +192,7 @@ indexed_same m n names next h e = record {
 
 -- ---- what callers see
 
-numbers_are_keys : (next : ℕ) (es : List (ℕ × Object)) → AreNumbered next es → map number_of (values_of es) ≡ keys_of es
+pub numbers_are_keys : (next : ℕ) (es : List (ℕ × Object)) → AreNumbered next es → map number_of (values_of es) ≡ keys_of es
 numbers_are_keys next [] h = refl
 numbers_are_keys next (e ∷ es) h = rw (h.0, numbers_are_keys next es h.3) refl
 

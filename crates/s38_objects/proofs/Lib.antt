@@ -4,3 +4,4 @@ pub mod NameLaws
 pub mod IndexLaws
 pub mod PlaceLaws
 pub mod ObjectLaws
+pub mod RestoreLaws

@@ -32,7 +32,7 @@ both_equal Equal b = refl
 both_equal Greater b = refl
 
 -- two keys are one where the contexts and the identifications are
-key_same : (here there : ℕ) (a b : Id) → is_at (name_cmp (key here a)) (key there b) ≡ ((here == there) && same_id a b)
+pub key_same : (here there : ℕ) (a b : Id) → is_at (name_cmp (key here a)) (key there b) ≡ ((here == there) && same_id a b)
 unfolding same_id
 key_same here there a b =
     rw (both_equal, nat_ties, both_equal, nat_ties, both_equal, nat_ties, sym (texts_ties a.name b.name)) refl

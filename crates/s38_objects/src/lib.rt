@@ -13,6 +13,7 @@ mod table;
 
 pub use body::pages;
 pub use kept::{enter, pay, pay_more};
+pub use name_key::{NameKey, key};
 pub use objects::Objects;
 pub use table::kind_of;
 

@@ -1,4 +1,4 @@
-ghost use Rattle.std.specs.Prelude.{◌≡◌, ◌≢◌, [], ◌≤◌, ◌<◌, ◌^◌, ◌==◌, ◌&&◌, ◌↔◌, ℕ, length, None, IfOk, IfErr, IsTrue, OnOk, OnErr, false, true, if◌then◌else◌};
+ghost use Rattle.std.specs.Prelude.{◌≡◌, ◌≢◌, [], ◌≤◌, ◌<◌, ◌^◌, ◌==◌, ◌&&◌, ◌↔◌, All, ℕ, length, None, IfOk, IfErr, IsTrue, OnOk, OnErr, false, true, if◌then◌else◌};
 ghost use Rattle.std.specs.Borrow.{sem};
 ghost use Rattle.std.specs.Option.{option_copied, option_copied_mut};
 ghost use Rattle.s38_memory.specs.contracts.tagged.Tagged.{the_row as tagged_row};
@@ -66,6 +66,36 @@ impl Objects {
             next: 1,
             ceiling: 0,
         }
+    }
+
+    /// The map of these objects, with the next number and the ceiling, in time n log n. Each object says a context whose
+    /// number was given, or none; the context need not be there. `NoMemory` where memory was refused.
+    pub fn restored(
+        alloc: Global,
+        mut objects: Vec<Object>,
+        next: u64,
+        ceiling: u64,
+    ) -> Result<Objects, NoMemory>
+        requires lawful { IsLawful (record { objects = objects.items; next = next; ceiling = ceiling }) }
+        requires placed { All (λ o. o.context.0 < next) objects.items }
+        ensures { IfOk result (λ map. map ≡ record { objects = objects.items; next = next; ceiling = ceiling }) }
+    {
+        let mut by_number = BTreeMap::new(alloc);
+        let mut by_name = BTreeMap::new(alloc);
+        while let Some(object) = objects.pop() {
+            names::enter(&mut by_name, object.context, &object.id, object.number)?;
+            match numbered::add(&mut by_number, object) {
+                Ok(()) => {}
+                Err(_) => return Err(NoMemory),
+            }
+        }
+        Ok(Objects {
+            alloc,
+            by_number,
+            by_name,
+            next,
+            ceiling,
+        })
     }
 
     /// How many objects there are.

@@ -1,4 +1,5 @@
 pub mod Beginning
+pub mod Blaming
 pub mod Contents
 pub mod Entries
 pub mod Finishing
@@ -9,4 +10,5 @@ pub mod Marking
 pub mod Planning
 pub mod Scanning
 pub mod Tallies
+pub mod Trees
 pub mod VaultLemmas

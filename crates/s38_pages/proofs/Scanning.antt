@@ -79,6 +79,15 @@ hole_is lay i e h = both_ways _ (ap not (eq-eqb i lay.hole e)) (and_parts _ _ (a
 pub low_no_home : (lay : Layout) (i : ℕ) → i < lay.first → is_home lay i ≡ false
 low_no_home lay i lt = ⊎_elim (λ is. let above = home_above lay i is in absurd (omega (arith, above, lt))) (λ none. none) (cases_Bool (is_home lay i))
 
+-- the key of a block that is used stands there already, or does not
+pub twin_there : (ix : Index) (b : Block) (k : Key) (o : Option ℕ) → key_in b ≡ k → is_used b ≡ true → ix k ≡ o → o ≡ twin_of ix b
+twin_there ix b k o e used at = sym (ap (λ v. cond v (ix (key_in b)) None) used ∙ ap ix e ∙ at)
+
+-- a key that stands there already is not noted
+pub noted_there : (ix : Index) (at : ℕ) (b : Block) (k : Key) (t : ℕ) → key_in b ≡ k → is_used b ≡ true → ix k ≡ Some t → ix ≡ noted ix at b
+noted_there ix at b k t e used is =
+    sym (ap (λ o. cond (is_used b && is_none o) (with_home ix (key_in b) (Some at)) ix) (ap ix e ∙ is) ∙ ap (λ v. cond (v && false) (with_home ix (key_in b) (Some at)) ix) used)
+
 -- a key that is not there is noted
 pub noted_new : (homes : Homes) (at : ℕ) (b : Block) (k : Key) → key_in b ≡ k → is_used b ≡ true → get homes k ≡ None → get (insert homes k at) ≡ noted (get homes) at b
 noted_new homes at b k e used none =

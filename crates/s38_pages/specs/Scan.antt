@@ -1,6 +1,7 @@
 -- Reading the homes in order.
 use Rattle.std.specs.Prelude.{◌≡◌, ◌+◌, ◌<◌, ◌≤◌, ◌&&◌, ℕ, Bool, List, true, false, cond, length, Option, Some, None, is_none}
-use Rattle.std.specs.FinMap.{get, len}
+use Rattle.std.specs.BTreeMap.{BTreeMap}
+use Rattle.std.specs.FinMap.{from_entries, get, len}
 use Rattle.s38_disk.specs.declared.block.Block.{Block}
 use Rattle.s38_base.specs.declared.page.Key.{Key}
 use Rattle.s38_vault.specs.Directory.{NameObjects, keys_of}
@@ -34,6 +35,10 @@ pub record AreTwins (lay : Layout) (f : ℕ → Block) (first second : ℕ) : Ty
 abbrev pub ScanGives : Layout → (ℕ → Block) → Option (ℕ × ℕ) → Index → Type 0
 ScanGives lay f None ix = Scanned lay f ix lay.size
 ScanGives lay f (Some p) ix = AreTwins lay f p.0 p.1
+
+-- the homes in a tree, by key
+abbrev pub homes_of : BTreeMap Key ℕ → Homes
+homes_of found = from_entries found.entries
 
 -- what is kept of the homes below h, whatever they hold
 pub record Keeps (lay : Layout) (homes : Homes) (used : List Bool) (h : ℕ) : Type 0 where

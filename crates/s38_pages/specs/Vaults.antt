@@ -1,8 +1,9 @@
 -- A vault over a disk: what it keeps, and what it tells.
-use Rattle.std.specs.Prelude.{◌≡◌, ◌⊎◌, ◌+◌, ◌-◌, ◌<◌, ◌≤◌, ◌^◌, ℕ, Bool, true, List, [], length}
+use Rattle.std.specs.Prelude.{◌≡◌, ◌⊎◌, ◌+◌, ◌-◌, ◌<◌, ◌≤◌, ◌^◌, ℕ, Bool, true, false, List, [], length}
 use Rattle.std.specs.Coded.{Coded, coded_ℕ}
 use Rattle.std.specs.FinMap.{code, get, len}
 use Rattle.s38_vault.specs.Keys.{key_code}
+use Rattle.s38_base.specs.Faults.{Rose}
 use Rattle.s38_base.specs.Limits.{body_limit}
 use Rattle.s38_base.specs.declared.page.Change.{Change}
 use Rattle.s38_disk.specs.declared.block.Block.{Block}
@@ -38,6 +39,13 @@ pub record IsVault (lay : Layout) (disk : DiskView) (homes : Homes) (used : List
   pub parts : unmarked used + len homes ≡ parts_of lay
   pub told : good ≡ true → Tells lay disk (get homes)
 
+-- Since the vault was made the disk's count of faults did not fall. Where a put has failed it rose, and only then is a
+-- put refused.
+pub record AreOfDisk (start : ℕ) (disk : DiskView) (good : Bool) (refused : ℕ) : Type 0 where
+  pub later : start ≤ disk.faults
+  pub failed : good ≡ false → Rose start disk.faults
+  pub none : good ≡ true → refused ≡ 0
+
 -- the vault tells what it holds, and this is it
 abbrev pub HoldsNow : Layout → DiskView → Bool → Content → Type 0
 HoldsNow lay disk good m = (good ≡ true) × ((s : State) × IsAt disk.past s × Rests lay s.now m)
@@ -53,7 +61,7 @@ pub record IsOneOf (lay : Layout) (ix : Index) (cs : List Change) (s u : State) 
 -- ---- as contracts see it
 
 -- the disk and the layout, at which home each key stands, for how many new keys memory is reserved, whether no put has
--- failed, and how many puts were refused since one failed
+-- failed, how many puts were refused since one failed, and how often the disk had failed as the vault was made
 pub record PageStore : Type 0 where
   pub disk : DiskView
   pub layout : Layout
@@ -61,6 +69,7 @@ pub record PageStore : Type 0 where
   pub spare : ℕ
   pub good : Bool
   pub refused : ℕ
+  pub start : ℕ
 
 -- how the homes are stored
 abbrev pub homes_code : Coded Homes
@@ -74,7 +83,7 @@ page_view v =
       spare = v.spare;
       moment = moment_of v.disk.past;
       faults = v.disk.faults + v.refused;
-      shape = record { parts = parts_of v.layout; most = v.layout.most; body_limit = body_limit };
+      shape = record { parts = parts_of v.layout; most = v.layout.most; body_limit = body_limit; start = v.start };
     }
 
 abbrev pub page_holds : PageStore → Content → Type 0

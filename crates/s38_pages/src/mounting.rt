@@ -195,7 +195,7 @@ fn index_homes<D: Disk>(alloc: Global, disk: &mut D, layout: &Layout) -> Result<
     ensures count { OnOk result ((D.view disk.new).faults ≡ (D.view disk.old).faults) }
 {
     let mut opened = without_pages(alloc, layout)?;
-    match scan(disk, layout, &mut opened.homes, &mut opened.marks)? {
+    match scan(alloc, disk, layout, &mut opened.homes, &mut opened.marks)? {
         Some((first, second)) => Err(StoreFault::TwoBlocks { first, second }),
         None => Ok(opened),
     }

@@ -7,8 +7,9 @@ ghost use Rattle.std.specs.Vec.{vec_capacity};
 ghost use Rattle.s38_disk.specs.Blocks.{State};
 ghost use Rattle.s38_pages.specs.Formats.{IsMaking, IsUnmade, first_content, most_first};
 ghost use Rattle.s38_pages.specs.Mounts.{IsMounted, IsRefused, IsSized, fewest, layout_of};
+ghost use Rattle.s38_disk.specs.Costs.{Costs};
 ghost use Rattle.s38_disk.specs.Disk.{IsAt, moment_of};
-ghost use Rattle.s38_disk.specs.Moves.{Moves};
+ghost use Rattle.s38_disk.specs.Moves.{IsSettled, Moves};
 ghost use Rattle.s38_vault.specs.Content.{AreRising, Content, HaveObjects, changed};
 ghost use Rattle.s38_vault.specs.Directory.{changed_keys, keys_of, new_keys};
 ghost use Rattle.s38_pages.specs.Vaults.{IsOneOf, IsVault, page_holds, page_leaves, page_view};
@@ -25,10 +26,12 @@ use s38_disk::Disk;
 use s38_vault::Keyed;
 use std::alloc::Global;
 use std::marker::Model;
+use std::snapshot::Snapshot;
 
 /// A vault over a disk. After a put that failed it no longer tells what it holds, and each further put is refused.
 /// Contracts see the disk and the layout, at which home each key stands, for how many new keys memory is reserved,
-/// whether no put has failed, and how many puts were refused since one failed.
+/// whether no put has failed, how many puts were refused since one failed, and how often the disk had failed as the vault
+/// was made.
 pub struct PageVault<D: Disk> {
     pub(crate) disk: D,
     pub(crate) layout: Layout,
@@ -37,28 +40,30 @@ pub struct PageVault<D: Disk> {
     slots: Vec<Slot>,
     pub(crate) good: bool,
     pub(crate) refused: u64,
+    before: Snapshot<D>,
 }
 
 impl<D: Disk> Model for PageVault<D> {
     ghost use Rattle.std.specs.Vec.{vec_capacity};
     ghost use Rattle.std.specs.Coded.{codes};
-    ghost use Rattle.s38_pages.specs.Vaults.{IsVault, PageStore, homes_code};
+    ghost use Rattle.s38_pages.specs.Vaults.{AreOfDisk, IsVault, PageStore, homes_code};
 
     ghost Value = { PageStore };
 
     ghost coded = { Prim.hlevel (codes, homes_code) };
 
-    ghost view = { λ v. record { disk = D.view v.disk; layout = v.layout; homes = v.homes.values; spare = v.homes.spare; good = v.good; refused = v.refused } };
+    ghost view = { λ v. record { disk = D.view v.disk; layout = v.layout; homes = v.homes.values; spare = v.homes.spare; good = v.good; refused = v.refused; start = (D.view v.before.value).faults } };
 
-    ghost invariant = { λ v. IsVault v.layout (D.view v.disk) v.homes.values v.marks v.slots.items (vec_capacity v.slots) v.good };
+    ghost invariant = { λ v. record { vault : IsVault v.layout (D.view v.disk) v.homes.values v.marks v.slots.items (vec_capacity v.slots) v.good; faults : AreOfDisk (D.view v.before.value).faults (D.view v.disk) v.good v.refused } };
 }
 
 impl<D: Disk> PageVault<D> {
     /// The vault over a disk whose store was opened.
     fn over(disk: D, opened: Opened) -> Self
         requires { IsVault opened.layout (D.view disk) opened.homes.values opened.marks opened.slots.items (vec_capacity opened.slots) true }
-        ensures { result ≡ record { disk = D.view disk; layout = opened.layout; homes = opened.homes.values; spare = opened.homes.spare; good = true; refused = 0 } }
+        ensures { result ≡ record { disk = D.view disk; layout = opened.layout; homes = opened.homes.values; spare = opened.homes.spare; good = true; refused = 0; start = (D.view disk).faults } }
     {
+        let before = Snapshot::of(&disk);
         let Opened {
             layout,
             homes,
@@ -73,6 +78,7 @@ impl<D: Disk> PageVault<D> {
             slots,
             good: true,
             refused: 0,
+            before,
         }
     }
 
@@ -83,6 +89,7 @@ impl<D: Disk> PageVault<D> {
         ensures content { IfOk result (λ v. (s : State) → IsAt (D.view disk).past s → (m : Content) × (Stands (layout_of (D.view disk).size) s.now m × page_holds v m)) }
         ensures moves { IfOk result (λ v. Moves (D.view disk) v.disk 2290 (IsMounted (layout_of (D.view disk).size))) }
         ensures count { IfOk result (λ v. v.disk.faults ≡ (D.view disk).faults) }
+        ensures start { IfOk result (λ v. v.start ≡ (D.view disk).faults) }
         ensures refused { IfErr result (λ e. (s : State) → IsAt (D.view disk).past s → IsRefused (D.view disk).size s.now e.1) }
         ensures large { OnOk result (fewest ≤ (D.view disk).size) }
         ensures sized { IfErr result (λ e. IsSized (D.view disk).size e.1) }
@@ -109,6 +116,7 @@ impl<D: Disk> PageVault<D> {
         ensures fresh { OnOk result ((s : State) → IsAt (D.view disk).past s → is_label (s.now 0) ≡ false) }
         ensures moves { IfOk result (λ v. Moves (D.view disk) v.disk (v.layout.size + length first.now + 3) (IsMaking v.layout (first_content first.now))) }
         ensures count { IfOk result (λ v. v.disk.faults ≡ (D.view disk).faults) }
+        ensures start { IfOk result (λ v. v.start ≡ (D.view disk).faults) }
         ensures refused { IfErr result (λ e. IsUnmade (D.view disk) e.1) }
         ensures kept { IfErr result (λ e. (e.1 ≡ StoreFault.Failed → ⊥) → (D.view e.0).past ≡ (D.view disk).past) }
         ensures crash { IfErr result (λ e. Moves (D.view disk) (D.view e.0) ((layout_of (D.view disk).size).size + length first.now + 3) (IsMaking (layout_of (D.view disk).size) (first_content first.now))) }
@@ -120,9 +128,13 @@ impl<D: Disk> PageVault<D> {
         }
     }
 
-    /// Gives the disk back.
+    /// Gives the disk back. Nothing is pending on it where no put has failed. Since the vault was made the disk's count of
+    /// faults rose where the vault's did, and stood still where the vault's did.
     pub fn release(self) -> D
-        ensures { D.view result ≡ self.disk }
+        ensures disk { D.view result ≡ self.disk }
+        ensures settled { self.good ≡ true → (s : State) → IsAt (D.view result).past s → IsSettled s }
+        ensures cause { Rose self.start (page_view self).faults → Rose self.start (D.view result).faults }
+        ensures count { (page_view self).faults ≡ self.start → (D.view result).faults ≡ self.start }
     {
         let PageVault {
             disk,
@@ -132,6 +144,7 @@ impl<D: Disk> PageVault<D> {
             layout: _layout,
             good: _good,
             refused: _refused,
+            before: _before,
         } = self;
         disk
     }
@@ -146,9 +159,11 @@ impl<D: Disk> PageVault<D> {
         requires free { new_keys (keys_of self.old.homes) changes.now ≤ (page_view self.old).free }
         ensures layout { self.new.layout ≡ self.old.layout }
         ensures moves { Moves self.old.disk self.new.disk (2 * length changes.now + length changes.now / 132 + 7) (IsOneOf self.old.layout (get self.old.homes) changes.now) }
+        ensures cost { Costs self.old.disk self.new.disk (2 * length changes.now + length changes.now / 132 + 3) 4 }
         ensures keys { keys_of self.new.homes ≡ changed_keys (keys_of self.old.homes) changes.now }
         ensures good { self.new.good ≡ is_ok result }
         ensures refused { self.new.refused ≡ self.old.refused }
+        ensures start { self.new.start ≡ self.old.start }
         ensures spare { self.old.spare ≤ self.new.spare + length changes.now }
         ensures holds { OnOk result ((m : Content) → page_holds self.old m → page_holds self.new (changed m changes.now)) }
         ensures told { OnOk result ((n : Content) → page_holds self.new n → (m : Content) × (page_holds self.old m × (n ≡ changed m changes.now))) }

@@ -2,6 +2,7 @@ ghost use Rattle.std.specs.Prelude.{◌≡◌, ◌≢◌, ◌↔◌, ◌⊎◌, 
 ghost use Rattle.std.specs.FinMap.{contains_key, get};
 ghost use Rattle.std.specs.Option.{unwrap_or};
 ghost use Rattle.s38_base.specs.Faults.{HasCause, HasCauseOf, Rose};
+ghost use Rattle.s38_disk.specs.Costs.{Costs};
 ghost use Rattle.s38_disk.specs.Moves.{Moves};
 ghost use Rattle.s38_vault.specs.Content.{AreRising, Content, HaveObjects, changed};
 ghost use Rattle.s38_vault.specs.Directory.{changed_keys, gone_keys, new_keys};
@@ -54,6 +55,9 @@ impl<D: Disk> Vault for PageVault<D> {
         ensures cause { HasCause (page_view self.old).faults (page_view self.new).faults result }
         ensures count { OnOk result ((page_view self.new).faults ≡ (page_view self.old).faults) }
         ensures good { self.new.good ≡ self.old.good }
+
+        // A get that failed: the disk has failed since the vault was made.
+        ensures blame { OnErr result (Rose self.old.start self.new.disk.faults) }
     {
         match self.homes.get(key) {
             Some(home) => Ok(Some(read_page(&mut self.disk, home)?)),
@@ -113,8 +117,13 @@ impl<D: Disk> Vault for PageVault<D> {
         ensures lost { IsErrOf result VaultFault.Failed → self.new.good ≡ false }
         ensures still { self.old.good ≡ false → IsErr result × (self.new.good ≡ false) × (self.new.disk ≡ self.old.disk) }
 
-        // So many writes and syncs at most.
+        // A put that failed: the disk has failed since the vault was made.
+        ensures blame { IsErrOf result VaultFault.Failed → Rose self.old.start self.new.disk.faults }
+
+        // So many calls of the disk at most write or sync, and each leaves what was held before or after. So many writes,
+        // and at most four syncs.
         ensures moves { Moves self.old.disk self.new.disk (2 * length changes.now + length changes.now / 132 + 7) (IsOneOf self.old.layout (get self.old.homes) changes.now) }
+        ensures cost { Costs self.old.disk self.new.disk (2 * length changes.now + length changes.now / 132 + 3) 4 }
     {
         let needed = count_new(&self.homes, changes);
         let free = self.free();

@@ -1,5 +1,6 @@
 ghost use Rattle.std.specs.Prelude.{◌≡◌, ◌<◌, ◌≤◌, ◌+◌, ◌/◌, ◌*◌, ◌^◌, length, OnOk};
 ghost use Rattle.s38_base.specs.Faults.{HasCause};
+ghost use Rattle.s38_disk.specs.Costs.{Costs};
 ghost use Rattle.s38_disk.specs.Disk.{moment_of};
 ghost use Rattle.s38_disk.specs.Moves.{Ends, Moves};
 ghost use Rattle.s38_blocks.specs.Phases.{IsAllOrNone, IsPut};
@@ -17,6 +18,7 @@ pub fn write_all<D: Disk>(disk: &mut D, layout: &Layout, slots: &[Slot]) -> Resu
     requires homes { AreHomes layout.now slots.now }
     requires size { layout.now.size ≤ (D.view disk.old).size }
     ensures moves { Moves (D.view disk.old) (D.view disk.new) (2 * length slots.now + length slots.now / 132 + 7) (IsAllOrNone layout.now slots.now) }
+    ensures cost { Costs (D.view disk.old) (D.view disk.new) (2 * length slots.now + length slots.now / 132 + 3) 4 }
     ensures done { OnOk result (Ends (D.view disk.old) (D.view disk.new) (IsPut layout.now slots.now)) }
     ensures rises { OnOk result (moment_of (D.view disk.old).past < moment_of (D.view disk.new).past) }
     ensures cause { HasCause (D.view disk.old).faults (D.view disk.new).faults result }

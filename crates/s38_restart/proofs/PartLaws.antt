@@ -1,7 +1,7 @@
 -- The parts of a store, one after another.
 use Rattle.std.proofs.Common.{◌≡◌, ℕ, zero, suc, ◌<◌, ◌≤◌, Bool, true, false, cond, List, [], ◌∷◌, ◌++◌, length, map, take, refl, sym, ◌∙◌, ap, subst, arith}
 use lib.Dec.{T}
-use Rattle.std.specs.Prelude.{Option, Some, None, option_map, slice_get}
+use Rattle.std.specs.Prelude.{Option, Some, None, IfSome, option_map, slice_get}
 use Rattle.std.specs.Cmp.{tied_itself}
 use Rattle.std.specs.FinMap.{entries, entries_sorted, find, get, get-entries, is_sorted, keys}
 use Rattle.std.specs.FinMap.Entries.{below_all}
@@ -10,12 +10,12 @@ use Rattle.std.specs.Ordering.{eq_by_cmp, is_eq, is_lt, ordering_reverse}
 use Rattle.std.specs.declared.cmp.Ordering.{Ordering}
 use Rattle.std.specs.declared.cmp.Ordering.TheVariants.{Less, Equal, Greater}
 use Rattle.std.proofs.lemmas.Option.{slice_get-map}
-use Rattle.std.proofs.lemmas.List.{length-append, length-map, take_all}
+use Rattle.std.proofs.lemmas.List.{length-append, length-map, map-append, take_all}
 use Rattle.s38_base.specs.declared.page.Change.{Change}
 use Rattle.s38_base.specs.declared.page.Key.{Key}
 use Rattle.s38_base.specs.declared.page.Page.{Page}
 use Rattle.s38_restart.specs.Parts.{all_parts, key_before, part_of}
-use Rattle.s38_vault.specs.Content.{Content}
+use Rattle.s38_vault.specs.Content.{Content, HaveObjects}
 use Rattle.s38_vault.specs.Directory.{Keys, keys_of, next_key}
 use Rattle.s38_vault.specs.Keys.{key_cmp, key_cmp_total}
 use Rattle.s38_vault.specs.Vaults.{VaultView}
@@ -116,6 +116,29 @@ parts_all m parts so_far none =
     let enough = none_past (keys m) (length parts) none in
     let all : length (all_parts m) ≤ length parts = omega (arith, enough, length-map (entries m) part_of, length-map (entries m) (λ (e : Key × Page). e.0)) in
     so_far ∙ take_all (length parts) (all_parts m) all
+
+-- ---- the keys
+
+abbrev pub key_of : Change → Key
+key_of c = c.key
+
+-- one key more
+pub keys_on : (ks : List Key) (parts new : List Change) (k : Key) (part : Change) → map key_of parts ≡ take (length parts) ks → slice_get ks (length parts) ≡ Some k → part.key ≡ k → new ≡ parts ++ part ∷ [] → map key_of new ≡ take (length new) ks
+keys_on ks parts new k part so_far there is more =
+    let count : length new ≡ suc (length parts) = omega (arith, ap length more, length-append parts (part ∷ [])) in
+    ap (map key_of) more ∙ map-append key_of parts (part ∷ []) ∙ ap (λ (x : Key). map key_of parts ++ x ∷ []) is
+    ∙ ap (λ (t : List Key). t ++ k ∷ []) so_far ∙ take_on ks (length parts) k there ∙ ap (λ (n : ℕ). take n ks) (sym count)
+
+-- no key is left
+pub keys_all : (ks : List Key) (parts : List Change) → map key_of parts ≡ take (length parts) ks → slice_get ks (length parts) ≡ None → map key_of parts ≡ ks
+keys_all ks parts so_far none = so_far ∙ take_all (length parts) ks (none_past ks (length parts) none)
+
+pub have_push : (xs : List Change) (c : Change) → HaveObjects xs → 1 ≤ c.key.object → HaveObjects (xs ++ c ∷ [])
+have_push [] c h le = (le, tt)
+have_push (x ∷ xs) c h le = (h.0, have_push xs c h.1 le)
+
+pub object_of : (o : Option Key) (k : Key) → o ≡ Some k → IfSome o (λ key. 1 ≤ key.object) → 1 ≤ k.object
+object_of o k is h = let at : IfSome (Some k) (λ key. 1 ≤ key.object) = subst (λ (r : Option Key). IfSome r (λ key. 1 ≤ key.object)) is h in at
 
 -- a vault that failed no further time is as it was
 pub same_view : (old new : VaultView) → new ≡ record old { faults = new.faults } → new.faults ≡ old.faults → new ≡ old

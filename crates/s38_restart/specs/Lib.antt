@@ -1,3 +1,4 @@
 pub mod Committed
 pub mod Parts
 pub mod Redo
+pub mod Removing

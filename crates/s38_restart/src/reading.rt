@@ -4,7 +4,7 @@ ghost use Rattle.std.specs.FinMap.{contains_key, get, keys};
 ghost use Rattle.s38_base.specs.Faults.{HasCauseOf};
 ghost use Rattle.s38_restart.specs.Parts.{all_parts};
 ghost use Rattle.s38_restart.specs.declared.fault.RestartFault.TheVariants as RestartFault;
-ghost use Rattle.s38_vault.specs.Content.{Content};
+ghost use Rattle.s38_vault.specs.Content.{AreRising, Content, HaveObjects};
 
 use crate::fault::RestartFault;
 use s38_base::{Change, Key};
@@ -13,6 +13,7 @@ use std::alloc::Global;
 
 /// The part of a key.
 fn read_part<V: Vault>(vault: &mut V, key: Key) -> Result<Change, RestartFault>
+    ensures key { IfOk result (λ part. part.key ≡ key) }
     ensures part { IfOk result (λ part. (m : Content) → V.holds vault.old m → part ≡ record { key = key; page = get m key }) }
     ensures holds { (m : Content) → V.holds vault.old m ↔ V.holds vault.new m }
     ensures past { (t : ℕ) (m : Content) → t ≤ (V.view vault.old).moment → V.leaves vault.old t m ↔ V.leaves vault.new t m }
@@ -24,9 +25,11 @@ fn read_part<V: Vault>(vault: &mut V, key: Key) -> Result<Change, RestartFault>
     Ok(Change { key, page })
 }
 
-/// All parts of a store, in the order of their keys. The vault stays as it was, but for its count of faults.
+/// All parts of a store, in the order of their keys, none of object 0. The vault stays as it was, but for its count of faults.
 pub fn read_parts<V: Vault>(alloc: Global, vault: &mut V) -> Result<Vec<Change>, RestartFault>
     ensures parts { IfOk result (λ parts. (m : Content) → V.holds vault.old m → parts.items ≡ all_parts m) }
+    ensures order { IfOk result (λ parts. AreRising parts.items) }
+    ensures objects { IfOk result (λ parts. HaveObjects parts.items) }
     ensures holds { (m : Content) → V.holds vault.old m ↔ V.holds vault.new m }
     ensures past { (t : ℕ) (m : Content) → t ≤ (V.view vault.old).moment → V.leaves vault.old t m ↔ V.leaves vault.new t m }
     ensures stays { V.view vault.new ≡ record (V.view vault.old) { faults = (V.view vault.new).faults } }

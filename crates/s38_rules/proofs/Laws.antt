@@ -42,6 +42,7 @@ use Rattle.s38_rules.specs.Resolving.{resolving_row}
 use Rattle.s38_rules.specs.Rows.{row}
 use Rattle.s38_rules.specs.Spaces.{spaces_row}
 use Rattle.s38_rules.specs.State.{State, process_entry, waits}
+use Rattle.s38_rules.proofs.StoreLaws.{stored_beside}
 use Rattle.s38_rules.specs.Step.{step, by_verdict, by_waiting}
 use Rattle.s38_rules.specs.Units.{all_decommitted, committed, decommitted, decommitted_of}
 use Rattle.s38_rules.specs.Step.{awake_verdict}
@@ -248,7 +249,7 @@ effect_keeps s p (Act depth request) = kept_count p s.processes _ (act_keeps (ro
 effect_keeps s p (Finish cause) = end_keeps s p (process_entry s p)
 
 verdict_keeps : (s : State) (p : ℕ) (e : Event) (v : Verdict) → length (by_verdict s p e v).state.processes ≡ length s.processes
-verdict_keeps s p e Permit = effect_keeps s p e
+verdict_keeps s p e Permit = rw (stored_beside s p e (effect_of s p e).state).processes (effect_keeps s p e)
 verdict_keeps s p e Wait = refl
 verdict_keeps s p e (Refuse x) = refl
 

@@ -115,3 +115,8 @@ pub part_left : {T : Type 0} (p : Part T) → IsPart T p → (f : T → T) (h : 
 part_left p lawful f h n None e same = part_kept p h n f e
 part_left p lawful f h n (Some x) e same =
     sym (part_written p h n f x e) ∙ ap (λ (y : _). over_part p h n (λ _. y)) (same x refl) ∙ part_same p lawful h n x e
+
+-- what is the same of each body of a kind is the same of a body that holds something else
+pub over_same : {T A : Type 0} (p : Part T) → IsPart T p → (g : Body → A) (a : A) → ((x : T) → g (p.make x) ≡ a) → (f : T → T) (b : Body) (x : Option T) → p.of b ≡ x → g (over p f b x) ≡ g b
+over_same p lawful g a same f b None e = refl
+over_same p lawful g a same f b (Some x) e = same (f x) ∙ sym (ap g (lawful.back b x e) ∙ same x)

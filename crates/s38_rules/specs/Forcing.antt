@@ -19,7 +19,7 @@ use Rattle.s38_rules.specs.Effect.{effect_of}
 use Rattle.s38_rules.specs.Held.{Held, is_on_disk, object}
 use Rattle.s38_rules.specs.Journaling.{journal_for, journal_for_block}
 use Rattle.s38_rules.specs.Parts.{journal_at}
-use Rattle.s38_rules.specs.Room.{Extent, Room, extent_at, extent_of, more_parts, rows_pages}
+use Rattle.s38_rules.specs.Room.{Extent, Room, free, extent_at, extent_of, more_parts, rows_pages}
 use Rattle.s38_rules.specs.Rows.{row}
 use Rattle.s38_rules.specs.State.{State}
 use Rattle.s38_rules.specs.Verdict.{of_failure}
@@ -102,14 +102,14 @@ abbrev pub is_whole : ℕ → Forced → Bool
 is_whole n (Whole m) = m == n
 is_whole n _ = false
 
-abbrev pub body_pages : Option Extent → ℕ
-body_pages None = 0
-body_pages (Some x) = x.body
+-- the rows of an object follow, and its body stays as it is kept; an object that is not kept yet is kept as it stands
+abbrev pub extent_behind : Object → Option Extent → Extent
+extent_behind o None = extent_of o
+extent_behind o (Some x) = record { number = o.number.0; rows = rows_pages o; body = x.body }
 
--- the extent of an object after a step that forces this: its rows follow, and its body where it is forced whole
+-- the extent of an object after a step that forces this
 abbrev pub extent_after : List Forced → Option Extent → Object → Extent
-extent_after all old o =
-    if list_any (is_whole o.number.0) all then extent_of o else record { number = o.number.0; rows = rows_pages o; body = body_pages old }
+extent_after all old o = if list_any (is_whole o.number.0) all then extent_of o else extent_behind o old
 
 -- how many parts of an object on disk are new
 abbrev pub new_parts_of : Room → List Forced → Object → ℕ
@@ -123,7 +123,7 @@ new_parts room all os = sum_by (new_parts_of room all) os
 -- a step needs no more new parts than are free
 abbrev pub room_rule : Room → ℕ → Option Exception
 room_rule room new =
-    if nat_lt room.free new then Some (record { id = exceptions.store_full; operand = 0; rule = StoreFull new room.free }) else None
+    if nat_lt (free room) new then Some (record { id = exceptions.store_full; operand = 0; rule = StoreFull new (free room) }) else None
 
 -- a step that forces nothing needs no room
 abbrev pub store_rule : Option Room → List Forced → List Object → Option Exception

@@ -37,6 +37,8 @@ pub mod Spaces
 pub mod Standing
 pub mod State
 pub mod Step
+pub mod Storable
+pub mod Storing
 pub mod Units
 pub mod Users
 pub mod Verdict

@@ -177,6 +177,13 @@ block_back _ x h = cc
 pub block_lawful : IsPart Block block_part
 block_lawful = record { got = λ x. refl; back = block_back }
 
+profile_back : (b : Body) (x : Special × ℕ) → profile_of b ≡ Some x → b ≡ bodies.Profile x.0 x.1
+profile_back (bodies.Profile special limit) x h = cc
+profile_back _ x h = cc
+
+pub profile_lawful : IsPart (Special × ℕ) profile_part
+profile_lawful = record { got = λ x. refl; back = profile_back }
+
 -- ---- read where the kind was asked before
 
 abbrev pub no_queue : MessageQueue

@@ -58,10 +58,18 @@ rows_pages o = pages_begun (row_len * length o.rows)
 abbrev pub extent_of : Object → Extent
 extent_of o = record { number = o.number.0; rows = rows_pages o; body = pages_begun (image_len o.body) }
 
--- how many further parts a store takes, and the extent of each object that it has
+-- how many parts a store has for objects, and the extent of each object that it keeps
 pub record Room : Type 0 where
-  pub free : ℕ
+  pub parts : ℕ
   pub extents : List Extent
+
+-- the parts of an object: its header, and its pages
+abbrev pub parts_of : Extent → ℕ
+parts_of x = 1 + (x.rows + x.body)
+
+-- how many further parts a store takes
+abbrev pub free : Room → ℕ
+free room = room.parts - sum_by parts_of room.extents
 
 abbrev pub is_extent_of : ℕ → Extent → Bool
 is_extent_of n x = x.number == n

@@ -9,6 +9,7 @@ use Rattle.s38_rules.specs.declared.verdict.Verdict.TheVariants.{Permit, Wait, R
 use Rattle.s38_rules.specs.State.{State, waits}
 use Rattle.s38_rules.specs.Effect.{effect_of}
 use Rattle.s38_rules.specs.Forcing.{with_room}
+use Rattle.s38_rules.specs.Storing.{stored}
 use Rattle.s38_rules.specs.Verdict.{ruled_verdict}
 
 -- ---- what becomes of an event
@@ -34,7 +35,7 @@ abbrev pub awake : State → State
 awake s = record s { waiting = [] }
 
 abbrev pub by_verdict : State → ℕ → Event → Verdict → Stepped
-by_verdict s process event Permit = record { reply = Done (effect_of s process event).values; state = awake (effect_of s process event).state; enters = true }
+by_verdict s process event Permit = record { reply = Done (effect_of s process event).values; state = awake (stored s process event (effect_of s process event).state); enters = true }
 by_verdict s process event Wait = record { reply = MustWait; state = record s { waiting = process ∷ s.waiting }; enters = true }
 by_verdict s process event (Refuse x) = record { reply = Signal x; state = s; enters = true }
 

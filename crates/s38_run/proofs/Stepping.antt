@@ -1,5 +1,5 @@
 -- What a step does for a process that is ready: it is entered, and it moves no other process.
-use Rattle.std.proofs.Common.{◌≡◌, ◌≢◌, ℕ, ◌-◌, ◌<◌, Bool, true, false, List, [], length, refl, sym, ◌∙◌, subst, inl, inr, not, ◌&&◌, arith, length-set, get_or-set_other, get_or-set_same}
+use Rattle.std.proofs.Common.{◌≡◌, ◌≢◌, ℕ, ◌-◌, ◌<◌, Bool, true, false, List, [], length, ap, refl, sym, ◌∙◌, subst, inl, inr, not, ◌&&◌, arith, length-set, get_or-set_other, get_or-set_same}
 use Rattle.std.proofs.lemmas.Option.{slice_get_cases}
 use Rattle.std.specs.Prelude.{Option, Some, None, slice_get, slice_set}
 use Rattle.s38_code.specs.declared.event.Event.{Event}
@@ -17,6 +17,7 @@ use Rattle.s38_rules.specs.Rows.{row}
 use Rattle.s38_rules.specs.Instruction.{AreKept}
 use Rattle.s38_rules.proofs.Laws.{act_keeps, all_decommitted_keeps, kept_count}
 use Rattle.s38_rules.proofs.RoomLaws.{end_permitted}
+use Rattle.s38_rules.proofs.StoreLaws.{stored_beside}
 use Rattle.s38_run.specs.Running.{HasEnded, OthersStay}
 use Rattle.s38_run.proofs.WaitLaws.{waits_beside}
 use Rattle.s38_run.proofs.ReadyLaws.{OtherReady, kept_outline, outline, start_outline, with_waiting}
@@ -92,12 +93,12 @@ finish_permits s p (Act depth request) f = cc
 finish_permits s p (Finish cause) f = end_permitted s p cause
 
 goes_by : (s : State) (p : ℕ) (e : Event) (v : Verdict) → p - 1 < length s.processes → ready s p ≡ true → awake_verdict s p e ≡ v → GoesTo s p e (by_verdict s p e v)
-goes_by s p e Permit within r is = record {
+goes_by s p e Permit within r is = let beside = (stored_beside s p e (effect_of s p e).state).processes in record {
   entered = refl;
-  stay = effect_stays s p e;
+  stay = subst (λ (xs : List ProcessEntry). OthersStay s.processes xs (p - 1)) (sym beside) (effect_stays s p e);
   moves = refl;
-  same = effect_outline s p e;
-  ended = λ f. (effect_ends s p e f within, λ h. cc);
+  same = λ f. ap outline beside ∙ effect_outline s p e f;
+  ended = λ f. (subst (λ (xs : List ProcessEntry). HasEnded xs (p - 1)) (sym beside) (effect_ends s p e f within), λ h. cc);
 }
 goes_by s p e (Refuse x) within r is = record {
   entered = refl;

@@ -21,8 +21,8 @@ use Rattle.s38_code.specs.declared.operand.Operand.TheVariants as operands
 use Rattle.s38_code.specs.declared.operand.Operand.{Operand}
 use Rattle.s38_memory.specs.Tagged.{cells_in, is_aligned, is_within}
 use Rattle.s38_memory.specs.declared.cell.Cell.{Cell}
+use Rattle.s38_rules.proofs.VerdictLaws.{rule_met}
 use Rattle.s38_rules.proofs.RuleLaws.{fails_none, first_none, not_false}
-use Rattle.s38_rules.specs.Authority.{lacks_special}
 use Rattle.s38_rules.specs.Cells.{cells_there}
 use Rattle.s38_rules.specs.Contexts.{contexts_row}
 use Rattle.s38_rules.specs.DataSpaces.{data_spaces_row}
@@ -41,8 +41,7 @@ use Rattle.s38_rules.specs.Resolving.{resolving_row}
 use Rattle.s38_rules.specs.Rows.{row, row_in}
 use Rattle.s38_rules.specs.Spaces.{cpybwp_fails, is_unaligned, spaces_row}
 use Rattle.s38_rules.specs.State.{State}
-use Rattle.s38_rules.specs.Users.{acting}
-use Rattle.s38_rules.specs.Verdict.{address_rules, lock_rules, refused_by, rights_rules, ruled_verdict}
+use Rattle.s38_rules.specs.Verdict.{refused_by, ruled_verdict}
 use Rattle.s38_rules.specs.declared.verdict.Verdict.TheVariants.{Permit}
 use Rattle.s38_space_laws.proofs.AddressLaws.{unrefused, unrefused_inside}
 use Rattle.s38_space_laws.proofs.PlaceLaws.{suits_row}
@@ -80,14 +79,6 @@ source_all h _ has fills inside aligned = cc
 
 -- ---- CPYBWP
 
-unfailed : (i : Instruction) (s : State) (p d : ℕ) (t : Request) → refused_by i s p d t ≡ None → i.fails s p d t ≡ None
-unfolding refused_by
-unfailed i s p d t h =
-    let one = first_none (address_rules s.held t.operands (i.needs s p d t)) _ h in
-    let two = first_none (lacks_special s.held (acting s p d) (i.special s p d t)) _ one.1 in
-    let three = first_none (rights_rules s p d t.operands (i.needs s p d t)) _ two.1 in
-    (first_none (lock_rules s p t (i.needs s p d t)) _ three.1).1
-
 cells_inside : (h : Held) (n start len : ℕ) → has_bytes h n start len ≡ true → not (is_aligned start) ≡ false → has_cells h n start len ≡ true
 cells_inside h n start len bytes aligned = and_from (has_bytes h n start len) (is_aligned start) bytes (not_false (is_aligned start) aligned)
 
@@ -117,7 +108,7 @@ unfolding spaces_row classes operand_rule cpybwp_fails
 spaces_placed Cpybwp s p d t suited may =
     let one = fails (is_unaligned (place t.operands 1)) exceptions.boundary_alignment 1 in
     let two = fails (is_unaligned (place t.operands 2)) exceptions.boundary_alignment 2 in
-    let rules = first_none one two (unfailed _ s p d t may) in
+    let rules = first_none one two (rule_met _ s p d t may) in
     copied_inside s t.operands suited.classes suited.ruled (unrefused_inside _ s p d t may)
     (fails_none (is_unaligned (place t.operands 1)) exceptions.boundary_alignment 1 rules.0)
     (fails_none (is_unaligned (place t.operands 2)) exceptions.boundary_alignment 2 rules.1)

@@ -40,5 +40,5 @@ map_view store =
       spare = store.spare;
       moment = store.moment;
       faults = 0;
-      shape = record { parts = store.parts; most = most_changes; body_limit = body_limit };
+      shape = record { parts = store.parts; most = most_changes; body_limit = body_limit; start = 0 };
     }

@@ -6,11 +6,13 @@ use Rattle.s38_vault.specs.Directory.{Keys, new_keys}
 use Rattle.s38_vault.specs.declared.fault.VaultFault.{VaultFault}
 use Rattle.s38_vault.specs.declared.fault.VaultFault.TheVariants.{Full}
 
--- what no call changes: how many parts there are, how many changes a put takes, and how many bytes a body has, at most
+-- what no call changes: how many parts there are, how many changes a put takes and how many bytes a body has, at most,
+-- and how often the vault had failed as it was made
 pub record VaultShape : Type 0 where
   pub parts : ℕ
   pub most : ℕ
   pub body_limit : ℕ
+  pub start : ℕ
 
 -- which keys are there, how many parts are free, for how many changes memory is reserved, the moment, and how often
 -- the vault has failed

@@ -1,8 +1,10 @@
-//! What no clause of the vaults says: that their calls succeed where memory is left, and worked puts. A vault of which
-//! calls fail, for tests of what stands on a vault.
+//! What no clause of the vaults says: that their calls succeed where memory is left, and worked puts, also of what differs
+//! from what is to stand. A vault of which calls fail, for tests of what stands on a vault.
 #![tactic(auto)]
 
 mod failing;
+#[cfg(test)]
+mod forcing;
 #[cfg(test)]
 mod keyed;
 #[cfg(test)]

@@ -15,14 +15,14 @@ fn page(fill: u8) -> Page {
     }
 }
 
-fn key(object: u64, part: u32) -> Key
+pub(crate) fn key(object: u64, part: u32) -> Key
     ensures { result ≡ record { object = object; part = part } }
 {
     Key { object, part }
 }
 
 /// A page put at a key.
-fn put_at(object: u64, part: u32, fill: u8) -> Change
+pub(crate) fn put_at(object: u64, part: u32, fill: u8) -> Change
     ensures { result.key ≡ record { object = object; part = part } }
 {
     Change {
@@ -42,7 +42,10 @@ fn gone_at(object: u64, part: u32) -> Change
 }
 
 /// Puts one change, with memory for it.
-fn put_one<V: Vault>(vault: &mut V, change: Change) -> Result<Result<(), VaultFault>, Fail>
+pub(crate) fn put_one<V: Vault>(
+    vault: &mut V,
+    change: Change,
+) -> Result<Result<(), VaultFault>, Fail>
     requires { 1 ≤ change.key.object }
 {
     vault.reserve(1)?;
@@ -51,7 +54,7 @@ fn put_one<V: Vault>(vault: &mut V, change: Change) -> Result<Result<(), VaultFa
 }
 
 /// The byte with which the page at a key is filled, if the key is there.
-fn fill_at<V: Vault>(vault: &mut V, key: Key) -> Result<Option<u8>, Fail> {
+pub(crate) fn fill_at<V: Vault>(vault: &mut V, key: Key) -> Result<Option<u8>, Fail> {
     match vault.get(key)? {
         Some(page) => Ok(Some(page.bytes[511])),
         None => Ok(None),

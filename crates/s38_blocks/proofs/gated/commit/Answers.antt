@@ -1,4 +1,5 @@
 use Rattle.std.proofs.Common.{◌+◌, ◌*◌, ◌/◌, arith, length}
+use Rattle.s38_disk.proofs.CostLaws.{costs_then, costs_within}
 use Rattle.s38_disk.proofs.Runs.{weaker}
 use Rattle.s38_blocks.specs.Phases.{IsAllOrNone}
 use Rattle.s38_blocks.proofs.CommitLemmas.{log_all_or_none, log_ends, gate_all_or_none, gate_ends, homes_all_or_none, homes_ends, down_all_or_none, down_ends, homes_below, moment_later}
@@ -50,6 +51,31 @@ returns-clause-moves g c =
     let three = homes_all_or_none lay is es good two raised c.write_homes.ensures.moves in
     let homed = homes_ends lay is es good two raised c.write_homes.ensures.moves c.in_ok-write_homes.ensures.done in
     weaker (2 * length es + length es / 132 + 7) (IsAllOrNone lay es) (down_all_or_none lay is es good three homed c.write_gate-2.ensures.moves) (omega arith) (λ s u at r. r)
+
+pub returns-in_err-write_log-clause-cost : goal.returns-in_err-write_log-clause-cost
+returns-in_err-write_log-clause-cost g c =
+    let n = length c.args.slots.now in
+    costs_within (2 * n + n / 132 + 3) 4 c.write_log.ensures.cost (omega arith) (omega arith)
+
+pub returns-in_err-write_gate-clause-cost : goal.returns-in_err-write_gate-clause-cost
+returns-in_err-write_gate-clause-cost g c =
+    let n = length c.args.slots.now in
+    costs_within (2 * n + n / 132 + 3) 4 (costs_then c.write_log.ensures.cost c.write_gate.ensures.cost) (omega arith) (omega arith)
+
+pub returns-in_err-write_homes-clause-cost : goal.returns-in_err-write_homes-clause-cost
+returns-in_err-write_homes-clause-cost g c =
+    let n = length c.args.slots.now in
+    costs_within (2 * n + n / 132 + 3) 4 (costs_then (costs_then c.write_log.ensures.cost c.write_gate.ensures.cost) c.write_homes.ensures.cost) (omega arith) (omega arith)
+
+pub returns-in_err-write_gate-2-clause-cost : goal.returns-in_err-write_gate-2-clause-cost
+returns-in_err-write_gate-2-clause-cost g c =
+    let n = length c.args.slots.now in
+    costs_within (2 * n + n / 132 + 3) 4 (costs_then (costs_then (costs_then c.write_log.ensures.cost c.write_gate.ensures.cost) c.write_homes.ensures.cost) c.write_gate-2.ensures.cost) (omega arith) (omega arith)
+
+pub returns-clause-cost : goal.returns-clause-cost
+returns-clause-cost g c =
+    let n = length c.args.slots.now in
+    costs_within (2 * n + n / 132 + 3) 4 (costs_then (costs_then (costs_then c.write_log.ensures.cost c.write_gate.ensures.cost) c.write_homes.ensures.cost) c.write_gate-2.ensures.cost) (omega arith) (omega arith)
 
 pub returns-clause-done : goal.returns-clause-done
 returns-clause-done g c =

@@ -1,4 +1,5 @@
 use Rattle.std.proofs.Common.{◌≡◌, ◌<◌, ◌+◌, ◌/◌, ℕ, length}
+use Rattle.s38_disk.specs.Costs.{Costs}
 use Rattle.s38_disk.specs.Moves.{Moves, Ends, Near}
 use Rattle.s38_blocks.specs.Phases.{between, slot_at}
 use Rattle.s38_blocks.proofs.log.write_data.Given as goal
@@ -6,6 +7,7 @@ use Rattle.s38_blocks.proofs.log.write_data.Given as goal
 abbrev pub invariant-loop-k : goal.invariant-loop-k
 invariant-loop-k g l = record {
   moves : Moves (g.D.Disk.view l.initial.disk) (g.D.Disk.view l.disk) l.k (Near (between (3 + length l.slots / 132) (3 + length l.slots / 132 + length l.slots)));
+  cost : Costs (g.D.Disk.view l.initial.disk) (g.D.Disk.view l.disk) l.k 0;
   done : Ends (g.D.Disk.view l.initial.disk) (g.D.Disk.view l.disk) (λ s t. (i : ℕ) → i < l.k → t.now (3 + length l.slots / 132 + i) ≡ (slot_at l.slots i).block);
   count : (g.D.Disk.view l.disk).faults ≡ (g.D.Disk.view l.initial.disk).faults;
 }

@@ -2,6 +2,7 @@ use Rattle.std.proofs.Common.{◌+◌, ◌/◌, ◌≤◌, ℕ, ◌∙◌, ap, a
 use Rattle.s38_disk.specs.Blocks.{State}
 use Rattle.s38_disk.specs.Disk.{DiskView}
 use Rattle.s38_disk.specs.Moves.{Near, Moves}
+use Rattle.s38_disk.proofs.CostLaws.{costs_sync, costs_then, costs_within}
 use Rattle.s38_disk.proofs.Runs.{sync_near, near_then, near_end, weaker, moves_wider, step_at, at_one, now_at}
 use Rattle.s38_blocks.specs.Store.{log_of, log_count}
 use Rattle.s38_blocks.specs.Phases.{between}
@@ -31,6 +32,24 @@ pub returns-clause-moves : goal.returns-clause-moves
 returns-clause-moves g c = let n = length c.args.slots.now in
     let A = between 2 (3 + n / 132 + n) in
     weaker (n / 132 + n + 2) (Near A) (near_then A (near_then A (numbers_wide n (n / 132 + 1) (omega arith) c.write_numbers.ensures.moves) (data_wide n c.write_data.ensures.moves)) (sync_near A c.sync.ensures.notes c.sync.ensures.cause.later)) (omega arith) (λ s u is near. near)
+
+pub returns-in_err-write_numbers-clause-cost : goal.returns-in_err-write_numbers-clause-cost
+returns-in_err-write_numbers-clause-cost g c = let n = length c.args.slots.now in costs_within (n / 132 + n + 1) 1 c.write_numbers.ensures.cost (omega arith) (omega arith)
+
+pub returns-in_err-write_data-clause-cost : goal.returns-in_err-write_data-clause-cost
+returns-in_err-write_data-clause-cost g c =
+    let n = length c.args.slots.now in
+    costs_within (n / 132 + n + 1) 1 (costs_then c.write_numbers.ensures.cost c.write_data.ensures.cost) (omega arith) (omega arith)
+
+pub returns-in_err-sync-clause-cost : goal.returns-in_err-sync-clause-cost
+returns-in_err-sync-clause-cost g c =
+    let n = length c.args.slots.now in
+    costs_within (n / 132 + n + 1) 1 (costs_then (costs_then c.write_numbers.ensures.cost c.write_data.ensures.cost) (costs_sync c.sync.ensures.notes)) (omega arith) (omega arith)
+
+pub returns-clause-cost : goal.returns-clause-cost
+returns-clause-cost g c =
+    let n = length c.args.slots.now in
+    costs_within (n / 132 + n + 1) 1 (costs_then (costs_then c.write_numbers.ensures.cost c.write_data.ensures.cost) (costs_sync c.sync.ensures.notes)) (omega arith) (omega arith)
 
 pub returns-clause-done : goal.returns-clause-done
 returns-clause-done g c s t is at =

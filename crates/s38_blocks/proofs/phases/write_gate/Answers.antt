@@ -1,6 +1,7 @@
 use Rattle.std.proofs.Common.{ap, refl, arith}
 use Rattle.s38_disk.specs.Blocks.{State}
 use Rattle.s38_disk.specs.Moves.{Near}
+use Rattle.s38_disk.proofs.CostLaws.{costs_sync, costs_then, costs_within, costs_write}
 use Rattle.s38_disk.proofs.Runs.{write_near, sync_near, near_then, weaker, step_at, at_one}
 use Rattle.s38_blocks.specs.Phases.{gate}
 use Rattle.s38_blocks.proofs.CommitLemmas.{moment_rises}
@@ -14,6 +15,15 @@ returns-in_err-sync-clause-moves g c = near_then gate (write_near gate c.write.e
 
 pub returns-clause-moves : goal.returns-clause-moves
 returns-clause-moves g c = near_then gate (write_near gate c.write.ensures.notes c.write.ensures.cause.later refl) (sync_near gate c.sync.ensures.notes c.sync.ensures.cause.later)
+
+pub returns-in_err-write-clause-cost : goal.returns-in_err-write-clause-cost
+returns-in_err-write-clause-cost g c = costs_within 1 1 (costs_write c.write.ensures.notes) (omega arith) (omega arith)
+
+pub returns-in_err-sync-clause-cost : goal.returns-in_err-sync-clause-cost
+returns-in_err-sync-clause-cost g c = costs_then (costs_write c.write.ensures.notes) (costs_sync c.sync.ensures.notes)
+
+pub returns-clause-cost : goal.returns-clause-cost
+returns-clause-cost g c = costs_then (costs_write c.write.ensures.notes) (costs_sync c.sync.ensures.notes)
 
 pub returns-clause-done : goal.returns-clause-done
 returns-clause-done g c s t is at =

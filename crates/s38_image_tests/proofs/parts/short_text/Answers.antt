@@ -1,7 +1,7 @@
 use Rattle.std.proofs.Common.{◌≡◌, ℕ, ◌∙◌, List, length, ap, subst, sym, arith}
 use Rattle.s38_code.specs.declared.program.Program.{Program}
 use Rattle.s38_image_printing.proofs.LengthLaws.{text_long}
-use Rattle.s38_image_printing.specs.Parts.{HasShortText}
+use Rattle.s38_rules.specs.Storable.{HasShortText}
 use Rattle.s38_template.specs.Printing.{printed_lines}
 use Rattle.s38_image_tests.proofs.parts.short_text.Goals as goal
 

@@ -3,6 +3,7 @@ use Rattle.std.proofs.lemmas.Bool.{eqb-true}
 use Rattle.s38_disk.specs.Blocks.{State}
 use Rattle.s38_disk.specs.Disk.{DiskView}
 use Rattle.s38_disk.specs.Moves.{Moves}
+use Rattle.s38_disk.proofs.CostLaws.{costs_sync, costs_within}
 use Rattle.s38_disk.proofs.Runs.{sync_near, weaker, step_at, at_one}
 use Rattle.s38_blocks.specs.declared.layout.Slot.{Slot}
 use Rattle.s38_blocks.specs.declared.layout.Layout.{Layout}
@@ -27,6 +28,12 @@ pub returns-then-is_empty-clause-moves : goal.returns-then-is_empty-clause-moves
 returns-then-is_empty-clause-moves g c =
     let e : length c.args.slots.now ≡ 0 = eqb-true _ _ (sym c.is_empty.ensures ∙ c.if-is_empty.true) in
     empty_moves c.args.layout.now c.args.slots.now c.requires.layout e (sync_all_or_none c.args.layout.now c.requires.layout (sync_near none c.sync.ensures.notes c.sync.ensures.cause.later))
+
+pub returns-in_err-sync-clause-cost : goal.returns-in_err-sync-clause-cost
+returns-in_err-sync-clause-cost g c = costs_within (2 * length c.args.slots.now + length c.args.slots.now / 132 + 3) 4 (costs_sync c.sync.ensures.notes) (omega arith) (omega arith)
+
+pub returns-then-is_empty-clause-cost : goal.returns-then-is_empty-clause-cost
+returns-then-is_empty-clause-cost g c = costs_within (2 * length c.args.slots.now + length c.args.slots.now / 132 + 3) 4 (costs_sync c.sync.ensures.notes) (omega arith) (omega arith)
 
 pub returns-then-is_empty-clause-done : goal.returns-then-is_empty-clause-done
 returns-then-is_empty-clause-done g c s t is at =

@@ -6,7 +6,10 @@ use Rattle.s38_base.specs.declared.page.Key.{Key}
 use Rattle.s38_restart.specs.Parts.{key_before}
 use Rattle.s38_vault.specs.Directory.{next_key}
 use Rattle.s38_vault.specs.Vaults.{VaultView}
-use Rattle.s38_restart.proofs.PartLaws.{next_is, parts_all, parts_on, same_keys, same_view, within}
+use Rattle.s38_restart.proofs.PartLaws.{have_push, keys_all, keys_on, next_is, object_of, parts_all, parts_on, same_keys, same_view, within}
+use Rattle.std.specs.List.Sorted.{IsStrictlySortedBy}
+use Rattle.s38_restart.proofs.RemoveLaws.{keys_in_order, rising_parts}
+use Rattle.s38_vault.specs.Keys.{key_cmp}
 use Rattle.s38_restart.proofs.reading.read_parts.Goals as goal
 
 pub loop-key-smaller : goal.loop-key-smaller
@@ -40,6 +43,8 @@ loop-key-preserved g c =
           parts_on m old new c.in-Some.key c.in_ok-part.part (was.parts m h)
           (subst (λ (ks : List Key). slice_get ks (length old) ≡ Some c.in-Some.key) (same_keys m view.keys (c.free-free.ensures.keys m h)) there)
           (c.in_ok-part.ensures.part m ((was.holds m).0 h)) c.in_ok-push.ensures.items;
+      keys = keys_on (keys view.keys) old new c.in-Some.key c.in_ok-part.part was.keys there c.in_ok-part.ensures.key c.in_ok-push.ensures.items;
+      objects = rw c.in_ok-push.ensures.items (have_push old c.in_ok-part.part was.objects (subst (λ (k : Key). 1 ≤ k.object) (sym c.in_ok-part.ensures.key) (object_of c.next_key.result c.in-Some.key c.in-Some.is c.next_key.ensures.object)));
       view = same_view (g.V.Vault.view c.loop-key.vault) (g.V.Vault.view c.read_part.new.vault) c.read_part.ensures.stays c.in_ok-part.ensures.count ∙ was.view;
       holds = λ m. ((λ h. (c.read_part.ensures.holds m).0 ((was.holds m).0 h)), (λ h. (was.holds m).1 ((c.read_part.ensures.holds m).1 h)));
       past = λ t m low.
@@ -57,3 +62,14 @@ returns-clause-parts g c =
     let none : slice_get (keys view.keys) (length parts) ≡ None =
     sym (next_is view.keys (length parts) c.loop-key.before was.before was.few) ∙ next in
     λ m h. parts_all m parts (was.parts m h) (subst (λ (ks : List Key). slice_get ks (length parts) ≡ None) (same_keys m view.keys (c.free-free.ensures.keys m h)) none)
+
+pub returns-clause-order : goal.returns-clause-order
+returns-clause-order g c =
+    let view = g.V.Vault.view c.args.vault.now in
+    let parts = c.loop-key.parts.items in
+    let was = c.loop-key.invariant in
+    let next : next_key view.keys c.loop-key.before ≡ None =
+    ap (λ (v : VaultView). next_key v.keys c.loop-key.before) (sym was.view) ∙ sym c.next_key.ensures.next ∙ c.in_default.is in
+    let none : slice_get (keys view.keys) (length parts) ≡ None =
+    sym (next_is view.keys (length parts) c.loop-key.before was.before was.few) ∙ next in
+    rising_parts parts (subst (λ (ks : List Key). IsStrictlySortedBy key_cmp ks) (sym (keys_all (keys view.keys) parts was.keys none)) (keys_in_order view.keys))

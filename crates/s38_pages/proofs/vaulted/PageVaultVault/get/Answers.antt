@@ -4,19 +4,20 @@ use Rattle.s38_vault.specs.Directory.{keys_of}
 use Rattle.s38_vault.proofs.DirectoryLaws.{contains-keys_of}
 use Rattle.s38_blocks.proofs.CommitLemmas.{home_below}
 use Rattle.s38_pages.specs.Vaults.{PageStore, page_holds}
+use Rattle.s38_pages.proofs.Blaming.{of_read}
 use Rattle.s38_pages.proofs.VaultLemmas.{keeps_vault, page_here}
 use Rattle.s38_pages.proofs.vaulted.PageVaultVault.get.Goals as goal
 
 pub read_page-requires : goal.read_page-requires
 read_page-requires g c =
-    let below = home_below c.self.inside.layout c.in-Some.home (c.self.invariant.index.home c.args.key c.in-Some.home (sym c.get.ensures ∙ c.in-Some.is)) in
-    omega (arith, c.self.invariant.size)
+    let below = home_below c.self.inside.layout c.in-Some.home (c.self.invariant.vault.index.home c.args.key c.in-Some.home (sym c.get.ensures ∙ c.in-Some.is)) in
+    omega (arith, c.self.invariant.vault.size)
 
 pub invariant_of-self : goal.invariant_of-self
-invariant_of-self g c = keeps_vault c.read_page.ensures.size c.read_page.ensures.past c.self.invariant
+invariant_of-self g c = record { vault = keeps_vault c.read_page.ensures.size c.read_page.ensures.past c.self.invariant.vault; faults = of_read c.read_page.ensures.cause.later c.self.invariant.faults }
 
 pub invariant_of-self-in-Some : goal.invariant_of-self-in-Some
-invariant_of-self-in-Some g c = keeps_vault c.read_page.ensures.size c.read_page.ensures.past c.self.invariant
+invariant_of-self-in-Some g c = record { vault = keeps_vault c.read_page.ensures.size c.read_page.ensures.past c.self.invariant.vault; faults = of_read c.read_page.ensures.cause.later c.self.invariant.faults }
 
 pub returns-in_ok-read_page-in-Some-clause-there : goal.returns-in_ok-read_page-in-Some-clause-there
 returns-in_ok-read_page-in-Some-clause-there g c =
@@ -24,7 +25,7 @@ returns-in_ok-read_page-in-Some-clause-there g c =
 
 pub returns-in-None-clause-page : goal.returns-in-None-clause-page
 returns-in-None-clause-page g c m holds =
-    page_here c.self.invariant c.args.key None (sym c.get.ensures ∙ c.in-None.is) None (λ s is. refl) m (subst (λ (v : PageStore). page_holds v m) (sym c.self.view_is) holds)
+    page_here c.self.invariant.vault c.args.key None (sym c.get.ensures ∙ c.in-None.is) None (λ s is. refl) m (subst (λ (v : PageStore). page_holds v m) (sym c.self.view_is) holds)
 
 pub returns-in-None-clause-there : goal.returns-in-None-clause-there
 returns-in-None-clause-there g c =

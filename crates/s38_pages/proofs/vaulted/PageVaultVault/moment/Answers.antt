@@ -9,5 +9,5 @@ returns-clause-one g c m n a b = holds_one c.args.self.now.layout c.args.self.no
 
 pub returns-clause-present : goal.returns-clause-present
 returns-clause-present g c m n holds left =
-    present_one c.self.invariant m n (subst (λ (v : PageStore). page_holds v m) (sym c.self.view_is) holds)
+    present_one c.self.invariant.vault m n (subst (λ (v : PageStore). page_holds v m) (sym c.self.view_is) holds)
     (subst (λ (v : PageStore). page_leaves v (moment_of v.disk.past) n) (sym c.self.view_is) left)

@@ -16,5 +16,5 @@ pub returns-clause-object : goal.returns-clause-object
 returns-clause-object g c =
     let after = c.args.after in
     let homes = c.self.inside.homes.values in
-    next_named (keys_of homes) after c.next_key.result c.self.invariant.objects
+    next_named (keys_of homes) after c.next_key.result c.self.invariant.vault.objects
     (c.next_key.ensures ∙ ap (λ ks. next_among ks after) (sym (keys-keys_of homes)))

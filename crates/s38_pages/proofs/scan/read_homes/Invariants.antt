@@ -1,9 +1,9 @@
-use Rattle.std.proofs.Common.{◌≡◌, ◌≤◌, ◌+◌}
+use Rattle.std.proofs.Common.{◌≡◌}
 use Rattle.std.specs.FinMap.{get}
 use Rattle.s38_disk.specs.Blocks.{State}
 use Rattle.s38_disk.specs.Disk.{IsAt}
-use Rattle.s38_pages.specs.Scan.{Keeps, Scanned}
-use Rattle.s38_pages.proofs.scan.scan.Given as goal
+use Rattle.s38_pages.specs.Scan.{Keeps, Scanned, homes_of}
+use Rattle.s38_pages.proofs.scan.read_homes.Given as goal
 
 -- the homes so far are noted
 abbrev pub invariant-loop-at : goal.invariant-loop-at
@@ -11,7 +11,6 @@ invariant-loop-at g l = record {
   past : (g.D.Disk.view l.disk).past ≡ (g.D.Disk.view l.initial.disk).past;
   size : (g.D.Disk.view l.disk).size ≡ (g.D.Disk.view l.initial.disk).size;
   faults : (g.D.Disk.view l.disk).faults ≡ (g.D.Disk.view l.initial.disk).faults;
-  room : l.layout.size ≤ l.homes.spare + l.at;
-  keeps : Keeps l.layout l.homes.values l.marks l.at;
-  scanned : (s : State) → IsAt (g.D.Disk.view l.initial.disk).past s → Scanned l.layout s.now (get l.homes.values) l.at;
+  keeps : Keeps l.layout (homes_of l.homes) l.marks l.at;
+  scanned : (s : State) → IsAt (g.D.Disk.view l.initial.disk).past s → Scanned l.layout s.now (get (homes_of l.homes)) l.at;
 }

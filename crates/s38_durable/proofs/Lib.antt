@@ -1,0 +1,3 @@
+mod KeptLaws
+mod RoomLaws
+mod PutLaws

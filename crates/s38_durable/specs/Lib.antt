@@ -1,0 +1,3 @@
+pub mod Durable
+pub mod Stands
+pub mod Following

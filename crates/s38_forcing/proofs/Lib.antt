@@ -1,0 +1,5 @@
+pub mod WalkLaws
+pub mod DifferenceLaws
+pub mod WantedLaws
+pub mod PutLaws
+pub mod LookLaws

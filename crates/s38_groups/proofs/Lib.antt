@@ -1,0 +1,6 @@
+pub mod RunLaws
+pub mod LookupLaws
+pub mod ReadLaws
+pub mod LawfulLaws
+pub mod CeilingLaws
+pub mod StoreLaws

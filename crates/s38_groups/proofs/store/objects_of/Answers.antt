@@ -1,0 +1,15 @@
+use Rattle.std.proofs.Common.{◌≡◌, ℕ, List, None, ap, subst, sym}
+use Rattle.s38_image.specs.Faults.{first_of}
+use Rattle.s38_image.specs.declared.stored.Stored.{Stored}
+use Rattle.s38_groups.specs.Readings.{Reading, all_sound}
+use Rattle.s38_groups.specs.Stores.{AreLawful}
+use Rattle.s38_groups.proofs.LawfulLaws.{are_lawful}
+use Rattle.s38_groups.proofs.store.objects_of.Goals as goal
+
+pub returns-clause-lawful : goal.returns-clause-lawful
+returns-clause-lawful c =
+    let r = c.in_ok-reading.reading in
+    let none : first_of r.groups r.limit r.ceiling r.groups ≡ None = sym c.in_default-first_fault.ensures.fault in
+    let law = are_lawful r.groups r.limit r.ceiling none c.in_default-first_fault.ensures.rising in
+    let here = subst (λ (k : ℕ). AreLawful k (all_sound r.groups r.limit r.ceiling)) (ap (λ (x : Reading). x.ceiling) c.in_ok-reading.ensures) law in
+    subst (λ (ss : List Stored). AreLawful c.args.ceiling ss) (sym c.in_ok-into_stored.ensures) here

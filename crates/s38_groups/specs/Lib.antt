@@ -1,0 +1,4 @@
+pub mod Groups
+pub mod Runs
+pub mod Readings
+pub mod Stores

@@ -1,0 +1,39 @@
+-- A whole store: its first fault, and the objects that it holds.
+use Rattle.std.specs.Prelude.{◌≡◌, ℕ, ◌+◌, ◌<◌, All, List, map, true, Option, Some, None, not, if◌then◌else◌}
+use Rattle.std.specs.Option.{unwrap_or}
+use Rattle.s38_base.specs.declared.page.Change.{Change}
+use Rattle.s38_image.specs.Faults.{Group, ceiling_in, ceiling_key, is_on_disk, store_fault}
+use Rattle.s38_image.specs.declared.fault.ImageFault.{ImageFault}
+use Rattle.s38_image.specs.declared.fault.ImageFault.TheVariants as faults
+use Rattle.s38_image.specs.declared.stored.Stored.{Stored}
+use Rattle.s38_objects.specs.Lawful.{IsLawful}
+use Rattle.s38_groups.specs.Groups.{groups, parts_of}
+use Rattle.s38_groups.specs.Readings.{all_sound, object_in_stored}
+
+-- the first fault of all parts of a store; none where it can be restarted
+abbrev pub first_fault : ℕ → List Change → Option (ℕ × ℕ)
+first_fault limit parts = store_fault limit (parts_of ceiling_key parts) (groups parts)
+
+-- the ceiling of all parts of a store, 0 if it is at fault
+abbrev pub ceiling_of : List Change → ℕ
+ceiling_of parts = unwrap_or (ceiling_in (parts_of ceiling_key parts)) 0
+
+-- the objects that all parts of a store hold
+abbrev pub stored_in : ℕ → List Change → List Stored
+stored_in limit parts = all_sound (groups parts) limit (ceiling_of parts)
+
+-- the machine context, or the first user, if it has no header page
+abbrev pub missing : List Group → Option ℕ
+missing gs = if not (is_on_disk gs 1) then Some 1 else (if not (is_on_disk gs 2) then Some 2 else None)
+
+-- a fault is the first one, unless memory was refused
+abbrev pub IsFirst : Option (ℕ × ℕ) → ImageFault → Type 0
+IsFirst first (faults.BadImage object part) = first ≡ Some (object, part)
+IsFirst first faults.NoMemory = Unit {0}
+
+-- the objects are those of an object map whose next number is behind the ceiling, each says a context up to the ceiling,
+-- and all are on disk
+pub record AreLawful (ceiling : ℕ) (ss : List Stored) : Type 0 where
+  pub lawful : IsLawful (record { objects = map object_in_stored ss; next = ceiling + 1; ceiling = ceiling })
+  pub placed : All (λ o. o.context.0 < ceiling + 1) (map object_in_stored ss)
+  pub on_disk : All (λ o. o.on_disk ≡ true) (map object_in_stored ss)

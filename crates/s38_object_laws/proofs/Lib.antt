@@ -1,0 +1,4 @@
+pub mod EventLaws
+mod OutlineLaws
+mod RowLaws
+mod WordLaws

@@ -1,0 +1,10 @@
+pub mod ListLaws
+pub mod HistoryLaws
+pub mod Asking
+pub mod ViewLaws
+pub mod Draws
+pub mod Enters
+pub mod Serves
+pub mod Parts
+pub mod Ends
+pub mod Calling

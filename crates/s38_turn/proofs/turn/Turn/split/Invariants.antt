@@ -1,0 +1,4 @@
+use Rattle.s38_turn.proofs.turn.Turn.split.Given as goal
+
+abbrev pub ghosts-part : goal.ghosts-part
+ghosts-part g a = record { process = a.process }

@@ -1,0 +1,13 @@
+ghost use Rattle.s38_code.specs.declared.reply.Reply.{Reply};
+
+use s38_code::Reply;
+
+/// Who hears the reply to a call, while the turn lasts.
+pub trait Listener {
+    /// How it may stand behind a reply.
+    ghost hears: { Self → Reply → Self → Type 0 };
+
+    /// Hears the reply. All others wait meanwhile.
+    fn hear(&mut self, reply: &Reply)
+        ensures { hears self.old reply.now self.new };
+}
