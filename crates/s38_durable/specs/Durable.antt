@@ -5,6 +5,7 @@ use Rattle.std.specs.List.{flat_map, list_any}
 use Rattle.s38_code.specs.declared.entry.Entry.{Entry}
 use Rattle.s38_code.specs.declared.reply.Reply.{Reply}
 use Rattle.s38_code.specs.declared.reply.Reply.TheVariants.{Done, Signal, MustWait}
+use Rattle.s38_commits.specs.Units.{UnitMap}
 use Rattle.s38_image.specs.declared.stored.Stored.{Stored}
 use Rattle.s38_image.specs.Settled.{settled}
 use Rattle.s38_rules.specs.declared.object.Body.{Body}
@@ -12,6 +13,7 @@ use Rattle.s38_rules.specs.declared.object.Body.TheVariants as bodies
 use Rattle.s38_rules.specs.declared.object.Object.{Object}
 use Rattle.s38_rules.specs.Changes.{Ensured, done}
 use Rattle.s38_rules.specs.Forcing.{Forced, forced, forced_by, is_whole}
+use Rattle.s38_rules.specs.Held.{Held}
 use Rattle.s38_rules.specs.Journaling.{journal_for}
 use Rattle.s38_rules.specs.Parts.{journal_at}
 use Rattle.s38_rules.specs.State.{State}
@@ -31,13 +33,16 @@ is_of n x = x.object.number.0 == n
 abbrev pub kept : List Stored → ℕ → Option Stored
 kept xs n = find (is_of n) xs
 
-abbrev pub last_in : State → Option ℕ → ℕ
-last_in s None = 0
-last_in s (Some journal) = length (journal_at s.held journal).entries
+abbrev pub last_in : Held → Option ℕ → ℕ
+last_in h None = 0
+last_in h (Some journal) = length (journal_at h journal).entries
 
 -- the object as it stands, with every uncommitted change taken back, and with the last entry of its journal space
+abbrev pub whole_of : UnitMap → Held → Object → Stored
+whole_of units h o = settled units (last_in h (journal_for h o.number.0)) o
+
 abbrev pub whole : State → Object → Stored
-whole s o = settled s.units (last_in s (journal_for s.held o.number.0)) o
+whole s o = whole_of s.units s.held o
 
 -- what is said of a user follows, and another body stays as it was kept
 abbrev pub body_behind : Body → Body → Body

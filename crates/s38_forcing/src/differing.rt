@@ -14,8 +14,8 @@ use crate::walking::first_part;
 use s38_base::{Change, Key, NoMemory, Page};
 use s38_vault::Vault;
 
-/// Adds the removals of all pages in a range.
-fn add_removals<V: Vault>(
+/// Adds the removals of all pages in a range, in order of part. It reads no page.
+pub fn add_removals<V: Vault>(
     vault: &V,
     range: PartRange,
     into: &mut Vec<Change>,

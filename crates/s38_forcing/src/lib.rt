@@ -10,7 +10,7 @@ mod range;
 mod room;
 mod walking;
 
-pub use differing::add_differences;
+pub use differing::{add_differences, add_removals};
 pub use fault::ForcingFault;
 pub use laws::{
     differences_are_no_more_than_parts, differences_bring_the_wanted_keys, differences_can_be_put,
@@ -20,7 +20,8 @@ pub use laws::{
 };
 pub use putting::put_all;
 pub use range::PartRange;
-pub use room::has_room;
+pub use room::{count_new, has_room};
+pub use walking::is_there;
 
 /// What is sent between threads.
 fn sends<T: Send + Sync>() {}

@@ -16,7 +16,7 @@ fn is_new<V: Vault>(vault: &V, change: &Change) -> bool
 }
 
 /// How many keys changes bring that have no page.
-fn count_new<V: Vault>(vault: &V, changes: &[Change]) -> usize
+pub fn count_new<V: Vault>(vault: &V, changes: &[Change]) -> usize
     requires { HaveObjects changes.now }
     ensures { result ≡ new_keys (V.view vault.now).keys changes.now }
 {

@@ -39,7 +39,7 @@ pub(crate) fn first_part<V: Vault>(vault: &V, range: PartRange) -> Option<u32>
 }
 
 /// Whether a key has a page.
-pub(crate) fn is_there<V: Vault>(vault: &V, key: Key) -> bool
+pub fn is_there<V: Vault>(vault: &V, key: Key) -> bool
     requires { 1 ≤ key.object }
     ensures { result ≡ contains_key (V.view vault.now).keys key }
 {

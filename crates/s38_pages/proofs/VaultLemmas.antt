@@ -21,7 +21,7 @@ use Rattle.s38_vault.specs.Content.{Content, changed}
 use Rattle.s38_vault.specs.Keys.{key_cmp_total}
 use Rattle.s38_blocks.specs.declared.layout.Layout.{Layout}
 use Rattle.s38_blocks.specs.declared.layout.Slot.{Slot}
-use Rattle.s38_blocks.specs.Store.{Holds, Stands, redone, done}
+use Rattle.s38_blocks.specs.Store.{Holds, IsLayout, Stands, redone, done}
 use Rattle.s38_blocks.specs.Phases.{Rests, MayPut, IsAllOrNone, IsPut}
 use Rattle.s38_vault.specs.Content.{AreRising, HaveObjects}
 use Rattle.s38_vault.specs.Directory.{NameObjects, changed_keys, gone_keys, keys_of, new_keys}
@@ -30,6 +30,7 @@ use Rattle.s38_vault.proofs.DirectoryLaws.{get-keys_of, len-changed_keys, len-ke
 use Rattle.s38_blocks.proofs.Again.{targets_home}
 use Rattle.s38_pages.specs.Index.{AreFreeHomes, Homes, Index, Indexed, Planned, Tallied, freed, marked, page_at}
 use Rattle.s38_pages.proofs.Giving.{Given, freed_target}
+use Rattle.s38_pages.specs.Mounts.{layout_of}
 use Rattle.s38_pages.specs.Vaults.{IsVault, HoldsNow, LeavesAt, IsOneOf, Tells}
 use Rattle.s38_pages.proofs.Contents.{holds_indexed, indexed_same, key_same}
 
@@ -180,6 +181,16 @@ present_one {lay} {v} r m n holds left =
     let image : IsImage s g = subst (λ u. IsImage u g) same left.2.1 in
     let rests = rests_log lay r.layout s.now g m holds.1.2 (λ i out. image.same i (told.0 i)) in
     stands_one lay g n m left.2.2 (rests_stands lay r.layout g m rests)
+
+-- what is told is what the blocks stand for
+pub told_stands : {lay at : Layout} {good : Bool} (v : DiskView) → IsLayout lay → lay ≡ at → (m : Content) → HoldsNow lay v good m → (s : State) → IsAt v.past s → Stands at s.now m
+told_stands {lay} {at} v layout placed m holds s is =
+    let rests = subst (λ (t : State). Rests lay t.now m) (at_one v.past holds.1.0 s holds.1.1 is) holds.1.2 in
+    subst (λ l. Stands l s.now m) placed (rests_stands lay layout s.now m rests)
+
+-- the layout stays where the size does
+pub placed_still : {lay : Layout} {old new : ℕ} → lay ≡ layout_of old → new ≡ old → lay ≡ layout_of new
+placed_still placed size = placed ∙ ap layout_of (sym size)
 
 -- ---- answers
 

@@ -46,7 +46,9 @@ pub struct PageVault<D: Disk> {
 impl<D: Disk> Model for PageVault<D> {
     ghost use Rattle.std.specs.Vec.{vec_capacity};
     ghost use Rattle.std.specs.Coded.{codes};
+    ghost use Rattle.s38_pages.specs.Mounts.{layout_of};
     ghost use Rattle.s38_pages.specs.Vaults.{AreOfDisk, IsVault, PageStore, homes_code};
+    ghost use Rattle.std.specs.Prelude.{◌≡◌};
 
     ghost Value = { PageStore };
 
@@ -54,13 +56,14 @@ impl<D: Disk> Model for PageVault<D> {
 
     ghost view = { λ v. record { disk = D.view v.disk; layout = v.layout; homes = v.homes.values; spare = v.homes.spare; good = v.good; refused = v.refused; start = (D.view v.before.value).faults } };
 
-    ghost invariant = { λ v. record { vault : IsVault v.layout (D.view v.disk) v.homes.values v.marks v.slots.items (vec_capacity v.slots) v.good; faults : AreOfDisk (D.view v.before.value).faults (D.view v.disk) v.good v.refused } };
+    ghost invariant = { λ v. record { vault : IsVault v.layout (D.view v.disk) v.homes.values v.marks v.slots.items (vec_capacity v.slots) v.good; faults : AreOfDisk (D.view v.before.value).faults (D.view v.disk) v.good v.refused; placed : v.layout ≡ layout_of (D.view v.disk).size } };
 }
 
 impl<D: Disk> PageVault<D> {
     /// The vault over a disk whose store was opened.
     fn over(disk: D, opened: Opened) -> Self
-        requires { IsVault opened.layout (D.view disk) opened.homes.values opened.marks opened.slots.items (vec_capacity opened.slots) true }
+        requires vault { IsVault opened.layout (D.view disk) opened.homes.values opened.marks opened.slots.items (vec_capacity opened.slots) true }
+        requires placed { opened.layout ≡ layout_of (D.view disk).size }
         ensures { result ≡ record { disk = D.view disk; layout = opened.layout; homes = opened.homes.values; spare = opened.homes.spare; good = true; refused = 0; start = (D.view disk).faults } }
     {
         let before = Snapshot::of(&disk);
@@ -128,10 +131,13 @@ impl<D: Disk> PageVault<D> {
         }
     }
 
-    /// Gives the disk back. Nothing is pending on it where no put has failed. Since the vault was made the disk's count of
-    /// faults rose where the vault's did, and stood still where the vault's did.
+    /// Gives the disk back. What the vault tells that it holds is what the blocks of the disk stand for. Nothing is pending
+    /// where no put has failed. Since the vault was made the disk's count of faults rose where the vault's did, and stood
+    /// still where the vault's did.
     pub fn release(self) -> D
         ensures disk { D.view result ≡ self.disk }
+        ensures layout { self.layout ≡ layout_of (D.view result).size }
+        ensures stands { (m : Content) → page_holds self m → (s : State) → IsAt (D.view result).past s → Stands (layout_of (D.view result).size) s.now m }
         ensures settled { self.good ≡ true → (s : State) → IsAt (D.view result).past s → IsSettled s }
         ensures cause { Rose self.start (page_view self).faults → Rose self.start (D.view result).faults }
         ensures count { (page_view self).faults ≡ self.start → (D.view result).faults ≡ self.start }

@@ -1,3 +1,7 @@
+pub mod CeilingBound
+pub mod FineLaws
+pub mod FollowLaws
 pub mod PartLaws
 pub mod RedoLaws
 pub mod RemoveLaws
+pub mod RestartLaws

@@ -1,4 +1,6 @@
 pub mod Committed
+pub mod Faults
 pub mod Parts
 pub mod Redo
 pub mod Removing
+pub mod Restarted

@@ -1,15 +1,18 @@
-//! Restart: what a store kept is made again. So far all parts of a store are read, a data space is made of its image and of
-//! its journal space, and parts are taken away.
+//! Restart: what a store kept is made again. All parts of a store are read, each data space is made of its image and of its
+//! journal space, and the parts that belong to nothing are taken away.
 #![tactic(auto)]
 
 mod changes;
 mod committed;
 mod fault;
+mod following;
 mod journaled;
 mod reading;
 mod removing;
+mod restarting;
 
 pub use fault::RestartFault;
 pub use journaled::redo;
 pub use reading::read_parts;
 pub use removing::remove_all;
+pub use restarting::restart;

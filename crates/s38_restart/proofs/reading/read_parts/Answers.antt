@@ -1,4 +1,4 @@
-use Rattle.std.proofs.Common.{◌≡◌, ◌∙◌, ◌-◌, ◌<◌, ◌≤◌, ◌∷◌, [], List, Some, None, ap, arith, length, subst, suc, sym}
+use Rattle.std.proofs.Common.{◌≡◌, ◌∙◌, ◌-◌, ◌<◌, ◌≤◌, ◌∷◌, [], List, Some, None, ap, arith, length, refl, subst, suc, sym}
 use Rattle.std.specs.Prelude.{slice_get}
 use Rattle.std.specs.FinMap.{keys}
 use Rattle.std.proofs.lemmas.List.{length-append}
@@ -6,11 +6,25 @@ use Rattle.s38_base.specs.declared.page.Key.{Key}
 use Rattle.s38_restart.specs.Parts.{key_before}
 use Rattle.s38_vault.specs.Directory.{next_key}
 use Rattle.s38_vault.specs.Vaults.{VaultView}
+use Rattle.s38_restart.proofs.FineLaws.{fine_none, fine_push}
 use Rattle.s38_restart.proofs.PartLaws.{have_push, keys_all, keys_on, next_is, object_of, parts_all, parts_on, same_keys, same_view, within}
 use Rattle.std.specs.List.Sorted.{IsStrictlySortedBy}
 use Rattle.s38_restart.proofs.RemoveLaws.{keys_in_order, rising_parts}
 use Rattle.s38_vault.specs.Keys.{key_cmp}
 use Rattle.s38_restart.proofs.reading.read_parts.Goals as goal
+
+pub loop-key-init : goal.loop-key-init
+loop-key-init g c = record {
+  before = rw c.new-parts.ensures.items refl;
+  few = rw c.new-parts.ensures.items (omega arith);
+  parts = λ m h. rw c.new-parts.ensures.items refl;
+  keys = rw c.new-parts.ensures.items refl;
+  objects = rw c.new-parts.ensures.items tt;
+  fine = rw c.new-parts.ensures.items fine_none;
+  view = refl;
+  holds = λ m. ((λ h. h), (λ h. h));
+  past = λ t m low. ((λ h. h), (λ h. h));
+}
 
 pub loop-key-smaller : goal.loop-key-smaller
 loop-key-smaller g c =
@@ -45,6 +59,7 @@ loop-key-preserved g c =
           (c.in_ok-part.ensures.part m ((was.holds m).0 h)) c.in_ok-push.ensures.items;
       keys = keys_on (keys view.keys) old new c.in-Some.key c.in_ok-part.part was.keys there c.in_ok-part.ensures.key c.in_ok-push.ensures.items;
       objects = rw c.in_ok-push.ensures.items (have_push old c.in_ok-part.part was.objects (subst (λ (k : Key). 1 ≤ k.object) (sym c.in_ok-part.ensures.key) (object_of c.next_key.result c.in-Some.key c.in-Some.is c.next_key.ensures.object)));
+      fine = rw c.in_ok-push.ensures.items (fine_push old c.in_ok-part.part was.fine c.in_ok-part.ensures.fine);
       view = same_view (g.V.Vault.view c.loop-key.vault) (g.V.Vault.view c.read_part.new.vault) c.read_part.ensures.stays c.in_ok-part.ensures.count ∙ was.view;
       holds = λ m. ((λ h. (c.read_part.ensures.holds m).0 ((was.holds m).0 h)), (λ h. (was.holds m).1 ((c.read_part.ensures.holds m).1 h)));
       past = λ t m low.

@@ -12,7 +12,7 @@ use Rattle.s38_pages.specs.Index.{AreApart, Planned, marked}
 use Rattle.s38_pages.specs.Vaults.{IsOneOf, IsVault, PageStore, page_holds}
 use Rattle.s38_pages.proofs.Blaming.{of_put}
 use Rattle.s38_pages.proofs.Giving.{Given, homes_apart}
-use Rattle.s38_pages.proofs.VaultLemmas.{of_ok, on_ok, present_one, put_back, put_holds, put_moves, put_told, put_vault}
+use Rattle.s38_pages.proofs.VaultLemmas.{of_ok, on_ok, placed_still, present_one, put_back, put_holds, put_moves, put_told, put_vault}
 use Rattle.s38_pages.proofs.page_vault.PageVault.put_all.Goals as goal
 
 along : {v w : DiskView} (lay : Layout) (xs ys : List Slot) → xs ≡ ys → Moves v w (2 * length xs + length xs / 132 + 7) (IsAllOrNone lay xs) → Moves v w (2 * length ys + length ys / 132 + 7) (IsAllOrNone lay ys)
@@ -48,6 +48,7 @@ invariant_of-self g c =
           (put_vault r p c.plan.ensures.tallied (c.plan.ensures.free lay r.free) given c.requires.rising c.requires.objects moves c.clear.ensures.items
           (λ ok. put_told lay (get homes) (get now) (marked later) es c.args.changes.now p moves (ends (g.D.Disk.view c.self.inside.disk) (g.D.Disk.view c.write_all-written.new.disk) lay _ es c.deref.ensures.value (of_ok c.write_all-written.result c.write_all-written.ensures.done (sym c.is_ok-self-inside.ensures.value ∙ ok))) (r.told good)));
       faults = of_put c.write_all-written.result good c.is_ok-self-inside.ensures.value c.write_all-written.ensures.cause c.self.invariant.faults;
+      placed = placed_still c.self.invariant.placed c.write_all-written.ensures.moves.size;
     }
 
 pub returns-clause-moves : goal.returns-clause-moves

@@ -1,11 +1,11 @@
-use Rattle.std.proofs.Common.{◌≡◌, true, false, None, is_some, ap, refl, subst, sym, arith, ◌∙◌}
+use Rattle.std.proofs.Common.{◌≡◌, true, false, None, Some, is_some, ap, refl, subst, sym, arith, ◌∙◌}
 use Rattle.std.specs.FinMap.{contains_key}
 use Rattle.s38_vault.specs.Directory.{keys_of}
 use Rattle.s38_vault.proofs.DirectoryLaws.{contains-keys_of}
 use Rattle.s38_blocks.proofs.CommitLemmas.{home_below}
 use Rattle.s38_pages.specs.Vaults.{PageStore, page_holds}
 use Rattle.s38_pages.proofs.Blaming.{of_read}
-use Rattle.s38_pages.proofs.VaultLemmas.{keeps_vault, page_here}
+use Rattle.s38_pages.proofs.VaultLemmas.{keeps_vault, page_here, placed_still}
 use Rattle.s38_pages.proofs.vaulted.PageVaultVault.get.Goals as goal
 
 pub read_page-requires : goal.read_page-requires
@@ -14,10 +14,10 @@ read_page-requires g c =
     omega (arith, c.self.invariant.vault.size)
 
 pub invariant_of-self : goal.invariant_of-self
-invariant_of-self g c = record { vault = keeps_vault c.read_page.ensures.size c.read_page.ensures.past c.self.invariant.vault; faults = of_read c.read_page.ensures.cause.later c.self.invariant.faults }
+invariant_of-self g c = record { vault = keeps_vault c.read_page.ensures.size c.read_page.ensures.past c.self.invariant.vault; faults = of_read c.read_page.ensures.cause.later c.self.invariant.faults; placed = placed_still c.self.invariant.placed c.read_page.ensures.size }
 
 pub invariant_of-self-in-Some : goal.invariant_of-self-in-Some
-invariant_of-self-in-Some g c = record { vault = keeps_vault c.read_page.ensures.size c.read_page.ensures.past c.self.invariant.vault; faults = of_read c.read_page.ensures.cause.later c.self.invariant.faults }
+invariant_of-self-in-Some g c = record { vault = keeps_vault c.read_page.ensures.size c.read_page.ensures.past c.self.invariant.vault; faults = of_read c.read_page.ensures.cause.later c.self.invariant.faults; placed = placed_still c.self.invariant.placed c.read_page.ensures.size }
 
 pub returns-in_ok-read_page-in-Some-clause-there : goal.returns-in_ok-read_page-in-Some-clause-there
 returns-in_ok-read_page-in-Some-clause-there g c =
@@ -30,3 +30,7 @@ returns-in-None-clause-page g c m holds =
 pub returns-in-None-clause-there : goal.returns-in-None-clause-there
 returns-in-None-clause-there g c =
     sym (subst (λ (v : PageStore). contains_key (keys_of v.homes) c.args.key ≡ false) c.self.view_is (contains-keys_of c.self.inside.homes.values c.args.key ∙ ap is_some (sym c.get.ensures ∙ c.in-None.is)))
+
+pub returns-in_ok-read_page-in-Some-clause-page : goal.returns-in_ok-read_page-in-Some-clause-page
+returns-in_ok-read_page-in-Some-clause-page g c m holds =
+    page_here c.self.invariant.vault c.args.key (Some c.in-Some.home) (sym c.get.ensures ∙ c.in-Some.is) (Some c.in_ok-read_page-in-Some.field-0) (λ s is. sym (ap Some (c.in_ok-read_page-in-Some.ensures.gives s is))) m (subst (λ (v : PageStore). page_holds v m) (sym c.self.view_is) holds)

@@ -1,0 +1,49 @@
+-- What a run leaves: each object whole, the ceiling, and nothing else.
+use Rattle.std.specs.Prelude.{List, ◌++◌, Option, map}
+use Rattle.std.specs.FinMap.{empty}
+use Rattle.std.specs.List.{flat_map}
+use Rattle.s38_base.specs.declared.page.Change.{Change}
+use Rattle.s38_base.specs.declared.page.Key.{Key}
+use Rattle.s38_base.specs.declared.page.Page.{Page}
+use Rattle.s38_commits.specs.Units.{UnitMap}
+use Rattle.s38_durable.specs.Durable.{Durable, whole_of}
+use Rattle.s38_durable.specs.Stands.{ceiling_parts, parts_at}
+use Rattle.s38_image.specs.declared.stored.Stored.{Stored}
+use Rattle.s38_image.specs.Faults.{ceiling_key}
+use Rattle.s38_image.specs.Images.{parts_of}
+use Rattle.s38_keeping.specs.Outcomes.{IsRightFor}
+use Rattle.s38_keeping.specs.Replacing.{changes_to}
+use Rattle.s38_keeping.specs.declared.fault.KeepFault.{KeepFault}
+use Rattle.s38_rules.specs.Held.{Held}
+use Rattle.s38_vault.specs.Content.{Content, changed}
+use Rattle.s38_vault.specs.Directory.{new_keys}
+use Rattle.s38_vault.specs.Vaults.{VaultView}
+
+-- ---- what is to be kept
+
+-- all objects in rising order of number, each as it stands, whether it was on disk before or not
+abbrev pub kept_whole : UnitMap → Held → List Stored
+kept_whole units h = map (whole_of units h) h.objects
+
+-- what is durable once a run is closed
+abbrev pub closing : UnitMap → Held → Durable
+closing units h = record { ceiling = h.ceiling; objects = kept_whole units h }
+
+-- all parts of what is durable: those of its objects, and then that of the ceiling
+abbrev pub parts_of_all : Durable → List Change
+parts_of_all d = flat_map parts_of d.objects ++ ceiling_parts d.ceiling
+
+-- a store that has these parts, and no others
+abbrev pub content_of : Durable → Content
+content_of d = changed empty (parts_of_all d)
+
+-- ---- what is put
+
+-- the changes that make a store hold what is durable, and nothing else: of the pages that differ, in the order of their
+-- keys
+abbrev pub closing_changes : (Key → Option Page) → Durable → List Change
+closing_changes pages d = changes_to pages (parts_at d) ceiling_key
+
+-- a store is full where what is durable brings more keys than there are free parts, whatever keys go
+abbrev pub IsRight : VaultView → Durable → KeepFault → Type 0
+IsRight vault d fault = IsRightFor (new_keys vault.keys (parts_of_all d)) vault.free fault

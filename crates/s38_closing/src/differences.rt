@@ -1,0 +1,112 @@
+//! The changes of all objects, one object after another.
+ghost use Rattle.std.specs.Prelude.{◌≡◌, ◌<◌, ◌≤◌, ℕ, All, IfOk, None, OnOk, [], true};
+ghost use Rattle.std.specs.FinMap.{contains_key};
+ghost use Rattle.std.specs.List.{flat_map};
+ghost use Rattle.s38_base.specs.Faults.{HasCauseOf};
+ghost use Rattle.s38_base.specs.declared.page.Key.{Key};
+ghost use Rattle.s38_closing.specs.Closing.{closing, kept_whole, parts_of_all};
+ghost use Rattle.s38_durable.specs.Durable.{kept, whole_of};
+ghost use Rattle.s38_durable.specs.Stands.{parts_at};
+ghost use Rattle.s38_forcing.specs.Differences.{IsWanted};
+ghost use Rattle.s38_forcing.specs.declared.fault.ForcingFault.TheVariants as faults;
+ghost use Rattle.s38_image.specs.Faults.{ceiling_key};
+ghost use Rattle.s38_image.specs.Images.{parts_of};
+ghost use Rattle.s38_image_printing.specs.Parts.{CanSettle};
+ghost use Rattle.s38_keeping.specs.Replacing.{each_to, range_of};
+ghost use Rattle.s38_keeping.specs.Walking.{AreAt, AreFineTo, AreSoFar, IsKnown, Stays};
+ghost use Rattle.s38_rules.specs.Storable.{IsStorable};
+
+use crate::parts::{CEILING_KEY, ceiling_parts, whole_parts};
+use s38_base::Change;
+use s38_commits::Units;
+use s38_forcing::ForcingFault;
+use s38_keeping::{add_strangers, add_wanted, next_number};
+use s38_objects::Objects;
+use s38_rules::Object;
+use s38_vault::Vault;
+use std::alloc::Global;
+
+/// Adds the changes at the number of an object.
+fn add_object<V: Vault>(
+    alloc: Global,
+    vault: &mut V,
+    objects: &Objects,
+    units: &Units,
+    object: &Object,
+    into: &mut Vec<Change>,
+) -> Result<(), ForcingFault>
+    requires object { IsStorable object.now }
+    requires units { CanSettle units.now object.now.number.0 object.now.body }
+    requires number { 1 ≤ object.now.number.0 }
+    ensures at { OnOk result (AreAt (V.view vault.old).keys (V.holds vault.old) object.now.number.0 (parts_of (whole_of units.now objects.now object.now)) into.old.items into.new.items) }
+    ensures wanted { OnOk result (IsWanted (range_of object.now.number.0) (parts_of (whole_of units.now objects.now object.now))) }
+    ensures stays { Stays V.view V.holds V.leaves vault.old vault.new }
+    ensures cause { HasCauseOf (V.view vault.old).faults (V.view vault.new).faults result faults.Failed }
+    ensures count { OnOk result ((V.view vault.new).faults ≡ (V.view vault.old).faults) }
+{
+    let parts = whole_parts(alloc, objects, units, object)?;
+    add_wanted(vault, object.number.0, &parts, into)?;
+    Ok(())
+}
+
+/// Adds the changes at the numbers up to that of the last object, which it answers, 0 without one.
+fn add_objects<V: Vault>(
+    alloc: Global,
+    vault: &mut V,
+    objects: &Objects,
+    units: &Units,
+    into: &mut Vec<Change>,
+) -> Result<u64, ForcingFault>
+    requires storable { All IsStorable objects.now.objects }
+    requires settles { All (λ o. CanSettle units.now o.number.0 o.body) objects.now.objects }
+    requires numbers { All (λ o. 1 ≤ o.number.0) objects.now.objects }
+    requires none { into.old.items ≡ [] }
+    ensures so_far { IfOk result (λ done. AreSoFar (V.view vault.old).keys (V.holds vault.old) (parts_at (closing units.now objects.now)) done into.new.items) }
+    ensures whole { IfOk result (λ done. each_to (parts_at (closing units.now objects.now)) done ≡ flat_map parts_of (kept_whole units.now objects.now)) }
+    ensures fine { IfOk result (λ done. AreFineTo (V.view vault.old).keys done) }
+    ensures last { IfOk result (λ done. (n : ℕ) → done < n → kept (kept_whole units.now objects.now) n ≡ None) }
+    ensures low { IfOk result (λ done. done < ceiling_key) }
+    ensures stays { Stays V.view V.holds V.leaves vault.old vault.new }
+    ensures cause { HasCauseOf (V.view vault.old).faults (V.view vault.new).faults result faults.Failed }
+    ensures count { OnOk result ((V.view vault.new).faults ≡ (V.view vault.old).faults) }
+{
+    // Its contract says that the keys are those of the content.
+    let _free = vault.free();
+    // Each number is below the next one.
+    let _next = objects.next_number();
+    let mut done = 0;
+    for object in objects.all() {
+        add_strangers(vault, done, object.number.0 - 1, into)?;
+        add_object(alloc, vault, objects, units, object, into)?;
+        done = object.number.0;
+    }
+    Ok(done)
+}
+
+/// Adds the changes that make a vault hold all objects whole, the ceiling, and nothing else, in the order of their keys.
+pub(crate) fn add_all<V: Vault>(
+    alloc: Global,
+    vault: &mut V,
+    objects: &Objects,
+    units: &Units,
+    into: &mut Vec<Change>,
+) -> Result<(), ForcingFault>
+    requires storable { All IsStorable objects.now.objects }
+    requires settles { All (λ o. CanSettle units.now o.number.0 o.body) objects.now.objects }
+    requires numbers { All (λ o. 1 ≤ o.number.0) objects.now.objects }
+    requires none { into.old.items ≡ [] }
+    ensures so_far { OnOk result (AreSoFar (V.view vault.old).keys (V.holds vault.old) (parts_at (closing units.now objects.now)) ceiling_key into.new.items) }
+    ensures whole { OnOk result (each_to (parts_at (closing units.now objects.now)) ceiling_key ≡ parts_of_all (closing units.now objects.now)) }
+    ensures known { OnOk result ((key : Key) → contains_key (V.view vault.old).keys key ≡ true → IsKnown ceiling_key key) }
+    ensures stays { Stays V.view V.holds V.leaves vault.old vault.new }
+    ensures cause { HasCauseOf (V.view vault.old).faults (V.view vault.new).faults result faults.Failed }
+    ensures count { OnOk result ((V.view vault.new).faults ≡ (V.view vault.old).faults) }
+{
+    let done = add_objects(alloc, vault, objects, units, into)?;
+    add_strangers(vault, done, CEILING_KEY - 1, into)?;
+    let parts = ceiling_parts(alloc, objects.ceiling())?;
+    add_wanted(vault, CEILING_KEY, &parts, into)?;
+    // Its contract says that no key is behind.
+    let _behind = next_number(vault, CEILING_KEY, CEILING_KEY);
+    Ok(())
+}

@@ -1,0 +1,4 @@
+pub mod KeyLaws
+pub mod PieceLaws
+pub mod SoFarLaws
+pub mod ContentLaws

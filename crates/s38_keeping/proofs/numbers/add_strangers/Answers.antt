@@ -1,0 +1,45 @@
+use Rattle.std.proofs.Common.{refl, arith}
+use Rattle.s38_keeping.proofs.KeyLaws.{above_behind, fine_on, fine_upto}
+use Rattle.s38_keeping.proofs.SoFarLaws.{so_far_skip, so_far_stranger}
+use Rattle.s38_keeping.proofs.numbers.add_strangers.Goals as goal
+
+pub loop-number-init : goal.loop-number-init
+loop-number-init g c = record {
+  low = omega arith;
+  high = omega (arith, c.requires);
+  so_far = λ wants none was. was;
+  fine = λ was. was;
+}
+
+pub loop-number-preserved : goal.loop-number-preserved
+loop-number-preserved g c =
+    let V = g.V.Vault in
+    let keys = (V.view c.args.vault.now).keys in
+    let was = c.loop-number.invariant in
+    let last = c.loop-number.last in
+    let number = c.in-Some.number in
+    let low = c.in-Some.ensures.behind in
+    let high = c.in-Some.ensures.within in
+    record {
+      low = omega (arith, was.low, low);
+      high = omega (arith, high);
+      so_far = λ wants none before.
+          so_far_stranger keys (V.holds c.args.vault.now) wants last number c.loop-number.into.items c.add_none.new.into.items low
+          (λ k above below. none k (omega (arith, was.low, above)) (omega (arith, below, high)))
+          (λ key above below. c.in-Some.ensures.before key (above_behind last key above) below) c.in_ok-add_none.ensures (was.so_far wants none before);
+      fine = λ before. fine_on keys last number low c.in-Some.ensures.before (was.fine before);
+    }
+
+pub returns : goal.returns
+returns g c =
+    let V = g.V.Vault in
+    let keys = (V.view c.args.vault.now).keys in
+    let was = c.loop-number.invariant in
+    let last = c.loop-number.last in
+    record {
+      so_far = λ wants none before.
+          so_far_skip keys (V.holds c.args.vault.now) wants last c.args.upto c.loop-number.into.items was.high
+          (λ k above below. none k (omega (arith, was.low, above)) below)
+          (λ key above below. c.in_default.ensures.none refl key (above_behind last key above) below) (was.so_far wants none before);
+      fine = λ before. fine_upto keys last c.args.upto (c.in_default.ensures.none refl) (was.fine before);
+    }

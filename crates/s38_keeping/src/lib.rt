@@ -1,0 +1,22 @@
+//! A vault is made to hold some parts, and no others: number by number what differs is found, and then all is put.
+#![tactic(auto)]
+
+mod fault;
+mod laws;
+mod numbers;
+mod putting;
+mod walking;
+
+pub use fault::KeepFault;
+pub use laws::changes_make_what_is_wanted;
+pub use numbers::{add_strangers, add_wanted};
+pub use putting::put_changes;
+pub use walking::next_number;
+
+/// What is sent between threads.
+fn sends<T: Send + Sync>() {}
+
+/// Each value of this crate may be sent and shared.
+pub fn all_may_be_sent() {
+    sends::<KeepFault>();
+}

@@ -1,0 +1,51 @@
+-- The objects with which a machine begins that was not stored before are openings.
+use Rattle.std.proofs.Common.{◌≡◌, ℕ, zero, suc, ◌+◌, ◌<◌, List, [], ◌∷◌, refl, arith}
+use Rattle.std.proofs.lemmas.List.Elements.{All-from_recursion}
+use Rattle.std.specs.List.Sorted.{IsStrictlyIncreasing}
+use Rattle.s38_base.specs.Ids.{same_id}
+use Rattle.s38_object_laws.proofs.EventLaws.{first_well, installed_well}
+use Rattle.s38_objects.specs.Lawful.{number_of}
+use Rattle.s38_openings.specs.Opening.{HoldsTable, IsNumbered, IsOpening}
+use Rattle.s38_rules.specs.Opening.{held_first, held_installed, installed, opening}
+
+-- a number below the first of numbers that rise
+rise_first : (x y : ℕ) (ys : List ℕ) → x < y → IsStrictlyIncreasing (y ∷ ys) → IsStrictlyIncreasing (x ∷ y ∷ ys)
+rise_first x y ys low rest zero h = low
+rise_first x y ys low rest (suc k) h = let next : suc k + 1 ≡ suc (k + 1) = omega arith in rw next (rest k (omega (arith, h)))
+
+one_rises : (x : ℕ) → IsStrictlyIncreasing (x ∷ [])
+one_rises x k h = absurd (omega (arith, h))
+
+pub first_opening : IsOpening held_first
+unfolding opening same_id
+first_opening = record {
+  well = (first_well [] []).objects;
+  tables = All-from_recursion HoldsTable opening (tt, (tt, (tt, (tt, (tt, tt)))));
+  lawful = record {
+    rising = rise_first 1 2 (3 ∷ 4 ∷ 5 ∷ []) (omega arith) (rise_first 2 3 (4 ∷ 5 ∷ []) (omega arith) (rise_first 3 4 (5 ∷ []) (omega arith) (rise_first 4 5 [] (omega arith) (one_rises 5))));
+    given = All-from_recursion (λ o. number_of o < 6) opening (omega arith, (omega arith, (omega arith, (omega arith, (omega arith, tt)))));
+    apart = (λ h. refl, (λ h. refl, (λ h. refl, (λ h. refl, (λ h. refl, tt)))));
+  };
+  numbered = All-from_recursion IsNumbered opening (omega arith, (omega arith, (omega arith, (omega arith, (omega arith, tt)))));
+  next = omega arith;
+  owned = All-from_recursion (λ o. o.owner.0 < 6) opening (omega arith, (omega arith, (omega arith, (omega arith, (omega arith, tt)))));
+  placed = All-from_recursion (λ o. o.context.0 < 6) opening (omega arith, (omega arith, (omega arith, (omega arith, (omega arith, tt)))));
+  ceiling = omega arith;
+}
+
+pub installed_opening : IsOpening held_installed
+unfolding installed same_id
+installed_opening = record {
+  well = (installed_well [] []).objects;
+  tables = All-from_recursion HoldsTable installed (tt, (tt, tt));
+  lawful = record {
+    rising = rise_first 1 2 [] (omega arith) (one_rises 2);
+    given = All-from_recursion (λ o. number_of o < 3) installed (omega arith, (omega arith, tt));
+    apart = (λ h. refl, (λ h. refl, tt));
+  };
+  numbered = All-from_recursion IsNumbered installed (omega arith, (omega arith, tt));
+  next = omega arith;
+  owned = All-from_recursion (λ o. o.owner.0 < 3) installed (omega arith, (omega arith, tt));
+  placed = All-from_recursion (λ o. o.context.0 < 3) installed (omega arith, (omega arith, tt));
+  ceiling = omega arith;
+}

@@ -1,0 +1,10 @@
+pub mod BeginLaws
+pub mod FirstLaws
+pub mod ChargeLaws
+mod RedoLaws
+mod FitLaws
+mod StoredLaws
+mod HeadLaws
+pub mod RestartLaws
+mod CeilingLaws
+pub mod CloseLaws

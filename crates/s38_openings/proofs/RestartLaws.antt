@@ -1,0 +1,157 @@
+-- A store without a fault is restarted to an opening.
+use Rattle.std.proofs.Common.{◌≡◌, ℕ, ◌+◌, ◌<◌, ◌≤◌, Bool, true, false, cond, not, List, [], ◌∷◌, map, refl, sym, ap, subst, ◌∙◌, arith}
+use Rattle.std.proofs.lemmas.List.Elements.{All-from_recursion, All-weaker, recursion_from_All}
+use Rattle.std.specs.Prelude.{Option, Some, None, All}
+use Rattle.std.specs.List.{AllByRecursion}
+use Rattle.std.specs.Option.{option_map, unwrap_or}
+use Rattle.s38_base.specs.Limits.{ceiling_step, last_number}
+use Rattle.s38_base.specs.declared.page.Change.{Change}
+use Rattle.s38_codecs.proofs.CodecLaws.{both_true}
+use Rattle.s38_codecs.specs.Codec.{is_zero, only}
+use Rattle.s38_codecs.specs.Formats.{u32, u64}
+use Rattle.s38_commitment_laws.specs.Right.{IsData, IsTable}
+use Rattle.s38_dataspaces.specs.Table.{DataTable}
+use Rattle.s38_groups.proofs.CeilingLaws.{ceiling_codec, ceiling_is}
+use Rattle.s38_groups.proofs.LawfulLaws.{all_whole, are_lawful}
+use Rattle.s38_groups.proofs.RunLaws.{groups_rise, in_order}
+use Rattle.s38_groups.specs.Groups.{groups, parts_of}
+use Rattle.s38_groups.specs.Readings.{object_in_stored}
+use Rattle.s38_groups.specs.Stores.{ceiling_of, first_fault, stored_in}
+use Rattle.s38_image.proofs.HeaderLaws.{at_most}
+use Rattle.s38_image.proofs.PageLaws.{parts_exact}
+use Rattle.s38_image.specs.Bodies.{body_tags}
+use Rattle.s38_image.specs.Faults.{Group, ceiling_in, ceiling_key, ceiling_mark, ceiling_page, first_by, first_of, first_under, is_ceiling, is_ceiling_mark, is_on_disk, store_fault}
+use Rattle.s38_image.specs.Fitting.{AreFine}
+use Rattle.s38_image.specs.Images.{image_of, leading, rows_part}
+use Rattle.s38_image.specs.Pages.{no_tags}
+use Rattle.s38_image.specs.declared.stored.Stored.{Stored}
+use Rattle.s38_image_printing.proofs.KindLaws.{read_printable}
+use Rattle.s38_journals.specs.Journals.{JournalList}
+use Rattle.s38_object_laws.specs.Well.{IsWell}
+use Rattle.s38_openings.proofs.FitLaws.{rows_fit, table_fits}
+use Rattle.s38_openings.proofs.HeadLaws.{SameHead, lawful_same}
+use Rattle.s38_openings.proofs.RedoLaws.{redone_table}
+use Rattle.s38_openings.proofs.StoredLaws.{IsKept, all_kept, fine_leading, fine_parts, groups_given}
+use Rattle.s38_openings.specs.Opening.{HoldsTable, IsNumbered, IsOpening}
+use Rattle.s38_restart.specs.Parts.{AreParts}
+use Rattle.s38_restart.specs.Restarted.{data_followed, followed, imaged, restarted, table_behind}
+use Rattle.s38_rules.specs.Held.{Held, kind_of}
+use Rattle.s38_rules.specs.Journaling.{journal_behind}
+use Rattle.s38_rules.specs.Parts.{journal_at, data_of, data_part, over_body}
+use Rattle.s38_rules.specs.Storable.{HasShortText}
+use Rattle.s38_rules.specs.declared.object.Body.{Body}
+use Rattle.s38_rules.specs.declared.object.Body.TheVariants as bodies
+use Rattle.s38_rules.specs.declared.object.Object.{Object}
+
+-- ---- one object, followed by its journal space
+
+-- a body of the same kind, with a table where there was one, and with no longer text
+record StaysSo (old new : Body) : Type 0 where
+  pub kind : kind_of new ≡ kind_of old
+  pub text : HasShortText old → HasShortText new
+  pub table : IsData (data_of old) → IsData (data_of new)
+
+behind_table : (number image : ℕ) (journal : Option JournalList) (t : DataTable) → IsTable t → IsTable (table_behind number image journal t)
+behind_table number image None t is = is
+behind_table number image (Some journal) t is = redone_table number image journal.entries t is
+
+body_stays : (h : Held) (number image : ℕ) (b : Body) → StaysSo b (over_body data_part (data_followed h number image) b)
+body_stays h number image (bodies.DataSpace d) = record { kind = refl; text = λ t. t; table = λ is. behind_table number image (option_map (journal_at h) (journal_behind h d.port.0)) d.space is }
+body_stays h number image _ = record { kind = refl; text = λ t. t; table = λ is. is }
+
+same_head : (h : Held) (s : Stored) → SameHead (followed h s) (object_in_stored s)
+same_head h s = record { number = refl; id = refl; context = refl }
+
+-- what is true of an object that was kept, once it is followed
+record IsOpened (next : ℕ) (o : Object) : Type 0 where
+  pub well : IsWell o
+  pub table : HoldsTable o
+  pub number : IsNumbered o
+  pub owner : o.owner.0 < next
+
+opened : (h : Held) (limit ceiling : ℕ) (s : Stored) → limit ≤ 16777216 → IsKept limit ceiling s → IsOpened (ceiling + 1) (followed h s)
+opened h limit ceiling s small is =
+    let storable = read_printable limit s small is.image in
+    let stays = body_stays h s.object.number.0 s.sequence s.object.body in
+    record {
+      well = record {
+        storable = record { kind = stays.kind ∙ storable.kind; rows = storable.rows; text = stays.text storable.text };
+        rows = rows_fit _ s.object.rows is.image.rows;
+      };
+      table = stays.table (table_fits s.object.id.kind (body_tags s.object.id.kind (image_of s)) s.object.body s.sequence storable.kind is.image.body);
+      number = is.number;
+      owner = is.owner;
+    }
+
+all_opened : (h : Held) (limit ceiling : ℕ) (ss : List Stored) → limit ≤ 16777216 → AllByRecursion (IsKept limit ceiling) ss → AllByRecursion (IsOpened (ceiling + 1)) (map (followed h) ss)
+all_opened h limit ceiling [] small all = tt
+all_opened h limit ceiling (s ∷ ss) small all = (opened h limit ceiling s small all.0, all_opened h limit ceiling ss small all.1)
+
+placed_same : (h : Held) (next : ℕ) (ss : List Stored) → AllByRecursion (λ o. o.context.0 < next) (map object_in_stored ss) → AllByRecursion (λ o. o.context.0 < next) (map (followed h) ss)
+placed_same h next [] all = tt
+placed_same h next (s ∷ ss) all = (all.0, placed_same h next ss all.1)
+
+each : {P Q : Object → Type 0} → ((o : Object) → P o → Q o) → (os : List Object) → AllByRecursion P os → All Q os
+each {P} {Q} next os all = All-weaker P Q next os (All-from_recursion P os all)
+
+-- ---- the ceiling
+
+-- what is read as the ceiling is not too high
+low_ceiling : (parts : List Change) (n : ℕ) → AreFine parts → ceiling_in (parts_of ceiling_key parts) ≡ Some n → n ≤ last_number + ceiling_step
+low_ceiling parts n fine e =
+    let ps = leading rows_part (parts_of ceiling_key parts) in
+    let front = fine_leading rows_part (parts_of ceiling_key parts) (fine_parts ceiling_key parts fine) in
+    let r = parts_exact ceiling_key 0 ceiling_page (no_tags ceiling_page) (λ m. ceiling_codec.fits m ≡ true) ceiling_is 512 ps n front.whole front.bytes e in
+    let a = both_true ((only is_ceiling_mark u32).fits ceiling_mark) _ r.fits in
+    let b = both_true ((only is_zero u32).fits 0) _ a.1 in
+    let c = both_true ((only is_ceiling u64).fits n) _ b.1 in
+    at_most n (last_number + ceiling_step) (both_true (is_ceiling n) (u64.fits n) c.0).0
+
+-- ---- no fault
+
+record HasNone (limit : ℕ) (gs : List Group) (ceiling : Option ℕ) : Type 0 where
+  pub at : ℕ
+  pub is : ceiling ≡ Some at
+  pub none : first_of gs limit at gs ≡ None
+
+none_under : (gs : List Group) (limit ceiling : ℕ) → first_under gs limit ceiling ≡ None → first_of gs limit ceiling gs ≡ None
+none_under gs limit ceiling h = by (is_on_disk gs 1) (is_on_disk gs 2) h
+  where
+    by : (a b : Bool) → cond (not a) (Some (1, 0)) (cond (not b) (Some (2, 0)) (first_of gs limit ceiling gs)) ≡ None → first_of gs limit ceiling gs ≡ None
+    by true true h = h
+    by true false h = absurd cc
+    by false b h = absurd cc
+
+none_by : (gs : List Group) (limit : ℕ) (ceiling : Option ℕ) → first_by gs limit ceiling ≡ None → HasNone limit gs ceiling
+none_by gs limit None h = absurd cc
+none_by gs limit (Some n) h = record { at = n; is = refl; none = none_under gs limit n h }
+
+none_of : (limit : ℕ) (parts : List Change) → first_fault limit parts ≡ None → HasNone limit (groups parts) (ceiling_in (parts_of ceiling_key parts))
+unfolding store_fault
+none_of limit parts none = none_by (groups parts) limit (ceiling_in (parts_of ceiling_key parts)) none
+
+-- ---- the whole store
+
+pub restarts : (limit : ℕ) (parts : List Change) → limit ≤ 16777216 → AreParts parts → first_fault limit parts ≡ None → IsOpening (restarted limit parts)
+restarts limit parts small are fault =
+    let gs = groups parts in
+    let found = none_of limit parts fault in
+    let ceiling = ceiling_of parts in
+    let at : ceiling ≡ found.at = ap (λ (o : Option ℕ). unwrap_or o 0) found.is in
+    let none : first_of gs limit ceiling gs ≡ None = subst (λ (n : ℕ). first_of gs limit n gs ≡ None) (sym at) found.none in
+    let lawful = are_lawful gs limit ceiling none (groups_rise parts (in_order parts are.rising)) in
+    let kept = all_kept gs limit ceiling (all_whole gs limit ceiling gs none) (groups_given parts are.fine are.objects) in
+    let ss = stored_in limit parts in
+    let h = imaged ss in
+    let all = all_opened h limit ceiling ss small kept in
+    let os = map (followed h) ss in
+    record {
+      well = each (λ o is. is.well) os all;
+      tables = each (λ o is. is.table) os all;
+      lawful = lawful_same (followed h) object_in_stored (same_head h) (ceiling + 1) ceiling ss lawful.lawful;
+      numbered = each (λ o is. is.number) os all;
+      next = omega arith;
+      owned = each (λ o is. is.owner) os all;
+      placed = All-from_recursion (λ o. o.context.0 < ceiling + 1) os (placed_same h (ceiling + 1) ss (recursion_from_All (λ o. o.context.0 < ceiling + 1) (map object_in_stored ss) lawful.placed));
+      ceiling = subst (λ (n : ℕ). n ≤ last_number + ceiling_step) (sym at) (low_ceiling parts found.at are.fine found.is);
+    }

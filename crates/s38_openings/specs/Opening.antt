@@ -1,0 +1,33 @@
+-- With which objects a run may begin: those of a machine that was not stored before, and those that a restart gives.
+use Rattle.std.specs.Prelude.{◌+◌, ◌<◌, ◌≤◌, All}
+use Rattle.s38_base.specs.Limits.{ceiling_step, last_number}
+use Rattle.s38_commitment_laws.specs.Right.{IsData}
+use Rattle.s38_object_laws.specs.Well.{IsWell}
+use Rattle.s38_objects.specs.Lawful.{IsLawful, number_of}
+use Rattle.s38_rules.specs.Held.{Held}
+use Rattle.s38_rules.specs.Parts.{data_of}
+use Rattle.s38_rules.specs.declared.object.Object.{Object}
+
+-- no object has the number 0
+abbrev pub IsNumbered : Object → Type 0
+IsNumbered o = 1 ≤ number_of o
+
+-- what a data space holds is a table of its fields
+abbrev pub HoldsTable : Object → Type 0
+HoldsTable o = IsData (data_of o.body)
+
+pub record IsOpening (h : Held) : Type 0 where
+  -- a store can keep each object, and its private rows are in order
+  pub well : All IsWell h.objects
+  -- each entry of a data space is one of its fields
+  pub tables : All HoldsTable h.objects
+  -- numbers rise and were given, and names are told apart in each context
+  pub lawful : IsLawful h
+  -- 0 is the number of no object, and never will be: the next one is above it
+  pub numbered : All IsNumbered h.objects
+  pub next : 1 ≤ h.next
+  -- each object says an owner and a context whose numbers were given, or no context
+  pub owned : All (λ o. o.owner.0 < h.next) h.objects
+  pub placed : All (λ o. o.context.0 < h.next) h.objects
+  -- a store can keep the ceiling of numbers
+  pub ceiling : h.ceiling ≤ last_number + ceiling_step

@@ -1,0 +1,59 @@
+//! Laws about openings.
+ghost use Rattle.std.specs.Prelude.{◌≡◌, ◌≤◌, ◌<◌, ◌^◌, ℕ, List, [], None};
+ghost use Rattle.s38_base.specs.declared.page.Change.{Change};
+ghost use Rattle.s38_code.specs.declared.deck.Job.{Job};
+ghost use Rattle.s38_code.specs.declared.entry.Entry.{Entry};
+ghost use Rattle.s38_code.specs.declared.made.CheckedTemplate.{CheckedTemplate};
+ghost use Rattle.s38_commitment_laws.specs.Right.{AllRight, IsRight};
+ghost use Rattle.s38_groups.specs.Stores.{first_fault};
+ghost use Rattle.s38_object_laws.specs.Well.{AllWell, AreWell};
+ghost use Rattle.s38_objects.specs.Lawful.{IsLawful};
+ghost use Rattle.s38_openings.specs.Charges.{total_charge};
+ghost use Rattle.s38_openings.specs.Closing.{CanClose};
+ghost use Rattle.s38_openings.specs.Opening.{IsOpening};
+ghost use Rattle.s38_restart.specs.Parts.{AreParts};
+ghost use Rattle.s38_restart.specs.Restarted.{restarted};
+ghost use Rattle.s38_rules.specs.Held.{Held};
+ghost use Rattle.s38_rules.specs.Kept.{CanBeKept};
+ghost use Rattle.s38_rules.specs.Legal.{Leads};
+ghost use Rattle.s38_rules.specs.Opening.{held_first, held_installed, state_of};
+ghost use Rattle.s38_rules.specs.State.{State};
+
+/// A machine that was not stored before begins with an opening, and so does one that was just installed.
+pub fn the_first_stores_are_openings()
+    ensures first { IsOpening held_first }
+    ensures installed { IsOpening held_installed }
+{}
+
+/// A store without a fault is restarted to an opening: each of its parts is of an object and has a whole page, and they
+/// rise in their keys.
+pub fn a_store_restarts_to_an_opening()
+    ensures { (limit : ℕ) (parts : List Change) → limit ≤ 16777216 → AreParts parts → first_fault limit parts ≡ None → IsOpening (restarted limit parts) }
+{}
+
+/// What is kept of users can be kept of an opening, where all that they pay for can be counted.
+pub fn what_users_pay_can_be_kept()
+    ensures { (held : Held) → IsOpening held → total_charge held < 2 ^ 64 → CanBeKept held }
+{}
+
+/// The objects of an opening are well, and so they are in each state of a run that begins with it.
+pub fn an_opening_is_well()
+    ensures begins { (held : Held) (templates : List CheckedTemplate) (jobs : List Job) → IsOpening held → AreWell (state_of held templates jobs) }
+    ensures histories { (held : Held) (templates : List CheckedTemplate) (jobs : List Job) (history : List Entry) (end : State) → IsOpening held
+        → Leads (state_of held templates jobs) [] history end → AllWell (state_of held templates jobs) history × AreWell end }
+{}
+
+/// An opening has no unit of changes, and its data spaces are in order; so units are right in each state of a run that
+/// begins with it.
+pub fn an_opening_is_right()
+    ensures begins { (held : Held) (templates : List CheckedTemplate) (jobs : List Job) → IsOpening held → IsRight (state_of held templates jobs) }
+    ensures histories { (held : Held) (templates : List CheckedTemplate) (jobs : List Job) (history : List Entry) (end : State) → IsOpening held
+        → Leads (state_of held templates jobs) [] history end → AllRight (state_of held templates jobs) history × IsRight end }
+{}
+
+/// A store can keep all that a run leaves, if the run began with an opening: each object, with every change that is not
+/// committed taken back, and the ceiling of numbers.
+pub fn an_end_can_be_closed()
+    ensures { (held : Held) (templates : List CheckedTemplate) (jobs : List Job) (history : List Entry) (end : State) → IsOpening held
+        → Leads (state_of held templates jobs) [] history end → IsLawful end.held → CanClose end }
+{}

@@ -1,0 +1,29 @@
+use Rattle.std.proofs.Common.{All, List, ℕ, ◌+◌, ◌<◌, ◌≤◌, arith, subst, sym}
+use Rattle.std.specs.List.Sorted.{IsStrictlyIncreasing}
+use Rattle.s38_base.specs.Limits.{ceiling_step, last_number}
+use Rattle.s38_objects.specs.Lawful.{IsLawful}
+use Rattle.s38_rules.specs.declared.object.Object.{Object}
+use Rattle.s38_restart.proofs.CeilingBound.{ceiling_bound}
+use Rattle.s38_restart.proofs.RestartLaws.{followed_lawful, followed_placed, stored_numbers}
+use Rattle.s38_restart.proofs.restarting.restore.Goals as goal
+
+pub followed-requires : goal.followed-requires
+followed-requires c =
+    let ss = c.in_ok-store.store.stored.items in
+    subst (λ (ns : List ℕ). IsStrictlyIncreasing ns) (sym (stored_numbers ss)) c.in_ok-store.ensures.lawful.lawful.rising
+
+pub overflow_add-ceiling : goal.overflow_add-ceiling
+overflow_add-ceiling c =
+    let bound : c.in_ok-store.store.ceiling ≤ last_number + ceiling_step =
+    subst (λ (n : ℕ). n ≤ last_number + ceiling_step) (sym c.in_ok-store.ensures.ceiling) (ceiling_bound c.args.parts.now) in
+    record { fits = omega (arith, bound) }
+
+pub restored-requires-clause-lawful : goal.restored-requires-clause-lawful
+restored-requires-clause-lawful c =
+    let n = c.in_ok-store.store.ceiling in
+    subst (λ (os : List Object). IsLawful (record { objects = os; next = n + 1; ceiling = n })) (sym c.in_ok-objects.ensures) (followed_lawful n c.in_ok-store.store.stored.items c.in_ok-store.ensures.lawful)
+
+pub restored-requires-clause-placed : goal.restored-requires-clause-placed
+restored-requires-clause-placed c =
+    let n = c.in_ok-store.store.ceiling in
+    subst (λ (os : List Object). All (λ o. o.context.0 < n + 1) os) (sym c.in_ok-objects.ensures) (followed_placed n c.in_ok-store.store.stored.items c.in_ok-store.ensures.lawful)
