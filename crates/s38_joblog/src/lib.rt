@@ -8,3 +8,5 @@ mod words;
 
 pub use check::check_text;
 pub use log::{bad_line, last_line, log_text};
+pub use text::Text;
+pub use words::add_rights;

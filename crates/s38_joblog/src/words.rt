@@ -52,7 +52,7 @@ fn behind_first(bytes: &[u8]) -> &[u8]
 
 /// Adds the names of rights, joined by `+`; all are ALL, and none are NONE.
 #[tactic(auto, unfolding(crate::specs::Words::rights_word))]
-fn add_rights(alloc: Global, text: &mut Text, rights: Rights) -> Result<(), NoMemory>
+pub fn add_rights(alloc: Global, text: &mut Text, rights: Rights) -> Result<(), NoMemory>
     ensures { OnOk result (text.new ≡ text.old ++ rights_word rights.0) }
 {
     if rights.0 == 255 {

@@ -1,0 +1,3 @@
+mod KeepLaws
+mod InstallLaws
+mod OpenLaws

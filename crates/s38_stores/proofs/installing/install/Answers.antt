@@ -1,0 +1,11 @@
+use Rattle.std.proofs.Common.{◌∙◌, ap, subst}
+use Rattle.s38_blocks.specs.Store.{Stands}
+use Rattle.s38_pages.specs.Formats.{first_content}
+use Rattle.s38_pages.specs.Mounts.{layout_of}
+use Rattle.s38_vault.specs.Content.{Content}
+use Rattle.s38_stores.proofs.installing.install.Goals as goal
+
+pub returns-in-Ok-format-clause-made : goal.returns-in-Ok-format-clause-made
+returns-in-Ok-format-clause-made g c s t at is =
+    subst (λ (m : Content). Stands (layout_of (g.D.Disk.view c.release.result).size) t.now m) (ap first_content c.as_slice.ensures.value ∙ c.in-Ok.ensures.content)
+    (c.release.ensures.stands (first_content c.as_slice.result.now) (c.in-Ok-format.ensures.content s at) t is)

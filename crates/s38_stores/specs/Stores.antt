@@ -1,0 +1,68 @@
+-- What the blocks of a disk stand for as a store of objects.
+use Rattle.std.specs.Prelude.{◌≡◌, ◌-◌, ◌<◌, ◌≤◌, ℕ, List, [], None}
+use Rattle.std.specs.FinMap.{len}
+use Rattle.s38_base.specs.Limits.{body_limit}
+use Rattle.s38_blocks.specs.Store.{Stands}
+use Rattle.s38_closing.specs.Closing.{closing, content_of, parts_of_all}
+use Rattle.s38_commits.specs.Units.{UnitMap}
+use Rattle.s38_disk.specs.Blocks.{State}
+use Rattle.s38_disk.specs.Disk.{DiskView, IsAt}
+use Rattle.s38_disk.specs.declared.block.Block.{Block}
+use Rattle.s38_durable.specs.Durable.{Durable}
+use Rattle.s38_groups.specs.Groups.{removals}
+use Rattle.s38_groups.specs.Stores.{first_fault}
+use Rattle.s38_pages.specs.Index.{parts_of}
+use Rattle.s38_pages.specs.Mounts.{fewest, layout_of}
+use Rattle.s38_restart.specs.Parts.{all_parts}
+use Rattle.s38_restart.specs.Restarted.{restarted}
+use Rattle.s38_rules.specs.Held.{Held}
+use Rattle.s38_rules.specs.Opening.{held_installed}
+use Rattle.s38_vault.specs.Content.{Content, changed}
+use Rattle.s38_vault.specs.Directory.{keys_of, new_keys}
+
+-- a content without a fault is restarted to these objects
+pub record AreOf (h : Held) (m : Content) : Type 0 where
+  pub sound : first_fault body_limit (all_parts m) ≡ None
+  pub is : h ≡ restarted body_limit (all_parts m)
+
+-- the blocks are a store that is restarted to these objects
+pub record Restarts (size : ℕ) (f : ℕ → Block) (h : Held) : Type 0 where
+  pub large : fewest ≤ size
+  pub content : Content
+  pub stands : Stands (layout_of size) f content
+  pub objects : AreOf h content
+
+-- the blocks are a store of all that is durable, and of nothing else
+abbrev pub Keeps : ℕ → (ℕ → Block) → Durable → Type 0
+Keeps size f d = Stands (layout_of size) f (content_of d)
+
+-- what stood on a disk stands on it now, but for the parts that belong to nothing, which were taken away
+pub record IsCleaned (old new : DiskView) (f g : ℕ → Block) : Type 0 where
+  pub content : Content
+  pub before : Stands (layout_of old.size) f content
+  pub after : Stands (layout_of new.size) g (changed content (removals (all_parts content)))
+
+-- ---- a store that was installed
+
+abbrev pub no_units : UnitMap
+no_units = []
+
+-- what it keeps: the machine context, the security officer, and the ceiling of numbers
+abbrev pub installed_store : Durable
+installed_store = closing no_units held_installed
+
+-- ---- a store that is full
+
+-- what is durable needs so many new parts in the store of these blocks, so many are free, and these are too few
+pub record IsFullOf (size : ℕ) (f : ℕ → Block) (d : Durable) (needed free : ℕ) : Type 0 where
+  pub content : Content
+  pub stands : Stands (layout_of size) f content
+  pub wanted : needed ≡ new_keys (keys_of content) (parts_of_all d)
+  pub there : free ≡ parts_of (layout_of size) - len (keys_of content)
+  pub short : free < needed
+
+-- ---- before a call and behind it
+
+-- where the disk tells its past, its blocks now are in this relation to the blocks before
+abbrev pub Leaves : DiskView → DiskView → ((ℕ → Block) → (ℕ → Block) → Type 0) → Type 0
+Leaves old new R = (s t : State) → IsAt old.past s → IsAt new.past t → R s.now t.now

@@ -1,0 +1,59 @@
+ghost use Rattle.std.specs.Prelude.{◌≡◌, ◌≤◌, IfErr, IfOk, OnOk, false, length};
+ghost use Rattle.s38_base.specs.Faults.{Rose};
+ghost use Rattle.s38_blocks.specs.Coding.{is_label};
+ghost use Rattle.s38_closing.specs.Closing.{content_of};
+ghost use Rattle.s38_disk.specs.Blocks.{State};
+ghost use Rattle.s38_disk.specs.Disk.{IsAt};
+ghost use Rattle.s38_pages.specs.Formats.{first_content, most_first};
+ghost use Rattle.s38_rules.specs.Opening.{held_installed};
+ghost use Rattle.s38_stores.specs.Refusals.{IsUnmadeBy};
+ghost use Rattle.s38_stores.specs.Stores.{Keeps, Leaves, installed_store};
+ghost use Rattle.s38_vault.specs.Content.{AreRising, HaveObjects};
+
+use crate::fault::{StoreRefusal, of_store};
+use s38_base::{Change, NoMemory};
+use s38_closing::first_changes;
+use s38_commits::Units;
+use s38_disk::Disk;
+use s38_objects::Objects;
+use s38_pages::PageVault;
+use std::alloc::Global;
+
+/// How many changes the first content of a store has at most.
+const MOST_FIRST: usize = 1_790;
+
+/// The changes that make a new store hold these objects, which are few.
+fn installing_changes(alloc: Global, objects: &Objects) -> Result<Vec<Change>, NoMemory>
+    requires { objects.now ≡ held_installed }
+    ensures content { IfOk result (λ changes. first_content changes.items ≡ content_of installed_store) }
+    ensures few { IfOk result (λ changes. length changes.items ≤ most_first) }
+    ensures rising { IfOk result (λ changes. AreRising changes.items) }
+    ensures objects { IfOk result (λ changes. HaveObjects changes.items) }
+{
+    let units = Units::new(alloc);
+    let changes = first_changes(alloc, objects, &units)?;
+    if changes.len() > MOST_FIRST {
+        return Err(NoMemory);
+    }
+    Ok(changes)
+}
+
+/// Makes a store on a disk that has none, with the objects that are handed in: the machine context and the security officer.
+/// The disk comes back with the reason where no store is made, as it was unless it failed.
+pub fn install<D: Disk>(alloc: Global, disk: D, objects: &Objects) -> Result<D, (D, StoreRefusal)>
+    requires { objects.now ≡ held_installed }
+    ensures made { IfOk result (λ new. Leaves (D.view disk) (D.view new) (λ f g. Keeps (D.view new).size g installed_store)) }
+    ensures fresh { OnOk result ((s : State) → IsAt (D.view disk).past s → is_label (s.now 0) ≡ false) }
+    ensures refused { IfErr result (λ refusal. IsUnmadeBy (D.view disk) refusal.1) }
+    ensures stays { IfErr result (λ refusal. (refusal.1 ≡ StoreRefusal.Failed → ⊥) → (D.view refusal.0).past ≡ (D.view disk).past) }
+    ensures cause { IfErr result (λ refusal. refusal.1 ≡ StoreRefusal.Failed → Rose (D.view disk).faults (D.view refusal.0).faults) }
+{
+    let changes = match installing_changes(alloc, objects) {
+        Ok(changes) => changes,
+        Err(_) => return Err((disk, StoreRefusal::NoMemory)),
+    };
+    match PageVault::format(alloc, disk, changes.as_slice()) {
+        Ok(vault) => Ok(vault.release()),
+        Err((disk, fault)) => Err((disk, of_store(fault))),
+    }
+}

@@ -1,0 +1,50 @@
+ghost use Rattle.std.specs.Prelude.{◌≡◌, ◌≤◌, ℕ, All, Err, IfErr, OnOk};
+ghost use Rattle.s38_base.specs.Faults.{Rose};
+ghost use Rattle.s38_closing.specs.Closing.{closing};
+ghost use Rattle.s38_disk.specs.Blocks.{State};
+ghost use Rattle.s38_disk.specs.Disk.{IsAt};
+ghost use Rattle.s38_image_printing.specs.Parts.{CanSettle};
+ghost use Rattle.s38_pages.specs.Vaults.{page_holds, page_view};
+ghost use Rattle.s38_rules.specs.Storable.{IsStorable};
+ghost use Rattle.s38_stores.specs.Stores.{IsFullOf, Keeps};
+ghost use Rattle.s38_vault.specs.Content.{Content};
+
+use s38_closing::close;
+use s38_commits::Units;
+use s38_disk::Disk;
+use s38_keeping::KeepFault;
+use s38_objects::Objects;
+use s38_pages::PageVault;
+use s38_vault::Vault;
+use std::alloc::Global;
+
+/// The disk of a store, and whether what a run left was kept on it.
+pub struct Kept<D> {
+    pub disk: D,
+    pub end: Result<(), KeepFault>,
+}
+
+/// Keeps what a run left in the store that it began with: each object, with every change that is not committed taken back,
+/// the ceiling of numbers, and nothing else. Where it is full the store is as it was.
+pub fn keep<D: Disk>(
+    alloc: Global,
+    mut vault: PageVault<D>,
+    objects: &Objects,
+    units: &Units,
+) -> Kept<D>
+    requires storable { All IsStorable objects.now.objects }
+    requires settles { All (λ o. CanSettle units.now o.number.0 o.body) objects.now.objects }
+    requires numbers { All (λ o. 1 ≤ o.number.0) objects.now.objects }
+    requires faultless { (page_view vault).faults ≡ vault.start }
+    ensures kept { OnOk result.end ((m : Content) → page_holds vault m → (t : State) → IsAt (D.view result.disk).past t
+        → Keeps (D.view result.disk).size t.now (closing units.now objects.now)) }
+    ensures full { (needed free : ℕ) → result.end ≡ Err (KeepFault.Full needed free) → (m : Content) → page_holds vault m → (t : State) → IsAt (D.view result.disk).past t
+        → IsFullOf (D.view result.disk).size t.now (closing units.now objects.now) needed free }
+    ensures cause { IfErr result.end (λ fault. fault ≡ KeepFault.Failed → Rose vault.start (D.view result.disk).faults) }
+{
+    // Its contract says that the keys are those of the content.
+    let _free = vault.free();
+    let end = close(alloc, &mut vault, objects, units);
+    let disk = vault.release();
+    Kept { disk, end }
+}

@@ -1,0 +1,13 @@
+//! A store of objects on a disk: it is made, it is opened for a run, and what the run leaves is kept.
+#![tactic(auto)]
+
+mod charges;
+mod fault;
+mod installing;
+mod keeping;
+mod opening;
+
+pub use fault::{BadStore, StoreRefusal};
+pub use installing::install;
+pub use keeping::{Kept, keep};
+pub use opening::{OpenStore, open};
