@@ -61,8 +61,7 @@ fn restarted<D: Disk>(
 }
 
 /// Opens the store on a disk: it is mounted and restarted, and parts that belong to nothing are taken away. A run may begin
-/// with its objects. The disk comes back with the reason where the store is refused; what the blocks stand for stayed as it
-/// was, unless the disk failed.
+/// with its objects. The disk comes back with the reason where the store is refused.
 pub fn open<D: Disk>(alloc: Global, disk: D) -> Result<OpenStore<D>, (D, StoreRefusal)>
     ensures restarts { IfOk result (λ store. (s : State) → IsAt (D.view disk).past s → Restarts (D.view disk).size s.now store.objects) }
     ensures opening { IfOk result (λ store. IsOpening store.objects) }
