@@ -6,8 +6,24 @@ from .faults import deck_faults
 
 HEAD = re.compile(r"JOB ([1-9][0-9]{0,4}) ([A-Z][A-Z0-9]{0,29}) USER ([A-Z0-9]{1,30})")
 ENTRY = re.compile(r"([1-9][0-9]{0,9}) ([A-Z]{1,8})(?: (.+))?")
-END = re.compile(r"(DONE|JOBS|TOTAL) -?[0-9]+|BAD DECK [0-9]+ [1-8]|BAD WORDS|DECK FAULT|NO MEMORY")
+JOBS = re.compile(r"JOBS [0-9]+")
+# The forms of the last line, with the status that the program has after it.
+LAST = (
+    (r"DONE [0-9]+|TOTAL -?[0-9]+", 0), ("BAD WORDS", 1), (r"BAD DECK [0-9]+ [1-8]", 2),
+    (r"NOT INSTALLED|ALREADY INSTALLED|(STORE TOO SMALL|LOG DAMAGED) [0-9]+|(TWO BLOCKS|BAD IMAGE) [0-9]+ [0-9]+", 3),
+    ("DISK FAULT", 4), ("DECK FAULT", 5), ("NO MEMORY", 7), (r"STORE FULL [0-9]+ [0-9]+", 8))
+LISTED = re.compile(r"^([0-9]+) ([A-Z]+/[0-9A-F]{2}/[A-Z0-9]{1,30}) IN [0-9]+ OWNER [0-9]+ PUBLIC [A-Z+]+$", re.M)
 CHECKED = re.compile(r"([A-Z][A-Z0-9]{0,29}) (OK|([0-9A-F]{4}) ([0-9]{1,5}))")
+
+
+def status_of(line):
+    """The status that goes with the last line of a log; None where it is no last line."""
+    return next((status for form, status in LAST if re.fullmatch(form, line)), None)
+
+
+def listed(text):
+    """The identifications of objects by their numbers, in what `list` printed."""
+    return {int(number): name for number, name in LISTED.findall(text)}
 
 
 class Entry:
@@ -62,8 +78,10 @@ class Log:
         head, entry, checked = HEAD.fullmatch(line), ENTRY.fullmatch(line), CHECKED.fullmatch(line)
         if self.last is not None:
             self.fault = self.fault or f"line {number} of the log is after its last line: {shown(line)}"
-        elif END.fullmatch(line):
-            self.last = line if line[:4] in ("DONE", "TOTA") or not line.startswith("JOBS") else None
+        elif status_of(line) is not None:
+            self.last = line
+        elif JOBS.fullmatch(line):
+            return
         elif head:
             self.jobs.append(JobLog(number, int(head[1]), head[2], head[3]))
         elif entry and self.jobs:
@@ -109,9 +127,13 @@ def entry_fault(deck, log):
     return f"line {odd.line} of the log names {odd.name}, which is no instruction" if odd else None
 
 
+# The statuses after which the deck was read and is a good one.
+READ = (0, 3, 8)
+
+
 def fault_of(deck, log):
     """Why a log is not the whole log of a deck, or nothing."""
     bad = next(iter(deck_faults(deck)), None)
-    if not log.fault and bad and not (log.last.startswith("BAD ") or log.last in ("DECK FAULT", "NO MEMORY")):
+    if not log.fault and bad and (log.jobs or log.checked or status_of(log.last) in READ):
         return f"the deck is bad at line {bad.line} (code {bad.code}), and the log says nothing of it"
     return log.fault or mismatch(deck, log) or entry_fault(deck, log)

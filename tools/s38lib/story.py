@@ -4,8 +4,8 @@ from .deck import MADE, split_act
 from .walk import object_in, places, walk
 from .words import is_a
 
-OPENING = {1: "CONTEXT/00/QMACHINE", 2: "PROFILE/00/QSECOFR", 3: "CONTEXT/00/QGPL", 4: "PROFILE/00/QUSER",
-           5: "QUEUE/00/QLOCKED"}
+FIRST_STORE = {1: "CONTEXT/00/QMACHINE", 2: "PROFILE/00/QSECOFR", 3: "CONTEXT/00/QGPL", 4: "PROFILE/00/QUSER",
+               5: "QUEUE/00/QLOCKED"}
 
 
 class Step:
@@ -19,11 +19,12 @@ class Step:
 
 
 class Story:
-    """The steps of a log in the order of their positions, and what they did."""
+    """The steps of a log in the order of their positions, and what they did. Objects that the run found in its store have
+    the names that are handed in; without them it was the first store."""
 
-    def __init__(self, deck, log):
+    def __init__(self, deck, log, names=None):
         self.deck, self.log = deck, log
-        self.names, self.steps = dict(OPENING), []
+        self.names, self.steps = dict(names or FIRST_STORE), []
         self.walker, self.states, self.last = walk(deck, log)
         for entry in log.history():
             self.steps.append(self.tell(entry))

@@ -1,15 +1,18 @@
--- What a command line comes to: its first word is the store's path, and the words behind it are served.
-use Rattle.std.specs.Prelude.{◌≡◌, ◌⊎◌, ℕ, Option, List, [], ◌∷◌}
+-- What a command line comes to: its first word is the path of the store's file, and the words behind it are served.
+use Rattle.std.specs.Prelude.{◌≡◌, ◌⊎◌, ℕ, true, Option, List, [], ◌∷◌}
 use Rattle.std.specs.Io.KnownBytes.{Keeps}
 use Rattle.std.specs.declared.io.ErrorKind.{ErrorKind}
 use Rattle.std.specs.declared.io.ErrorKind.TheVariants as kinds
 use Rattle.s38_code.specs.declared.entry.Entry.{Entry}
+use Rattle.s38_disk.specs.Disk.{DiskView}
+use Rattle.s38_disk.specs.Files.{file_view}
 use Rattle.s38_top.specs.declared.outcome.Outcome.{Outcome}
 use Rattle.s38_top.specs.declared.outcome.Outcome.TheVariants as outcomes
 use Rattle.s38_top.specs.Commands.{command_of}
-use Rattle.s38_top.specs.Outcome.{Ends, IsGood, Serves, Tells}
+use Rattle.s38_top.specs.Outcome.{Ends, IsGood, IsServedBy, IsTold, Serves}
+use Rattle.s38_top.specs.Outside.{Outside, outside}
 use Rattle.s38.specs.declared.refusal.Refusal.{Refusal}
-use Rattle.s38.specs.declared.refusal.Refusal.TheVariants.{BadWords, NoMemory}
+use Rattle.s38.specs.declared.refusal.Refusal.TheVariants.{BadWords, DiskFault, NoMemory}
 
 -- why the words of a command line could not be taken
 abbrev pub refusal_of : ErrorKind → Refusal
@@ -19,19 +22,26 @@ refusal_of _ = BadWords
 -- what a refusal comes to: its text and its status
 abbrev pub outcome_of : Refusal → Outcome
 outcome_of BadWords = outcomes.BadWords
+outcome_of DiskFault = outcomes.DiskFault
 outcome_of NoMemory = outcomes.NoMemory
 
--- some history and marks are what the words come to; with status 0 the history is what their command promises; and good
--- words and a good deck are served, unless memory is wanted
-pub record EndsSomehow (words : List (List ℕ)) (left left' : Option (List ℕ)) (taken taken' : ℕ) (written written' : Option (List ℕ)) (put put' : ℕ) (status : ℕ) : Type 0 where
+-- some history, some marks and some disk are what the words come to; with status 0 the history is what their command
+-- promises; and a good call is served, unless memory is wanted, or what a run leaves finds no room
+pub record EndsSomehow (words : List (List ℕ)) (old : Outside) (left : Option (List ℕ)) (taken : ℕ) (written : Option (List ℕ)) (put status : ℕ) : Type 0 where
   pub history : List Entry
   pub marks : List ℕ
-  pub ends : Ends words left left' taken taken' written written' put put' status history marks
-  pub serves : status ≡ 0 → Serves (command_of words) left left' written written' history
-  pub good : IsGood words left taken taken' put put' → (status ≡ 0) ⊎ (status ≡ 7)
+  pub disk : DiskView
+  pub ends : Ends words old (outside left taken written put disk) status history marks
+  pub serves : status ≡ 0 → Serves (command_of words) old (outside left taken written put disk) history
+  pub good : IsGood words old (outside left taken written put disk) → IsServedBy status
 
--- without a path the words are bad, and nothing is read
+-- a file that was just opened
+abbrev pub fresh_file : DiskView
+fresh_file = file_view (record { moment = 0; faults = 0; sound = true })
+
+-- without a path the words are bad, and nothing is read; where the file of the path can't be opened nothing is read either
 abbrev pub IsServed : List (List ℕ) → Option (List ℕ) → Option (List ℕ) → ℕ → ℕ → Option (List ℕ) → Option (List ℕ) → ℕ → ℕ → ℕ → Type 0
-IsServed [] left left' taken taken' written written' put put' status = Keeps left left' × Tells written written' put put' status outcomes.BadWords
+IsServed [] left left' taken taken' written written' put put' status = Keeps left left' × IsTold written written' put put' status outcomes.BadWords
 IsServed (path ∷ words) left left' taken taken' written written' put put' status =
-    EndsSomehow words left left' taken taken' written written' put put' status
+    (Keeps left left' × IsTold written written' put put' status outcomes.DiskFault)
+    ⊎ EndsSomehow words (outside left taken written put fresh_file) left' taken' written' put' status

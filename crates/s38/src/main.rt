@@ -1,5 +1,5 @@
-//! The machine interface as a program: it reads a deck, and runs its jobs and prints a log for each, or checks its
-//! templates and prints a line for each.
+//! The machine interface as a program over a store in a file: it makes the store, lists its objects, or reads a deck, and
+//! runs its jobs over the store and prints a log for each, or checks its templates and prints a line for each.
 #![tactic(auto)]
 
 mod refusal;
@@ -7,7 +7,7 @@ mod service;
 
 use refusal::{refusal_of, refuse};
 use s38_io::{StdSink, StdSource};
-use service::serve;
+use service::serve_over_file;
 use std::env::Env;
 use std::process::ExitCode;
 use std::{env, io};
@@ -27,7 +27,7 @@ fn main(rt: HostRuntime) -> ExitCode {
     let mut deck = StdSource::new(rt.reader());
     let mut out = StdSink::new(io::writer(&rt));
     let status = match command_line(&rt) {
-        Ok(words) => serve(rt.alloc(), words.as_slice(), &mut deck, &mut out),
+        Ok(words) => serve_over_file(&rt, words.as_slice(), &mut deck, &mut out),
         Err(fault) => refuse(refusal_of(fault.kind()), &mut out),
     };
     ExitCode::from(status)

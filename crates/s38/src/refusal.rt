@@ -1,5 +1,5 @@
 ghost use Rattle.std.specs.Prelude.{◌≡◌, if◌then◌else◌};
-ghost use Rattle.s38_top.specs.Outcome.{Tells, faulted, status_of, text_of};
+ghost use Rattle.s38_top.specs.Outcome.{IsTold, faulted, status_of, text_of};
 ghost use Rattle.s38.specs.CommandLine.{outcome_of, refusal_of};
 
 use s38_io::Sink;
@@ -10,6 +10,8 @@ use std::io::ErrorKind;
 pub enum Refusal {
     /// It has no path, or a word that is no text.
     BadWords,
+    /// The file of the path can't be opened.
+    DiskFault,
     /// Memory was refused.
     NoMemory,
 }
@@ -25,11 +27,13 @@ pub fn refusal_of(kind: ErrorKind) -> Refusal
 }
 
 /// What is written of a refusal.
+#[tactic(auto, unfolding(s38_top::specs::Lines::disk_fault_line))]
 fn text(refusal: Refusal) -> &'static [u8]
     ensures { result.now ≡ text_of (outcome_of refusal) }
 {
     match refusal {
         Refusal::BadWords => b"BAD WORDS\n",
+        Refusal::DiskFault => b"DISK FAULT\n",
         Refusal::NoMemory => b"NO MEMORY\n",
     }
 }
@@ -40,13 +44,14 @@ fn status(refusal: Refusal, written: bool) -> u8
 {
     match refusal {
         Refusal::BadWords => { if written { 1 } else { 6 } }
+        Refusal::DiskFault => { if written { 4 } else { 6 } }
         Refusal::NoMemory => 7,
     }
 }
 
 /// Writes the text of a refusal, and gives its status.
 pub fn refuse<O: Sink>(refusal: Refusal, out: &mut O) -> u8
-    ensures { Tells (O.written out.old) (O.written out.new) (O.faults out.old) (O.faults out.new) result (outcome_of refusal) }
+    ensures { IsTold (O.written out.old) (O.written out.new) (O.faults out.old) (O.faults out.new) result (outcome_of refusal) }
 {
     match out.put(text(refusal)) {
         Ok(()) => status(refusal, true),

@@ -9,11 +9,11 @@ fn a_source_that_fails_is_not_asked(rt: HostRuntime) -> Result<(), Fail> {
     let text = "JOBS 3;TOTAL 45;";
     let words = ["demo", "3"];
     assert_eq!(rt;
-        answer_of(rt.alloc(), &words, "", &[0], &[], text)?,
+        answer_of(rt.alloc(), &words, "", (&[0], &[]), text)?,
         Some((0, 69))
     );
     assert_eq!(rt;
-        answer_of(rt.alloc(), &words, "", &[], &[0], "")?,
+        answer_of(rt.alloc(), &words, "", (&[], &[0]), "")?,
         Some((6, 69))
     );
     Ok(())

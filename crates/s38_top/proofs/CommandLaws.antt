@@ -9,7 +9,7 @@ use Rattle.s38_words.specs.Number.{held}
 use Rattle.s38_words.specs.Number.{natural_of}
 use Rattle.std.specs.Str.{bytes_eq}
 use Rattle.s38_top.specs.declared.command.Command.{Command}
-use Rattle.s38_top.specs.declared.command.Command.TheVariants.{Serial, Check, Demo}
+use Rattle.s38_top.specs.declared.command.Command.TheVariants.{Serial, Check, Demo, Install, List as Listing}
 use Rattle.s38_top.specs.Commands.{command_of, demo_of, greatest_pick, most_postings, pick_of}
 
 pub pick_held : (o : Option ℕ) → pick_of (option_map (held (2 ^ 64 - 1)) o) ≡ pick_of o
@@ -38,10 +38,12 @@ size_held (Some n) = by_size (nat_le n most_postings) refl
 
 -- ---- the range of a count
 
-not_by_word : (b c : Bool) (n : ℕ) → cond b (Some (Serial 0)) (cond c (Some Check) None) ≡ Some (Demo n) → ⊥
-not_by_word true c n h = cc
-not_by_word false true n h = cc
-not_by_word false false n h = cc
+not_by_word : (b c d e : Bool) (n : ℕ) → cond b (Some (Serial 0)) (cond c (Some Check) (cond d (Some Install) (cond e (Some Listing) None))) ≡ Some (Demo n) → ⊥
+not_by_word true c d e n h = cc
+not_by_word false true d e n h = cc
+not_by_word false false true e n h = cc
+not_by_word false false false true n h = cc
+not_by_word false false false false n h = cc
 
 not_by_pick : (b : Bool) (o : Option ℕ) (n : ℕ) → cond b (pick_of o) None ≡ Some (Demo n) → ⊥
 not_by_pick false o n h = cc
@@ -65,7 +67,7 @@ by_size true (Some m) n h =
 
 pub demo_in_range : (words : List (List ℕ)) (n : ℕ) → command_of words ≡ Some (Demo n) → (1 ≤ n) × (n ≤ 200)
 demo_in_range [] n h = cc
-demo_in_range (word ∷ []) n h = absurd (not_by_word (bytes_eq word (codes "serial")) (bytes_eq word (codes "check")) n h)
+demo_in_range (word ∷ []) n h = absurd (not_by_word (bytes_eq word (codes "serial")) (bytes_eq word (codes "check")) (bytes_eq word (codes "install")) (bytes_eq word (codes "list")) n h)
 demo_in_range (word ∷ number ∷ []) n h = by_size (bytes_eq word (codes "demo")) (natural_of number) n h
 demo_in_range (word ∷ option ∷ number ∷ []) n h = absurd (not_by_pick (bytes_eq word (codes "serial") && bytes_eq option (codes "--pick")) (natural_of number) n h)
 demo_in_range (word ∷ option ∷ number ∷ other ∷ words) n h = cc

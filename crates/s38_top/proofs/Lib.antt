@@ -1,4 +1,5 @@
 pub mod DeckLaws
 pub mod TopLaws
+mod StoreLaws
 mod ConfinedLaws
 mod CommandLaws

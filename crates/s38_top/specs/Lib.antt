@@ -1,3 +1,7 @@
 pub mod Commands
 pub mod Decks
+pub mod Outside
+pub mod Runs
+pub mod Lines
 pub mod Outcome
+pub mod Ends

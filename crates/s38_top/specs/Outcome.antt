@@ -1,7 +1,10 @@
 -- What the program may come to, what it then answers and prints, and what it rests on.
-use Rattle.std.specs.Prelude.{◌≡◌, ◌⊎◌, ◌==◌, if◌then◌else◌, ℕ, Bool, true, false, IsTrue, List, [], ◌∷◌, ◌++◌, length, take, Option, Some, None, is_some, Err, codes}
-use Rattle.std.specs.Io.KnownBytes.{Appends, Keeps}
+use Rattle.std.specs.Prelude.{◌≡◌, ◌⊎◌, ◌==◌, if◌then◌else◌, ℕ, true, false, IsTrue, List, [], ◌∷◌, ◌++◌, length, take, Option, Some, None, is_some, Err, codes}
+use Rattle.std.specs.Io.KnownBytes.{Appends}
 use Rattle.s38_base.specs.Faults.{Rose}
+use Rattle.s38_blocks.specs.Coding.{is_label}
+use Rattle.s38_disk.specs.Blocks.{State as Blocks}
+use Rattle.s38_disk.specs.Disk.{DiskView, IsAt}
 use Rattle.s38_io.specs.Source.{ReadsAll}
 use Rattle.s38_io.specs.Sink.{AppendsFront}
 use Rattle.s38_code.specs.declared.deck.Deck.{Deck}
@@ -12,17 +15,29 @@ use Rattle.s38_demo.specs.GeneratedDeck.{deck_of}
 use Rattle.s38_demo.specs.Total.{demo_text}
 use Rattle.s38_joblog.specs.Check.{check_text}
 use Rattle.s38_joblog.specs.Log.{bad_line, last_line, log_text}
-use Rattle.s38_rules.specs.Opening.{held_first, held_installed}
+use Rattle.s38_listing.specs.Listing.{list_text}
+use Rattle.s38_rules.specs.Held.{Held}
+use Rattle.s38_rules.specs.Opening.{held_installed}
+use Rattle.s38_stores.specs.Refusals.{IsBad, IsTaken}
+use Rattle.s38_stores.specs.Stores.{IsCleaned, Keeps, Leaves, Restarts, installed_store}
+use Rattle.s38_stores.specs.declared.fault.BadStore.{BadStore}
+use Rattle.s38_stores.specs.declared.fault.StoreRefusal.{StoreRefusal}
+use Rattle.s38_stores.specs.declared.fault.StoreRefusal.TheVariants as refusals
 use Rattle.s38_template.specs.Grammar.{Spells}
 use Rattle.s38_template.specs.Reading.{read_of}
 use Rattle.s38_template.specs.declared.fault.DeckFault.TheVariants as faults
 use Rattle.s38_top.specs.declared.command.Command.{Command}
-use Rattle.s38_top.specs.declared.command.Command.TheVariants.{Serial, Check, Demo}
+use Rattle.s38_top.specs.declared.command.Command.TheVariants.{Serial, Check, Demo, Install, List as Listing}
 use Rattle.s38_top.specs.declared.outcome.Outcome.{Outcome}
+use Rattle.s38_top.specs.declared.outcome.RunEnd.{RunEnd}
+use Rattle.s38_top.specs.declared.outcome.RunEnd.TheVariants.{Kept, Failed, Full}
 use Rattle.s38_top.specs.declared.outcome.Whole.{Whole}
-use Rattle.s38_top.specs.declared.outcome.Outcome.TheVariants.{BadWords, BadDeck, DeckFault, NoMemory, Complete, Checked, Demonstrated}
-use Rattle.s38_top.specs.Commands.{command_of}
+use Rattle.s38_top.specs.declared.outcome.Outcome.TheVariants.{BadWords, BadDeck, DeckFault, NoMemory, Ran, Checked, Demonstrated, Installed, Listed, Refused, DiskFault}
+use Rattle.s38_top.specs.Commands.{command_of, reads_deck}
 use Rattle.s38_top.specs.Decks.{AreMarks, IsConfined, IsRunOf, checked_of, opened, picks_by}
+use Rattle.s38_top.specs.Lines.{bad_store_line, disk_fault_line, full_line, line}
+use Rattle.s38_top.specs.Outside.{Outside, Unread, Untouched}
+use Rattle.s38_top.specs.Runs.{EndsWith, RanOver, kept_of}
 
 -- how many bytes of a deck are taken at most
 abbrev pub most : ℕ
@@ -30,16 +45,28 @@ most = 4194560
 
 -- ---- what is answered
 
-abbrev pub line : List ℕ → List ℕ
-line text = text ++ 10 ∷ []
+-- the last line of a run over a store: DONE with the length of the history, or why what it left is not kept
+abbrev pub end_line : ℕ → RunEnd → List ℕ
+end_line count Kept = last_line count
+end_line count Failed = disk_fault_line
+end_line count (Full needed free) = full_line needed free
 
--- the log of the run, and the line DONE with the length of the history
-abbrev pub run_text : Deck → List Entry → List ℕ
-run_text deck history = log_text history deck.jobs ++ last_line (length history)
+abbrev pub end_status : RunEnd → ℕ
+end_status Kept = 0
+end_status Failed = 4
+end_status (Full needed free) = 8
+
+-- the log of the run, and the last line
+abbrev pub run_text : Deck → List Entry → RunEnd → List ℕ
+run_text deck history end = log_text history deck.jobs ++ end_line (length history) end
 
 -- a line for each template, and the line DONE with their number
 abbrev pub checked_text : List CheckedTemplate → List ℕ
 checked_text templates = check_text templates ++ last_line (length templates)
+
+-- a line for each object, and the line DONE with their number
+abbrev pub listed_text : Held → List ℕ
+listed_text h = list_text h.objects ++ last_line (length h.objects)
 
 -- a status, the text that is written, the history, and a mark for each of its entries
 pub record Answer : Type 0 where
@@ -53,18 +80,22 @@ abbrev pub without_run : ℕ → List ℕ → Answer
 without_run status text = record { status = status; text = text; history = []; marks = [] }
 
 -- where each job ran to its end
-abbrev pub of_run : List ℕ → Whole → Answer
-of_run text whole = record { status = 0; text = text; history = whole.history.items; marks = whole.marks.items }
+abbrev pub of_run : ℕ → List ℕ → Whole → Answer
+of_run status text whole = record { status = status; text = text; history = whole.history.items; marks = whole.marks.items }
 
 -- what each outcome is answered with
 abbrev pub answer_of : Outcome → Answer
 answer_of BadWords = without_run 1 (line (codes "BAD WORDS"))
 answer_of (BadDeck number code) = without_run 2 (bad_line number code)
+answer_of (Refused bad) = without_run 3 (bad_store_line bad)
+answer_of DiskFault = without_run 4 disk_fault_line
 answer_of DeckFault = without_run 5 (line (codes "DECK FAULT"))
 answer_of NoMemory = without_run 7 (line (codes "NO MEMORY"))
-answer_of (Complete pick whole) = of_run (run_text whole.deck whole.history.items) whole
+answer_of (Ran pick whole end) = of_run (end_status end) (run_text whole.deck whole.history.items end) whole
 answer_of (Checked checked) = without_run 0 (checked_text checked.templates)
-answer_of (Demonstrated size whole) = of_run (demo_text size whole.history.items) whole
+answer_of (Demonstrated size whole) = of_run 0 (demo_text size whole.history.items) whole
+answer_of Installed = without_run 0 (last_line 0)
+answer_of (Listed objects) = without_run 0 (listed_text objects)
 
 abbrev pub status_of : Outcome → ℕ
 status_of o = (answer_of o).status
@@ -78,72 +109,123 @@ history_of o = (answer_of o).history
 abbrev pub marks_of : Outcome → List ℕ
 marks_of o = (answer_of o).marks
 
+-- what a store that is refused comes to
+abbrev pub refused : StoreRefusal → Outcome
+refused (refusals.Bad bad) = Refused bad
+refused refusals.Failed = DiskFault
+refused refusals.NoMemory = NoMemory
+
 -- ---- what it rests on
 
 -- the words are a command
 abbrev pub IsServed : List (List ℕ) → Type 0
 IsServed words = IsTrue (is_some (command_of words))
 
-abbrev pub reads_deck : Option Command → Bool
-reads_deck None = false
-reads_deck (Some (Serial pick)) = true
-reads_deck (Some Check) = true
-reads_deck (Some (Demo size)) = false
-
--- the words are a command that reads a deck
-abbrev pub ReadsDeck : List (List ℕ) → Type 0
-ReadsDeck words = IsTrue (reads_deck (command_of words))
-
 -- the text that was taken spells the deck
-pub record HasDeck (old new : Option (List ℕ)) (deck : Deck) : Type 0 where
+pub record HasDeck (old new : Outside) (deck : Deck) : Type 0 where
   pub text : List ℕ
-  pub read : ReadsAll most old new text
+  pub read : ReadsAll most old.left new.left text
   pub is : Spells text deck
 
--- the history is that of the whole runs of its jobs, in turns of the picker that begins at a number
-pub record RanDeck (pick : ℕ) (old new : Option (List ℕ)) (deck : Deck) (history : List Entry) : Type 0 where
-  pub taken : HasDeck old new deck
-  pub run : IsRunOf held_first (picks_by pick (length history)) deck history
-
--- the generated deck of so many postings was run from the objects of a store that was installed, in turns of the
--- picker that begins at their number
+-- the generated deck was run from the objects of a store that was installed, in turns of the picker that begins at the
+-- number of its postings
 pub record RanGenerated (size : ℕ) (deck : Deck) (history : List Entry) : Type 0 where
   pub is : Spells (deck_of size) deck
   pub run : IsRunOf held_installed (picks_by size (length history)) deck history
 
--- the text that a command is about: a demonstration makes it and reads nothing, any other command takes it from the source
-abbrev pub Takes : Command → Option (List ℕ) → Option (List ℕ) → List ℕ → Type 0
-Takes (Serial pick) old new text = ReadsAll most old new text
-Takes Check old new text = ReadsAll most old new text
-Takes (Demo size) old new text = Keeps old new × (text ≡ deck_of size)
+-- a run over the store of a disk, its marks, and what it left on the disk
+pub record CameToRun (pick : ℕ) (old new : DiskView) (whole : Whole) (end : RunEnd) : Type 0 where
+  pub ran : RanOver pick old whole.deck whole.history.items
+  pub marks : AreMarks whole.marks.items whole.history.items
+  pub ends : EndsWith old new ran.run.state end
 
--- what a text comes to under a command; want of memory alone is free
-abbrev pub OfText : Command → List ℕ → Outcome → Type 0
-OfText command text BadWords = ⊥
-OfText command text (BadDeck line code) = (read_of text ≡ Err (faults.Bad line code)) × ((deck : Deck) → Spells text deck → ⊥)
-OfText command text DeckFault = ⊥
-OfText command text NoMemory = Unit {0}
-OfText command text (Complete pick whole) =
-    (command ≡ Serial pick) × (Spells text whole.deck × (IsRunOf held_first (picks_by pick (length whole.history.items)) whole.deck whole.history.items × AreMarks whole.marks.items whole.history.items))
-OfText command text (Checked checked) = (command ≡ Check) × (Spells text checked.deck × (checked.templates ≡ checked_of checked.deck))
-OfText command text (Demonstrated size whole) =
-    (command ≡ Demo size) × (Spells text whole.deck × (IsRunOf held_installed (picks_by size (length whole.history.items)) whole.deck whole.history.items × AreMarks whole.marks.items whole.history.items))
+-- something is wrong with the store on a disk
+abbrev pub HasBadStore : DiskView → BadStore → Type 0
+HasBadStore disk bad = (s : Blocks) → IsAt disk.past s → IsBad disk.size s.now bad
+
+-- the text that a command is about: a demonstration makes it, `serial` and `check` take it from the source, and the others
+-- have none
+abbrev pub Takes : Command → Outside → Outside → List ℕ → Type 0
+Takes (Serial pick) old new text = ReadsAll most old.left new.left text
+Takes Check old new text = ReadsAll most old.left new.left text
+Takes (Demo size) old new text = Unread old new × (text ≡ deck_of size)
+Takes Install old new text = ⊥
+Takes Listing old new text = ⊥
+
+-- what a text comes to under a command, where the disk is this before and behind; want of memory alone is free
+abbrev pub OfText : Command → List ℕ → DiskView → DiskView → Outcome → Type 0
+OfText command text old new BadWords = ⊥
+OfText command text old new (BadDeck line code) = (read_of text ≡ Err (faults.Bad line code)) × (((deck : Deck) → Spells text deck → ⊥) × (new ≡ old))
+OfText command text old new DeckFault = ⊥
+OfText command text old new NoMemory = Unit {0}
+OfText command text old new (Ran pick whole end) = (command ≡ Serial pick) × (Spells text whole.deck × CameToRun pick old new whole end)
+OfText command text old new (Refused bad) = (pick : ℕ) × ((command ≡ Serial pick) × HasBadStore old bad)
+OfText command text old new DiskFault = (pick : ℕ) × ((command ≡ Serial pick) × Rose old.faults new.faults)
+OfText command text old new (Checked checked) = (command ≡ Check) × (Spells text checked.deck × ((checked.templates ≡ checked_of checked.deck) × (new ≡ old)))
+OfText command text old new (Demonstrated size whole) =
+    (command ≡ Demo size) × (Spells text whole.deck × (IsRunOf held_installed (picks_by size (length whole.history.items)) whole.deck whole.history.items × (AreMarks whole.marks.items whole.history.items × (new ≡ old))))
+OfText command text old new Installed = ⊥
+OfText command text old new (Listed objects) = ⊥
+
+-- a store was made where none was
+pub record IsMade (old new : DiskView) : Type 0 where
+  pub fresh : (s : Blocks) → IsAt old.past s → is_label (s.now 0) ≡ false
+  pub made : Leaves old new (λ f g. Keeps new.size g installed_store)
+
+-- the objects are those of the store, and parts that belong to nothing were taken away
+pub record IsListing (old new : DiskView) (objects : Held) : Type 0 where
+  pub objects_are : (s : Blocks) → IsAt old.past s → Restarts old.size s.now objects
+  pub cleaned : Leaves old new (IsCleaned old new)
+
+-- what a command without a deck comes to
+abbrev pub OfStore : Command → DiskView → DiskView → Outcome → Type 0
+OfStore command old new BadWords = ⊥
+OfStore command old new (BadDeck line code) = ⊥
+OfStore command old new DeckFault = ⊥
+OfStore command old new NoMemory = Unit {0}
+OfStore command old new (Ran pick whole end) = ⊥
+OfStore command old new (Refused bad) = ((command ≡ Install) × IsTaken old bad) ⊎ ((command ≡ Listing) × HasBadStore old bad)
+OfStore command old new DiskFault = (reads_deck command ≡ false) × Rose old.faults new.faults
+OfStore command old new (Checked checked) = ⊥
+OfStore command old new (Demonstrated size whole) = ⊥
+OfStore command old new Installed = (command ≡ Install) × IsMade old new
+OfStore command old new (Listed objects) = (command ≡ Listing) × IsListing old new objects
 
 -- the words are a command, and the text that it is about comes to the outcome
-pub record FromText (words : List (List ℕ)) (old new : Option (List ℕ)) (o : Outcome) : Type 0 where
+pub record FromText (words : List (List ℕ)) (old new : Outside) (o : Outcome) : Type 0 where
   pub command : Command
   pub is : command_of words ≡ Some command
   pub text : List ℕ
   pub takes : Takes command old new text
-  pub comes : OfText command text o
+  pub comes : OfText command text old.disk new.disk o
 
--- each outcome has its cause: words that are no command, a source that failed, want of memory, which is free, or the text
-abbrev pub Holds : List (List ℕ) → Option (List ℕ) → Option (List ℕ) → ℕ → ℕ → Outcome → Type 0
-Holds words old new before now BadWords = (command_of words ≡ None) × Keeps old new
-Holds words old new before now DeckFault = ReadsDeck words × Rose before now
-Holds words old new before now NoMemory = Unit {0}
-Holds words old new before now (BadDeck line code) = ReadsDeck words × FromText words old new (BadDeck line code)
-Holds words old new before now o = FromText words old new o
+-- the words are a command that reads nothing, and it comes to the outcome
+pub record FromStore (words : List (List ℕ)) (old new : Outside) (o : Outcome) : Type 0 where
+  pub command : Command
+  pub is : command_of words ≡ Some command
+  pub unread : Unread old new
+  pub comes : OfStore command old.disk new.disk o
+
+-- the words are a command that reads a deck
+pub record ReadsDeck (words : List (List ℕ)) : Type 0 where
+  pub command : Command
+  pub is : command_of words ≡ Some command
+  pub reads : reads_deck command ≡ true
+
+-- each outcome has its cause: words that are no command, a source that failed, want of memory, which is free, the text, or
+-- the store
+abbrev pub Holds : List (List ℕ) → Outside → Outside → Outcome → Type 0
+Holds words old new BadWords = (command_of words ≡ None) × (Unread old new × Untouched old new)
+Holds words old new (BadDeck line code) = ReadsDeck words × FromText words old new (BadDeck line code)
+Holds words old new DeckFault = ReadsDeck words × (Rose old.taken new.taken × Untouched old new)
+Holds words old new NoMemory = Unit {0}
+Holds words old new (Ran pick whole end) = FromText words old new (Ran pick whole end)
+Holds words old new (Refused bad) = FromText words old new (Refused bad) ⊎ FromStore words old new (Refused bad)
+Holds words old new DiskFault = FromText words old new DiskFault ⊎ FromStore words old new DiskFault
+Holds words old new (Checked checked) = FromText words old new (Checked checked)
+Holds words old new (Demonstrated size whole) = FromText words old new (Demonstrated size whole)
+Holds words old new Installed = FromStore words old new Installed
+Holds words old new (Listed objects) = FromStore words old new (Listed objects)
 
 -- ---- how it is told
 
@@ -152,57 +234,85 @@ abbrev pub faulted : Outcome → ℕ
 faulted o = if status_of o == 7 then 7 else 6
 
 -- the text was written, or the sink failed and a prefix of it was
-abbrev pub Tells : Option (List ℕ) → Option (List ℕ) → ℕ → ℕ → ℕ → Outcome → Type 0
-Tells old new before now status o =
-    ((status ≡ status_of o) × Appends old new (text_of o))
-    ⊎ ((status ≡ faulted o) × (Rose before now × AppendsFront old new (text_of o)))
+abbrev pub IsTold : Option (List ℕ) → Option (List ℕ) → ℕ → ℕ → ℕ → Outcome → Type 0
+IsTold written written' put put' status o =
+    ((status ≡ status_of o) × Appends written written' (text_of o))
+    ⊎ ((status ≡ faulted o) × (Rose put put' × AppendsFront written written' (text_of o)))
+
+abbrev pub Tells : Outside → Outside → ℕ → Outcome → Type 0
+Tells old new status o = IsTold old.written new.written old.put new.put status o
 
 -- the program came to an outcome that holds, and told it
-pub record Ends (words : List (List ℕ)) (left left' : Option (List ℕ)) (taken taken' : ℕ) (written written' : Option (List ℕ)) (put put' : ℕ) (status : ℕ) (history : List Entry) (marks : List ℕ) : Type 0 where
+pub record Ends (words : List (List ℕ)) (old new : Outside) (status : ℕ) (history : List Entry) (marks : List ℕ) : Type 0 where
   pub outcome : Outcome
-  pub holds : Holds words left left' taken taken' outcome
-  pub tells : Tells written written' put put' status outcome
+  pub holds : Holds words old new outcome
+  pub tells : Tells old new status outcome
   pub kept : history ≡ history_of outcome
   pub marked : marks ≡ marks_of outcome
 
 -- ---- status 0
 
--- a deck was spelled, the history is that of its whole runs and opens no way to a right, its text was written, and the
--- input was read to its end
-pub record IsComplete (pick : ℕ) (left left' written written' : Option (List ℕ)) (history : List Entry) : Type 0 where
+-- the input was read to its end
+abbrev pub ReadOut : Outside → Outside → Type 0
+ReadOut old new = (bytes : List ℕ) → old.left ≡ Some bytes → new.left ≡ Some []
+
+-- a deck was spelled, the history is that of its whole runs over the store and opens no way to a right, what it left is
+-- kept, its text was written, and the input was read to its end
+pub record IsComplete (pick : ℕ) (old new : Outside) (history : List Entry) : Type 0 where
   pub deck : Deck
-  pub ran : RanDeck pick left left' deck history
-  pub confined : IsConfined held_first deck history ran.run.state
+  pub taken : HasDeck old new deck
+  pub ran : RanOver pick old.disk deck history
+  pub confined : IsConfined ran.held deck history ran.run.state
   -- in each state on the way the units of changes are right
-  pub right : AllRight (opened held_first deck) history
-  pub told : Appends written written' (run_text deck history)
-  pub finished : (bytes : List ℕ) → left ≡ Some bytes → left' ≡ Some []
+  pub right : AllRight (opened ran.held deck) history
+  pub kept : Leaves old.disk new.disk (λ f g. Keeps new.disk.size g (kept_of ran.run.state))
+  pub told : Appends old.written new.written (run_text deck history Kept)
+  pub finished : ReadOut old new
 
 -- a deck was spelled, what creation makes of each of its templates was written, the input was read to its end, and
 -- nothing was run
-pub record IsChecked (left left' written written' : Option (List ℕ)) (history : List Entry) : Type 0 where
+pub record IsChecked (old new : Outside) (history : List Entry) : Type 0 where
   pub deck : Deck
-  pub taken : HasDeck left left' deck
-  pub told : Appends written written' (checked_text (checked_of deck))
-  pub finished : (bytes : List ℕ) → left ≡ Some bytes → left' ≡ Some []
+  pub taken : HasDeck old new deck
+  pub told : Appends old.written new.written (checked_text (checked_of deck))
+  pub finished : ReadOut old new
   pub still : history ≡ []
+  pub untouched : Untouched old new
 
 -- the generated deck was run so, the history opens no way to a right, the text of the demonstration was written, and
 -- the input was not read
-pub record IsDemonstrated (size : ℕ) (left left' written written' : Option (List ℕ)) (history : List Entry) : Type 0 where
+pub record IsDemonstrated (size : ℕ) (old new : Outside) (history : List Entry) : Type 0 where
   pub deck : Deck
   pub ran : RanGenerated size deck history
   pub confined : IsConfined held_installed deck history ran.run.state
   pub right : AllRight (opened held_installed deck) history
-  pub told : Appends written written' (demo_text size history)
-  pub unread : Keeps left left'
+  pub told : Appends old.written new.written (demo_text size history)
+  pub unread : Unread old new
+  pub untouched : Untouched old new
+
+-- a store was made where none was
+pub record IsInstalled (old new : Outside) (history : List Entry) : Type 0 where
+  pub made : IsMade old.disk new.disk
+  pub told : Appends old.written new.written (last_line 0)
+  pub unread : Unread old new
+  pub still : history ≡ []
+
+-- a line for each object of the store was written
+pub record IsListed (old new : Outside) (history : List Entry) : Type 0 where
+  pub objects : Held
+  pub listing : IsListing old.disk new.disk objects
+  pub told : Appends old.written new.written (listed_text objects)
+  pub unread : Unread old new
+  pub still : history ≡ []
 
 -- what status 0 says of each command
-abbrev pub Serves : Option Command → Option (List ℕ) → Option (List ℕ) → Option (List ℕ) → Option (List ℕ) → List Entry → Type 0
-Serves None left left' written written' history = ⊥
-Serves (Some (Serial pick)) left left' written written' history = IsComplete pick left left' written written' history
-Serves (Some Check) left left' written written' history = IsChecked left left' written written' history
-Serves (Some (Demo size)) left left' written written' history = IsDemonstrated size left left' written written' history
+abbrev pub Serves : Option Command → Outside → Outside → List Entry → Type 0
+Serves None old new history = ⊥
+Serves (Some (Serial pick)) old new history = IsComplete pick old new history
+Serves (Some Check) old new history = IsChecked old new history
+Serves (Some (Demo size)) old new history = IsDemonstrated size old new history
+Serves (Some Install) old new history = IsInstalled old new history
+Serves (Some Listing) old new history = IsListed old new history
 
 -- ---- completeness
 
@@ -213,16 +323,29 @@ pub record IsGoodDeck (left : Option (List ℕ)) : Type 0 where
   pub deck : Deck
   pub is : Spells (take most text) deck
 
--- what a command asks of what is to be read; a demonstration reads nothing
-abbrev pub IsGoodFor : Option Command → Option (List ℕ) → Type 0
-IsGoodFor None left = ⊥
-IsGoodFor (Some (Serial pick)) left = IsGoodDeck left
-IsGoodFor (Some Check) left = IsGoodDeck left
-IsGoodFor (Some (Demo size)) left = Unit {0}
+-- what a disk has is known, and nothing is wrong with its store
+pub record IsGoodStore (disk : DiskView) : Type 0 where
+  pub blocks : Blocks
+  pub told : IsAt disk.past blocks
+  pub sound : (bad : BadStore) → IsBad disk.size blocks.now bad → ⊥
 
--- good words, a good deck where one is read, and no count of faults that rose
-pub record IsGood (words : List (List ℕ)) (left : Option (List ℕ)) (taken taken' put put' : ℕ) : Type 0 where
+-- what a command asks of what is to be read and of the disk
+abbrev pub IsGoodFor : Option Command → Outside → Type 0
+IsGoodFor None old = ⊥
+IsGoodFor (Some (Serial pick)) old = IsGoodDeck old.left × IsGoodStore old.disk
+IsGoodFor (Some Check) old = IsGoodDeck old.left
+IsGoodFor (Some (Demo size)) old = Unit {0}
+IsGoodFor (Some Install) old = (bad : BadStore) → IsTaken old.disk bad → ⊥
+IsGoodFor (Some Listing) old = IsGoodStore old.disk
+
+-- good words, a good deck and a good store where they are used, and no count of faults that rose
+pub record IsGood (words : List (List ℕ)) (old new : Outside) : Type 0 where
   pub served : IsServed words
-  pub deck : IsGoodFor (command_of words) left
-  pub source : Rose taken taken' → ⊥
-  pub sink : Rose put put' → ⊥
+  pub good_for : IsGoodFor (command_of words) old
+  pub source : Rose old.taken new.taken → ⊥
+  pub sink : Rose old.put new.put → ⊥
+  pub disk : Rose old.disk.faults new.disk.faults → ⊥
+
+-- such a call is served, unless memory is wanted, or what a run leaves finds no room
+abbrev pub IsServedBy : ℕ → Type 0
+IsServedBy status = (status ≡ 0) ⊎ ((status ≡ 7) ⊎ (status ≡ 8))

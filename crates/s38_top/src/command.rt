@@ -1,6 +1,6 @@
 ghost use Rattle.std.specs.Prelude.{◌≡◌, ◌≤◌, ℕ, map, Some};
 ghost use Rattle.s38_words.specs.Number.{natural_of};
-ghost use Rattle.s38_top.specs.Commands.{command_by, command_of, demo_of, demo_size, pick_of, picked_by, sized_by};
+ghost use Rattle.s38_top.specs.Commands.{command_by, command_of, demo_of, pick_of, picked_by, sized_by};
 
 use s38_words::natural;
 
@@ -13,6 +13,10 @@ pub enum Command {
     Check,
     /// The generated deck of so many postings is run.
     Demo { size: u32 },
+    /// A store is made.
+    Install,
+    /// The objects of a store are listed.
+    List,
 }
 
 fn command_by(word: &[u8]) -> Option<Command>
@@ -22,6 +26,10 @@ fn command_by(word: &[u8]) -> Option<Command>
         Some(Command::Serial { pick: 0 })
     } else if word == b"check".as_slice() {
         Some(Command::Check)
+    } else if word == b"install".as_slice() {
+        Some(Command::Install)
+    } else if word == b"list".as_slice() {
+        Some(Command::List)
     } else {
         None
     }
@@ -81,18 +89,7 @@ fn sized_by(word: &[u8], number: &[u8]) -> Option<Command>
     }
 }
 
-/// How many postings the generated deck has, where it is to be run.
-pub fn demo_size(command: Command) -> Option<u32>
-    ensures { result ≡ demo_size command }
-{
-    match command {
-        Command::Serial { .. } => None,
-        Command::Check => None,
-        Command::Demo { size } => Some(size),
-    }
-}
-
-/// The command that the words are: `serial`, `serial --pick n`, `check`, `demo n`.
+/// The command that the words are: `install`, `list`, `serial`, `serial --pick n`, `check`, `demo n`.
 #[tactic(auto, using(crate::proofs::CommandLaws::demo_in_range))]
 pub fn command_of(words: &[&str]) -> Option<Command>
     ensures command { result ≡ command_of (map (λ w. w.now) words.now) }

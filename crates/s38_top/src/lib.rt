@@ -2,8 +2,10 @@
 #![tactic(auto)]
 
 mod command;
+mod lines;
 mod outcome;
 mod run;
+mod store;
 mod tell;
 mod templates;
 mod top;

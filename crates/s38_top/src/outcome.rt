@@ -1,8 +1,10 @@
 ghost use Rattle.std.specs.Prelude.{◌≡◌, if◌then◌else◌};
-ghost use Rattle.s38_top.specs.Outcome.{faulted, status_of};
+ghost use Rattle.s38_top.specs.Outcome.{end_status, faulted, status_of};
 
 use s38_code::{Checked, Deck, Entry};
 use s38_machine::State;
+use s38_objects::Objects;
+use s38_stores::BadStore;
 
 /// A run that ended: the deck, the history, a mark for each of its entries, and what the machine came to.
 #[derive(Drop)]
@@ -20,29 +22,73 @@ pub struct CheckedDeck {
     pub templates: Checked,
 }
 
+/// How a run over a store ended.
+#[derive(Clone, Copy, PartialEq, Eq, Debug)]
+pub enum RunEnd {
+    /// What the run left is kept.
+    Kept,
+    /// The disk failed.
+    Failed,
+    /// The store has too few free parts, and is as it was.
+    Full { needed: u64, free: u32 },
+}
+
 /// What the program came to.
 #[derive(Drop)]
 pub enum Outcome {
     /// The words are no command.
     BadWords,
     /// The text is no deck: its first bad line, and the code.
-    BadDeck { line: u32, code: u8 },
+    BadDeck {
+        line: u32,
+        code: u8,
+    },
     /// The source failed.
     DeckFault,
     /// Memory was refused.
     NoMemory,
-    /// Each job ran to its end; the picker began at this number.
-    Complete { pick: u32, whole: Whole },
+    /// Each job ran to its end over the store; the picker began at this number.
+    Ran {
+        pick: u32,
+        whole: Whole,
+        end: RunEnd,
+    },
     /// Each template was checked.
     Checked(CheckedDeck),
     /// Each job of the generated deck of so many postings ran to its end.
-    Demonstrated { size: u32, whole: Whole },
+    Demonstrated {
+        size: u32,
+        whole: Whole,
+    },
+    /// A store was made.
+    Installed,
+    /// The objects of the store.
+    Listed(Objects),
+    /// Something is wrong with the store.
+    Refused(BadStore),
+    /// The disk failed before a job ran.
+    DiskFault,
 }
 
 /// The status of want of memory.
 const NO_MEMORY: u8 = 7;
 /// The status of a sink that failed.
 const SINK_FAULT: u8 = 6;
+/// The status of a disk that failed.
+const DISK_FAULT: u8 = 4;
+
+impl RunEnd {
+    /// The status of a run that ended so.
+    fn status(self) -> u8
+        ensures { result ≡ end_status self }
+    {
+        match self {
+            RunEnd::Kept => 0,
+            RunEnd::Failed => DISK_FAULT,
+            RunEnd::Full { .. } => 8,
+        }
+    }
+}
 
 impl Outcome {
     /// The status, if the text was written.
@@ -52,9 +98,13 @@ impl Outcome {
         match self {
             Outcome::BadWords => 1,
             Outcome::BadDeck { .. } => 2,
+            Outcome::Refused(_) => 3,
+            Outcome::DiskFault => DISK_FAULT,
             Outcome::DeckFault => 5,
             Outcome::NoMemory => NO_MEMORY,
-            Outcome::Complete { .. } | Outcome::Checked(_) | Outcome::Demonstrated { .. } => 0,
+            Outcome::Ran { end, .. } => end.status(),
+            Outcome::Installed | Outcome::Listed(_) => 0,
+            Outcome::Checked(_) | Outcome::Demonstrated { .. } => 0,
         }
     }
 

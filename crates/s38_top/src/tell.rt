@@ -3,14 +3,17 @@ ghost use Rattle.std.specs.Io.KnownBytes.{Appends};
 ghost use Rattle.s38_base.specs.Faults.{Rose};
 ghost use Rattle.s38_io.specs.Sink.{AppendsFront};
 ghost use Rattle.s38_joblog.specs.Log.{last_line};
-ghost use Rattle.s38_top.specs.Outcome.{checked_text, run_text, text_of};
+ghost use Rattle.s38_top.specs.Outcome.{checked_text, end_line, listed_text, run_text, text_of};
 
-use crate::outcome::Outcome;
+use crate::lines::{bad_store_line, full_line};
+use crate::outcome::{Outcome, RunEnd};
 use s38_base::NoMemory;
 use s38_code::{CheckedTemplate, Deck, Entry};
 use s38_demo::demo_text;
 use s38_io::Sink;
 use s38_joblog::{bad_line, check_text, last_line, log_text};
+use s38_listing::list_text;
+use s38_objects::Objects;
 use std::alloc::Global;
 
 /// An outcome, and whether its text was written whole.
@@ -30,12 +33,38 @@ fn with_last_line(alloc: Global, text: Vec<u8>, count: usize) -> Result<Vec<u8>,
     Ok(text)
 }
 
-/// The log of a run, and its last line.
-fn run_text(alloc: Global, deck: &Deck, history: &[Entry]) -> Result<Vec<u8>, NoMemory>
-    ensures { IfOk result (λ text. text.items ≡ run_text deck.now history.now) }
+/// The last line of a run over a store.
+#[tactic(auto, unfolding(crate::specs::Lines::disk_fault_line))]
+fn end_line(alloc: Global, count: usize, end: RunEnd) -> Result<Vec<u8>, NoMemory>
+    ensures { IfOk result (λ line. line.items ≡ end_line count end) }
 {
-    let logs = log_text(alloc, history, deck.jobs.as_slice())?;
-    with_last_line(alloc, logs, history.len())
+    match end {
+        RunEnd::Kept => last_line(alloc, count as u64),
+        RunEnd::Failed => {
+            let mut line = Vec::new(alloc);
+            line.extend_from_slice(b"DISK FAULT\n")?;
+            Ok(line)
+        }
+        RunEnd::Full { needed, free } => full_line(alloc, needed, free),
+    }
+}
+
+/// The log of a run, and its last line.
+fn run_text(alloc: Global, deck: &Deck, history: &[Entry], end: RunEnd) -> Result<Vec<u8>, NoMemory>
+    ensures { IfOk result (λ text. text.items ≡ run_text deck.now history.now end) }
+{
+    let mut text = log_text(alloc, history, deck.jobs.as_slice())?;
+    let last = end_line(alloc, history.len(), end)?;
+    text.extend_from_slice(last.as_slice())?;
+    Ok(text)
+}
+
+/// A line for each object, and the last line.
+fn listed_text(alloc: Global, objects: &Objects) -> Result<Vec<u8>, NoMemory>
+    ensures { IfOk result (λ text. text.items ≡ listed_text objects.now) }
+{
+    let lines = list_text(alloc, objects)?;
+    with_last_line(alloc, lines, objects.len())
 }
 
 /// A line for each template, and the last line.
@@ -80,6 +109,7 @@ fn tell_made<O: Sink>(outcome: Outcome, text: Result<Vec<u8>, NoMemory>, out: &m
 }
 
 /// Writes the text of an outcome in one piece. If memory is wanted for it, the outcome is that.
+#[tactic(auto, unfolding(crate::specs::Lines::disk_fault_line))]
 pub fn tell<O: Sink>(alloc: Global, outcome: Outcome, out: &mut O) -> Told
     ensures outcome { (result.outcome ≡ outcome) ⊎ (result.outcome ≡ Outcome.NoMemory) }
     ensures told { MatchBool result.written (Appends (O.written out.old) (O.written out.new) (text_of result.outcome))
@@ -89,13 +119,18 @@ pub fn tell<O: Sink>(alloc: Global, outcome: Outcome, out: &mut O) -> Told
         Outcome::BadWords => tell_text(Outcome::BadWords, b"BAD WORDS\n", out),
         Outcome::DeckFault => tell_text(Outcome::DeckFault, b"DECK FAULT\n", out),
         Outcome::NoMemory => tell_text(Outcome::NoMemory, b"NO MEMORY\n", out),
+        Outcome::DiskFault => tell_text(Outcome::DiskFault, b"DISK FAULT\n", out),
         Outcome::BadDeck { line, code } => {
             let text = bad_line(alloc, line, code);
             tell_made(Outcome::BadDeck { line, code }, text, out)
         }
-        Outcome::Complete { pick, whole } => {
-            let text = run_text(alloc, &whole.deck, whole.history.as_slice());
-            tell_made(Outcome::Complete { pick, whole }, text, out)
+        Outcome::Refused(bad) => {
+            let text = bad_store_line(alloc, bad);
+            tell_made(Outcome::Refused(bad), text, out)
+        }
+        Outcome::Ran { pick, whole, end } => {
+            let text = run_text(alloc, &whole.deck, whole.history.as_slice(), end);
+            tell_made(Outcome::Ran { pick, whole, end }, text, out)
         }
         Outcome::Checked(checked) => {
             let text = checked_text(alloc, checked.templates.as_slice());
@@ -104,6 +139,14 @@ pub fn tell<O: Sink>(alloc: Global, outcome: Outcome, out: &mut O) -> Told
         Outcome::Demonstrated { size, whole } => {
             let text = demo_text(alloc, size, whole.history.as_slice());
             tell_made(Outcome::Demonstrated { size, whole }, text, out)
+        }
+        Outcome::Installed => {
+            let text = last_line(alloc, 0);
+            tell_made(Outcome::Installed, text, out)
+        }
+        Outcome::Listed(objects) => {
+            let text = listed_text(alloc, &objects);
+            tell_made(Outcome::Listed(objects), text, out)
         }
     }
 }

@@ -1,13 +1,17 @@
-ghost use Rattle.std.specs.Prelude.{◌≡◌, ◌⊎◌, ◌≤◌, [], Some, None, length, map, if◌then◌else◌};
+ghost use Rattle.std.specs.Prelude.{◌≡◌, [], IfSome, IsSome, Some, map, if◌then◌else◌};
 ghost use Rattle.s38_top.specs.Commands.{command_of};
-ghost use Rattle.s38_top.specs.Outcome.{Ends, IsGood, Serves, faulted, history_of, marks_of, status_of};
+ghost use Rattle.s38_top.specs.Outcome.{Ends, IsGood, IsServedBy, Serves, faulted, history_of, marks_of, status_of};
+ghost use Rattle.s38_top.specs.Outside.{outside};
 
 use crate::outcome::{CheckedDeck, Outcome, Whole};
 use crate::run::decide;
+use crate::store::Decided;
 use crate::tell::{Told, tell};
 use s38_code::{Deck, Entry};
+use s38_disk::Disk;
 use s38_io::{Sink, Source};
 use s38_machine::State;
+use s38_objects::Objects;
 use std::alloc::Global;
 
 /// What the program came to: its status, the history, a mark for each entry, and the disk that was handed in.
@@ -16,7 +20,7 @@ pub struct Report<D> {
     pub status: u8,
     pub history: Vec<Entry>,
     pub marks: Vec<u64>,
-    /// None only where the status is 7.
+    /// It is always there.
     pub disk: Option<D>,
     /// What else was held, which is dropped with the report.
     rest: Rest,
@@ -28,6 +32,7 @@ enum Rest {
     Nothing,
     Run { deck: Deck, state: State },
     Checked(CheckedDeck),
+    Listed(Objects),
 }
 
 /// What an outcome leaves behind.
@@ -74,31 +79,22 @@ fn parts_of(alloc: Global, outcome: Outcome) -> Parts
     ensures marks { result.marks.items ≡ marks_of outcome }
 {
     match outcome {
-        Outcome::Complete { pick: _, whole } => parted(whole),
-        Outcome::Demonstrated { size: _, whole } => parted(whole),
+        Outcome::Ran { whole, .. } => parted(whole),
+        Outcome::Demonstrated { whole, .. } => parted(whole),
         Outcome::Checked(checked) => without_entries(alloc, Rest::Checked(checked)),
+        Outcome::Listed(objects) => without_entries(alloc, Rest::Listed(objects)),
         _ => without_entries(alloc, Rest::Nothing),
     }
 }
 
-/// The disk, but with want of memory.
-fn disk_after<D: Drop>(outcome: &Outcome, disk: D) -> Option<D>
-    ensures { (status_of outcome.now ≡ 7) ⊎ (result ≡ Some disk) }
-{
-    match outcome {
-        Outcome::NoMemory => None,
-        _ => Some(disk),
-    }
-}
-
-fn report_of<D: Drop>(alloc: Global, told: Told, disk: D) -> Report<D>
+/// What is reported of an outcome that was told.
+fn report_of<D>(alloc: Global, told: Told, disk: D) -> Report<D>
     ensures status { result.status ≡ (if told.written then status_of told.outcome else faulted told.outcome) }
     ensures history { result.history.items ≡ history_of told.outcome }
     ensures marks { result.marks.items ≡ marks_of told.outcome }
-    ensures disk { (result.status ≡ 7) ⊎ (result.disk ≡ Some disk) }
+    ensures disk { result.disk ≡ Some disk }
 {
     let status = told.outcome.status_told(told.written);
-    let disk = disk_after(&told.outcome, disk);
     let Parts {
         history,
         marks,
@@ -108,39 +104,42 @@ fn report_of<D: Drop>(alloc: Global, told: Told, disk: D) -> Report<D>
         status,
         history,
         marks,
-        disk,
+        disk: Some(disk),
         rest,
     }
 }
 
-/// Serves the words. Under `serial` the deck of the source is read, its jobs are run on a machine of its own, and
-/// the log of the run is written. Under `check` it is read, and a line for each of its templates is written: what
-/// creation makes of it. Under `demo n` the generated deck of n postings is run from the objects of a store that was
-/// installed, and n and the total are written. The disk that is handed in comes back untouched.
-pub fn plain_top<D: Drop, I: Source, O: Sink>(
+/// Serves the words. Under `install` a store is made on the disk. Under `list` a line for each of its objects is written.
+/// Under `serial` the deck of the source is read, its jobs are run on a machine with the objects of the store, the log of the
+/// run is written, and what the run leaves is kept in the store. Under `check` the deck is read, and a line for each of its
+/// templates is written: what creation makes of it. Under `demo n` the generated deck of n postings is run from the objects
+/// of a store that was installed, and n and the total are written. `check` and `demo` leave the disk as it is. The disk
+/// comes back.
+pub fn plain_top<D: Disk, I: Source, O: Sink>(
     alloc: Global,
     words: &[&str],
     deck: &mut I,
     disk: D,
     out: &mut O,
 ) -> Report<D>
+    ensures back { IsSome result.disk }
+
     // Each status but that of want of memory has its cause, and its text is written.
-    ensures ends { Ends (map (λ w. w.now) words.now) (I.left deck.old) (I.left deck.new) (I.faults deck.old) (I.faults deck.new)
-        (O.written out.old) (O.written out.new) (O.faults out.old) (O.faults out.new) result.status result.history.items result.marks.items }
+    ensures ends { IfSome result.disk (λ new. Ends (map (λ w. w.now) words.now) (outside (I.left deck.old) (I.faults deck.old) (O.written out.old) (O.faults out.old) (D.view disk))
+        (outside (I.left deck.new) (I.faults deck.new) (O.written out.new) (O.faults out.new) (D.view new)) result.status result.history.items result.marks.items) }
 
-    // The disk is wanting only for want of memory.
-    ensures disk { (result.status ≡ 7) ⊎ (result.disk ≡ Some disk) }
+    // With status 0 of install a store was made where none was; of list the objects are those of the store; of serial the
+    // history is the one-thread machine's for the deck and the store, its log was written, and what the run left is kept; of
+    // check what creation makes of each template was written; of demo the history is the one-thread machine's for the
+    // generated deck, and its total was written.
+    ensures serves { IfSome result.disk (λ new. result.status ≡ 0 → Serves (command_of (map (λ w. w.now) words.now)) (outside (I.left deck.old) (I.faults deck.old) (O.written out.old) (O.faults out.old) (D.view disk))
+        (outside (I.left deck.new) (I.faults deck.new) (O.written out.new) (O.faults out.new) (D.view new)) result.history.items) }
 
-    // With status 0 of serial the history is the one-thread machine's for the deck, and its log was written; with
-    // status 0 of check what creation makes of each template was written; with status 0 of demo the history is the
-    // one-thread machine's for the generated deck, and its total was written.
-    ensures serves { result.status ≡ 0 → Serves (command_of (map (λ w. w.now) words.now)) (I.left deck.old) (I.left deck.new) (O.written out.old) (O.written out.new) result.history.items }
-
-    // A good deck is run or checked, and a demonstration is run, unless memory is wanted.
-    ensures good { IsGood (map (λ w. w.now) words.now) (I.left deck.old) (I.faults deck.old) (I.faults deck.new) (O.faults out.old) (O.faults out.new)
-        → (result.status ≡ 0) ⊎ (result.status ≡ 7) }
+    // A good call is served, unless memory is wanted, or what a run leaves finds no room.
+    ensures good { IfSome result.disk (λ new. IsGood (map (λ w. w.now) words.now) (outside (I.left deck.old) (I.faults deck.old) (O.written out.old) (O.faults out.old) (D.view disk))
+        (outside (I.left deck.new) (I.faults deck.new) (O.written out.new) (O.faults out.new) (D.view new)) → IsServedBy result.status) }
 {
-    let outcome = decide(alloc, words, deck);
+    let Decided { outcome, disk } = decide(alloc, words, deck, disk);
     let told = tell(alloc, outcome, out);
     report_of(alloc, told, disk)
 }

@@ -1,0 +1,29 @@
+use Rattle.std.proofs.Common.{◌≡◌, ℕ, ◌-◌, ◌≤◌, ◌⊎◌, inl, inr, List, [], ◌∷◌, Option, length, map, take, drop, ap, subst, arith}
+use Rattle.std.proofs.KnownBytes.{Keeps-refl}
+use Rattle.std.proofs.lemmas.Grind.{common_steps}
+use Rattle.std.specs.Io.KnownBytes.{Keeps}
+use Rattle.s38_disk.specs.Disk.{DiskView}
+use Rattle.s38_disk.specs.Files.{file_view}
+use Rattle.s38_top.specs.declared.outcome.Outcome.TheVariants as outcomes
+use Rattle.s38_top.specs.Outcome.{IsTold}
+use Rattle.s38_top.specs.Outside.{outside}
+use Rattle.s38.specs.CommandLine.{EndsSomehow, IsServed, fresh_file}
+use Rattle.s38.proofs.service.serve_over_file.Goals as goal
+
+behind_is : {X : Type 0} (w : X) (ws : List X) → take (length (w ∷ ws) - 1) (drop 1 (w ∷ ws)) ≡ ws
+behind_is w ws = grind (arith, common_steps)
+
+-- the words behind the path are served over its file
+served : {X : Type 0} (f : X → List ℕ) (words : List X) (left left' : Option (List ℕ)) (taken taken' : ℕ) (written written' : Option (List ℕ)) (put put' : ℕ) (status : ℕ) → 1 ≤ length words
+    → (Keeps left left' × IsTold written written' put put' status outcomes.DiskFault) ⊎ EndsSomehow (map f (take (length words - 1) (drop 1 words))) (outside left taken written put fresh_file) left' taken' written' put' status
+    → IsServed (map f words) left left' taken taken' written written' put put' status
+served f [] left left' taken taken' written written' put put' status some ends = absurd (omega arith)
+served {X} f (w ∷ ws) left left' taken taken' written written' put put' status some (inl fault) = inl fault
+served {X} f (w ∷ ws) left left' taken taken' written written' put put' status some (inr ends) =
+    inr (subst (λ (xs : List X). EndsSomehow (map f xs) (outside left taken written put fresh_file) left' taken' written' put' status) (behind_is w ws) ends)
+
+pub returns-in-Err : goal.returns-in-Err
+returns-in-Err g c = served _ c.args.words.now _ _ _ _ _ _ _ _ _ c.in-len1-up.len_at_least (inl (Keeps-refl (g.I.Source.left c.args.deck.now), c.refuse-in-Err.ensures))
+
+pub returns-in-Ok : goal.returns-in-Ok
+returns-in-Ok g c = served _ c.args.words.now _ _ _ _ _ _ _ _ _ c.in-len1-up.len_at_least (inr (subst (λ (v : DiskView). EndsSomehow _ (outside _ _ _ _ v) _ _ _ _ _) (ap file_view c.in-Ok.ensures) c.serve.ensures))

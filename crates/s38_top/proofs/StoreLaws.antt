@@ -1,0 +1,127 @@
+-- From a store that was opened to what a run over it comes to.
+use Rattle.std.proofs.Common.{◌≡◌, ℕ, List, [], length, refl, sym, ◌∙◌, ap, subst}
+use Rattle.std.specs.Prelude.{Err, IfErr, Ok, OnOk, Option, Result, Some, None}
+use Rattle.s38_base.specs.Faults.{Rose}
+use Rattle.s38_keeping.specs.declared.fault.KeepFault.{KeepFault}
+use Rattle.s38_keeping.specs.declared.fault.KeepFault.TheVariants as closes
+use Rattle.s38_code.specs.declared.deck.Deck.{Deck}
+use Rattle.s38_code.specs.declared.entry.Entry.{Entry}
+use Rattle.s38_disk.specs.Blocks.{State as Blocks}
+use Rattle.s38_disk.specs.Disk.{DiskView, IsAt}
+use Rattle.s38_objects.specs.Lawful.{IsLawful}
+use Rattle.s38_openings.specs.Closing.{CanClose}
+use Rattle.s38_openings.specs.Opening.{IsOpening}
+use Rattle.s38_openings.proofs.CloseLaws.{end_closes}
+use Rattle.s38_pages.specs.Vaults.{PageStore, page_holds}
+use Rattle.s38_rules.specs.Held.{Held}
+use Rattle.s38_rules.specs.Legal.{Leads}
+use Rattle.s38_rules.specs.State.{State}
+use Rattle.s38_stores.specs.Opened.{HoldsCleaned, IsFaultless}
+use Rattle.s38_stores.specs.Refusals.{IsRefusal}
+use Rattle.s38_stores.specs.Stores.{IsFullOf, Keeps, Restarts}
+use Rattle.s38_stores.specs.declared.fault.StoreRefusal.{StoreRefusal}
+use Rattle.s38_stores.specs.declared.fault.StoreRefusal.TheVariants as refusals
+use Rattle.s38_template.specs.Grammar.{Spells}
+use Rattle.s38_top.specs.declared.command.Command.TheVariants.{Serial}
+use Rattle.s38_top.specs.declared.outcome.Outcome.{Outcome}
+use Rattle.s38_top.specs.declared.outcome.Outcome.TheVariants.{BadWords, BadDeck, DeckFault, NoMemory, Ran, Checked, Demonstrated, Installed, Listed, Refused, DiskFault}
+use Rattle.s38_top.specs.declared.outcome.RunEnd.{RunEnd}
+use Rattle.s38_top.specs.declared.outcome.RunEnd.TheVariants as ends
+use Rattle.s38_top.specs.declared.outcome.Whole.{Whole}
+use Rattle.s38_top.specs.Decks.{AreMarks, IsRunOf, checked_of, opened, picks_by}
+use Rattle.s38_top.specs.Ends.{CameFrom, IsEnd, IsRunBehind, end_of}
+use Rattle.s38_top.specs.Outcome.{OfText, refused}
+use Rattle.s38_top.specs.Runs.{EndsWith, LeavesBehind, kept_of}
+use Rattle.s38_vault.specs.Content.{Content}
+
+-- what a store that was kept leaves
+pub leaves_of : (v : PageStore) (new : DiskView) (e : State) (r : Result (Unit {0}) KeepFault) (end : RunEnd) → Some end ≡ end_of r
+    → OnOk r ((m : Content) → page_holds v m → (t : Blocks) → IsAt new.past t → Keeps new.size t.now (kept_of e))
+    → ((needed free : ℕ) → r ≡ Err (closes.Full needed free) → (m : Content) → page_holds v m → (t : Blocks) → IsAt new.past t → IsFullOf new.size t.now (kept_of e) needed free)
+    → IfErr r (λ fault. fault ≡ closes.Failed → Rose v.start new.faults)
+    → LeavesBehind v new e end
+leaves_of v new e (Ok done) end is kept full failed = subst (LeavesBehind v new e) (kept_is end is) kept
+  where
+    kept_is : (x : RunEnd) → Some x ≡ Some ends.Kept → ends.Kept ≡ x
+    kept_is x g = cc
+leaves_of v new e (Err (closes.Full needed free)) end is kept full failed = subst (LeavesBehind v new e) (full_is end is) (full needed free refl)
+  where
+    full_is : (x : RunEnd) → Some x ≡ Some (ends.Full needed free) → ends.Full needed free ≡ x
+    full_is x g = cc
+leaves_of v new e (Err closes.Failed) end is kept full failed = subst (LeavesBehind v new e) (failed_is end is) (failed refl)
+  where
+    failed_is : (x : RunEnd) → Some x ≡ Some ends.Failed → ends.Failed ≡ x
+    failed_is x g = cc
+leaves_of v new e (Err closes.NoMemory) end is kept full failed = cc
+
+-- the same of a state that is told otherwise
+pub leaves_at : {e e' : State} → e ≡ e' → (v : PageStore) (new : DiskView) (r : Result (Unit {0}) KeepFault) (end : RunEnd) → Some end ≡ end_of r
+    → OnOk r ((m : Content) → page_holds v m → (t : Blocks) → IsAt new.past t → Keeps new.size t.now (kept_of e))
+    → ((needed free : ℕ) → r ≡ Err (closes.Full needed free) → (m : Content) → page_holds v m → (t : Blocks) → IsAt new.past t → IsFullOf new.size t.now (kept_of e) needed free)
+    → IfErr r (λ fault. fault ≡ closes.Failed → Rose v.start new.faults)
+    → LeavesBehind v new e' end
+leaves_at {e} same v new r end is kept full failed = subst (λ s. LeavesBehind v new s end) same (leaves_of v new e r end is kept full failed)
+
+-- what a run from some objects comes to, by what it left
+pub end_came : (pick : ℕ) (held : Held) (deck : Deck) (v : PageStore) (new : DiskView) (whole : Whole) (o : Outcome) → whole.deck ≡ deck
+    → (run : IsRunOf held (picks_by pick (length whole.history.items)) deck whole.history.items) × (run.state ≡ whole.state) → AreMarks whole.marks.items whole.history.items
+    → IsEnd pick whole v new o → CameFrom pick held deck v new o
+end_came pick held deck v new whole (Ran n ran end) deck_is run marks is =
+    let here = subst (λ d. (r : IsRunOf held (picks_by pick (length whole.history.items)) d whole.history.items) × (r.state ≡ whole.state)) (sym deck_is) run in
+    let behind : LeavesBehind v new here.0.state end = subst (λ e. LeavesBehind v new e end) (sym here.1) is.1.1 in
+    let came : IsRunBehind pick held deck v new whole end = record { deck_is = deck_is; run = here.0; marks = marks; behind = behind } in
+    (is.0, subst (λ w. IsRunBehind pick held deck v new w end) (sym is.1.0) came)
+end_came pick held deck v new whole NoMemory deck_is run marks is = tt
+end_came pick held deck v new whole BadWords deck_is run marks is = absurd is
+end_came pick held deck v new whole (BadDeck line code) deck_is run marks is = absurd is
+end_came pick held deck v new whole DeckFault deck_is run marks is = absurd is
+end_came pick held deck v new whole (Refused bad) deck_is run marks is = absurd is
+end_came pick held deck v new whole DiskFault deck_is run marks is = absurd is
+end_came pick held deck v new whole (Checked checked) deck_is run marks is = absurd is
+end_came pick held deck v new whole (Demonstrated size ran) deck_is run marks is = absurd is
+end_came pick held deck v new whole Installed deck_is run marks is = absurd is
+end_came pick held deck v new whole (Listed objects) deck_is run marks is = absurd is
+
+-- a run from an opening can be closed
+pub run_closes : (held : Held) (picks : List ℕ) (deck : Deck) (history : List Entry) (e : State) → IsOpening held → (run : IsRunOf held picks deck history) × (run.state ≡ e) → IsLawful e.held → CanClose e
+run_closes held picks deck history e opening run lawful =
+    end_closes held (checked_of deck) deck.jobs history e opening (subst (λ s. Leads (opened held deck) [] history s) run.1 run.0.legal) lawful
+
+-- what is behind in a vault is behind on its disk
+ends_behind : (old new : DiskView) (v : PageStore) (e : State) (end : RunEnd) → HoldsCleaned old v → IsFaultless old v → LeavesBehind v new e end → EndsWith old new e end
+ends_behind old new v e ends.Kept cleaned faultless behind = λ s t at is. behind _ (cleaned s at).1.1 t is
+ends_behind old new v e ends.Failed cleaned faultless behind = subst (λ n. Rose n new.faults) faultless.start behind
+ends_behind old new v e (ends.Full needed free) cleaned faultless behind = λ s t at is. behind _ (cleaned s at).1.1 t is
+
+-- what a run over the store of a disk comes to
+pub opened_ends : (pick : ℕ) (old new : DiskView) (held : Held) (text : List ℕ) (deck : Deck) (v : PageStore) (o : Outcome) → Spells text deck → IsOpening held
+    → ((s : Blocks) → IsAt old.past s → Restarts old.size s.now held) → HoldsCleaned old v → IsFaultless old v → CameFrom pick held deck v new o → OfText (Serial pick) text old new o
+opened_ends pick old new held text deck v (Ran n whole end) spelled opening restarts cleaned faultless came =
+    subst (λ m. OfText (Serial pick) text old new (Ran m whole end)) (sym came.0) (
+      refl,
+      (
+        subst (λ d. Spells text d) (sym came.1.deck_is) spelled,
+        record {
+          ran = record { held = held; opening = opening; restarts = restarts; run = came.1.run };
+          marks = came.1.marks;
+          ends = ends_behind old new v came.1.run.state end cleaned faultless came.1.behind;
+        },
+      ),
+    )
+opened_ends pick old new held text deck v NoMemory spelled opening restarts cleaned faultless came = tt
+opened_ends pick old new held text deck v BadWords spelled opening restarts cleaned faultless came = absurd came
+opened_ends pick old new held text deck v (BadDeck line code) spelled opening restarts cleaned faultless came = absurd came
+opened_ends pick old new held text deck v DeckFault spelled opening restarts cleaned faultless came = absurd came
+opened_ends pick old new held text deck v (Refused bad) spelled opening restarts cleaned faultless came = absurd came
+opened_ends pick old new held text deck v DiskFault spelled opening restarts cleaned faultless came = absurd came
+opened_ends pick old new held text deck v (Checked checked) spelled opening restarts cleaned faultless came = absurd came
+opened_ends pick old new held text deck v (Demonstrated size ran) spelled opening restarts cleaned faultless came = absurd came
+opened_ends pick old new held text deck v Installed spelled opening restarts cleaned faultless came = absurd came
+opened_ends pick old new held text deck v (Listed objects) spelled opening restarts cleaned faultless came = absurd came
+
+-- a store that is refused for a run
+pub refused_run : (pick : ℕ) (old new : DiskView) (text : List ℕ) (refusal : StoreRefusal) → ((s : Blocks) → IsAt old.past s → IsRefusal old.size s.now refusal)
+    → (refusal ≡ refusals.Failed → Rose old.faults new.faults) → OfText (Serial pick) text old new (refused refusal)
+refused_run pick old new text (refusals.Bad bad) is cause = (pick, (refl, is))
+refused_run pick old new text refusals.Failed is cause = (pick, (refl, cause refl))
+refused_run pick old new text refusals.NoMemory is cause = tt
