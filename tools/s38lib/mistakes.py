@@ -1,0 +1,31 @@
+"""Decks and logs with mistakes."""
+import re
+
+
+def mutated(random_of, data):
+    """Some bytes with a mistake."""
+    lines = data.split(b"\n")
+    at = random_of.randrange(len(lines))
+    how = random_of.randrange(9)
+    if how == 0:
+        del lines[at]
+    elif how == 1:
+        lines.insert(at, lines[random_of.randrange(len(lines))])
+    elif how == 2:
+        lines[at] = lines[at][:random_of.randrange(len(lines[at]) + 1)]
+    elif how == 3:
+        return data[:random_of.randrange(len(data) + 1)]
+    elif how == 4:
+        words = lines[at].split(b" ")
+        words[random_of.randrange(len(words))] = random_of.choice([b"", b"0", b"-1", b"99999999999999999999", b"*", b"OK", b"P", b"'"])
+        lines[at] = b" ".join(words)
+    elif how == 5:
+        lines[at] = re.sub(rb"[0-9]+", lambda _: str(random_of.randrange(10 ** random_of.randrange(1, 20))).encode(), lines[at])
+    elif how == 6:
+        words = lines[at].split(b",")
+        random_of.shuffle(words)
+        lines[at] = b",".join(words)
+    else:
+        place = random_of.randrange(len(data) + 1)
+        return data[:place] + bytes(random_of.randrange(256) for _ in range(random_of.randrange(1, 5))) + data[place + how - 7:]
+    return b"\n".join(lines)
