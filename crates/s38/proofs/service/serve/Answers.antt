@@ -1,4 +1,5 @@
-use Rattle.std.proofs.Common.{◌≡◌, ℕ, ◌⊎◌, inl, inr, List, [], Option, Some, IfSome, map, refl, ap, subst, sym, ◌∙◌, arith}
+use Rattle.std.proofs.Common.{◌≡◌, ℕ, inl, inr, List, [], Option, Some, None, IfSome, map, refl, ap, subst, ◌∙◌, arith}
+use Rattle.std.specs.Option.{IsSome}
 use Rattle.s38_code.specs.declared.entry.Entry.{Entry}
 use Rattle.s38_disk.specs.Disk.{DiskView}
 use Rattle.s38_top.specs.declared.outcome.Outcome.TheVariants as outcomes
@@ -28,19 +29,23 @@ no_memory words old written put status told = record {
     other n is zero = omega (arith, is, zero)
 
 -- what a call with a disk behind it comes to
-ends_of : {D X Y : Type 0} (view : D → DiskView) (f : X → List ℕ) (now : Y → List ℕ) (behind : List X) (texts words : List Y) (disk : Option D) (d : D) (old : Outside) (left : Option (List ℕ)) (taken : ℕ) (written : Option (List ℕ)) (put status : ℕ) (history : List Entry) (marks : List ℕ)
-    → map now texts ≡ map f behind → words ≡ texts → disk ≡ Some d
+ends_of : {D X Y : Type 0} (view : D → DiskView) (f : X → List ℕ) (now : Y → List ℕ) (behind : List X) (texts words : List Y) (disk : Option D) (old : Outside) (left : Option (List ℕ)) (taken : ℕ) (written : Option (List ℕ)) (put status : ℕ) (history : List Entry) (marks : List ℕ)
+    → map now texts ≡ map f behind → words ≡ texts → IsSome disk
     → IfSome disk (λ new. Ends (map now words) old (outside left taken written put (view new)) status history marks)
     → IfSome disk (λ new. status ≡ 0 → Serves (command_of (map now words)) old (outside left taken written put (view new)) history)
     → IfSome disk (λ new. IsGood (map now words) old (outside left taken written put (view new)) → IsServedBy status)
     → EndsSomehow (map f behind) old left taken written put status
-ends_of {D} view f now behind texts words disk d old left taken written put status history marks same is there ends serves good =
+ends_of view f now behind texts words None old left taken written put status history marks same is there ends serves good = cc
+ends_of view f now behind texts words (Some d) old left taken written put status history marks same is there ends serves good =
     subst (λ (ws : List (List ℕ)). EndsSomehow ws old left taken written put status) (ap (map now) is ∙ same)
-    (record {
-      history = history;
-      marks = marks;
-      disk = view d;
-      ends = subst (λ (o : Option D). IfSome o (λ new. Ends (map now words) old (outside left taken written put (view new)) status history marks)) there ends;
-      serves = subst (λ (o : Option D). IfSome o (λ new. status ≡ 0 → Serves (command_of (map now words)) old (outside left taken written put (view new)) history)) there serves;
-      good = subst (λ (o : Option D). IfSome o (λ new. IsGood (map now words) old (outside left taken written put (view new)) → IsServedBy status)) there good;
-    })
+    (record { history = history; marks = marks; disk = view d; ends = ends; serves = serves; good = good })
+
+pub returns-in-Err : goal.returns-in-Err
+returns-in-Err g c =
+    no_memory _ (outside (g.I.Source.left c.args.deck.now) (g.I.Source.faults c.args.deck.now) (g.O.Sink.written c.args.out.now) (g.O.Sink.faults c.args.out.now) (g.D.Disk.view c.args.disk)) _ _ _ c.refuse.ensures
+
+pub returns-in-Ok : goal.returns-in-Ok
+returns-in-Ok g c =
+    ends_of g.D.Disk.view _ (λ text. text.now) _ c.in-Ok.texts.items c.as_slice.result.now c.plain_top-report.result.disk
+    (outside (g.I.Source.left c.args.deck.now) (g.I.Source.faults c.args.deck.now) (g.O.Sink.written c.args.out.now) (g.O.Sink.faults c.args.out.now) (g.D.Disk.view c.args.disk)) _ _ _ _ _ _ _
+    c.in-Ok.ensures c.as_slice.ensures.value c.plain_top-report.ensures.back c.plain_top-report.ensures.ends c.plain_top-report.ensures.serves c.plain_top-report.ensures.good

@@ -22,8 +22,16 @@ served {X} f (w ∷ ws) left left' taken taken' written written' put put' status
 served {X} f (w ∷ ws) left left' taken taken' written written' put put' status some (inr ends) =
     inr (subst (λ (xs : List X). EndsSomehow (map f xs) (outside left taken written put fresh_file) left' taken' written' put' status) (behind_is w ws) ends)
 
+-- the same over a disk that is one of a file that was just opened
+served_over : {X : Type 0} (f : X → List ℕ) (words : List X) (left left' : Option (List ℕ)) (taken taken' : ℕ) (written written' : Option (List ℕ)) (put put' : ℕ) (status : ℕ) (disk : DiskView) → 1 ≤ length words
+    → disk ≡ fresh_file → EndsSomehow (map f (take (length words - 1) (drop 1 words))) (outside left taken written put disk) left' taken' written' put' status
+    → IsServed (map f words) left left' taken taken' written written' put put' status
+served_over f words left left' taken taken' written written' put put' status disk some is ends =
+    served f words left left' taken taken' written written' put put' status some
+    (inr (subst (λ (v : DiskView). EndsSomehow (map f (take (length words - 1) (drop 1 words))) (outside left taken written put v) left' taken' written' put' status) is ends))
+
 pub returns-in-Err : goal.returns-in-Err
 returns-in-Err g c = served _ c.args.words.now _ _ _ _ _ _ _ _ _ c.in-len1-up.len_at_least (inl (Keeps-refl (g.I.Source.left c.args.deck.now), c.refuse-in-Err.ensures))
 
 pub returns-in-Ok : goal.returns-in-Ok
-returns-in-Ok g c = served _ c.args.words.now _ _ _ _ _ _ _ _ _ c.in-len1-up.len_at_least (inr (subst (λ (v : DiskView). EndsSomehow _ (outside _ _ _ _ v) _ _ _ _ _) (ap file_view c.in-Ok.ensures) c.serve.ensures))
+returns-in-Ok g c = served_over _ c.args.words.now _ _ _ _ _ _ _ _ _ _ c.in-len1-up.len_at_least (ap file_view c.in-Ok.ensures) c.serve.ensures
