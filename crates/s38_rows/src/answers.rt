@@ -19,6 +19,7 @@ fn bytes_of(alloc: Global, lines: &str) -> Result<Vec<u8>, NoMemory> {
 }
 
 /// What a call came to: its status, the number of entries, and the disk; and whether the wanted text was written.
+#[derive(Drop)]
 pub struct Answer {
     pub status: u8,
     pub entries: usize,
@@ -26,8 +27,7 @@ pub struct Answer {
     pub is_told: bool,
 }
 
-/// What the words and a deck come to over a disk, where the listed takes and puts fail; none where the disk does not come
-/// back.
+/// What the words and a deck come to over a disk, where the listed takes and puts fail.
 pub fn run_over(
     alloc: Global,
     disk: MemDisk,
@@ -35,21 +35,22 @@ pub fn run_over(
     deck: &str,
     failing: (&[u32], &[u32]),
     text: &str,
-) -> Result<Option<Answer>, NoMemory> {
+) -> Result<Answer, NoMemory> {
     let (takes, puts) = failing;
     let mut source = MemSource::new(bytes_of(alloc, deck)?, Vec::from_slice(alloc, takes)?);
     let mut sink = MemSink::new(alloc, Vec::from_slice(alloc, puts)?);
     let report = plain_top(alloc, words, &mut source, disk, &mut sink);
     let is_told = sink.written() == bytes_of(alloc, text)?.as_slice();
     let (status, entries) = (report.status, report.history.len());
-    Ok(
-        report.disk.map(|disk| Answer {
+    match report.disk {
+        None => unreachable!(),
+        Some(disk) => Ok(Answer {
             status,
             entries,
             disk,
             is_told,
         }),
-    )
+    }
 }
 
 /// An empty disk, of which the listed calls fail.
@@ -67,13 +68,11 @@ pub fn answer_of(
     text: &str,
 ) -> Result<Option<(u8, usize)>, NoMemory> {
     let disk = empty_disk(alloc, BLOCKS, &[])?;
-    let Some(made) = run_over(alloc, disk, &["install"], "", (&[], &[]), "DONE 0;")? else {
-        return Ok(None);
-    };
+    let made = run_over(alloc, disk, &["install"], "", (&[], &[]), "DONE 0;")?;
     let answer = run_over(alloc, made.disk, words, deck, failing, text)?;
-    Ok(
-        answer
-            .filter(|answer| made.is_told && answer.is_told)
-            .map(|answer| (answer.status, answer.entries)),
-    )
+    if made.is_told && answer.is_told {
+        Ok(Some((answer.status, answer.entries)))
+    } else {
+        Ok(None)
+    }
 }

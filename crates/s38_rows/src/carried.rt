@@ -47,14 +47,10 @@ const CALLS: &[(&[&str], &str, &str, u8, usize)] = &[
 fn what_a_run_leaves_the_next_one_finds(rt: HostRuntime) -> Result<(), Fail> {
     let mut disk = empty_disk(rt.alloc(), 4_096, &[])?;
     for (words, deck, text, status, entries) in CALLS {
-        match run_over(rt.alloc(), disk, words, deck, (&[], &[]), text)? {
-            None => return Err(Fail),
-            Some(answer) => {
-                assert!(rt; answer.is_told);
-                assert_eq!(rt; (answer.status, answer.entries), (*status, *entries));
-                disk = answer.disk;
-            }
-        }
+        let answer = run_over(rt.alloc(), disk, words, deck, (&[], &[]), text)?;
+        assert!(rt; answer.is_told);
+        assert_eq!(rt; (answer.status, answer.entries), (*status, *entries));
+        disk = answer.disk;
     }
     Ok(())
 }
@@ -68,10 +64,8 @@ fn a_disk_may_fail_and_may_be_too_small(rt: HostRuntime) -> Result<(), Fail> {
         (failing, "list", "DISK FAULT;", 4),
         (small, "install", "STORE TOO SMALL 4095;", 3),
     ] {
-        match run_over(rt.alloc(), disk, &[words], "", (&[], &[]), text)? {
-            None => return Err(Fail),
-            Some(answer) => assert_eq!(rt; (answer.is_told, answer.status), (true, status)),
-        }
+        let answer = run_over(rt.alloc(), disk, &[words], "", (&[], &[]), text)?;
+        assert_eq!(rt; (answer.is_told, answer.status), (true, status));
     }
     Ok(())
 }
