@@ -42,7 +42,8 @@ pub fn run_over(
     let report = plain_top(alloc, words, &mut source, disk, &mut sink);
     let is_told = sink.written() == bytes_of(alloc, text)?.as_slice();
     let (status, entries) = (report.status, report.history.len());
-    match report.disk {
+    let disk = report.disk;
+    match disk {
         None => unreachable!(),
         Some(disk) => Ok(Answer {
             status,
