@@ -1,0 +1,203 @@
+//! What a permitted event has a store keep anew, by the families of instructions.
+ghost use Rattle.std.specs.Prelude.{◌≡◌};
+ghost use Rattle.s38_rules.specs.Contexts.{contexts_row};
+ghost use Rattle.s38_rules.specs.DataSpaces.{data_spaces_row};
+ghost use Rattle.s38_rules.specs.Forcing.{forced, forced_by};
+ghost use Rattle.s38_rules.specs.Grants.{grants_row};
+ghost use Rattle.s38_rules.specs.Indexes.{indexes_row};
+ghost use Rattle.s38_rules.specs.Journals.{journals_row};
+ghost use Rattle.s38_rules.specs.Profiles.{profiles_row};
+ghost use Rattle.s38_rules.specs.Programs.{programs_row};
+ghost use Rattle.s38_rules.specs.Queues.{queues_row};
+ghost use Rattle.s38_rules.specs.Rows.{row};
+ghost use Rattle.s38_rules.specs.Spaces.{spaces_row};
+
+use crate::forcing::Forcings;
+use crate::logging::{changed, deletion, insertion, update};
+use crate::words::{
+    committed, ensured, followed, journaled, made, made_program, number_at, removed,
+};
+use s38_base::{Kind, Op};
+use s38_code::{Event, Family, family_of};
+use s38_invoke::{Core, Profiles};
+use s38_objects::Objects;
+use s38_operands::Act;
+
+/// What an instruction of contexts forces.
+#[tactic(auto, unfolding(s38_rules::specs::Contexts::contexts_row))]
+fn contexts(world: &Core<Objects, Profiles>, act: Act<'_>) -> Forcings
+    ensures { result ≡ forced_by world.now act.entry.process ((contexts_row act.entry.request.now.op).changes world.now act.entry.process act.entry.depth act.entry.request.now) }
+{
+    let objects = &world.objects;
+    let number = number_at(world, act, 1);
+    match act.request.op {
+        Op::Crtctx => made(world, act, 2, false),
+        Op::Desctx => removed(objects, Kind::Context, number),
+        Op::Modadr | Op::Rename => followed(objects, number),
+        _ => Forcings::none(),
+    }
+}
+
+/// What an instruction of profiles forces.
+#[tactic(auto, unfolding(s38_rules::specs::Profiles::profiles_row))]
+fn profiles(world: &Core<Objects, Profiles>, act: Act<'_>) -> Forcings
+    ensures { result ≡ forced_by world.now act.entry.process ((profiles_row act.entry.request.now.op).changes world.now act.entry.process act.entry.depth act.entry.request.now) }
+{
+    let objects = &world.objects;
+    let number = number_at(world, act, 1);
+    match act.request.op {
+        Op::Crtup => made(world, act, 2, true),
+        Op::Desup => removed(objects, Kind::Profile, number),
+        Op::Modup => followed(objects, number),
+        _ => Forcings::none(),
+    }
+}
+
+/// What an instruction of authority forces.
+#[tactic(auto, unfolding(s38_rules::specs::Grants::grants_row))]
+fn grants(world: &Core<Objects, Profiles>, act: Act<'_>) -> Forcings
+    ensures { result ≡ forced_by world.now act.entry.process ((grants_row act.entry.request.now.op).changes world.now act.entry.process act.entry.depth act.entry.request.now) }
+{
+    let objects = &world.objects;
+    let number = number_at(world, act, 1);
+    match act.request.op {
+        Op::Grant | Op::Retract | Op::Xfro => followed(objects, number),
+        _ => Forcings::none(),
+    }
+}
+
+/// What an instruction of programs forces.
+#[tactic(auto, unfolding(s38_rules::specs::Programs::programs_row))]
+fn programs(world: &Core<Objects, Profiles>, act: Act<'_>) -> Forcings
+    ensures { result ≡ forced_by world.now act.entry.process ((programs_row act.entry.request.now.op).changes world.now act.entry.process act.entry.depth act.entry.request.now) }
+{
+    let objects = &world.objects;
+    let number = number_at(world, act, 1);
+    match act.request.op {
+        Op::Crtpg => made_program(world, act),
+        Op::Despg => removed(objects, Kind::Program, number),
+        _ => Forcings::none(),
+    }
+}
+
+/// What an instruction of spaces forces.
+#[tactic(auto, unfolding(s38_rules::specs::Spaces::spaces_row))]
+fn spaces(world: &Core<Objects, Profiles>, act: Act<'_>) -> Forcings
+    ensures { result ≡ forced_by world.now act.entry.process ((spaces_row act.entry.request.now.op).changes world.now act.entry.process act.entry.depth act.entry.request.now) }
+{
+    let objects = &world.objects;
+    let number = number_at(world, act, 1);
+    match act.request.op {
+        Op::Crts => made(world, act, 3, false),
+        Op::Dess => removed(objects, Kind::Space, number),
+        _ => Forcings::none(),
+    }
+}
+
+/// What an instruction of queues forces.
+#[tactic(auto, unfolding(s38_rules::specs::Queues::queues_row))]
+fn queues(world: &Core<Objects, Profiles>, act: Act<'_>) -> Forcings
+    ensures { result ≡ forced_by world.now act.entry.process ((queues_row act.entry.request.now.op).changes world.now act.entry.process act.entry.depth act.entry.request.now) }
+{
+    let objects = &world.objects;
+    let number = number_at(world, act, 1);
+    match act.request.op {
+        Op::Crtq => made(world, act, 3, false),
+        Op::Desq => removed(objects, Kind::Queue, number),
+        _ => Forcings::none(),
+    }
+}
+
+/// What an instruction of indexes forces.
+#[tactic(auto, unfolding(s38_rules::specs::Indexes::indexes_row))]
+fn indexes(world: &Core<Objects, Profiles>, act: Act<'_>) -> Forcings
+    ensures { result ≡ forced_by world.now act.entry.process ((indexes_row act.entry.request.now.op).changes world.now act.entry.process act.entry.depth act.entry.request.now) }
+{
+    let objects = &world.objects;
+    let number = number_at(world, act, 1);
+    match act.request.op {
+        Op::Crtinx => made(world, act, 3, false),
+        Op::Desinx => removed(objects, Kind::Index, number),
+        _ => Forcings::none(),
+    }
+}
+
+/// What an instruction of data spaces and cursors forces.
+#[tactic(auto, unfolding(s38_rules::specs::DataSpaces::data_spaces_row))]
+fn data_spaces(world: &Core<Objects, Profiles>, act: Act<'_>) -> Forcings
+    ensures { result ≡ forced_by world.now act.entry.process ((data_spaces_row act.entry.request.now.op).changes world.now act.entry.process act.entry.depth act.entry.request.now) }
+{
+    let objects = &world.objects;
+    let number = number_at(world, act, 1);
+    match act.request.op {
+        Op::Crtds => made(world, act, 3, false),
+        Op::Crtcr => made(world, act, 3, false),
+        Op::Desds => removed(objects, Kind::DataSpace, number),
+        Op::Descr => removed(objects, Kind::Cursor, number),
+        Op::Insdsen => changed(world, insertion(world, act)),
+        Op::Updsen => changed(world, update(world, act)),
+        Op::Deldsen => changed(world, deletion(world, act)),
+        _ => Forcings::none(),
+    }
+}
+
+/// What an instruction of journals and units forces.
+#[tactic(auto, unfolding(s38_rules::specs::Journals::journals_row))]
+fn journals(world: &Core<Objects, Profiles>, act: Act<'_>) -> Forcings
+    ensures { result ≡ forced_by world.now act.entry.process ((journals_row act.entry.request.now.op).changes world.now act.entry.process act.entry.depth act.entry.request.now) }
+{
+    let objects = &world.objects;
+    let number = number_at(world, act, 1);
+    match act.request.op {
+        Op::Crtjs => made(world, act, 3, false),
+        Op::Crtjp => made(world, act, 3, false),
+        Op::Crtcb => made(world, act, 3, false),
+        Op::Desjs => removed(objects, Kind::Journal, number),
+        Op::Desjp => removed(objects, Kind::Port, number),
+        Op::Descb => removed(objects, Kind::Block, number),
+        Op::Jrnlobj => journaled(world, number, number_at(world, act, 2)),
+        Op::Commit => committed(world, number),
+        Op::Ensobj => ensured(world, number),
+        _ => Forcings::none(),
+    }
+}
+
+/// What an instruction forces.
+#[tactic(auto, unfolding(s38_rules::specs::Rows::row_in))]
+fn act_forces(world: &Core<Objects, Profiles>, act: Act<'_>) -> Forcings
+    ensures { result ≡ forced_by world.now act.entry.process ((row act.entry.request.now.op).changes world.now act.entry.process act.entry.depth act.entry.request.now) }
+{
+    match family_of(act.request.op) {
+        Family::Contexts => contexts(world, act),
+        Family::Profiles => profiles(world, act),
+        Family::Grants => grants(world, act),
+        Family::Programs => programs(world, act),
+        Family::Spaces => spaces(world, act),
+        Family::Queues => queues(world, act),
+        Family::Indexes => indexes(world, act),
+        Family::DataSpaces => data_spaces(world, act),
+        Family::Journals => journals(world, act),
+        Family::Computing => Forcings::none(),
+        Family::Branching => Forcings::none(),
+        Family::Resolving => Forcings::none(),
+        Family::Locks => Forcings::none(),
+    }
+}
+
+/// What a permitted event has a store keep anew. A start and an end force nothing.
+#[tactic(auto, unfolding(s38_rules::specs::Forcing::forced))]
+pub fn forced(world: &Core<Objects, Profiles>, process: u32, event: &Event) -> Forcings
+    ensures { result ≡ forced world.now process event.now }
+{
+    match event {
+        Event::Act { depth, request } => {
+            let act = Act {
+                process,
+                depth: *depth,
+                request,
+            };
+            act_forces(world, act)
+        }
+        _ => Forcings::none(),
+    }
+}

@@ -1,0 +1,247 @@
+-- What the puts of a step make of a content that stands for what was durable before it.
+use Rattle.std.proofs.Common.{◌==◌, ◌+◌, ◌≡◌, ◌⊎◌, ◌<◌, ◌≤◌, ◌-◌, ◌∙◌, ◌∷◌, ◌++◌, [], Bool, List, None, Option, ap, append-nil, arith, cond, false, inl, inr, length, lit≤, map, refl, subst, sym, true, ℕ}
+use Rattle.std.proofs.lemmas.Bool.Decides.{nat_tests}
+use Rattle.std.specs.FinMap.{get}
+use Rattle.std.specs.List.{AllByRecursion, list_any}
+use Rattle.std.specs.Prelude.{◌&&◌, ◌||◌, nat_le, nat_lt}
+use Rattle.s38_base.specs.declared.page.Change.{Change}
+use Rattle.s38_base.specs.declared.page.Key.{Key}
+use Rattle.s38_base.specs.declared.page.Page.{Page}
+use Rattle.s38_commits.proofs.MapLaws.{nat_same}
+use Rattle.s38_durable.specs.Durable.{Durable, durable_after, kept}
+use Rattle.s38_durable.specs.Stands.{Stands, aim_of, aims_of, ceiling_parts, is_among, page_of, parts_at, parts_end, parts_in, put_at}
+use Rattle.s38_forcing.proofs.DifferenceLaws.{same_differences}
+use Rattle.s38_forcing.proofs.LookLaws.{aims_made, differences_few, one_put}
+use Rattle.s38_forcing.proofs.WalkLaws.{key_at}
+use Rattle.s38_forcing.specs.Aims.{AreInOrder, aimed_at, all_differences}
+use Rattle.s38_forcing.specs.Differences.{differences, wanted_at}
+use Rattle.s38_codecs.proofs.FormatLaws.{length_copies}
+use Rattle.s38_codecs.specs.Codec.{copies}
+use Rattle.s38_forcing.specs.declared.range.PartRange.{PartRange}
+use Rattle.s38_image.specs.Faults.{ceiling_key, ceiling_page}
+use Rattle.s38_image.specs.Pages.{needed, no_tags}
+use Rattle.s38_image.specs.declared.stored.Stored.{Stored}
+use Rattle.s38_keeping.specs.Replacing.{range_of}
+use Rattle.s38_rules.specs.Forcing.{Forced}
+use Rattle.s38_rules.specs.State.{State}
+use Rattle.s38_commits.specs.Units.{UnitMap}
+use Rattle.s38_rules.specs.Held.{Held}
+use Rattle.s38_vault.specs.Content.{Content, changed}
+use Rattle.s38_vault.specs.Directory.{new_keys}
+use Rattle.s38_vault.specs.Vaults.{VaultView}
+use Rattle.s38_step_parts.specs.Outcomes.{IfBad, IsFullFor, IsUnread}
+use Rattle.s38_step_parts.specs.declared.fault.ForceFault.{ForceFault}
+use Rattle.s38_step_parts.specs.declared.fault.ForceFault.TheVariants as faults
+use Rattle.s38_step_parts.proofs.EachLaws.{each_is}
+use Rattle.s38_step_parts.proofs.FrontLaws.{stream_from, wanted_behind}
+use Rattle.s38_step_parts.proofs.NarrowLaws.{narrowed}
+use Rattle.s38_step_parts.proofs.NumberLaws.{AreAbove, Rise, numbers_are, numbers_rise}
+use Rattle.s38_step_parts.specs.Numbers.{numbers}
+use Rattle.s38_step_parts.specs.Putting.{IsBetweenPuts}
+use Rattle.s38_step_parts.specs.Stepping.{AreNumbers, IsDue, IsNumber, Precedes, ceiling_changes, is_ceiling, object_changes, put_ceiling, put_forced, raised}
+
+-- ---- where the others have what they had, the pages stand for what is durable then
+
+-- a key is in the range of a number exactly where it is of that number
+in_range : (object n part : ℕ) → part < parts_end → ((object == n) && (nat_le 0 part && nat_lt part parts_end)) ≡ (object == n)
+in_range object n part low = by (object == n)
+  where
+    inside : (nat_le 0 part && nat_lt part parts_end) ≡ true
+    inside = grind (arith, nat_tests, low)
+
+    by : (b : Bool) → (b && (nat_le 0 part && nat_lt part parts_end)) ≡ b
+    by true = inside
+    by false = refl
+
+-- what is to stand at a key: what is durable, at these numbers, and else what stands there
+aimed : (d : Durable) (pages : Key → Option Page) (key : Key) → key.part < parts_end → (ns : List ℕ) → aimed_at pages (map (aim_of d) ns) key ≡ cond (is_among key.object ns) (page_of d key) (pages key)
+aimed d pages key low [] = refl
+aimed d pages key low (n ∷ ns) = rw (in_range key.object n key.part low) (by (aimed d pages key low ns) (key.object == n) refl)
+  where
+    by : aimed_at pages (map (aim_of d) ns) key ≡ cond (is_among key.object ns) (page_of d key) (pages key) → (b : Bool) → (key.object == n) ≡ b
+        → cond b (wanted_at (parts_at d n) key) (aimed_at pages (map (aim_of d) ns) key) ≡ cond (b || is_among key.object ns) (page_of d key) (pages key)
+    by rest true is = ap (λ (k : ℕ). wanted_at (parts_at d k) key) (sym (nat_same key.object n is))
+    by rest false is = rest
+
+put_stands : (m : Content) (d new : Durable) (ns : List ℕ) → Stands m d → AreInOrder (aims_of new ns) → ((n : ℕ) → is_among n ns ≡ false → parts_at new n ≡ parts_at d n) → Stands (put_at ns m new) new
+put_stands m d new ns stands order others = record {
+  each = λ key low. aims_made m (aims_of new ns) key order ∙ aimed new (get m) key low ns ∙ by key low (is_among key.object ns) refl;
+}
+  where
+    by : (key : Key) → key.part < parts_end → (b : Bool) → is_among key.object ns ≡ b → cond b (page_of new key) (get m key) ≡ page_of new key
+    by key low true is = refl
+    by key low false is = stands.each key low ∙ ap (λ (parts : List Change). wanted_at parts key) (sym (others key.object is))
+
+in_order : (d : Durable) (ns : List ℕ) → Rise ns → AreInOrder (aims_of d ns)
+unfolding AreAbove Rise
+in_order d [] rise = tt
+in_order d (n ∷ []) rise = tt
+in_order d (n ∷ k ∷ ns) rise = (rise.0.0, in_order d (k ∷ ns) rise.1)
+
+-- ---- the ceiling is put
+
+apart_below : (k : ℕ) → k < ceiling_key → (k == ceiling_key) ≡ false
+apart_below k low = by (k == ceiling_key) refl
+  where
+    by : (b : Bool) → (k == ceiling_key) ≡ b → b ≡ false
+    by true is = absurd (let same : k ≡ ceiling_key = nat_same k ceiling_key is in omega (arith, same, low))
+    by false is = refl
+
+-- keys of objects have what they had
+ceiling_stays : (all : List Forced) (m : Content) (d : Durable) (key : Key) → key.object < ceiling_key → get (put_ceiling all m d) key ≡ get m key
+ceiling_stays all m d key low = by (list_any is_ceiling all)
+  where
+    by : (b : Bool) → get (put_at (cond b (ceiling_key ∷ []) []) m d) key ≡ get m key
+    by true =
+        aims_made m (aims_of d (ceiling_key ∷ [])) key tt
+        ∙ ap (λ b. cond (b && (nat_le 0 key.part && nat_lt key.part parts_end)) (wanted_at (parts_at d ceiling_key) key) (get m key)) (apart_below key.object low)
+    by false = refl
+
+ceiling_stands : (all : List Forced) (m : Content) (d : Durable) (s : State) → Stands m d → IsDue all d s → Stands (put_ceiling all m (durable_after all d s)) (raised d s)
+ceiling_stands all m d s stands due = by (list_any is_ceiling all) refl
+  where
+    others : (n : ℕ) → is_among n (ceiling_key ∷ []) ≡ false → parts_at (raised d s) n ≡ parts_at d n
+    others n apart = at (n == ceiling_key) refl
+      where
+        at : (b : Bool) → (n == ceiling_key) ≡ b → cond b (ceiling_parts s.held.ceiling) (parts_in (kept d.objects n)) ≡ cond b (ceiling_parts d.ceiling) (parts_in (kept d.objects n))
+        at true is = absurd (cc (ap (λ b. b || false) is, apart))
+        at false is = refl
+
+    same : s.held.ceiling ≡ d.ceiling → (n : ℕ) → parts_at (raised d s) n ≡ parts_at d n
+    same is n = ap (λ (ceiling : ℕ). cond (n == ceiling_key) (ceiling_parts ceiling) (parts_in (kept d.objects n))) is
+
+    by : (b : Bool) → list_any is_ceiling all ≡ b → Stands (put_at (cond b (ceiling_key ∷ []) []) m (durable_after all d s)) (raised d s)
+    by true is = put_stands m d (raised d s) (ceiling_key ∷ []) stands tt others
+    by false is = put_stands m d (raised d s) [] stands tt (λ n none. same (due.ceiling is) n)
+
+-- ---- all is put
+
+pub forced_stands : (all : List Forced) (m : Content) (d : Durable) (s : State) → Stands m d → IsDue all d s → Stands (put_forced all m (durable_after all d s)) (durable_after all d s)
+forced_stands all m d s stands due =
+    put_stands (put_ceiling all m new) (raised d s) new (numbers all) (ceiling_stands all m d s stands due) (in_order new (numbers all) (numbers_rise all))
+    (λ n apart. ap (λ (x : Option Stored). cond (n == ceiling_key) (ceiling_parts s.held.ceiling) (parts_in x)) (due.objects n (sym (numbers_are n all) ∙ apart)))
+  where
+    new : Durable
+    new = durable_after all d s
+
+pub raised_stands : (all : List Forced) (m : Content) (d : Durable) (s : State) → Stands m d → IsDue all d s → Stands (put_ceiling all m (durable_after all d s)) (raised d s)
+raised_stands = ceiling_stands
+
+-- what differs of objects does not hang on the ceiling
+same_objects : (pages others : Key → Option Page) (d : Durable) (ns : List ℕ) → AllByRecursion IsNumber ns → ((key : Key) → key.object < ceiling_key → pages key ≡ others key) → all_differences pages (aims_of d ns) ≡ all_differences others (aims_of d ns)
+same_objects pages others d [] are same = refl
+same_objects pages others d (n ∷ ns) are same =
+    let here : differences pages (range_of n) (parts_at d n) ≡ differences others (range_of n) (parts_at d n) =
+    same_differences pages others (parts_at d n) (parts_at d n) n (parts_end - 0) 0 (λ p from high. same (key_at n p) are.0.1) (λ p from high. refl) in
+    λ i. here i ++ same_objects pages others d ns are.1 same i
+
+-- the puts make the content
+pub both_put : (all : List Forced) (m : Content) (d : Durable) (ceiling others : List Change) → AreNumbers all → ceiling ≡ ceiling_changes all (get m) d → others ≡ object_changes all (get m) d
+    → changed (changed m ceiling) others ≡ put_forced all m d
+both_put all m d ceiling others are one two =
+    let each : AllByRecursion IsNumber (numbers all) = each_is all (numbers all) are (λ n among. sym (numbers_are n all) ∙ among) in
+    (λ i. changed (changed m (one i)) (two i))
+    ∙ ap (changed (put_ceiling all m d)) (same_objects (get m) (get (put_ceiling all m d)) d (numbers all) each (λ key low. sym (ceiling_stays all m d key low)))
+
+-- ---- the ceiling is one part
+
+abbrev first_range : PartRange
+first_range = record { object = ceiling_key; first = 0; end = 1 }
+
+none_behind : (ceiling p : ℕ) → 1 ≤ p → wanted_at (ceiling_parts ceiling) (key_at ceiling_key p) ≡ None
+none_behind ceiling p far =
+    let bytes = ceiling_page.print ceiling in
+    let zeros : length {A = ℕ} (copies 496 0) ≡ 496 = length_copies {A = ℕ} 496 0 in
+    let long : length bytes ≡ 512 = omega (arith, zeros) in
+    let end : 0 + needed (length bytes) ≤ p = omega (arith, ap needed long, far) in
+    ap (λ (cs : List Change). wanted_at cs (key_at ceiling_key p)) (sym (append-nil (ceiling_parts ceiling)))
+    ∙ wanted_behind ceiling_key 0 (0 + needed (length bytes)) p (ceiling_parts ceiling) [] (stream_from ceiling_key 0 bytes (no_tags ceiling_page ceiling)) end
+
+pub one_ceiling : (all : List Forced) (m : Content) (d : Durable) (s : State) → Stands m d → length (ceiling_changes all (get m) (durable_after all d s)) ≤ 1
+one_ceiling all m d s stands = by (list_any is_ceiling all)
+  where
+    parts : List Change
+    parts = ceiling_parts s.held.ceiling
+
+    same : differences (get m) (range_of ceiling_key) parts ≡ differences (get m) first_range parts
+    same =
+        narrowed (get m) ceiling_key 1 parts_end parts parts (lit≤ tt) (λ p near. refl)
+        (λ p far near. stands.each (key_at ceiling_key p) near ∙ none_behind d.ceiling p far ∙ sym (none_behind s.held.ceiling p far))
+
+    by : (b : Bool) → length (all_differences (get m) (aims_of (durable_after all d s) (cond b (ceiling_key ∷ []) []))) ≤ 1
+    by true =
+        let few : length (differences (get m) first_range parts) ≤ 1 - 0 = differences_few (get m) first_range parts in
+        subst (λ (cs : List Change). length cs ≤ 1) (sym (append-nil (differences (get m) (range_of ceiling_key) parts) ∙ same)) (omega (arith, few))
+    by false = omega arith
+
+-- ---- what a crash leaves, where each of the two takes one put
+
+pub once_put : (all : List Forced) (m n : Content) (d : Durable) (s : State) (most : ℕ) (ceiling others : List Change) → AreNumbers all → ceiling ≡ ceiling_changes all (get m) (durable_after all d s) → others ≡ object_changes all (get m) (durable_after all d s)
+    → Stands m d → IsDue all d s → length ceiling ≤ most → length others ≤ most → IsBetweenPuts most m ceiling others n → Stands n d ⊎ (Stands n (raised d s) ⊎ Stands n (durable_after all d s))
+once_put all m n d s most ceiling others are one two stands due few small (inl first) =
+    elim (one_put most m ceiling n few first) [
+      | inl none ↦ inl (subst (λ (c : Content). Stands c d) (sym none) stands)
+      | inr made ↦ inr (inl (subst (λ (c : Content). Stands c (raised d s)) (sym (made ∙ ap (changed m) one)) (ceiling_stands all m d s stands due)))
+    ]
+once_put all m n d s most ceiling others are one two stands due few small (inr last) =
+    elim (one_put most (changed m ceiling) others n small last) [
+      | inl none ↦ inr (inl (subst (λ (c : Content). Stands c (raised d s)) (sym (none ∙ ap (changed m) one)) (ceiling_stands all m d s stands due)))
+      | inr made ↦ inr (inr (subst (λ (c : Content). Stands c (durable_after all d s)) (sym (made ∙ both_put all m (durable_after all d s) ceiling others are one two)) (forced_stands all m d s stands due)))
+    ]
+
+-- ---- all changes are known
+
+-- they are those of each content that is held, and of what is durable before the step
+pub record AreForced (holds : Content → Type 0) (all : List Forced) (h : Held) (us : UnitMap) (ceiling others : List Change) : Type 0 where
+  pub first : (m : Content) (d : Durable) (s : State) → holds m → Precedes h us m d s → ceiling ≡ ceiling_changes all (get m) (durable_after all d s)
+  pub last : (m : Content) (d : Durable) (s : State) → holds m → Precedes h us m d s → others ≡ object_changes all (get m) (durable_after all d s)
+
+module _ {holds : Content → Type 0} {all : List Forced} {h : Held} {us : UnitMap} {ceiling others : List Change} (are : AreNumbers all) (known : AreForced holds all h us ceiling others) where
+  pub put_known : (m : Content) (d : Durable) (s : State) → holds m → Precedes h us m d s → changed (changed m ceiling) others ≡ put_forced all m (durable_after all d s)
+  put_known m d s held p = both_put all m (durable_after all d s) ceiling others are (known.first m d s held p) (known.last m d s held p)
+
+  pub stands_known : (m n : Content) (d : Durable) (s : State) → holds m → Precedes h us m d s → IsDue all d s → n ≡ changed (changed m ceiling) others → Stands n (durable_after all d s)
+  stands_known m n d s held p due is =
+      subst (λ (c : Content). Stands c (durable_after all d s)) (sym (is ∙ put_known m d s held p)) (forced_stands all m d s p.stands due)
+
+  pub during_known : (most : ℕ) (m n : Content) (d : Durable) (s : State) → holds m → Precedes h us m d s → IsBetweenPuts most m ceiling others n
+      → IsBetweenPuts most m (ceiling_changes all (get m) (durable_after all d s)) (object_changes all (get m) (durable_after all d s)) n
+  during_known most m n d s held p between = subst (λ (cs : List Change). IsBetweenPuts most m cs (object_changes all (get m) (durable_after all d s)) n) (known.first m d s held p)
+      (subst (λ (cs : List Change). IsBetweenPuts most m ceiling cs n) (known.last m d s held p) between)
+
+  pub once_known : (most : ℕ) (m n : Content) (d : Durable) (s : State) → holds m → Precedes h us m d s → IsDue all d s
+      → 1 ≤ most → length (object_changes all (get m) (durable_after all d s)) ≤ most
+      → IsBetweenPuts most m ceiling others n → Stands n d ⊎ (Stands n (raised d s) ⊎ Stands n (durable_after all d s))
+  once_known most m n d s held p due few small between =
+      let one = known.first m d s held p in
+      let two = known.last m d s held p in
+      once_put all m n d s most ceiling others are one two p.stands due
+      (subst (λ (cs : List Change). length cs ≤ most) (sym one) (let single = one_ceiling all m d s p.stands in omega (arith, single, few))) (subst (λ (cs : List Change). length cs ≤ most) (sym two) small) between
+
+  pub full_known : (old now : VaultView) (fault : ForceFault) (m : Content) (d : Durable) (s : State) → holds m → Precedes h us m d s → now ≡ record old { faults = now.faults }
+      → IsFullFor (new_keys now.keys ceiling + new_keys now.keys others) now.free fault
+      → IsFullFor (new_keys old.keys (ceiling_changes all (get m) (durable_after all d s)) + new_keys old.keys (object_changes all (get m) (durable_after all d s))) old.free fault
+  full_known old now fault m d s held p same full =
+      let of_old : IsFullFor (new_keys old.keys ceiling + new_keys old.keys others) old.free fault =
+      subst (λ (v : VaultView). IsFullFor (new_keys v.keys ceiling + new_keys v.keys others) v.free fault) same full in
+      subst (λ (cs : List Change). IsFullFor (new_keys old.keys (ceiling_changes all (get m) (durable_after all d s)) + new_keys old.keys cs) old.free fault) (known.last m d s held p)
+      (subst (λ (cs : List Change). IsFullFor (new_keys old.keys cs + new_keys old.keys others) old.free fault) (known.first m d s held p) of_old)
+
+-- what was not read is not full
+pub unread_full : (P : Type 0) (wanted room : ℕ) (fault : ForceFault) → IsUnread P fault → IsFullFor wanted room fault
+unread_full P wanted room (faults.BadHeader object) h = tt
+unread_full P wanted room (faults.Full needed free) h = absurd h
+unread_full P wanted room faults.Failed h = tt
+unread_full P wanted room faults.NoMemory h = tt
+
+pub unread_bad : (P Q : Type 0) → (P → Q) → (fault : ForceFault) → IsUnread P fault → IfBad Q fault
+unread_bad P Q f (faults.BadHeader object) h = f h
+unread_bad P Q f (faults.Full needed free) h = absurd h
+unread_bad P Q f faults.Failed h = tt
+unread_bad P Q f faults.NoMemory h = tt
+
+pub never_bad_put : (Q : Type 0) (fault : ForceFault) → IfBad ⊥ fault → IfBad Q fault
+never_bad_put Q (faults.BadHeader object) h = absurd h
+never_bad_put Q (faults.Full needed free) h = tt
+never_bad_put Q faults.Failed h = tt
+never_bad_put Q faults.NoMemory h = tt

@@ -1,0 +1,235 @@
+-- What is kept of an object, as a content says it, and what differs of it behind a step.
+use Rattle.std.proofs.Common.{◌==◌, ◌+◌, ◌≡◌, ◌<◌, ◌≤◌, ◌∙◌, ◌∷◌, ◌++◌, [], Bool, List, None, Option, Some, ap, arith, cond, false, length, lit≤, refl, subst, suc, sym, true, zero, ℕ}
+use Rattle.std.proofs.lemmas.Bool.Decides.{nat_tests}
+use Rattle.std.specs.FinMap.{get}
+use Rattle.std.specs.List.{AllByRecursion}
+use Rattle.std.specs.Option.{option_map}
+use Rattle.std.specs.Prelude.{is_some}
+use Rattle.s38_base.specs.declared.id.ObjNum.{ObjNum}
+use Rattle.s38_base.specs.declared.id.Kind.{Kind}
+use Rattle.s38_base.specs.declared.id.Kind.TheVariants as kinds
+use Rattle.s38_base.specs.declared.page.Change.{Change}
+use Rattle.s38_base.specs.declared.page.Key.{Key}
+use Rattle.s38_base.specs.declared.page.Page.{Page}
+use Rattle.s38_commits.specs.Units.{UnitMap}
+use Rattle.s38_durable.specs.Durable.{Durable, body_behind, followed, kept, last_in, whole}
+use Rattle.s38_durable.specs.Stands.{Stands, parts_end, parts_in}
+use Rattle.s38_forcing.proofs.LookLaws.{differences_rising, each_difference}
+use Rattle.s38_forcing.proofs.WalkLaws.{key_at}
+use Rattle.s38_forcing.proofs.WantedLaws.{inside}
+use Rattle.s38_forcing.specs.Differences.{HavePages, differences, wanted_at}
+use Rattle.s38_forcing.specs.declared.range.PartRange.{PartRange}
+use Rattle.s38_image.proofs.AgainLaws.{header_long}
+use Rattle.s38_image.proofs.HeaderLaws.{header_is}
+use Rattle.s38_image.specs.Bodies.{BodyImage, body_bytes, body_tags, profile, unsequenced}
+use Rattle.s38_image.specs.Faults.{ceiling_key}
+use Rattle.s38_codecs.specs.Formats.{FitsCase}
+use Rattle.s38_image.specs.Fitting.{FitsBody, header_codec}
+use Rattle.s38_image.specs.Headers.{header}
+use Rattle.s38_image.specs.Images.{body_parts, header_of, image_of, parts_of}
+use Rattle.s38_image.specs.Settled.{settled_body, settled_sequence}
+use Rattle.s38_image.specs.Pages.{needed}
+use Rattle.s38_image.specs.declared.header.Header.{Header}
+use Rattle.s38_image.specs.declared.stored.Stored.{Stored}
+use Rattle.s38_image_printing.specs.Parts.{header_with}
+use Rattle.s38_keeping.specs.Replacing.{range_of}
+use Rattle.s38_keeping.specs.Walking.{AreAt}
+use Rattle.s38_rules.specs.Held.{kind_of}
+use Rattle.s38_rules.specs.Journaling.{journal_for}
+use Rattle.s38_rules.specs.Parts.{profile_of, profile_part}
+use Rattle.s38_rules.specs.State.{State}
+use Rattle.s38_rules.specs.declared.object.Body.{Body}
+use Rattle.s38_rules.specs.declared.object.Body.TheVariants as bodies
+use Rattle.s38_rules.specs.declared.object.Object.{Object}
+use Rattle.s38_vault.specs.Content.{Content}
+use Rattle.s38_vault.specs.Directory.{Keys}
+use Rattle.s38_step_parts.proofs.AfterLaws.{parts_below}
+use Rattle.s38_step_parts.proofs.BothLaws.{all_of}
+use Rattle.s38_step_parts.proofs.FrontLaws.{ArePart, front_are, first_part, page_of_header, parts_split, stream_from, wanted_before, wanted_behind}
+use Rattle.s38_step_parts.proofs.NarrowLaws.{narrowed}
+use Rattle.s38_step_parts.specs.Fronts.{AddsAt, front_parts, front_range, len_in}
+
+-- ---- changes at a number
+
+own_differences : (pages : Key → Option Page) (range : PartRange) (wanted : List Change) → AllByRecursion (λ c. c.key.object ≡ range.object) (differences pages range wanted)
+own_differences pages range wanted = all_of _ _ (differences pages range wanted) (λ c h. (inside range c.key h.in_range).object) (each_difference pages range wanted)
+
+-- differences of whatever pages were read are changes of their number
+pub adds_read : (keys : Keys) (range : PartRange) (wanted old new : List Change) → (pages : Key → Option Page) × (HavePages keys pages × (new ≡ old ++ differences pages range wanted)) → AddsAt range.object old new
+adds_read keys range wanted old new read = record {
+  more = differences read.0 range wanted;
+  added = read.1.1;
+  own = own_differences read.0 range wanted;
+  rising = differences_rising read.0 range wanted;
+}
+
+pub adds_at : (keys : Keys) (holds : Content → Type 0) (n : ℕ) (wanted old new : List Change) → AreAt keys holds n wanted old new → AddsAt n old new
+adds_at keys holds n wanted old new at = adds_read keys (range_of n) wanted old new (at.pages, (at.have, at.read))
+
+-- ---- what a content says
+
+pub kept_number : (n : ℕ) (xs : List Stored) (x : Stored) → kept xs n ≡ Some x → x.object.number.0 ≡ n
+kept_number n [] x h = cc
+kept_number n (y ∷ xs) x h = by (kept_number n xs x) (y.object.number.0 == n) refl h
+  where
+    same : Some y ≡ Some x → y ≡ x
+    same e = cc
+
+    by : (kept xs n ≡ Some x → x.object.number.0 ≡ n) → (b : Bool) → (y.object.number.0 == n) ≡ b → cond b (Some y) (kept xs n) ≡ Some x → x.object.number.0 ≡ n
+    by rest true is h = let here : y.object.number.0 ≡ n = grind (arith, nat_tests) in subst (λ (z : Stored). z.object.number.0 ≡ n) (same h) here
+    by rest false is h = rest h
+
+-- a part of a number is that of what is kept under it
+page_kept : (m : Content) (d : Durable) (n p : ℕ) (x : Option Stored) → Stands m d → n < ceiling_key → p < parts_end → kept d.objects n ≡ x → get m (key_at n p) ≡ wanted_at (parts_in x) (key_at n p)
+page_kept m d n p x stands low near is =
+    stands.each (key_at n p) near
+    ∙ ap (λ (cs : List Change). wanted_at cs (key_at n p)) (parts_below d n low ∙ ap parts_in is)
+
+-- what is kept under a number has its header there
+header_kept : (m : Content) (d : Durable) (n : ℕ) (x : Stored) → Stands m d → n < ceiling_key → kept d.objects n ≡ Some x → header_codec.fits (header_of x) ≡ true → get m (key_at n 0) ≡ Some (page_of_header (header_of x))
+header_kept m d n x stands low is fits =
+    page_kept m d n 0 (Some x) stands low (lit≤ tt) is
+    ∙ ap (λ (k : ℕ). wanted_at (parts_of x) (key_at k 0)) (sym (kept_number n d.objects x is))
+    ∙ first_part x (header_long (header_of x) fits)
+
+len_kept : (h : Header) → header_codec.fits h ≡ true → len_in (page_of_header h) ≡ Some h.body
+len_kept h fits = ap (option_map (λ (g : Header). g.body)) (header_is.again h fits)
+
+abbrev pub key_of : ℕ → Key
+key_of n = record { object = n; part = 0 }
+
+-- every header that is kept can be read
+abbrev pub Fit : Durable → Type 0
+Fit d = (n : ℕ) (x : Stored) → kept d.objects n ≡ Some x → header_codec.fits (header_of x) ≡ true
+
+abbrev pub lens : Option Page → Option (Option ℕ)
+lens page = option_map len_in page
+
+abbrev pub some_len : Option ℕ → Option (Option ℕ)
+some_len found = option_map (λ (len : ℕ). Some len) found
+
+-- nothing is kept where there is no header
+pub nothing_kept : (m : Content) (d : Durable) (n : ℕ) → Stands m d → n < ceiling_key → Fit d → lens (get m (key_of n)) ≡ some_len None → kept d.objects n ≡ None
+nothing_kept m d n stands low fit read = by (kept d.objects n) refl
+  where
+    by : (x : Option Stored) → kept d.objects n ≡ x → x ≡ None
+    by None is = refl
+    by (Some x) is =
+        let page = header_kept m d n x stands low is (fit n x is) in
+        absurd (apart (sym read ∙ ap lens page))
+      where
+        apart : some_len None ≡ lens (Some (page_of_header (header_of x))) → ⊥
+        apart e = cc
+
+-- what was read of a header is the length of the body that is kept
+pub record IsKeptLen (d : Durable) (n len : ℕ) : Type 0 where
+  pub stored : Stored
+  pub is : kept d.objects n ≡ Some stored
+  pub said : (header_of stored).body ≡ len
+
+same_len : (a b : ℕ) → some_len (Some a) ≡ some_len (Some b) → a ≡ b
+same_len a b e = cc
+
+pub some_kept : (m : Content) (d : Durable) (n len : ℕ) → Stands m d → n < ceiling_key → Fit d → lens (get m (key_of n)) ≡ some_len (Some len) → IsKeptLen d n len
+some_kept m d n len stands low fit read = by (kept d.objects n) refl
+  where
+    by : (x : Option Stored) → kept d.objects n ≡ x → IsKeptLen d n len
+    by None is =
+        let page : get m (key_of n) ≡ None = page_kept m d n 0 None stands low (lit≤ tt) is in
+        absurd (apart (sym (ap lens page) ∙ read))
+      where
+        apart : lens None ≡ some_len (Some len) → ⊥
+        apart e = cc
+    by (Some x) is =
+        let fits = fit n x is in
+        let page = header_kept m d n x stands low is fits in
+        let one : lens (Some (page_of_header (header_of x))) ≡ some_len (Some (header_of x).body) = ap (λ (o : Option ℕ). Some o) (len_kept (header_of x) fits) in
+        record { stored = x; is = is; said = same_len (header_of x).body len (sym one ∙ sym (ap lens page) ∙ read) }
+
+-- a header that is kept is no bad one
+pub never_bad : (m : Content) (d : Durable) (n : ℕ) → Stands m d → n < ceiling_key → Fit d → lens (get m (key_of n)) ≡ Some None → ⊥
+never_bad m d n stands low fit read = by (kept d.objects n) refl
+  where
+    by : (x : Option Stored) → kept d.objects n ≡ x → ⊥
+    by None is =
+        let page : get m (key_of n) ≡ None = page_kept m d n 0 None stands low (lit≤ tt) is in
+        apart (sym (ap lens page) ∙ read)
+      where
+        apart : lens None ≡ Some None → ⊥
+        apart e = cc
+    by (Some x) is =
+        let fits = fit n x is in
+        let page = header_kept m d n x stands low is fits in
+        let one : lens (Some (page_of_header (header_of x))) ≡ some_len (Some (header_of x).body) = ap (λ (o : Option ℕ). Some o) (len_kept (header_of x) fits) in
+        apart (sym one ∙ sym (ap lens page) ∙ read)
+      where
+        apart : some_len (Some (header_of x).body) ≡ Some None → ⊥
+        apart e = cc
+
+-- ---- of an object the body stays, and the rest follows
+
+behind_same : (b old : Body) → is_some (profile_of b) ≡ false → body_behind b old ≡ old
+behind_same (bodies.Profile special limit) old none = absurd cc
+behind_same _ old none = refl
+
+-- the parts of a body hang on its number, its kind and its image alone
+body_same : (x y : Stored) → x.object.number ≡ y.object.number → x.object.id.kind ≡ y.object.id.kind → image_of x ≡ image_of y → body_parts x ≡ body_parts y
+body_same x y number kind image =
+    ap (λ k. body_parts (record x { object = record x.object { number = k } })) number
+    ∙ ap (λ (k : Kind). body_parts (record x { object = record x.object { number = y.object.number; id = record x.object.id { kind = k } } })) kind
+    ∙ ap (λ (i : BodyImage). body_parts (record { object = record x.object { number = y.object.number; id = record x.object.id { kind = y.object.id.kind }; body = i.body }; sequence = i.sequence })) image
+
+module _ (m : Content) (d : Durable) (o : Object) (x : Stored) (len : ℕ) where
+  pub front_differs : Stands m d → o.number.0 < ceiling_key → kept d.objects o.number.0 ≡ Some x → (header_of x).body ≡ len → header_codec.fits (header_of x) ≡ true → length x.object.rows ≤ 4096
+      → x.object.id.kind ≡ o.id.kind → is_some (profile_of o.body) ≡ false → length (header.print (header_with o len)) ≡ 512 → length o.rows ≤ 4096 → x.object.number ≡ o.number
+      → differences (get m) (range_of o.number.0) (parts_of (followed o x)) ≡ differences (get m) (front_range o.number.0) (front_parts o len)
+  front_differs stands low is said fits few kind user long rows number =
+      let n = o.number.0 in
+      let f = followed o x in
+      let image : image_of f ≡ image_of x = ap (λ (b : Body). record { body = b; sequence = x.sequence }) (behind_same o.body x.object.body user) in
+      let bytes : length (body_bytes o.id.kind (image_of f)) ≡ len =
+      ap (λ (i : BodyImage). length (body_bytes o.id.kind i)) image ∙ ap (λ (k : Kind). length (body_bytes k (image_of x))) (sym kind) ∙ said in
+      let body : body_parts f ≡ body_parts x = body_same f x (sym number) (sym kind) image in
+      let whole : parts_of f ≡ front_parts o len ++ body_parts x =
+      parts_split f ∙ (λ i. front_parts o (bytes i) ++ body i) in
+      let front = front_are o len long rows in
+      let before : ArePart n 0 128 (front_parts x.object (header_of x).body) =
+      subst (λ (k : ObjNum). ArePart k.0 0 128 (front_parts x.object (header_of x).body)) number (front_are x.object (header_of x).body (header_long (header_of x) fits) few) in
+      let until = 128 + needed (length (body_bytes x.object.id.kind (image_of x))) in
+      let behind : ArePart n 128 until (body_parts x) =
+      subst (λ (k : ObjNum). ArePart k.0 128 until (body_parts x)) number (stream_from x.object.number.0 128 (body_bytes x.object.id.kind (image_of x)) _) in
+      narrowed (get m) n 128 parts_end (parts_of f) (front_parts o len) (lit≤ tt)
+      (λ p near. ap (λ (cs : List Change). wanted_at cs (key_at n p)) whole ∙ wanted_before n 128 until p (front_parts o len) (body_parts x) behind near)
+      (λ p far near.
+      page_kept m d n p (Some x) stands low near is
+      ∙ ap (λ (cs : List Change). wanted_at cs (key_at n p)) (parts_split x)
+      ∙ wanted_behind n 0 128 p (front_parts x.object (header_of x).body) (body_parts x) before far
+      ∙ sym (ap (λ (cs : List Change). wanted_at cs (key_at n p)) whole ∙ wanted_behind n 0 128 p (front_parts o len) (body_parts x) front far))
+
+-- ---- a user is kept whole
+
+-- an object with this body and this sequence
+abbrev with_body : Object → Body → ℕ → Stored
+with_body o b sequence = record { object = record o { on_disk = true; body = b }; sequence = sequence }
+
+-- no sequence is said of a user
+unsequenced_user : (k : Kind) (x : Stored) → k ≡ kinds.Profile → FitsBody k (body_tags k (image_of x)) (image_of x) → x.sequence ≡ 0
+unsequenced_user k x is fits = by x.sequence (subst (λ (j : Kind). FitsBody j (body_tags j (image_of x)) (image_of x)) is fits)
+  where
+    by : (q : ℕ) → FitsCase (λ u. profile.fits u ≡ true) (unsequenced profile_part q x.object.body) → q ≡ 0
+    by zero fits = refl
+    by (suc q) fits = absurd fits
+
+user_kind : (b : Body) (k : Kind) → is_some (profile_of b) ≡ true → kind_of b ≡ k → k ≡ kinds.Profile
+user_kind (bodies.Profile special limit) k user kind = sym kind
+user_kind _ k user kind = absurd cc
+
+user_by : (units : UnitMap) (last : ℕ) (o : Object) (b : Body) (x : Stored) → is_some (profile_of b) ≡ true → x.sequence ≡ 0
+    → parts_of (with_body o (body_behind b x.object.body) x.sequence) ≡ parts_of (with_body o (settled_body units o.number.0 b) (settled_sequence last b))
+user_by units last o (bodies.Profile special limit) x user none = ap (λ (q : ℕ). parts_of (with_body o (bodies.Profile special limit) q)) none
+user_by units last o _ x user none = absurd cc
+
+pub user_parts : (s : State) (o : Object) (x : Stored) → is_some (profile_of o.body) ≡ true → kind_of o.body ≡ o.id.kind → x.object.id.kind ≡ o.id.kind
+    → FitsBody x.object.id.kind (body_tags x.object.id.kind (image_of x)) (image_of x) → parts_of (followed o x) ≡ parts_of (whole s o)
+user_parts s o x user kind same fits =
+    user_by s.units (last_in s.held (journal_for s.held o.number.0)) o o.body x user (unsequenced_user x.object.id.kind x (same ∙ user_kind o.body o.id.kind user kind) fits)

@@ -1,0 +1,9 @@
+pub mod NumberLaws
+pub mod BothLaws
+pub mod NarrowLaws
+pub mod FrontLaws
+pub mod AfterLaws
+pub mod KeptLaws
+pub mod FollowedLaws
+pub mod EachLaws
+pub mod ForceLaws

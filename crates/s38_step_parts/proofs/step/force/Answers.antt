@@ -1,0 +1,235 @@
+use Rattle.std.proofs.Common.{◌+◌, ◌<◌, ◌≤◌, ◌∙◌, List, ap, arith, subst, sym}
+use Rattle.std.specs.FinMap.{get}
+use Rattle.std.specs.List.{AllByRecursion}
+use Rattle.s38_base.specs.declared.page.Change.{Change}
+use Rattle.s38_durable.specs.Durable.{Durable, durable_after}
+use Rattle.s38_image.specs.Faults.{ceiling_key}
+use Rattle.s38_keeping.proofs.SoFarLaws.{stays_on}
+use Rattle.s38_rules.specs.State.{State}
+use Rattle.s38_vault.specs.Content.{Content, HaveObjects, changed}
+use Rattle.s38_vault.specs.Directory.{new_keys}
+use Rattle.s38_vault.specs.Vaults.{VaultView}
+use Rattle.s38_step_parts.proofs.BothLaws.{all_of as each_of}
+use Rattle.s38_step_parts.proofs.FollowedLaws.{handed}
+use Rattle.s38_step_parts.proofs.ForceLaws.{AreForced, during_known, full_known, never_bad_put, once_known, put_known, stands_known, unread_bad, unread_full}
+use Rattle.s38_step_parts.specs.Forcings.{all_of}
+use Rattle.s38_step_parts.specs.Outcomes.{IfBad, IsFullFor}
+use Rattle.s38_step_parts.specs.Putting.{IsBetweenPuts}
+use Rattle.s38_step_parts.specs.Stepping.{Precedes, ceiling_changes, object_changes}
+use Rattle.s38_step_parts.specs.declared.fault.ForceFault.{ForceFault}
+use Rattle.s38_step_parts.proofs.step.force.Goals as goal
+
+pub put_both-requires-clause-objects : goal.put_both-requires-clause-objects
+put_both-requires-clause-objects g c =
+    subst HaveObjects (sym c.deref-2.ensures.value) (each_of _ _ _ (λ x is. is.0) c.in_ok-add_objects.ensures.objects)
+
+pub put_both-requires-clause-below : goal.put_both-requires-clause-below
+put_both-requires-clause-below g c =
+    subst (λ (cs : List Change). AllByRecursion (λ x. x.key.object < ceiling_key) cs) (sym c.deref-2.ensures.value) (each_of _ _ _ (λ x is. is.1) c.in_ok-add_objects.ensures.objects)
+
+pub returns-in_err-add_objects-clause-full : goal.returns-in_err-add_objects-clause-full
+returns-in_err-add_objects-clause-full g c =
+    let V = g.V.Vault in
+    let old = c.args.vault.now in
+    let h = c.args.objects.now in
+    let us = c.args.units.now in
+    let all = all_of c.args.all.now in
+    let fault = c.in_err-add_objects.field-0.0 in
+    handed (λ (e : ForceFault). (m : Content) (d : Durable) (s : State) → V.holds old m → Precedes h us m d s
+    → IsFullFor (new_keys (V.view old).keys (ceiling_changes all (get m) (durable_after all d s)) + new_keys (V.view old).keys (object_changes all (get m) (durable_after all d s))) (V.view old).free e)
+    c.from_residual.result fault c.from_residual.ensures.1
+    (λ m d s held p. unread_full _ _ _ fault c.in_err-add_objects.ensures.bad)
+
+pub returns-in_err-add_objects-clause-bad : goal.returns-in_err-add_objects-clause-bad
+returns-in_err-add_objects-clause-bad g c =
+    let V = g.V.Vault in
+    let old = c.args.vault.now in
+    let h = c.args.objects.now in
+    let us = c.args.units.now in
+    let all = all_of c.args.all.now in
+    let fault = c.in_err-add_objects.field-0.0 in
+    handed (λ (e : ForceFault). IfBad ((m : Content) (d : Durable) (s : State) → V.holds old m → Precedes h us m d s → ⊥) e)
+    c.from_residual.result fault c.from_residual.ensures.1 (unread_bad _ _ (λ bad. bad) fault c.in_err-add_objects.ensures.bad)
+
+pub returns-in_err-add_ceiling-clause-full : goal.returns-in_err-add_ceiling-clause-full
+returns-in_err-add_ceiling-clause-full g c =
+    let V = g.V.Vault in
+    let old = c.args.vault.now in
+    let h = c.args.objects.now in
+    let us = c.args.units.now in
+    let all = all_of c.args.all.now in
+    let fault = c.in_err-add_ceiling.field-0.0 in
+    handed (λ (e : ForceFault). (m : Content) (d : Durable) (s : State) → V.holds old m → Precedes h us m d s
+    → IsFullFor (new_keys (V.view old).keys (ceiling_changes all (get m) (durable_after all d s)) + new_keys (V.view old).keys (object_changes all (get m) (durable_after all d s))) (V.view old).free e)
+    c.from_residual-in_err-add_ceiling.result fault c.from_residual-in_err-add_ceiling.ensures.1
+    (λ m d s held p. unread_full _ _ _ fault c.in_err-add_ceiling.ensures.bad)
+
+pub returns-in_err-add_ceiling-clause-bad : goal.returns-in_err-add_ceiling-clause-bad
+returns-in_err-add_ceiling-clause-bad g c =
+    let V = g.V.Vault in
+    let old = c.args.vault.now in
+    let h = c.args.objects.now in
+    let us = c.args.units.now in
+    let all = all_of c.args.all.now in
+    let fault = c.in_err-add_ceiling.field-0.0 in
+    handed (λ (e : ForceFault). IfBad ((m : Content) (d : Durable) (s : State) → V.holds old m → Precedes h us m d s → ⊥) e)
+    c.from_residual-in_err-add_ceiling.result fault c.from_residual-in_err-add_ceiling.ensures.1 (unread_bad _ _ (λ bad. absurd bad) fault c.in_err-add_ceiling.ensures.bad)
+
+pub returns-in_err-put_both-clause-full : goal.returns-in_err-put_both-clause-full
+returns-in_err-put_both-clause-full g c =
+    let V = g.V.Vault in
+    let old = c.args.vault.now in
+    let h = c.args.objects.now in
+    let us = c.args.units.now in
+    let all = all_of c.args.all.now in
+    let first = c.deref.result.now in
+    let others = c.deref-2.result.now in
+    let known : AreForced (V.holds old) all h us first others = record {
+      first = λ m d s held p. c.deref.ensures.value ∙ c.in_ok-add_ceiling.ensures.told m d s ((c.add_objects.ensures.stays.held m).0 held) p.held;
+      last = λ m d s held p. c.deref-2.ensures.value ∙ c.in_ok-add_objects.ensures.told m d s held p;
+    } in
+    let stays = stays_on old c.add_objects.new.vault c.add_ceiling.new.vault c.add_objects.ensures.stays c.add_ceiling.ensures.stays in
+    let fault = c.in_err-put_both.field-0.0 in
+    handed (λ (e : ForceFault). (m : Content) (d : Durable) (s : State) → V.holds old m → Precedes h us m d s
+    → IsFullFor (new_keys (V.view old).keys (ceiling_changes all (get m) (durable_after all d s)) + new_keys (V.view old).keys (object_changes all (get m) (durable_after all d s))) (V.view old).free e)
+    c.from_residual-in_err-put_both.result fault c.from_residual-in_err-put_both.ensures.1
+    (λ m d s held p. full_known c.requires.numbers known (V.view old) (V.view c.add_ceiling.new.vault) fault m d s held p stays.same c.in_err-put_both.ensures.full)
+
+pub returns-in_err-put_both-clause-during : goal.returns-in_err-put_both-clause-during
+returns-in_err-put_both-clause-during g c = λ m d s held p t n low high left.
+    let V = g.V.Vault in
+    let old = c.args.vault.now in
+    let h = c.args.objects.now in
+    let us = c.args.units.now in
+    let all = all_of c.args.all.now in
+    let first = c.deref.result.now in
+    let others = c.deref-2.result.now in
+    let known : AreForced (V.holds old) all h us first others = record {
+      first = λ m d s held p. c.deref.ensures.value ∙ c.in_ok-add_ceiling.ensures.told m d s ((c.add_objects.ensures.stays.held m).0 held) p.held;
+      last = λ m d s held p. c.deref-2.ensures.value ∙ c.in_ok-add_objects.ensures.told m d s held p;
+    } in
+    let stays = stays_on old c.add_objects.new.vault c.add_ceiling.new.vault c.add_objects.ensures.stays c.add_ceiling.ensures.stays in
+    let begun = subst (λ (v : VaultView). v.moment < t) (sym stays.same) low in
+    let between = subst (λ (v : VaultView). IsBetweenPuts v.shape.most m first others n) stays.same (c.put_both.ensures.during m ((stays.held m).0 held) t n begun high left) in
+    during_known c.requires.numbers known (V.view old).shape.most m n d s held p between
+
+pub returns-in_err-put_both-clause-once : goal.returns-in_err-put_both-clause-once
+returns-in_err-put_both-clause-once g c = λ m d s held p due small t n low high left.
+    let V = g.V.Vault in
+    let old = c.args.vault.now in
+    let h = c.args.objects.now in
+    let us = c.args.units.now in
+    let all = all_of c.args.all.now in
+    let first = c.deref.result.now in
+    let others = c.deref-2.result.now in
+    let known : AreForced (V.holds old) all h us first others = record {
+      first = λ m d s held p. c.deref.ensures.value ∙ c.in_ok-add_ceiling.ensures.told m d s ((c.add_objects.ensures.stays.held m).0 held) p.held;
+      last = λ m d s held p. c.deref-2.ensures.value ∙ c.in_ok-add_objects.ensures.told m d s held p;
+    } in
+    let stays = stays_on old c.add_objects.new.vault c.add_ceiling.new.vault c.add_objects.ensures.stays c.add_ceiling.ensures.stays in
+    let begun = subst (λ (v : VaultView). v.moment < t) (sym stays.same) low in
+    let between = subst (λ (v : VaultView). IsBetweenPuts v.shape.most m first others n) stays.same (c.put_both.ensures.during m ((stays.held m).0 held) t n begun high left) in
+    let most : 1 ≤ (V.view old).shape.most = omega (arith, c.most-most.ensures.limits.0) in
+    once_known c.requires.numbers known (V.view old).shape.most m n d s held p due most small between
+
+pub returns-clause-during : goal.returns-clause-during
+returns-clause-during g c = λ m d s held p t n low high left.
+    let V = g.V.Vault in
+    let old = c.args.vault.now in
+    let h = c.args.objects.now in
+    let us = c.args.units.now in
+    let all = all_of c.args.all.now in
+    let first = c.deref.result.now in
+    let others = c.deref-2.result.now in
+    let known : AreForced (V.holds old) all h us first others = record {
+      first = λ m d s held p. c.deref.ensures.value ∙ c.in_ok-add_ceiling.ensures.told m d s ((c.add_objects.ensures.stays.held m).0 held) p.held;
+      last = λ m d s held p. c.deref-2.ensures.value ∙ c.in_ok-add_objects.ensures.told m d s held p;
+    } in
+    let stays = stays_on old c.add_objects.new.vault c.add_ceiling.new.vault c.add_objects.ensures.stays c.add_ceiling.ensures.stays in
+    let begun = subst (λ (v : VaultView). v.moment < t) (sym stays.same) low in
+    let between = subst (λ (v : VaultView). IsBetweenPuts v.shape.most m first others n) stays.same (c.put_both.ensures.during m ((stays.held m).0 held) t n begun high left) in
+    during_known c.requires.numbers known (V.view old).shape.most m n d s held p between
+
+pub returns-clause-once : goal.returns-clause-once
+returns-clause-once g c = λ m d s held p due small t n low high left.
+    let V = g.V.Vault in
+    let old = c.args.vault.now in
+    let h = c.args.objects.now in
+    let us = c.args.units.now in
+    let all = all_of c.args.all.now in
+    let first = c.deref.result.now in
+    let others = c.deref-2.result.now in
+    let known : AreForced (V.holds old) all h us first others = record {
+      first = λ m d s held p. c.deref.ensures.value ∙ c.in_ok-add_ceiling.ensures.told m d s ((c.add_objects.ensures.stays.held m).0 held) p.held;
+      last = λ m d s held p. c.deref-2.ensures.value ∙ c.in_ok-add_objects.ensures.told m d s held p;
+    } in
+    let stays = stays_on old c.add_objects.new.vault c.add_ceiling.new.vault c.add_objects.ensures.stays c.add_ceiling.ensures.stays in
+    let begun = subst (λ (v : VaultView). v.moment < t) (sym stays.same) low in
+    let between = subst (λ (v : VaultView). IsBetweenPuts v.shape.most m first others n) stays.same (c.put_both.ensures.during m ((stays.held m).0 held) t n begun high left) in
+    let most : 1 ≤ (V.view old).shape.most = omega (arith, c.most-most.ensures.limits.0) in
+    once_known c.requires.numbers known (V.view old).shape.most m n d s held p due most small between
+
+pub returns-clause-holds : goal.returns-clause-holds
+returns-clause-holds g c = λ m d s held p.
+    let V = g.V.Vault in
+    let old = c.args.vault.now in
+    let h = c.args.objects.now in
+    let us = c.args.units.now in
+    let all = all_of c.args.all.now in
+    let first = c.deref.result.now in
+    let others = c.deref-2.result.now in
+    let known : AreForced (V.holds old) all h us first others = record {
+      first = λ m d s held p. c.deref.ensures.value ∙ c.in_ok-add_ceiling.ensures.told m d s ((c.add_objects.ensures.stays.held m).0 held) p.held;
+      last = λ m d s held p. c.deref-2.ensures.value ∙ c.in_ok-add_objects.ensures.told m d s held p;
+    } in
+    let stays = stays_on old c.add_objects.new.vault c.add_ceiling.new.vault c.add_objects.ensures.stays c.add_ceiling.ensures.stays in
+    subst (λ (n : Content). V.holds c.put_both.new.vault n) (put_known c.requires.numbers known m d s held p) (c.in_ok-put_both.ensures.holds m ((stays.held m).0 held))
+
+pub returns-clause-told : goal.returns-clause-told
+returns-clause-told g c = λ n left.
+    let was = c.in_ok-put_both.ensures.told n left in
+    (was.0, (c.add_objects.ensures.stays.held was.0).1 ((c.add_ceiling.ensures.stays.held was.0).1 was.1.0))
+
+pub returns-clause-stands : goal.returns-clause-stands
+returns-clause-stands g c = λ m n d s held left p due.
+    let V = g.V.Vault in
+    let old = c.args.vault.now in
+    let h = c.args.objects.now in
+    let us = c.args.units.now in
+    let all = all_of c.args.all.now in
+    let first = c.deref.result.now in
+    let others = c.deref-2.result.now in
+    let known : AreForced (V.holds old) all h us first others = record {
+      first = λ m d s held p. c.deref.ensures.value ∙ c.in_ok-add_ceiling.ensures.told m d s ((c.add_objects.ensures.stays.held m).0 held) p.held;
+      last = λ m d s held p. c.deref-2.ensures.value ∙ c.in_ok-add_objects.ensures.told m d s held p;
+    } in
+    let stays = stays_on old c.add_objects.new.vault c.add_ceiling.new.vault c.add_objects.ensures.stays c.add_ceiling.ensures.stays in
+    let was = c.in_ok-put_both.ensures.told n left in
+    let same = c.moment-moment.ensures.one was.0 m ((stays.held was.0).1 was.1.0) held in
+    stands_known c.requires.numbers known m n d s held p due (was.1.1 ∙ ap (λ (k : Content). changed (changed k first) others) same)
+
+pub returns-clause-after : goal.returns-clause-after
+returns-clause-after g c = λ m n d s held p left.
+    let V = g.V.Vault in
+    let old = c.args.vault.now in
+    let h = c.args.objects.now in
+    let us = c.args.units.now in
+    let all = all_of c.args.all.now in
+    let first = c.deref.result.now in
+    let others = c.deref-2.result.now in
+    let known : AreForced (V.holds old) all h us first others = record {
+      first = λ m d s held p. c.deref.ensures.value ∙ c.in_ok-add_ceiling.ensures.told m d s ((c.add_objects.ensures.stays.held m).0 held) p.held;
+      last = λ m d s held p. c.deref-2.ensures.value ∙ c.in_ok-add_objects.ensures.told m d s held p;
+    } in
+    let stays = stays_on old c.add_objects.new.vault c.add_ceiling.new.vault c.add_objects.ensures.stays c.add_ceiling.ensures.stays in
+    c.in_ok-put_both.ensures.after m n ((stays.held m).0 held) left ∙ put_known c.requires.numbers known m d s held p
+
+pub returns-in_err-put_both-clause-bad : goal.returns-in_err-put_both-clause-bad
+returns-in_err-put_both-clause-bad g c =
+    let V = g.V.Vault in
+    let old = c.args.vault.now in
+    let h = c.args.objects.now in
+    let us = c.args.units.now in
+    let fault = c.in_err-put_both.field-0.0 in
+    handed (λ (e : ForceFault). IfBad ((m : Content) (d : Durable) (s : State) → V.holds old m → Precedes h us m d s → ⊥) e)
+    c.from_residual-in_err-put_both.result fault c.from_residual-in_err-put_both.ensures.1 (never_bad_put _ fault c.in_err-put_both.ensures.bad)

@@ -1,0 +1,6 @@
+pub mod Forcings
+pub mod Numbers
+pub mod Fronts
+pub mod Putting
+pub mod Outcomes
+pub mod Stepping

@@ -1,0 +1,24 @@
+-- The numbers of the objects that a step forces.
+use Rattle.std.specs.Prelude.{ℕ, ◌==◌, List, [], ◌∷◌, nat_lt, if◌then◌else◌}
+use Rattle.s38_rules.specs.Forcing.{Ceiling, Forced, Header, Removed, Whole}
+
+-- a number in its place among rising ones, once
+unfoldable pub with_number : ℕ → List ℕ → List ℕ
+with_number n [] = n ∷ []
+with_number n (m ∷ ms) = if nat_lt n m then n ∷ m ∷ ms else (if n == m then m ∷ ms else m ∷ with_number n ms)
+
+-- the number that is spoken of, if one is
+abbrev pub with_forced : List ℕ → Forced → List ℕ
+with_forced ns Ceiling = ns
+with_forced ns (Header n) = with_number n ns
+with_forced ns (Whole n) = with_number n ns
+with_forced ns (Removed n) = with_number n ns
+
+-- beside some numbers
+unfoldable pub with_all : List ℕ → List Forced → List ℕ
+with_all ns [] = ns
+with_all ns (one ∷ all) = with_all (with_forced ns one) all
+
+-- in rising order, each once
+abbrev pub numbers : List Forced → List ℕ
+numbers all = with_all [] all

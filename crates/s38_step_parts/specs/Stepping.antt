@@ -1,0 +1,81 @@
+-- What a step puts that forces something: first the ceiling, and then what differs of each object that it forces.
+use Rattle.std.specs.Prelude.{◌≡◌, ◌≤◌, ◌<◌, ℕ, Bool, false, true, List, [], ◌∷◌, Option, None, Some, if◌then◌else◌}
+use Rattle.std.specs.List.{list_any}
+use Rattle.s38_base.specs.declared.page.Change.{Change}
+use Rattle.s38_base.specs.declared.page.Key.{Key}
+use Rattle.s38_base.specs.declared.page.Page.{Page}
+use Rattle.s38_commits.specs.Units.{UnitMap}
+use Rattle.s38_durable.specs.Durable.{Durable, durable_after, kept, kept_after}
+use Rattle.s38_durable.specs.Stands.{Stands, aims_of, put_at}
+use Rattle.s38_forcing.specs.Aims.{all_differences}
+use Rattle.s38_image.specs.Faults.{ceiling_key}
+use Rattle.s38_image.specs.Fitting.{IsImage}
+use Rattle.s38_image.specs.declared.stored.Stored.{Stored}
+use Rattle.s38_object_laws.specs.Outline.{is_forced}
+use Rattle.s38_rules.specs.Forcing.{Ceiling, Forced}
+use Rattle.s38_rules.specs.Held.{Held, object}
+use Rattle.s38_rules.specs.State.{State}
+use Rattle.s38_rules.specs.declared.object.Object.{Object}
+use Rattle.s38_vault.specs.Content.{Content}
+use Rattle.s38_step_parts.specs.Numbers.{numbers}
+
+-- ---- what may be forced
+
+-- the number of an object: neither 0 nor that of the ceiling
+abbrev pub IsNumber : ℕ → Type 0
+IsNumber n = (1 ≤ n) × (n < ceiling_key)
+
+-- the numbers of objects are forced
+abbrev pub AreNumbers : List Forced → Type 0
+AreNumbers all = (n : ℕ) → is_forced n all ≡ true → IsNumber n
+
+-- ---- what is put
+
+abbrev pub is_ceiling : Forced → Bool
+is_ceiling Ceiling = true
+is_ceiling _ = false
+
+-- the number of the ceiling, where it is forced
+abbrev pub ceiling_number : List Forced → List ℕ
+ceiling_number all = if list_any is_ceiling all then ceiling_key ∷ [] else []
+
+-- the ceiling where it differs
+abbrev pub ceiling_changes : List Forced → (Key → Option Page) → Durable → List Change
+ceiling_changes all pages d = all_differences pages (aims_of d (ceiling_number all))
+
+-- of the objects the parts that differ, in the order of their keys
+abbrev pub object_changes : List Forced → (Key → Option Page) → Durable → List Change
+object_changes all pages d = all_differences pages (aims_of d (numbers all))
+
+-- the content behind the put of the ceiling
+abbrev pub put_ceiling : List Forced → Content → Durable → Content
+put_ceiling all m d = put_at (ceiling_number all) m d
+
+-- the content behind all puts
+abbrev pub put_forced : List Forced → Content → Durable → Content
+put_forced all m d = put_at (numbers all) (put_ceiling all m d) d
+
+-- what is durable once the ceiling is put
+abbrev pub raised : Durable → State → Durable
+raised d s = record d { ceiling = s.held.ceiling }
+
+-- what is durable behind the step of an object that is there
+abbrev pub kept_there : List Forced → State → List Stored → Object → Option Stored
+kept_there all s old o = if o.on_disk then Some (kept_after all s (kept old o.number.0) o) else None
+
+-- ---- before the puts
+
+-- the content stands for what is durable, which can be read again, and the state has these objects and units; an object
+-- that is there is kept under its kind
+pub record Precedes (h : Held) (us : UnitMap) (m : Content) (d : Durable) (s : State) : Type 0 where
+  pub held : s.held ≡ h
+  pub units : s.units ≡ us
+  pub stands : Stands m d
+  pub limit : ℕ
+  pub images : (n : ℕ) (x : Stored) → kept d.objects n ≡ Some x → IsImage limit x
+  pub kinds : (n : ℕ) (o : Object) (x : Stored) → object s.held n ≡ Some o → kept d.objects n ≡ Some x → x.object.id.kind ≡ o.id.kind
+
+-- a step led from what is durable to the state, and forces this: what it does not force stays durable
+pub record IsDue (all : List Forced) (d : Durable) (s : State) : Type 0 where
+  pub objects : (n : ℕ) → is_forced n all ≡ false → kept (durable_after all d s).objects n ≡ kept d.objects n
+  pub ceiling : list_any is_ceiling all ≡ false → s.held.ceiling ≡ d.ceiling

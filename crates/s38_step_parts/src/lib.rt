@@ -1,0 +1,16 @@
+//! What one step has a store keep is put: the ceiling, objects whole, the headers and rows of others, and that objects are
+//! gone. Only pages that differ are put, and the ceiling before the others.
+#![tactic(auto)]
+
+mod differing;
+mod fault;
+mod forcing;
+mod numbers;
+mod objects;
+mod parts;
+mod putting;
+mod step;
+
+pub use fault::ForceFault;
+pub use forcing::Forcing;
+pub use step::force;

@@ -1,0 +1,48 @@
+//! The numbers of the objects that a step forces.
+ghost use Rattle.std.specs.Prelude.{◌≡◌, IfOk, OnOk};
+ghost use Rattle.s38_step_parts.specs.Forcings.{all_of, forced_of};
+ghost use Rattle.s38_step_parts.specs.Numbers.{numbers, with_forced, with_number};
+
+use crate::forcing::Forcing;
+use s38_base::NoMemory;
+use std::alloc::Global;
+
+/// Adds a number in its place among rising ones, where it is not there yet.
+fn add_number(into: &mut Vec<u64>, number: u64) -> Result<(), NoMemory>
+    ensures { OnOk result (into.new.items ≡ with_number number into.old.items) }
+{
+    for at in 0..into.len() {
+        let other = into[at];
+        if number <= other {
+            if number < other {
+                into.insert(at, number)?;
+            }
+            return Ok(());
+        }
+    }
+    into.push(number)?;
+    Ok(())
+}
+
+/// Adds the number of the object that is spoken of, if one is.
+fn add_forced(into: &mut Vec<u64>, one: Forcing) -> Result<(), NoMemory>
+    ensures { OnOk result (into.new.items ≡ with_forced into.old.items (forced_of one)) }
+{
+    match one {
+        Forcing::Ceiling => Ok(()),
+        Forcing::Header(object) | Forcing::Whole(object) | Forcing::Removed(object) => {
+            add_number(into, object.0)
+        }
+    }
+}
+
+/// The numbers of the objects that are forced, in rising order, each once.
+pub(crate) fn numbers_of(alloc: Global, all: &[Forcing]) -> Result<Vec<u64>, NoMemory>
+    ensures { IfOk result (λ found. found.items ≡ numbers (all_of all.now)) }
+{
+    let mut found = Vec::new(alloc);
+    for one in all {
+        add_forced(&mut found, *one)?;
+    }
+    Ok(found)
+}

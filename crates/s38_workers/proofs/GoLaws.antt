@@ -1,0 +1,47 @@
+-- How far a job has come behind one event.
+use Rattle.std.proofs.Common.{◌≡◌, ℕ, List, [], ◌∷◌, ◌++◌, refl, sym, ap, ◌∙◌, subst}
+use Rattle.std.specs.Prelude.{Option, Some, None, Result, Ok, Err}
+use Rattle.s38_code.specs.declared.entry.Entry.{Entry}
+use Rattle.s38_code.specs.declared.made.CreateResult.{CreateResult}
+use Rattle.s38_code.specs.declared.step.StepFault.{StepFault}
+use Rattle.s38_code.specs.declared.step.StepFault.TheVariants as faults
+use Rattle.s38_process.specs.Process.{ProcessState, RanFrom, absorbed, behind, fresh}
+use Rattle.s38_workers.specs.declared.hearer.Heard.{Heard}
+use Rattle.s38_workers.specs.declared.hearer.Hearer.{Hearer}
+use Rattle.s38_workers.specs.declared.runner.Progress.{Progress}
+use Rattle.s38_workers.specs.declared.runner.Progress.TheVariants.{Running}
+use Rattle.s38_workers.specs.Asking.{StandsTold, Went}
+use Rattle.s38_workers.specs.Going.{IsSoFar, Moved, Stands, progress_behind}
+
+-- ---- the entries of a process
+
+ran_append : (d : ProcessState) (es more : List Entry) → RanFrom d es → RanFrom (behind d es) more → RanFrom d (es ++ more)
+ran_append d [] more ran next = next
+ran_append d (e ∷ es) more ran next = (ran.0, ran_append (absorbed d e.reply) es more ran.1 next)
+
+behind_append : (d : ProcessState) (es more : List Entry) → behind d (es ++ more) ≡ behind (behind d es) more
+behind_append d [] more = refl
+behind_append d (e ∷ es) more = behind_append (absorbed d e.reply) es more
+
+-- ---- one event
+
+so_far_told : (Halted : Type 0) (there d : ProcessState) (hearer : Hearer) (answer : Result (Option Heard) StepFault) → StandsTold Halted there answer hearer.process → IsSoFar Halted there (progress_behind answer (Running hearer)) d
+so_far_told Halted there d hearer (Ok (Some heard)) s = s
+so_far_told Halted there d hearer (Ok None) s = s
+so_far_told Halted there d hearer (Err faults.Stopped) s = s
+so_far_told Halted there d hearer (Err faults.NoMemory) s = s
+
+stands_on : (Halted : Type 0) (made : CreateResult) (budget : ℕ) (h h' : Hearer) (answer : Result (Option Heard) StepFault) (es es' : List Entry) → Went Halted h.process es answer h'.process es' → Stands Halted made budget es (Running h)
+    → Stands Halted made budget es' (progress_behind answer (Running h'))
+stands_on Halted made budget h h' answer es es' w s = record {
+  by_program = subst (RanFrom (fresh made budget)) (sym w.now) (ran_append (fresh made budget) es w.added s.by_program (subst (λ x. RanFrom x w.added) s.so_far w.by_program));
+  so_far = subst (λ there. IsSoFar Halted there (progress_behind answer (Running h')) (fresh made budget))
+      (ap (λ x. behind x w.added) s.so_far ∙ (sym (behind_append (fresh made budget) es w.added) ∙ ap (behind (fresh made budget)) (sym w.now)))
+      (so_far_told Halted (behind h.process w.added) (fresh made budget) h' answer w.stands);
+}
+
+pub moved : (Halted : Type 0) (h h' : Hearer) (answer : Result (Option Heard) StepFault) (es es' : List Entry) (old new : Progress) → old ≡ Running h → new ≡ progress_behind answer (Running h') → Went Halted h.process es answer h'.process es'
+    → Moved Halted old es new es'
+moved Halted h h' answer es es' old new was is w = record {
+  stands = λ made budget s. subst (Stands Halted made budget es') (sym is) (stands_on Halted made budget h h' answer es es' w (subst (Stands Halted made budget es) was s));
+}

@@ -1,0 +1,6 @@
+pub mod AskLaws
+pub mod GoLaws
+pub mod ListLaws
+pub mod GatherLaws
+pub mod RunLaws
+pub mod StillLaws

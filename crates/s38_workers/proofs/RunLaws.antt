@@ -1,0 +1,67 @@
+-- Whole runs: what the entries of each job are, by how far the jobs have come.
+use Rattle.std.proofs.Common.{◌≡◌, ◌≢◌, ℕ, ◌+◌, ◌<◌, true, List, [], ◌∷◌, All, length, slice_index_or, subst, arith}
+use Rattle.std.proofs.lemmas.List.Elements.{All-get_or}
+use Rattle.std.proofs.lemmas.Option.{slice_get_within}
+use Rattle.std.specs.Prelude.{Some, slice_get}
+use Rattle.s38_code.specs.declared.deck.Job.{Job}
+use Rattle.s38_code.specs.declared.entry.Entry.{Entry}
+use Rattle.s38_code.specs.declared.made.CreateResult.{CreateResult}
+use Rattle.s38_code.specs.declared.step.StepFault.TheVariants.{Stopped}
+use Rattle.s38_code.specs.History.{entries_of}
+use Rattle.s38_process.specs.declared.status.Status.TheVariants.{Fresh, Ended}
+use Rattle.s38_process.specs.Process.{ProcessState, RanFrom, absorbed, behind, ends_by_finish, fresh}
+use Rattle.s38_run.specs.Whole.{AllRan}
+use Rattle.s38_run.proofs.Asking.{asks_open, ends_asking}
+use Rattle.s38_run.proofs.TurnLaws.{there_is}
+use Rattle.s38_workers.specs.declared.runner.Runner.{Runner}
+use Rattle.s38_workers.specs.Going.{IsSoFar, Stands}
+use Rattle.s38_workers.specs.Runs.{AllByProgram, HasFailed, IsOver}
+
+-- a process that has ended ended by asking for its end
+ends : (d : ProcessState) (es : List Entry) → d.status ≢ Ended → RanFrom d es → (behind d es).status ≡ Ended → ends_by_finish es ≡ true
+ends d [] going ran over = absurd (going over)
+ends d (e ∷ []) going ran over = ends_asking d e.event e.reply ran.0 over
+ends d (e ∷ f ∷ es) going ran over = ends (absorbed d e.reply) (f ∷ es) (asks_open (absorbed d e.reply) f.event ran.1.0) ran.1 over
+
+fresh_goes : (one : CreateResult) (budget : ℕ) → (fresh one budget).status ≢ Ended
+fresh_goes one budget = λ h. apart h
+  where
+    apart : Fresh ≡ Ended → ⊥
+    apart g = cc
+
+module _ {M : Type 0} (Halted : Type 0) (made : List CreateResult) (jobs : List Job) (runners : List (Runner M)) (history : List Entry) (count : length runners ≡ length jobs)
+    (stands : (k : ℕ) (d : Runner M) (job : Job) (one : CreateResult) → k < length runners → slice_get jobs k ≡ Some job → slice_get made k ≡ Some one → Stands Halted one job.budget (entries_of (k + 1) history) (slice_index_or runners k d).progress) where
+  at : (k : ℕ) → k < length runners → Runner M
+  at k lt = head runners (omega (arith, lt))
+    where
+      head : (xs : List (Runner M)) → 0 < length xs → Runner M
+      head [] none = absurd (omega (arith, none))
+      head (x ∷ xs) some = x
+
+  within : (k : ℕ) (job : Job) → slice_get jobs k ≡ Some job → k < length runners
+  within k job job_at = let lt = slice_get_within jobs k job job_at in omega (arith, lt, count)
+
+  pub all_by_program : AllByProgram made jobs history
+  all_by_program = record { each = λ k job one job_at one_at. let lt = within k job job_at in (stands k (at k lt) job one lt job_at one_at).by_program }
+
+  pub all_ran : All IsOver runners → AllRan made jobs history
+  all_ran over = record {
+    each = λ k job one job_at one_at.
+        let lt : k < length runners = within k job job_at in
+        let d = at k lt in
+        let s = stands k d job one lt job_at one_at in
+        let is = (All-get_or IsOver runners k d lt over).is in record {
+          by_program = s.by_program;
+          whole = ends (fresh one job.budget) (entries_of (k + 1) history) (fresh_goes one job.budget) s.by_program
+              (subst (λ progress. IsSoFar Halted (behind (fresh one job.budget) (entries_of (k + 1) history)) progress (fresh one job.budget)) is s.so_far);
+        };
+  }
+
+  pub halted : length made ≡ length jobs → HasFailed Stopped runners → Halted
+  halted same f =
+      let lt = f.within in
+      let job = there_is jobs f.place (omega (arith, lt, count)) in
+      let one = there_is made f.place (omega (arith, lt, count, same)) in
+      let d = at f.place lt in
+      let s = stands f.place d job.0 one.0 lt job.1 one.1 in
+      subst (λ progress. IsSoFar Halted (behind (fresh one.0 job.0.budget) (entries_of (f.place + 1) history)) progress (fresh one.0 job.0.budget)) (f.is d) s.so_far

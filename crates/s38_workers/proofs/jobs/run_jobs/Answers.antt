@@ -1,0 +1,32 @@
+use Rattle.std.proofs.Common.{◌∙◌, sym, ap, subst}
+use Rattle.std.specs.Prelude.{Ok}
+use Rattle.s38_turn.specs.Lists.{empty_lists}
+use Rattle.s38_workers.specs.Asking.{WasStopped}
+use Rattle.s38_workers.specs.Runs.{AreLeft}
+use Rattle.s38_workers.proofs.ListLaws.{first_left}
+use Rattle.s38_workers.proofs.RunLaws.{all_by_program, all_ran, halted}
+use Rattle.s38_workers.proofs.jobs.run_jobs.Goals as goal
+
+pub all_seated-requires-clause-left : goal.all_seated-requires-clause-left
+all_seated-requires-clause-left g c =
+    let e = c.in_ok-turn.ensures in
+    let people = c.in_ok-turn.turn.processes in
+    subst (AreLeft people 0) (sym (e.lists ∙ ap empty_lists (sym e.processes))) (first_left people)
+
+pub returns-clause-by_program : goal.returns-clause-by_program
+returns-clause-by_program g c =
+    let S = g.M.Stepper in
+    all_by_program (WasStopped S.is_sound S.origin S.steps c.in_ok-turn.turn.machine) c.args.made.now c.args.jobs.now c.passes_of.new.runners.items (S.history c.closed.result) (c.in_ok-end.ensures.count ∙ c.in_ok-runners.ensures.count) c.closed.ensures.stands
+
+pub returns-clause-complete : goal.returns-clause-complete
+returns-clause-complete g c e =
+    let S = g.M.Stepper in
+    all_ran (WasStopped S.is_sound S.origin S.steps c.in_ok-turn.turn.machine) c.args.made.now c.args.jobs.now c.passes_of.new.runners.items (S.history c.closed.result) (c.in_ok-end.ensures.count ∙ c.in_ok-runners.ensures.count) c.closed.ensures.stands
+    (c.passes_of.ensures.complete (c.in_ok-end.was ∙ ap (λ x. Ok x) e))
+
+pub returns-clause-stopped : goal.returns-clause-stopped
+returns-clause-stopped g c e =
+    let S = g.M.Stepper in
+    subst (λ m. WasStopped S.is_sound S.origin S.steps m) c.in_ok-turn.ensures.machine
+    (halted (WasStopped S.is_sound S.origin S.steps c.in_ok-turn.turn.machine) c.args.made.now c.args.jobs.now c.passes_of.new.runners.items (S.history c.closed.result) (c.in_ok-end.ensures.count ∙ c.in_ok-runners.ensures.count) c.closed.ensures.stands
+    c.requires.made (c.passes_of.ensures.stopped (c.in_ok-end.was ∙ ap (λ x. Ok x) e)))

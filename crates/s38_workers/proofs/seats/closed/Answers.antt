@@ -1,0 +1,30 @@
+use Rattle.std.proofs.Common.{arith, ◌≡◌, ◌+◌, ◌-◌, ◌<◌, length, slice_index_or, true, sym, ap, subst, ◌∙◌}
+use Rattle.s38_code.specs.History.{entries_of}
+use Rattle.s38_turn.specs.Items.{items, entries_in}
+use Rattle.s38_turn.specs.Lists.{has, list_of}
+use Rattle.s38_turn.proofs.HistoryLaws.{entries_are, own_entries}
+use Rattle.s38_workers.specs.Asking.{WasStopped}
+use Rattle.s38_workers.specs.Going.{Stands}
+use Rattle.s38_workers.proofs.GatherLaws.{head_of}
+use Rattle.s38_workers.proofs.seats.closed.Goals as goal
+
+pub close-requires-clause-all : goal.close-requires-clause-all
+close-requires-clause-all g c p pos le =
+    let made = c.gather_all.ensures in
+    let none = made.1 in
+    let count = c.requires.count in
+    let lt : p - 1 < length c.args.runners.items = omega (arith, pos, le, count) in
+    let d = head_of c.args.runners.items (omega (arith, lt)) in
+    let p_is : p - 1 + 1 ≡ p = omega (arith, pos) in
+    subst (λ q. has q c.gather_all.new.seat.lists ≡ true) p_is (made.2.each (p - 1) d (omega (arith, none)) lt).has_it
+
+pub returns-clause-stands : goal.returns-clause-stands
+returns-clause-stands g c k d job one lt job_at one_at =
+    let S = g.M.Stepper in
+    let made = c.gather_all.ensures in
+    let none = made.1 in
+    let run = made.2.each k d (omega (arith, none)) lt in
+    let m = c.close.result in
+    let own : entries_in (list_of (k + 1) c.gather_all.new.seat.lists) ≡ entries_of (k + 1) (S.history m) =
+    ap entries_in (sym (c.close.ensures.lists (k + 1))) ∙ (own_entries (k + 1) (items (S.history m) (S.stopped m)) ∙ ap (entries_of (k + 1)) (entries_are (S.history m) (S.stopped m))) in
+    subst (λ es. Stands (WasStopped S.is_sound S.origin S.steps c.args.turn.machine) one job.budget es (slice_index_or c.args.runners.items k d).progress) own (run.stands job one job_at one_at)

@@ -1,0 +1,51 @@
+-- What a process asks of the machine that it shares, and what it is told.
+use Rattle.std.specs.Prelude.{◌≡◌, ℕ, ◌<◌, ◌≤◌, List, ◌++◌, Option, Some, None, Result, Ok, Err, ⊤}
+use Rattle.s38_base.specs.declared.fault.NoMemory.{NoMemory}
+use Rattle.s38_code.specs.declared.entry.Entry.{Entry}
+use Rattle.s38_code.specs.declared.event.Event.{Event}
+use Rattle.s38_code.specs.declared.reply.Reply.{Reply}
+use Rattle.s38_code.specs.declared.step.StepFault.{StepFault}
+use Rattle.s38_code.specs.declared.step.StepFault.TheVariants as faults
+use Rattle.s38_process.specs.declared.status.Status.TheVariants.{Ended}
+use Rattle.s38_process.specs.Process.{ProcessState, RanFrom, behind}
+use Rattle.s38_turn.specs.declared.view.ProcessList.{ProcessList}
+use Rattle.s38_turn.specs.Calls.{IsLike}
+use Rattle.s38_turn.specs.Lists.{has}
+use Rattle.s38_workers.specs.declared.hearer.Heard.{Heard}
+
+-- each process from 1 to n may ask everything
+abbrev pub AllMayAsk : {O : Type 0} → (O → ℕ → Event → List Entry → Type 0) → O → ℕ → Type 0
+AllMayAsk may_ask origin n = (process : ℕ) (event : Event) (entries : List Entry) → 0 < process → process ≤ n → may_ask origin process event entries
+
+-- a seat has the processes that it had
+abbrev pub HasSame : List ProcessList → List ProcessList → Type 0
+HasSame old new = (process : ℕ) → has process new ≡ has process old
+
+-- a step of a machine like the first was answered Stopped
+pub record WasStopped {M O : Type 0} (sound : M → Type 0) (origin : M → O) (steps : M → ℕ → Event → Result Reply StepFault → M → Type 0) (first : M) : Type 0 where
+  pub before : M
+  pub after : M
+  pub process : ℕ
+  pub event : Event
+  pub like_first : IsLike sound origin first before
+  pub stepped : steps before process event (Err faults.Stopped) after
+
+-- what a call is for a process, by what it heard
+abbrev pub told : Result ⊤ StepFault → Result Heard NoMemory → Result (Option Heard) StepFault
+told (Err fault) heard = Err fault
+told (Ok done) (Err fault) = Err faults.NoMemory
+told (Ok done) (Ok heard) = Ok (Some heard)
+
+-- how a process stands that its entries have brought there; Halted says that the machine has stopped
+abbrev pub StandsTold : Type 0 → ProcessState → Result (Option Heard) StepFault → ProcessState → Type 0
+StandsTold Halted there (Ok (Some heard)) d = d ≡ there
+StandsTold Halted there (Ok None) d = there.status ≡ Ended
+StandsTold Halted there (Err faults.Stopped) d = Halted
+StandsTold Halted there (Err faults.NoMemory) d = Unit {0}
+
+-- the entries of a process went on by what it asks, and it went on by the replies
+pub record Went (Halted : Type 0) (d : ProcessState) (entries : List Entry) (answer : Result (Option Heard) StepFault) (d' : ProcessState) (entries' : List Entry) : Type 0 where
+  pub added : List Entry
+  pub by_program : RanFrom d added
+  pub now : entries' ≡ entries ++ added
+  pub stands : StandsTold Halted (behind d added) answer d'

@@ -1,0 +1,5 @@
+pub mod Hearing
+pub mod Asking
+pub mod Going
+pub mod Runs
+pub mod Still

@@ -1,0 +1,12 @@
+/// What is done before each shared event. All workers share it.
+pub trait Gate {
+    /// Is called before a process asks for an event, outside the turn.
+    fn before(&self, process: u32);
+}
+
+/// Does nothing.
+pub struct NoGate;
+
+impl Gate for NoGate {
+    fn before(&self, _process: u32) {}
+}

@@ -1,0 +1,17 @@
+//! Runs on threads: the jobs of a deck, whose processes share one machine by a turn.
+#![tactic(auto)]
+
+mod gate;
+mod going;
+mod hearer;
+mod jobs;
+mod machine;
+mod passes;
+mod run_end;
+mod runner;
+mod seats;
+
+pub use gate::{Gate, NoGate};
+pub use jobs::run_jobs;
+pub use machine::run_machine;
+pub use run_end::RunEnd;

@@ -1,0 +1,9 @@
+//! Runs on threads, over machines that are told what to answer.
+#![tactic(auto)]
+
+#[cfg(test)]
+mod given;
+#[cfg(test)]
+mod meeting;
+#[cfg(test)]
+mod runs;
