@@ -75,18 +75,19 @@ class Log:
                 self.fault = f"{self.last} is not the number of the entries: lines are missing, or there twice"
 
     def take(self, number, line):
-        head, entry, checked = HEAD.fullmatch(line), ENTRY.fullmatch(line), CHECKED.fullmatch(line)
+        entry = ENTRY.fullmatch(line)  # which no other line is
+        head, checked = (None, None) if entry else (HEAD.fullmatch(line), CHECKED.fullmatch(line))
         if self.last is not None:
             self.fault = self.fault or f"line {number} of the log is after its last line: {shown(line)}"
+        elif entry and self.jobs:
+            words = entry[3].split(" ") if entry[3] else []
+            self.jobs[-1].entries.append(Entry(number, int(entry[1]), self.jobs[-1], entry[2], words))
         elif status_of(line) is not None:
             self.last = line
         elif JOBS.fullmatch(line):
             return
         elif head:
             self.jobs.append(JobLog(number, int(head[1]), head[2], head[3]))
-        elif entry and self.jobs:
-            words = entry[3].split(" ") if entry[3] else []
-            self.jobs[-1].entries.append(Entry(number, int(entry[1]), self.jobs[-1], entry[2], words))
         elif checked:
             self.checked.append((checked[1], checked[3], int(checked[4] or 0)))
         else:

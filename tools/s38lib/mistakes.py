@@ -1,5 +1,17 @@
-"""Decks and logs with mistakes."""
+"""Decks and logs with mistakes, and how many of what is drawn."""
+import random
 import re
+
+
+def drawn_by(words, count):
+    """The count and the seed that the words `--count N` and `--seed N` say, and without them this count and any seed; nothing
+    where they are other words."""
+    said = {"--count": count, "--seed": random.randrange(1_000_000)}
+    for word, number in zip(words[::2], words[1::2]):
+        if word not in said or not re.fullmatch("[0-9]{1,9}", number):
+            return None
+        said[word] = int(number)
+    return None if len(words) % 2 else (said["--count"], said["--seed"])
 
 
 def mutated(random_of, data):

@@ -5,11 +5,11 @@ use Rattle.std.specs.declared.io.ErrorKind.{ErrorKind}
 use Rattle.std.specs.declared.io.ErrorKind.TheVariants as kinds
 use Rattle.s38_code.specs.declared.entry.Entry.{Entry}
 use Rattle.s38_disk.specs.Disk.{DiskView}
-use Rattle.s38_disk.specs.Files.{file_view}
+use Rattle.s38_disk.specs.Files.{FileStore, file_view}
 use Rattle.s38_top.specs.declared.outcome.Outcome.{Outcome}
 use Rattle.s38_top.specs.declared.outcome.Outcome.TheVariants as outcomes
 use Rattle.s38_top.specs.Commands.{command_of}
-use Rattle.s38_top.specs.Outcome.{Ends, IsGood, IsServedBy, IsTold, Serves}
+use Rattle.s38_top.specs.Outcome.{IsAnswered, IsTold}
 use Rattle.s38_top.specs.Outside.{Outside, outside}
 use Rattle.s38.specs.declared.refusal.Refusal.{Refusal}
 use Rattle.s38.specs.declared.refusal.Refusal.TheVariants.{BadWords, DiskFault, NoMemory}
@@ -25,19 +25,20 @@ outcome_of BadWords = outcomes.BadWords
 outcome_of DiskFault = outcomes.DiskFault
 outcome_of NoMemory = outcomes.NoMemory
 
--- some history, some marks and some disk are what the words come to; with status 0 the history is what their command
--- promises; and a good call is served, unless memory is wanted, or what a run leaves finds no room
+-- the words come to some history, some marks and some disk: each status has its cause, status 0 what their command promises,
+-- and a good call is served
 pub record EndsSomehow (words : List (List ℕ)) (old : Outside) (left : Option (List ℕ)) (taken : ℕ) (written : Option (List ℕ)) (put status : ℕ) : Type 0 where
   pub history : List Entry
   pub marks : List ℕ
   pub disk : DiskView
-  pub ends : Ends words old (outside left taken written put disk) status history marks
-  pub serves : status ≡ 0 → Serves (command_of words) old (outside left taken written put disk) history
-  pub good : IsGood words old (outside left taken written put disk) → IsServedBy status
+  pub answered : IsAnswered (command_of words) old (outside left taken written put disk) status history marks
 
 -- a file that was just opened
+abbrev pub fresh_store : FileStore
+fresh_store = record { moment = 0; faults = 0; sound = true }
+
 abbrev pub fresh_file : DiskView
-fresh_file = file_view (record { moment = 0; faults = 0; sound = true })
+fresh_file = file_view fresh_store
 
 -- without a path the words are bad, and nothing is read; where the file of the path can't be opened nothing is read either
 abbrev pub IsServed : List (List ℕ) → Option (List ℕ) → Option (List ℕ) → ℕ → ℕ → Option (List ℕ) → Option (List ℕ) → ℕ → ℕ → ℕ → Type 0

@@ -26,16 +26,16 @@ use Rattle.s38_vault.specs.Content.{AreRising}
 use Rattle.s38_vault.specs.Keys.{IsBefore}
 
 -- a part of a number, from one on, before another
-record IsPart (object first until : ℕ) (c : Change) : Type 0 where
-  of_it : c.key.object ≡ object
-  from : first ≤ c.key.part
-  before : c.key.part < until
+pub record IsPart (object first until : ℕ) (c : Change) : Type 0 where
+  pub of_it : c.key.object ≡ object
+  pub from : first ≤ c.key.part
+  pub before : c.key.part < until
 
-record ArePart (object first until : ℕ) (cs : List Change) : Type 0 where
-  each : AllByRecursion (IsPart object first until) cs
-  rising : AreRising cs
+pub record ArePart (object first until : ℕ) (cs : List Change) : Type 0 where
+  pub each : AllByRecursion (IsPart object first until) cs
+  pub rising : AreRising cs
 
-rising_on : (c : Change) (cs : List Change) → AllByRecursion (λ d. IsBefore c.key d.key) cs → AreRising cs → AreRising (c ∷ cs)
+pub rising_on : (c : Change) (cs : List Change) → AllByRecursion (λ d. IsBefore c.key d.key) cs → AreRising cs → AreRising (c ∷ cs)
 rising_on c [] h rising = tt
 rising_on c (d ∷ cs) h rising = (h.0, rising)
 
@@ -56,7 +56,7 @@ numbered_parts object first zero xs tags = record { each = tt; rising = tt }
 numbered_parts object first (suc n) xs [] = one_more object first n _ _ refl refl (numbered_parts object (first + 1) n _ [])
 numbered_parts object first (suc n) xs (t ∷ tags) = one_more object first n _ _ refl refl (numbered_parts object (first + 1) n _ tags)
 
-stream_part : (object first until : ℕ) (bytes tags : List ℕ) → first + needed (length bytes) ≤ until → ArePart object first until (stream_parts object first bytes tags)
+pub stream_part : (object first until : ℕ) (bytes tags : List ℕ) → first + needed (length bytes) ≤ until → ArePart object first until (stream_parts object first bytes tags)
 stream_part object first until bytes tags fits =
     let n = needed (length bytes) in
     let all = numbered_parts object first n (filled (512 * n) bytes) tags in
@@ -70,7 +70,7 @@ rising_both object middle (c ∷ []) ds low high first last =
     rising_on c ds (all_of _ _ ds (λ d h. part_below c.key d.key (low.0.0 ∙ sym h.0) (omega (arith, low.0.1, h.1))) high) last
 rising_both object middle (c ∷ d ∷ cs) ds low high first last = (first.0, rising_both object middle (d ∷ cs) ds low.1 high first.1 last)
 
-both_parts : (object first middle until : ℕ) (cs ds : List Change) → first ≤ middle → middle ≤ until → ArePart object first middle cs → ArePart object middle until ds → ArePart object first until (cs ++ ds)
+pub both_parts : (object first middle until : ℕ) (cs ds : List Change) → first ≤ middle → middle ≤ until → ArePart object first middle cs → ArePart object middle until ds → ArePart object first until (cs ++ ds)
 both_parts object first middle until cs ds low high a b = record {
   each =
       all_on (IsPart object first until) cs ds
@@ -82,7 +82,7 @@ both_parts object first middle until cs ds low high a b = record {
 
 -- ---- an object
 
-needed_most : (len most : ℕ) → len ≤ 512 * most → needed len ≤ most
+pub needed_most : (len most : ℕ) → len ≤ 512 * most → needed len ≤ most
 needed_most len most h = omega arith
 
 pub object_wanted : (units : UnitMap) (last : ℕ) (o : Object) (len : ℕ) → IsTrue (is_name o.id.name) → length o.rows ≤ 4096
@@ -108,7 +108,7 @@ object_wanted units last o len named few long short =
 -- ---- the ceiling
 
 -- where all tags are 0 none need be said
-zero_tags : (number first k : ℕ) (pages : List (List ℕ)) → numbered number first pages (copies k 0) ≡ numbered number first pages []
+pub zero_tags : (number first k : ℕ) (pages : List (List ℕ)) → numbered number first pages (copies k 0) ≡ numbered number first pages []
 unfolding numbered copies
 zero_tags number first k [] = refl
 zero_tags number first zero (xs ∷ pages) = refl

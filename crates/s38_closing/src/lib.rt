@@ -8,4 +8,5 @@ mod parts;
 
 pub use closing::close;
 pub use first::first_changes;
+pub use parts::{CEILING_KEY, ceiling_parts, whole_parts};
 pub use s38_keeping::KeepFault as CloseFault;

@@ -21,7 +21,7 @@ use s38_rules::{Object, Port};
 use std::alloc::Global;
 
 /// The number under which the ceiling stands.
-pub(crate) const CEILING_KEY: u64 = u64::MAX;
+pub const CEILING_KEY: u64 = u64::MAX;
 /// The mark of the ceiling's page.
 const CEILING_MARK: u32 = 0x5333_3843;
 /// How many bytes a page has.
@@ -58,7 +58,7 @@ fn last_of(objects: &Objects, space: ObjNum) -> u64
 }
 
 /// The parts of an object as it stands.
-pub(crate) fn whole_parts(
+pub fn whole_parts(
     alloc: Global,
     objects: &Objects,
     units: &Units,
@@ -98,7 +98,7 @@ fn put_ceiling(into: &mut PageWriter, ceiling: u64)
 }
 
 /// The parts of the ceiling.
-pub(crate) fn ceiling_parts(alloc: Global, ceiling: u64) -> Result<Vec<Change>, NoMemory>
+pub fn ceiling_parts(alloc: Global, ceiling: u64) -> Result<Vec<Change>, NoMemory>
     ensures parts { IfOk result (λ parts. parts.items ≡ ceiling_parts ceiling) }
     ensures wanted { IfOk result (λ parts. IsWanted (short_range ceiling_key) parts.items) }
 {

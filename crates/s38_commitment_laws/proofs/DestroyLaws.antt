@@ -199,7 +199,7 @@ right_space_gone h units n right none = gone_right h units kinds.DataSpace n rig
 -- ---- a port
 
 -- an object that is found passes no test that none passes
-found_not : (test : Object → Bool) (n : ℕ) (os : List Object) (x : Object) → object_in os n ≡ Some x → list_any test os ≡ false → test x ≡ false
+pub found_not : (test : Object → Bool) (n : ℕ) (os : List Object) (x : Object) → object_in os n ≡ Some x → list_any test os ≡ false → test x ≡ false
 found_not test n [] x found none = cc
 found_not test n (y ∷ ys) x found none = by (found_not test n ys x) (y.number.0 == n) (test y) refl found none
   where
@@ -258,7 +258,7 @@ journal_body (bodies.Journal x) is = (refl, refl, refl)
 journal_body _ is = cc
 
 -- a port behind which the journal space stands leads to it
-leads_not : (h : Held) (n port : ℕ) (x : Option Object) → object h port ≡ x → is_attached h n ≡ false → journal_named h (part_in port_part x) ≡ Some n → ⊥
+pub leads_not : (h : Held) (n port : ℕ) (x : Option Object) → object h port ≡ x → is_attached h n ≡ false → journal_named h (part_in port_part x) ≡ Some n → ⊥
 leads_not h n port None found none leads = cc
 leads_not h n port (Some o) found none leads = by o.body (found_not (leads_to n) port h.objects o found none) leads
   where

@@ -144,7 +144,7 @@ apart_ended units block rising apart one other space at first second = apart one
 
 -- ---- who has changed an entry
 
-found_is : (P : Both → Type 0) (test : Both → Bool) (es : UnitMap) (e : Both) → All P es → find test es ≡ Some e → P e × (test e ≡ true)
+pub found_is : (P : Both → Type 0) (test : Both → Bool) (es : UnitMap) (e : Both) → All P es → find test es ≡ Some e → P e × (test e ≡ true)
 found_is P test [] e all h = cc
 found_is P test (x ∷ xs) e all h = by (found_is P test xs e (All-tail P x xs all)) (test x) refl h
   where
@@ -163,7 +163,7 @@ all_off space at (e ∷ es) none = by (all_off space at es) (has_change space at
     by rest true is h = absurd (some_none e h)
     by rest false is h = All-cons (HasNot space at) e es is (rest h)
 
-none_is : (space at k : ℕ) (es : UnitMap) → owner es space at ≡ None → changes_entry (unit_of es k) space at ≡ true → ⊥
+pub none_is : (space at k : ℕ) (es : UnitMap) → owner es space at ≡ None → changes_entry (unit_of es k) space at ≡ true → ⊥
 none_is space at k es none h = by (unit_of es k) refl h
   where
     by : (r : Option CommitUnit) → unit_of es k ≡ r → changes_entry r space at ≡ true → ⊥

@@ -1,10 +1,10 @@
-mod ChangeLaws
-mod DestroyLaws
-mod EndLaws
-mod EntryLaws
-mod HeldLaws
-mod JoinLaws
-mod KeptLaws
-mod RowLaws
+pub mod ChangeLaws
+pub mod DestroyLaws
+pub mod EndLaws
+pub mod EntryLaws
+pub mod HeldLaws
+pub mod JoinLaws
+pub mod KeptLaws
+pub mod RowLaws
 pub mod StepLaws
-mod UnitLaws
+pub mod UnitLaws

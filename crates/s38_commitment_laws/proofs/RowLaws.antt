@@ -121,7 +121,7 @@ May s p (Gone kind n) = IsUnnamedBy s kind n
 May s p (Then a b) = May s p a × May (done s p a) p b
 May s p _ = Unit {0}
 
-done_right : (x : Changes) (s : State) (p : ℕ) → IsRight s → May s p x → IsRight (done s p x)
+pub done_right : (x : Changes) (s : State) (p : ℕ) → IsRight s → May s p x → IsRight (done s p x)
 done_right Stays s p right may = right
 done_right (OnQueue n f) s p right may = right_carried s.held _ s.units right (other_carries queue_part queue_lawful queue_other s.held n f)
 done_right (OnIndex n f) s p right may = right_carried s.held _ s.units right (other_carries index_part index_lawful index_other s.held n f)
@@ -267,7 +267,7 @@ row_may _ op = λ s p d t right e. tt
 
 -- ---- the value that comes back
 
-value_carries : (h : Held) (n at : ℕ) (v : Val) → Carries h (put_value h n at v)
+pub value_carries : (h : Held) (n at : ℕ) (v : Val) → Carries h (put_value h n at v)
 value_carries h n at (vals.Bytes bytes) = space_carries h n (with_bytes at bytes)
 value_carries h n at (vals.Ptr p) = space_carries h n (with_pointer at p)
 value_carries h n at _ = carries_same h

@@ -1,4 +1,4 @@
 pub mod EventLaws
-mod OutlineLaws
+pub mod OutlineLaws
 mod RowLaws
 mod WordLaws

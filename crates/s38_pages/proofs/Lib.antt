@@ -12,3 +12,4 @@ pub mod Scanning
 pub mod Tallies
 pub mod Trees
 pub mod VaultLemmas
+pub mod Watching

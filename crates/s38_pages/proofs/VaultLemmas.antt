@@ -31,7 +31,7 @@ use Rattle.s38_blocks.proofs.Again.{targets_home}
 use Rattle.s38_pages.specs.Index.{AreFreeHomes, Homes, Index, Indexed, Planned, Tallied, freed, marked, page_at}
 use Rattle.s38_pages.proofs.Giving.{Given, freed_target}
 use Rattle.s38_pages.specs.Mounts.{layout_of}
-use Rattle.s38_pages.specs.Vaults.{IsVault, HoldsNow, LeavesAt, IsOneOf, Tells}
+use Rattle.s38_pages.specs.Vaults.{IsVault, HoldsNow, IsWhole, LeavesAt, IsOneOf, Tells}
 use Rattle.s38_pages.proofs.Contents.{holds_indexed, indexed_same, key_same}
 
 module _ (lay : Layout) (old now : Index) (used : ℕ → Bool) (es : List Slot) (cs : List Change) (p : Planned lay old now used es cs) where
@@ -160,6 +160,20 @@ told_moments {lay} {v} {w} {homes} {cs = cs} r x m holds t n low high left =
     let g = left.2.0 in
     let both = (moments_of x s holds.1.1 t left.0 low high left.1).each m told.0 holds.1.2 d g left.2.1 in
     ⊎_elim (λ a. inl (stands_one lay g n m left.2.2 a)) (λ b. inr (stands_one lay g n (changed m cs) left.2.2 b)) both
+
+-- whatever a put comes to, each image mounts
+pub put_whole : {lay : Layout} {v w : DiskView} {homes : Homes} {used : List Bool} {slots : List Slot} {capacity most : ℕ} {good : Bool} {cs : List Change} → IsVault lay v homes used slots capacity good → good ≡ true
+    → Moves v w most (IsOneOf lay (get homes) cs) → Moves v w most (IsWhole lay)
+put_whole {lay} {homes = homes} {most = most} {cs = cs} r good x = weaker most (IsWhole lay) x (omega arith) (λ s u is one. record {
+  each = λ g image.
+      let told = r.told good s is in
+      let m = told.1.0 in
+      by m (one.each m told.0 told.1.1 told.1.2 g image);
+})
+  where
+    by : {g : ℕ → Block} (m : Content) → Stands lay g m ⊎ Stands lay g (changed m cs) → (n : Content) × Stands lay g n
+    by m (inl a) = (m, a)
+    by m (inr b) = (changed m cs, b)
 
 pub told_before_moments : {lay : Layout} {v w : DiskView} {most : ℕ} {R : State → State → Type 0} → Moves v w most R → (t : ℕ) (n : Content) → t ≤ moment_of v.past → LeavesAt lay w.past t n → LeavesAt lay v.past t n
 told_before_moments x t n le left = (left.0, moments_before x t left.0 le left.1, left.2)

@@ -3,3 +3,4 @@ pub mod Index
 pub mod Mounts
 pub mod Scan
 pub mod Vaults
+pub mod Watched

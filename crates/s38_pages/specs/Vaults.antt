@@ -58,6 +58,10 @@ LeavesAt lay past t m = (s : State) × WasAt past t s × ((g : ℕ → Block) ×
 pub record IsOneOf (lay : Layout) (ix : Index) (cs : List Change) (s u : State) : Type 0 where
   pub each : (m : Content) → IsSettled s → Rests lay s.now m → Indexed lay s.now ix m → (g : ℕ → Block) → IsImage u g → Stands lay g m ⊎ Stands lay g (changed m cs)
 
+-- each image mounts, to some content
+pub record IsWhole (lay : Layout) (s u : State) : Type 0 where
+  pub each : (g : ℕ → Block) → IsImage u g → (m : Content) × Stands lay g m
+
 -- ---- as contracts see it
 
 -- the disk and the layout, at which home each key stands, for how many new keys memory is reserved, whether no put has

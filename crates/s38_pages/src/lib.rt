@@ -11,11 +11,13 @@ mod plan;
 mod reading;
 mod scan;
 mod vaulted;
+mod watched;
 mod writing;
 
 pub use fault::StoreFault;
 pub use page_vault::PageVault;
 use s38_disk::MemDisk;
+pub use watched::WatchedVault;
 
 /// What is sent between threads.
 fn sends<T: Send + Sync>() {}
@@ -23,5 +25,6 @@ fn sends<T: Send + Sync>() {}
 /// Each value of this crate may be sent and shared, over a disk that may be.
 pub fn all_may_be_sent() {
     sends::<PageVault<MemDisk>>();
+    sends::<WatchedVault<MemDisk>>();
     sends::<StoreFault>();
 }

@@ -9,7 +9,7 @@ ghost use Rattle.s38_vault.specs.Directory.{changed_keys, gone_keys, new_keys};
 ghost use Rattle.s38_vault.specs.Vaults.{refusal};
 ghost use Rattle.s38_base.specs.Limits.{body_limit};
 ghost use Rattle.s38_pages.specs.Index.{parts_of};
-ghost use Rattle.s38_pages.specs.Vaults.{IsOneOf, page_holds, page_leaves, page_view};
+ghost use Rattle.s38_pages.specs.Vaults.{IsOneOf, IsWhole, page_holds, page_leaves, page_view};
 
 use crate::page_vault::PageVault;
 use crate::plan::count_new;
@@ -58,6 +58,10 @@ impl<D: Disk> Vault for PageVault<D> {
 
         // A get that failed: the disk has failed since the vault was made.
         ensures blame { OnErr result (Rose self.old.start self.new.disk.faults) }
+
+        // Nothing is written.
+        ensures whole { Moves self.old.disk self.new.disk 0 (IsWhole self.old.layout) }
+        ensures layout { self.new.layout ≡ self.old.layout }
     {
         match self.homes.get(key) {
             Some(home) => Ok(Some(read_page(&mut self.disk, home)?)),
@@ -76,6 +80,8 @@ impl<D: Disk> Vault for PageVault<D> {
         ensures past { (t : ℕ) (m : Content) → t ≤ (page_view self.old).moment → page_leaves self.old t m ↔ page_leaves self.new t m }
         ensures stays { page_view self.new ≡ record (page_view self.old) { spare = (page_view self.new).spare } }
         ensures good { self.new.good ≡ self.old.good }
+        ensures disk { self.new.disk ≡ self.old.disk }
+        ensures layout { self.new.layout ≡ self.old.layout }
     {
         self.homes.reserve(parts as usize)
     }
@@ -123,6 +129,8 @@ impl<D: Disk> Vault for PageVault<D> {
         // So many calls of the disk at most write or sync, and each leaves what was held before or after. So many writes,
         // and at most four syncs.
         ensures moves { Moves self.old.disk self.new.disk (2 * length changes.now + length changes.now / 132 + 7) (IsOneOf self.old.layout (get self.old.homes) changes.now) }
+        ensures whole { Moves self.old.disk self.new.disk (2 * length changes.now + length changes.now / 132 + 7) (IsWhole self.old.layout) }
+        ensures layout { self.new.layout ≡ self.old.layout }
         ensures cost { Costs self.old.disk self.new.disk (2 * length changes.now + length changes.now / 132 + 3) 4 }
     {
         let needed = count_new(&self.homes, changes);

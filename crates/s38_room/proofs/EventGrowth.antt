@@ -13,7 +13,7 @@ use Rattle.s38_code.specs.declared.operand.Operand.TheVariants as operands
 use Rattle.s38_code.specs.declared.reply.Val.{Val}
 use Rattle.s38_code.specs.declared.reply.Val.TheVariants as vals
 use Rattle.s38_memory.specs.declared.cell.Cell.{Cell}
-use Rattle.s38_room.proofs.OutlineLaws.{all_decommitted_outline}
+use Rattle.s38_object_laws.proofs.OutlineLaws.{all_decommitted_outline}
 use Rattle.s38_rules.specs.declared.object.Body.{Body}
 use Rattle.s38_rules.specs.declared.object.Body.TheVariants as bodies
 use Rattle.s38_rules.specs.declared.object.Object.{Object}

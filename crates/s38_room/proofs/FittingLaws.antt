@@ -16,7 +16,7 @@ use Rattle.s38_durable.specs.Durable.{Durable, kept}
 use Rattle.s38_durable.specs.Following.{Counts, Follows, Header, extent_in, header_in, header_kept, header_of}
 use Rattle.s38_image.specs.declared.stored.Stored.{Stored}
 use Rattle.s38_journals.specs.Journals as journals
-use Rattle.s38_room.proofs.OutlineLaws.{all_decommitted_outline, done_outline, journal_outline, space_outline}
+use Rattle.s38_object_laws.proofs.OutlineLaws.{all_decommitted_outline, done_outline, journal_outline, space_outline}
 use Rattle.s38_object_laws.specs.Outline.{is_forced, outline_at}
 use Rattle.s38_objects.specs.Lawful.{number_of}
 use Rattle.s38_rules.proofs.StoreLaws.{stored_holds}

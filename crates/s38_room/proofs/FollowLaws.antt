@@ -17,8 +17,8 @@ use Rattle.s38_rules.specs.Held.{Held, has_number, object_in}
 use Rattle.s38_rules.specs.Room.{Extent, extent_at, extent_of, rows_pages}
 use Rattle.s38_rules.specs.Storing.{extents_of}
 use Rattle.s38_objects.specs.Lawful.{number_of}
-use Rattle.s38_room.proofs.ExtentLaws.{at_with, at_without, found_alike, number_found, number_same, rising_with, rising_without}
-use Rattle.s38_room.specs.Extents.{AreRising, IsBelowAll, with_extent}
+use Rattle.s38_extents.proofs.ExtentLaws.{at_with, at_without, found_alike, number_found, number_same, rising_with, rising_without}
+use Rattle.s38_extents.specs.Extents.{AreRising, IsBelowAll, with_extent}
 use Rattle.s38_room.specs.Following.{FitsBut, followed_by, followed_one, kept_extent, rows_in, rows_kept, with_anew, with_kept}
 
 -- what is true of each object is true of one that is found

@@ -17,7 +17,7 @@ use Rattle.s38_dataspaces.specs.Table.{DataTable}
 use Rattle.s38_journals.specs.declared.entry.EntryKind.TheVariants as entry_kinds
 use Rattle.s38_journals.specs.Entries.{Entry, entry_len}
 use Rattle.s38_journals.specs.Journals.{JournalList, appended, entries_len, written}
-use Rattle.s38_room.proofs.OutlineLaws.{done_outline}
+use Rattle.s38_object_laws.proofs.OutlineLaws.{done_outline}
 use Rattle.s38_object_laws.specs.Outline.{Outline, kept_of, outline_at, outline_of}
 use Rattle.s38_rules.proofs.ChargeLaws.{KeepsNumber, found_number, object_changed, object_without}
 use Rattle.s38_rules.specs.declared.creating.Creating.{Creating}
@@ -39,7 +39,7 @@ use Rattle.s38_rules.specs.Standing.{Standing, standing_of, with_standing}
 use Rattle.s38_rules.specs.State.{State}
 use Rattle.s38_rules.specs.Units.{committed, end_entry, end_written, with_entry}
 use Rattle.s38_room.proofs.CreationLaws.{made_forced, new_found}
-use Rattle.s38_room.proofs.ExtentLaws.{number_same}
+use Rattle.s38_extents.proofs.ExtentLaws.{number_same}
 use Rattle.s38_room.proofs.LoggingLaws.{block_journal_there, journal_there, length_grown, unforced_behind}
 use Rattle.s38_room.proofs.NumberLaws.{AreNumbered, done_numbered}
 use Rattle.s38_room.proofs.SumLaws.{at_object, counted, parts_counted}

@@ -1,13 +1,10 @@
 pub mod CreationLaws
 pub mod EventGrowth
-pub mod ExtentLaws
 pub mod FittingLaws
 pub mod FollowLaws
-pub mod ForcingLaws
 pub mod GrowthLaws
 pub mod LoggingLaws
 pub mod NumberLaws
-pub mod OutlineLaws
 pub mod RowCounts
 pub mod RowLaws
 pub mod SumLaws

@@ -9,7 +9,7 @@ use Rattle.s38_rules.specs.declared.object.Object.{Object}
 use Rattle.s38_rules.specs.Forcing.{Ceiling, Forced, Header, Removed, Whole, extent_after, new_parts, new_parts_of}
 use Rattle.s38_rules.specs.Held.{Held, has_number, object_in}
 use Rattle.s38_rules.specs.Room.{Extent, Room, extent_at, more_parts}
-use Rattle.s38_room.proofs.ExtentLaws.{number_same}
+use Rattle.s38_extents.proofs.ExtentLaws.{number_same}
 use Rattle.s38_room.proofs.FollowLaws.{unforced_kept}
 use Rattle.s38_room.proofs.NumberLaws.{AreNumbered, Below, Rise}
 use Rattle.s38_room.specs.Following.{FitsBut, kept_extent}

@@ -7,7 +7,7 @@ use Rattle.s38_rules.specs.declared.object.Object.{Object}
 use Rattle.s38_rules.specs.Forcing.{Ceiling, Forced, Header, Removed, Whole, extent_after}
 use Rattle.s38_rules.specs.Held.{Held, object, object_in}
 use Rattle.s38_rules.specs.Room.{Extent, extent_at, rows_pages}
-use Rattle.s38_room.specs.Extents.{with_extent, without}
+use Rattle.s38_extents.specs.Extents.{with_extent, without}
 
 -- ---- what fits
 

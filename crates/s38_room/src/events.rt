@@ -12,13 +12,13 @@ ghost use Rattle.s38_rules.specs.Queues.{queues_row};
 ghost use Rattle.s38_rules.specs.Rows.{row};
 ghost use Rattle.s38_rules.specs.Spaces.{spaces_row};
 
-use crate::forcing::Forcings;
 use crate::logging::{changed, deletion, insertion, update};
 use crate::words::{
     committed, ensured, followed, journaled, made, made_program, number_at, removed,
 };
 use s38_base::{Kind, Op};
 use s38_code::{Event, Family, family_of};
+use s38_extents::Forcings;
 use s38_invoke::{Core, Profiles};
 use s38_objects::Objects;
 use s38_operands::Act;

@@ -1,18 +1,16 @@
-//! How extents follow a step.
-ghost use Rattle.std.specs.Prelude.{◌≡◌, ◌+◌, ◌≤◌, ◌<◌, All, length, vec_capacity, vec_len};
+//! How the room of a store follows a step.
+ghost use Rattle.std.specs.Prelude.{◌≡◌, ◌+◌, ◌≤◌, All, length};
 ghost use Rattle.std.specs.List.{flat_map, list_any};
 ghost use Rattle.std.specs.Option.{ForSome, option_copied};
+ghost use Rattle.s38_extents.specs.Forcings.{all_forced, forced_as};
 ghost use Rattle.s38_rules.specs.Forcing.{extent_after, is_whole};
 ghost use Rattle.s38_rules.specs.Storable.{IsStorable};
-ghost use Rattle.s38_rules.specs.Storing.{extents_of};
-ghost use Rattle.s38_room.specs.Extents.{AreRising};
+ghost use Rattle.s38_rules.specs.Storing.{extents_of, room_after};
 ghost use Rattle.s38_room.specs.Following.{FitsBut, followed_by, followed_one, kept_extent, with_anew, with_kept};
-ghost use Rattle.s38_room.specs.Forcings.{all_forced, forced_as};
 
-use crate::extent::Extent;
-use crate::extents::{extent_at, put, take_out};
-use crate::forcing::Forcing;
+use crate::extent::{extent_behind, extent_of};
 use s38_base::ObjNum;
+use s38_extents::{Extent, Forcing, Forcings, Room};
 use s38_objects::Objects;
 use s38_rules::Object;
 
@@ -41,9 +39,9 @@ fn extent_after(all: &[Forcing], old: Option<Extent>, object: &Object) -> Extent
     ensures { result ≡ extent_after (all_forced all.now) old object.now }
 {
     if is_kept_whole(all, object.number) {
-        Extent::of(object)
+        extent_of(object)
     } else {
-        Extent::behind(object, old)
+        extent_behind(object, old)
     }
 }
 
@@ -64,72 +62,85 @@ fn kept_extent(all: &[Forcing], old: Option<Extent>, object: Option<&Object>) ->
 }
 
 /// Puts the extent of a number, or takes it out.
-fn keep(extents: &mut Vec<Extent>, number: ObjNum, kept: Option<Extent>)
-    requires room { vec_len extents.old < vec_capacity extents.old }
-    ensures extents { extents.new.items ≡ with_kept number.0 kept extents.old.items }
-    ensures one_more { vec_len extents.new ≤ vec_len extents.old + 1 }
-    ensures capacity { vec_capacity extents.new ≡ vec_capacity extents.old }
+fn keep(room: &mut Room, number: ObjNum, kept: Option<Extent>)
+    requires { 1 ≤ room.old.spare }
+    ensures extents { room.new.room.extents ≡ with_kept number.0 kept room.old.room.extents }
+    ensures parts { room.new.room.parts ≡ room.old.room.parts }
+    ensures spare { room.old.spare ≤ room.new.spare + 1 }
 {
     match kept {
-        None => take_out(extents, number),
-        Some(extent) => put(extents, extent),
+        None => room.take_out(number),
+        Some(extent) => room.put(extent),
     }
 }
 
 /// The extent of a number is as it is behind the step.
-fn follow_at(extents: &mut Vec<Extent>, all: &[Forcing], objects: &Objects, number: ObjNum)
-    requires room { vec_len extents.old < vec_capacity extents.old }
+fn follow_at(room: &mut Room, all: &[Forcing], objects: &Objects, number: ObjNum)
+    requires spare { 1 ≤ room.old.spare }
     requires storable { All IsStorable objects.now.objects }
-    ensures extents { extents.new.items ≡ with_anew (all_forced all.now) objects.now.objects number.0 extents.old.items }
-    ensures one_more { vec_len extents.new ≤ vec_len extents.old + 1 }
-    ensures capacity { vec_capacity extents.new ≡ vec_capacity extents.old }
+    ensures extents { room.new.room.extents ≡ with_anew (all_forced all.now) objects.now.objects number.0 room.old.room.extents }
+    ensures parts { room.new.room.parts ≡ room.old.room.parts }
+    ensures spare { room.old.spare ≤ room.new.spare + 1 }
 {
-    let old = extent_at(extents.as_slice(), number);
+    let old = room.extent(number);
     let kept = kept_extent(all, old, objects.get(number));
-    keep(extents, number, kept);
+    keep(room, number, kept);
 }
 
-/// The extents follow one thing that the store keeps anew.
-fn follow_one(extents: &mut Vec<Extent>, all: &[Forcing], objects: &Objects, one: Forcing)
-    requires room { vec_len extents.old < vec_capacity extents.old }
+/// The room follows one thing that the store keeps anew.
+fn follow_one(room: &mut Room, all: &[Forcing], objects: &Objects, one: Forcing)
+    requires spare { 1 ≤ room.old.spare }
     requires storable { All IsStorable objects.now.objects }
-    ensures extents { extents.new.items ≡ followed_one (all_forced all.now) objects.now.objects (forced_as one) extents.old.items }
-    ensures one_more { vec_len extents.new ≤ vec_len extents.old + 1 }
-    ensures capacity { vec_capacity extents.new ≡ vec_capacity extents.old }
+    ensures extents { room.new.room.extents ≡ followed_one (all_forced all.now) objects.now.objects (forced_as one) room.old.room.extents }
+    ensures parts { room.new.room.parts ≡ room.old.room.parts }
+    ensures spare { room.old.spare ≤ room.new.spare + 1 }
 {
     match one {
         Forcing::Ceiling => {}
         Forcing::Header(number) | Forcing::Whole(number) | Forcing::Removed(number) => {
-            follow_at(extents, all, objects, number);
+            follow_at(room, all, objects, number);
         }
     }
 }
 
-/// The extents follow some of what the store keeps anew.
-pub fn follow_each(extents: &mut Vec<Extent>, all: &[Forcing], objects: &Objects, some: &[Forcing])
-    requires room { vec_len extents.old + length some.now ≤ vec_capacity extents.old }
+/// The room follows some of what the store keeps anew.
+fn follow_each(room: &mut Room, all: &[Forcing], objects: &Objects, some: &[Forcing])
+    requires spare { length some.now ≤ room.old.spare }
     requires storable { All IsStorable objects.now.objects }
-    ensures extents { extents.new.items ≡ followed_by (all_forced all.now) objects.now.objects (all_forced some.now) extents.old.items }
+    ensures extents { room.new.room.extents ≡ followed_by (all_forced all.now) objects.now.objects (all_forced some.now) room.old.room.extents }
+    ensures parts { room.new.room.parts ≡ room.old.room.parts }
 {
     match some {
         [] => {}
         [one, more @ ..] => {
-            follow_one(extents, all, objects, *one);
-            follow_each(extents, all, objects, more);
+            follow_one(room, all, objects, *one);
+            follow_each(room, all, objects, more);
         }
     }
 }
 
-/// The extents are those behind a step that has the store keep all this anew.
-pub fn follow_all(extents: &mut Vec<Extent>, all: &[Forcing], objects: &Objects)
-    requires rising { AreRising extents.old.items }
-    requires room { vec_len extents.old + length all.now ≤ vec_capacity extents.old }
+/// The room is that behind a step that has the store keep all this anew.
+fn follow_all(room: &mut Room, all: &[Forcing], objects: &Objects)
+    requires spare { length all.now ≤ room.old.spare }
     requires storable { All IsStorable objects.now.objects }
-    requires fits { FitsBut (all_forced all.now) extents.old.items objects.now }
-    ensures extents { extents.new.items ≡ flat_map (extents_of (all_forced all.now) extents.old.items) objects.now.objects }
-    ensures rising { AreRising extents.new.items }
+    requires fits { FitsBut (all_forced all.now) room.old.room.extents objects.now }
+    ensures extents { room.new.room.extents ≡ flat_map (extents_of (all_forced all.now) room.old.room.extents) objects.now.objects }
+    ensures parts { room.new.room.parts ≡ room.old.room.parts }
 {
-    // Its contract says that numbers rise.
+    // Their contracts say that numbers rise.
     let _count = objects.len();
-    follow_each(extents, all, objects, all);
+    let _kept = room.count();
+    follow_each(room, all, objects, all);
+}
+
+/// The room is that behind a step that has the store keep this anew and leads to these objects, where it fits all others
+/// of them. Its memory is reserved: it takes that of one extent for each thing that is kept anew. It takes time that grows
+/// with the number of objects that the store keeps.
+pub fn follow(room: &mut Room, forced: &Forcings, objects: &Objects)
+    requires spare { length forced.now ≤ room.old.spare }
+    requires storable { All IsStorable objects.now.objects }
+    requires fits { FitsBut forced.now room.old.room.extents objects.now }
+    ensures { room.new.room ≡ room_after room.old.room forced.now objects.now.objects }
+{
+    follow_all(room, forced.as_slice(), objects);
 }

@@ -21,11 +21,11 @@ use crate::growth::{
     transfer_growth,
 };
 use crate::logging::{deletion, insertion, update};
-use crate::room::Room;
 use crate::words::{is_named, number_at};
 use s38_base::exceptions::STORE_FULL;
 use s38_base::{Exception, Op, Rule};
 use s38_code::{Event, Family, family_of};
+use s38_extents::Room;
 use s38_invoke::{Core, Profiles};
 use s38_objects::Objects;
 use s38_operands::Act;

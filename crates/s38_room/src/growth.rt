@@ -16,12 +16,11 @@ ghost use Rattle.s38_rules.specs.Standing.{standing_of};
 ghost use Rattle.s38_rules.specs.Storable.{IsStorable};
 ghost use Rattle.s38_room.specs.Growing.{commit_growth, end_bytes, end_growth, ensured_growth, entered_growth, rows_growth, whole_growth};
 
-use crate::extent::{Extent, pages_begun, pages_of_rows};
 use crate::logging::{EntryChange, change_growth, is_overdue};
-use crate::room::Room;
 use crate::words::{journal_for_block, journal_through, number_at};
 use s38_base::{ObjNum, Rights, UserNum};
 use s38_commits::Unit;
+use s38_extents::{Extent, Room, pages_begun, pages_of_rows};
 use s38_image_printing::image_len;
 use s38_invoke::{Core, Profiles};
 use s38_journals::Journal;

@@ -4,19 +4,14 @@
 
 mod events;
 mod extent;
-mod extents;
 mod following;
-mod forcing;
 mod growing;
 mod growth;
 mod laws;
 mod logging;
-mod room;
 mod words;
 
 pub use events::forced;
-pub use extent::Extent;
-pub use forcing::{Forcing, Forcings};
+pub use following::follow;
 pub use growing::{new_parts, room_failure};
 pub use laws::{what_counts_fits, what_follows_fits, what_is_not_forced_fits};
-pub use room::Room;

@@ -15,11 +15,11 @@ ghost use Rattle.s38_rules.specs.Parts.{cursor_at, journal_at, no_journal, no_ta
 ghost use Rattle.s38_room.specs.EntryChanges.{changed_entry, inserted_entry};
 ghost use Rattle.s38_room.specs.Logging.{change_forces, change_growth, growth_in, logged_bytes};
 
-use crate::forcing::{Forcing, Forcings};
 use s38_base::ObjNum;
 use s38_code::Operand;
 use s38_commits::Units;
 use s38_dataspaces::DataSpace;
+use s38_extents::{Forcing, Forcings};
 use s38_invoke::{Core, Profiles};
 use s38_journals::Journal;
 use s38_objects::Objects;

@@ -16,9 +16,9 @@ ghost use Rattle.s38_rules.specs.Held.{disk_in, is_on_disk, object as object_at}
 ghost use Rattle.s38_rules.specs.Journaling.{journal_behind, journal_for, journal_for_block, journal_named, block_port, is_journal};
 ghost use Rattle.s38_room.specs.Creating.{is_user_in, made_forces};
 
-use crate::forcing::{Forcing, Forcings};
 use s38_base::{Kind, Name, ObjNum};
 use s38_code::{CheckedTemplate, CreateResult, Operand};
+use s38_extents::{Forcing, Forcings};
 use s38_invoke::{Core, Profiles};
 use s38_objects::{Objects, kind_of};
 use s38_operands::{Act, id_at, place, target};

@@ -39,14 +39,13 @@ runs_is : (ended low : Bool) → (not ended && low) ≡ true → (ended ≡ fals
 runs_is true low h = cc
 runs_is false low h = (refl, h)
 
-NoneReady : State → Type 0
+abbrev pub NoneReady : State → Type 0
 NoneReady s = (k : ℕ) → k < length s.processes → ready s (k + 1) ≡ false
 
 none_waiting : (s : State) (p : ℕ) → s.waiting ≡ [] → waits s p ≡ false
 none_waiting s p h = ap (λ ws. list_any (λ w. w == p) ws) h
 
 early_at : (s : State) (k : ℕ) (x : ProcessEntry) → s.waiting ≡ [] → NoneReady s → slice_get s.processes k ≡ Some x → x.ended ≡ false → is_early s.processes x.job.stage ≡ true
-unfolding NoneReady
 early_at s k x w none at e =
     let here : k + 1 - 1 ≡ k = omega arith in
     let there : process_entry s (k + 1) ≡ Some x = ap (λ i. slice_get s.processes i) here ∙ at in
@@ -66,7 +65,7 @@ ended_or : (b : Bool) → (b ≡ false → ⊥) → b ≡ true
 ended_or true h = refl
 ended_or false h = absurd (h refl)
 
-all_ended : (s : State) → s.waiting ≡ [] → NoneReady s → (k : ℕ) (x : ProcessEntry) → slice_get s.processes k ≡ Some x → x.ended ≡ true
+pub all_ended : (s : State) → s.waiting ≡ [] → NoneReady s → (k : ℕ) (x : ProcessEntry) → slice_get s.processes k ≡ Some x → x.ended ≡ true
 all_ended s w none k x at = ended_or x.ended (λ e. none_open (x.job.stage + 1) s k x w none at e (omega arith))
 
 -- ---- the beginning
@@ -106,7 +105,6 @@ between_begun moment held templates made jobs count = record {
 
 -- where no job is ready, each has run whole
 pub between_none : (made : List CreateResult) (jobs : List Job) (m : Run) (all : List JobState) (was : List ℕ) → IsBetween made jobs m all was → was ≡ [] → AllRan made jobs m.history
-unfolding NoneReady
 between_none made jobs m all was between none =
     let listed : ready_list m.state ≡ [] = sym between.ready ∙ none in
     let count = processes_count made jobs m all was between in

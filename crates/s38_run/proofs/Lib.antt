@@ -1,6 +1,7 @@
 pub mod Asking
 pub mod HistoryLaws
 pub mod JobLaws
+pub mod ProgressLaws
 pub mod ReadyLaws
 pub mod Running
 pub mod Stepping

@@ -1,8 +1,17 @@
-ghost use Rattle.std.specs.Prelude.{◌≡◌, List, length};
+ghost use Rattle.std.specs.Prelude.{◌≡◌, ℕ, List, length};
 ghost use Rattle.s38_code.specs.declared.deck.Job.{Job};
 ghost use Rattle.s38_code.specs.declared.made.CreateResult.{CreateResult};
 ghost use Rattle.s38_rules.specs.Legal.{Run};
+ghost use Rattle.s38_code.specs.declared.entry.Entry.{Entry};
+ghost use Rattle.s38_code.specs.declared.event.Event.{Event};
+ghost use Rattle.s38_code.specs.declared.made.CheckedTemplate.{CheckedTemplate};
+ghost use Rattle.s38_rules.specs.Held.{Held};
+ghost use Rattle.s38_rules.specs.Legal.{Leads};
+ghost use Rattle.s38_rules.specs.Opening.{state_of};
+ghost use Rattle.s38_rules.specs.State.{State};
+ghost use Rattle.s38_rules.specs.Step.{step};
 ghost use Rattle.s38_run.specs.Pickers.{picks_of};
+ghost use Rattle.s38_run.specs.Progress.{AllGoing, AreAwake, IsGoing};
 ghost use Rattle.s38_run.specs.Whole.{WasRun};
 
 use crate::picker::Picker;
@@ -15,3 +24,17 @@ pub fn the_picks_decide<P: Picker>(picker: &P)
 {
     let _ = picker;
 }
+
+/// Nobody is left alone with those that wait: where no process is ready, each has ended. It is so at the beginning, behind
+/// each step, and so in every state of a history.
+pub fn one_is_always_ready()
+    ensures begins { (held : Held) (templates : List CheckedTemplate) (jobs : List Job) → IsGoing (state_of held templates jobs) }
+    ensures steps { (s : State) (p : ℕ) (e : Event) → IsGoing s → IsGoing (step s p e).state }
+    ensures histories { (s : State) (history : List Entry) → IsGoing s → AllGoing s history }
+{}
+
+/// Who waits is silent: a process that was told to wait has no further entry before the next effect, so it waits at most
+/// once between two effects.
+pub fn who_waits_is_silent()
+    ensures { (s : State) (before history : List Entry) (end : State) → Leads s before history end → AreAwake s.waiting history }
+{}

@@ -10,7 +10,7 @@ mod turn;
 
 use job_state::JobState;
 pub use jobs::serial;
-pub use laws::the_picks_decide;
+pub use laws::{one_is_always_ready, the_picks_decide, who_waits_is_silent};
 pub use picker::{ListPicker, NumberPicker, Picker};
 
 /// What is sent between threads.

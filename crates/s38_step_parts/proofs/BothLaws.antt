@@ -8,13 +8,10 @@ use Rattle.s38_base.specs.declared.page.Change.{Change}
 use Rattle.s38_base.specs.declared.page.Page.{Page}
 use Rattle.s38_base.specs.declared.page.Key.{Key}
 use Rattle.s38_forcing.proofs.WalkLaws.{not_below, object_below}
+use Rattle.s38_keeping.proofs.SoFarLaws.{all_of}
 use Rattle.s38_vault.proofs.DirectoryLaws.{contains-other}
 use Rattle.s38_vault.specs.Content.{HaveObjects}
 use Rattle.s38_vault.specs.Directory.{Keys, changed_keys, is_new, new_keys, with_key}
-
-pub all_of : (P Q : Change → Type 0) (cs : List Change) → ((c : Change) → P c → Q c) → AllByRecursion P cs → AllByRecursion Q cs
-all_of P Q [] f h = tt
-all_of P Q (c ∷ cs) f h = (f c h.0, all_of P Q cs f h.1)
 
 -- changes of one number are of an object
 pub own_objects : (n : ℕ) (cs : List Change) → 1 ≤ n → AllByRecursion (λ c. c.key.object ≡ n) cs → HaveObjects cs

@@ -21,7 +21,8 @@ use Rattle.s38_image.specs.Faults.{ceiling_key}
 use Rattle.s38_image.specs.Images.{parts_of}
 use Rattle.s38_image.specs.declared.stored.Stored.{Stored}
 use Rattle.s38_image_printing.proofs.DataLaws.{found_fits}
-use Rattle.s38_keeping.proofs.SoFarLaws.{stays_on}
+use Rattle.s38_closing.proofs.PartLaws.{rising_on}
+use Rattle.s38_keeping.proofs.SoFarLaws.{all_of, all_on, stays_on}
 use Rattle.s38_keeping.specs.Replacing.{range_of}
 use Rattle.s38_keeping.specs.Walking.{Stays}
 use Rattle.s38_object_laws.specs.Outline.{is_forced}
@@ -31,10 +32,8 @@ use Rattle.s38_rules.specs.Held.{Held, has_number, object, object_in}
 use Rattle.s38_rules.specs.State.{State}
 use Rattle.s38_rules.specs.declared.object.Object.{Object}
 use Rattle.s38_vault.specs.Content.{AreRising, Content}
-use Rattle.s38_vault.specs.Keys.{IsBefore}
 use Rattle.s38_vault.specs.Vaults.{VaultView}
 use Rattle.s38_step_parts.proofs.AfterLaws.{kept_one, parts_behind}
-use Rattle.s38_step_parts.proofs.BothLaws.{all_of}
 use Rattle.s38_step_parts.proofs.FollowedLaws.{whole_same}
 use Rattle.s38_step_parts.proofs.NumberLaws.{AreAbove, Rise, numbers_are, numbers_rise}
 use Rattle.s38_step_parts.specs.Fronts.{AddsAt}
@@ -92,18 +91,10 @@ module _ (all : List Forced) (h : Held) (us : UnitMap) (m : Content) (d : Durabl
 
 -- ---- changes behind changes of lower numbers
 
-rising_on : (c : Change) (cs : List Change) → AllByRecursion (λ d. IsBefore c.key d.key) cs → AreRising cs → AreRising (c ∷ cs)
-rising_on c [] h rising = tt
-rising_on c (d ∷ cs) h rising = (h.0, rising)
-
 rising_more : (n : ℕ) (cs ds : List Change) → AllByRecursion (λ c. c.key.object < n) cs → AllByRecursion (λ d. d.key.object ≡ n) ds → AreRising cs → AreRising ds → AreRising (cs ++ ds)
 rising_more n [] ds low own first last = last
 rising_more n (c ∷ []) ds low own first last = rising_on c ds (all_of _ _ ds (λ d is. object_below c.key d.key (omega (arith, is, low.0))) own) last
 rising_more n (c ∷ d ∷ cs) ds low own first last = (first.0, rising_more n (d ∷ cs) ds low.1 own first.1 last)
-
-all_on : (P : Change → Type 0) (cs ds : List Change) → AllByRecursion P cs → AllByRecursion P ds → AllByRecursion P (cs ++ ds)
-all_on P [] ds g h = h
-all_on P (c ∷ cs) ds g h = (g.0, all_on P cs ds g.1 h)
 
 -- all changes are of lower numbers than each of these
 abbrev pub AreBelow : List Change → List ℕ → Type 0

@@ -1,21 +1,18 @@
 -- The parts of an object before its body, and those of its body.
-use Rattle.std.proofs.Common.{◌≡◌, ◌+◌, ◌*◌, ◌<◌, ◌≤◌, ◌∙◌, ◌∷◌, ◌++◌, [], List, None, Some, Option, ap, append_assoc, arith, cond, false, length, lit≤, refl, subst, suc, sym, take, zero, ℕ}
+use Rattle.std.proofs.Common.{◌≡◌, ◌+◌, ◌*◌, ◌<◌, ◌≤◌, ◌∙◌, ◌∷◌, ◌++◌, [], List, None, Some, Option, ap, append_assoc, arith, cond, false, length, lit≤, refl, sym, take, ℕ}
 use Rattle.std.proofs.lemmas.List.{take_all}
 use Rattle.std.specs.List.{AllByRecursion, flat_map}
 use Rattle.std.specs.Ordering.{eq_by_cmp}
 use Rattle.s38_base.specs.declared.page.Change.{Change}
 use Rattle.s38_base.specs.declared.page.Key.{Key}
 use Rattle.s38_base.specs.declared.page.Page.{Page}
-use Rattle.s38_codecs.specs.Codec.{copies}
 use Rattle.s38_codecs.specs.Formats.{Spelling}
 use Rattle.s38_forcing.proofs.WalkLaws.{key_at, key_itself, not_above, not_below, part_below}
 use Rattle.s38_forcing.proofs.WantedLaws.{in_range}
 use Rattle.s38_forcing.specs.Differences.{IsWanted, wanted_at}
-use Rattle.s38_codecs.proofs.FormatLaws.{length_copies}
-use Rattle.s38_durable.specs.Stands.{ceiling_parts}
+use Rattle.s38_closing.proofs.PartLaws.{ArePart, both_parts, needed_most, stream_part, zero_tags}
 use Rattle.s38_image.proofs.AgainLaws.{rows_bytes_long}
 use Rattle.s38_image.specs.Bodies.{body_bytes}
-use Rattle.s38_image.specs.Faults.{ceiling_key, ceiling_page}
 use Rattle.s38_image.specs.Headers.{header, row, rows}
 use Rattle.s38_image.specs.Images.{body_parts, header_of, header_parts, image_of, parts_of, rows_parts}
 use Rattle.s38_image.specs.Pages.{cut, filled, needed, no_tags, numbered, page_at, print_parts, stream_parts}
@@ -24,77 +21,14 @@ use Rattle.s38_image.specs.declared.stored.Stored.{Stored}
 use Rattle.s38_image_printing.proofs.PrintLaws.{times_print}
 use Rattle.s38_image_printing.proofs.WriterLaws.{full_page}
 use Rattle.s38_image_printing.specs.Parts.{header_with}
-use Rattle.s38_keeping.specs.Replacing.{last_part, short_range}
+use Rattle.s38_keeping.proofs.SoFarLaws.{all_of}
 use Rattle.s38_rules.specs.declared.object.Object.{Object}
-use Rattle.s38_vault.specs.Content.{AreRising}
-use Rattle.s38_vault.specs.Keys.{IsBefore, key_cmp}
-use Rattle.s38_step_parts.proofs.BothLaws.{all_of}
+use Rattle.s38_vault.specs.Keys.{key_cmp}
 use Rattle.s38_step_parts.specs.Fronts.{front_parts, front_range}
 
--- a part of a number, from one on, before another
-pub record IsPart (object first until : ℕ) (c : Change) : Type 0 where
-  pub of_it : c.key.object ≡ object
-  pub from : first ≤ c.key.part
-  pub before : c.key.part < until
-
-pub record ArePart (object first until : ℕ) (cs : List Change) : Type 0 where
-  pub each : AllByRecursion (IsPart object first until) cs
-  pub rising : AreRising cs
-
-all_on : (P : Change → Type 0) (cs ds : List Change) → AllByRecursion P cs → AllByRecursion P ds → AllByRecursion P (cs ++ ds)
-all_on P [] ds g h = h
-all_on P (c ∷ cs) ds g h = (g.0, all_on P cs ds g.1 h)
-
-rising_on : (c : Change) (cs : List Change) → AllByRecursion (λ d. IsBefore c.key d.key) cs → AreRising cs → AreRising (c ∷ cs)
-rising_on c [] h rising = tt
-rising_on c (d ∷ cs) h rising = (h.0, rising)
-
-wider : (object first until from to : ℕ) (c : Change) → from ≤ first → until ≤ to → IsPart object first until c → IsPart object from to c
-wider object first until from to c low high h = record { of_it = h.of_it; from = omega (arith, low, h.from); before = omega (arith, high, h.before) }
-
--- ---- a stream
-
-one_more : (object first n : ℕ) (c : Change) (cs : List Change) → c.key.object ≡ object → c.key.part ≡ first → ArePart object (first + 1) (first + 1 + n) cs → ArePart object first (first + suc n) (c ∷ cs)
-one_more object first n c cs of_it at rest = record {
-  each = (record { of_it = of_it; from = omega (arith, at); before = omega (arith, at) }, all_of _ _ cs (λ d h. wider object (first + 1) (first + 1 + n) first (first + suc n) d (omega arith) (omega arith) h) rest.each);
-  rising = rising_on c cs (all_of _ _ cs (λ d h. part_below c.key d.key (of_it ∙ sym h.of_it) (omega (arith, at, h.from))) rest.each) rest.rising;
-}
-
-numbered_parts : (object first n : ℕ) (xs tags : List ℕ) → ArePart object first (first + n) (numbered object first (cut n xs) tags)
-unfolding cut numbered
-numbered_parts object first zero xs tags = record { each = tt; rising = tt }
-numbered_parts object first (suc n) xs [] = one_more object first n _ _ refl refl (numbered_parts object (first + 1) n _ [])
-numbered_parts object first (suc n) xs (t ∷ tags) = one_more object first n _ _ refl refl (numbered_parts object (first + 1) n _ tags)
-
--- its parts begin at the first one
+-- a stream begins at its first part
 pub stream_from : (object first : ℕ) (bytes tags : List ℕ) → ArePart object first (first + needed (length bytes)) (stream_parts object first bytes tags)
-stream_from object first bytes tags =
-    let n = needed (length bytes) in
-    numbered_parts object first n (filled (512 * n) bytes) tags
-
-stream_within : (object first until : ℕ) (bytes tags : List ℕ) → first + needed (length bytes) ≤ until → ArePart object first until (stream_parts object first bytes tags)
-stream_within object first until bytes tags fits =
-    let all = stream_from object first bytes tags in
-    record { each = all_of _ _ _ (λ c h. wider object first (first + needed (length bytes)) first until c (omega arith) fits h) all.each; rising = all.rising }
-
-rising_both : (object middle : ℕ) (cs ds : List Change) → AllByRecursion (λ c. (c.key.object ≡ object) × (c.key.part < middle)) cs → AllByRecursion (λ d. (d.key.object ≡ object) × (middle ≤ d.key.part)) ds → AreRising cs → AreRising ds → AreRising (cs ++ ds)
-rising_both object middle [] ds low high first last = last
-rising_both object middle (c ∷ []) ds low high first last =
-    rising_on c ds (all_of _ _ ds (λ d h. part_below c.key d.key (low.0.0 ∙ sym h.0) (omega (arith, low.0.1, h.1))) high) last
-rising_both object middle (c ∷ d ∷ cs) ds low high first last = (first.0, rising_both object middle (d ∷ cs) ds low.1 high first.1 last)
-
-both_parts : (object first middle until : ℕ) (cs ds : List Change) → first ≤ middle → middle ≤ until → ArePart object first middle cs → ArePart object middle until ds → ArePart object first until (cs ++ ds)
-both_parts object first middle until cs ds low high a b = record {
-  each =
-      all_on (IsPart object first until) cs ds
-      (all_of _ _ cs (λ c h. wider object first middle first until c (omega arith) high h) a.each)
-      (all_of _ _ ds (λ d h. wider object middle until first until d low (omega arith) h) b.each);
-  rising =
-      rising_both object middle cs ds (all_of _ _ cs (λ c h. (h.of_it, h.before)) a.each) (all_of _ _ ds (λ d h. (h.of_it, h.from)) b.each) a.rising b.rising;
-}
-
-needed_most : (len most : ℕ) → len ≤ 512 * most → needed len ≤ most
-needed_most len most h = omega arith
+stream_from object first bytes tags = stream_part object first (first + needed (length bytes)) bytes tags (omega arith)
 
 -- ---- before the body
 
@@ -104,7 +38,7 @@ front_are o len long few =
     let one : 0 + needed (length (header.print (header_with o len))) ≤ 1 = omega (arith, needed_most (length (header.print (header_with o len))) 1 (omega (arith, long))) in
     let two : 1 + needed (length ((rows (length o.rows)).print o.rows)) ≤ 128 =
     omega (arith, needed_most (length ((rows (length o.rows)).print o.rows)) 127 (omega (arith, rows_bytes_long o.rows, few))) in
-    both_parts n 0 1 128 _ _ (lit≤ tt) (lit≤ tt) (stream_within n 0 1 (header.print (header_with o len)) _ one) (stream_within n 1 128 ((rows (length o.rows)).print o.rows) _ two)
+    both_parts n 0 1 128 _ _ (lit≤ tt) (lit≤ tt) (stream_part n 0 1 (header.print (header_with o len)) _ one) (stream_part n 1 128 ((rows (length o.rows)).print o.rows) _ two)
 
 pub front_wanted : (o : Object) (len : ℕ) → length (header.print (header_with o len)) ≡ 512 → length o.rows ≤ 4096 → IsWanted (front_range o.number.0) (front_parts o len)
 front_wanted o len long few =
@@ -112,33 +46,6 @@ front_wanted o len long few =
     record {
       rising = all.rising;
       in_range = all_of _ _ _ (λ c h. in_range (front_range o.number.0) c.key h.of_it (omega arith) h.before) all.each;
-    }
-
--- ---- all parts, and those of the ceiling
-
-pub parts_wanted : (x : Stored) → length (header.print (header_of x)) ≡ 512 → length x.object.rows ≤ 4096 → length (body_bytes x.object.id.kind (image_of x)) ≤ 16777216 → IsWanted (short_range x.object.number.0) (parts_of x)
-parts_wanted x long few short =
-    let n = x.object.number.0 in
-    let len = length (body_bytes x.object.id.kind (image_of x)) in
-    let last : 128 + needed len ≤ last_part = omega (arith, needed_most len 32768 (omega (arith, short))) in
-    let all : ArePart n 0 last_part (front_parts x.object len ++ body_parts x) =
-    both_parts n 0 128 last_part _ _ (lit≤ tt) (lit≤ tt) (front_are x.object len long few) (stream_within n 128 last_part (body_bytes x.object.id.kind (image_of x)) _ last) in
-    let own : IsWanted (short_range n) (front_parts x.object len ++ body_parts x) =
-    record {
-      rising = all.rising;
-      in_range = all_of _ _ _ (λ c h. in_range (short_range n) c.key h.of_it (omega arith) h.before) all.each;
-    } in
-    subst (λ (cs : List Change). IsWanted (short_range n) cs) (append_assoc (header_parts x) (rows_parts x) (body_parts x)) own
-
-print_long : (ceiling : ℕ) → length (ceiling_page.print ceiling) ≡ 512
-print_long ceiling = let z : length {A = ℕ} (copies 496 0) ≡ 496 = length_copies {A = ℕ} 496 0 in omega (arith, z)
-
-pub ceiling_wanted : (ceiling : ℕ) → IsWanted (short_range ceiling_key) (ceiling_parts ceiling)
-ceiling_wanted ceiling =
-    let all = stream_within ceiling_key 0 last_part (ceiling_page.print ceiling) (no_tags ceiling_page ceiling) (omega (arith, needed_most (length (ceiling_page.print ceiling)) 1 (omega (arith, print_long ceiling)))) in
-    record {
-      rising = all.rising;
-      in_range = all_of _ _ _ (λ c h. in_range (short_range ceiling_key) c.key h.of_it (omega arith) h.before) all.each;
     }
 
 -- ---- the body behind
@@ -171,13 +78,7 @@ wanted_behind n from until p cs ds are high =
 
 -- ---- the page of a header
 
--- where all tags are 0 none need be said
-zero_tags : (number first k : ℕ) (pages : List (List ℕ)) → numbered number first pages (copies k 0) ≡ numbered number first pages []
-unfolding numbered copies
-zero_tags number first k [] = refl
-zero_tags number first zero (xs ∷ pages) = refl
-zero_tags number first (suc k) (xs ∷ pages) = ap (λ (t : List Change). page_at number first xs 0 ∷ t) (zero_tags number (first + 1) k pages)
-
+-- tags that are all 0 need not be said
 pub untagged : {A : Type 0} (number first : ℕ) (s : Spelling A) (x : A) → stream_parts number first (s.print x) [] ≡ print_parts number first s (no_tags s) x
 untagged number first s x =
     let n = needed (length (s.print x)) in

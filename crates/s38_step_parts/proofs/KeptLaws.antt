@@ -44,8 +44,9 @@ use Rattle.s38_rules.specs.declared.object.Object.{Object}
 use Rattle.s38_vault.specs.Content.{Content}
 use Rattle.s38_vault.specs.Directory.{Keys}
 use Rattle.s38_step_parts.proofs.AfterLaws.{parts_below}
-use Rattle.s38_step_parts.proofs.BothLaws.{all_of}
-use Rattle.s38_step_parts.proofs.FrontLaws.{ArePart, front_are, first_part, page_of_header, parts_split, stream_from, wanted_before, wanted_behind}
+use Rattle.s38_keeping.proofs.SoFarLaws.{all_of}
+use Rattle.s38_closing.proofs.PartLaws.{ArePart}
+use Rattle.s38_step_parts.proofs.FrontLaws.{front_are, first_part, page_of_header, parts_split, stream_from, wanted_before, wanted_behind}
 use Rattle.s38_step_parts.proofs.NarrowLaws.{narrowed}
 use Rattle.s38_step_parts.specs.Fronts.{AddsAt, front_parts, front_range, len_in}
 

@@ -7,9 +7,9 @@ use Rattle.std.specs.Prelude.{◌||◌, nat_lt}
 use Rattle.s38_durable.specs.Stands.{is_among}
 use Rattle.s38_object_laws.specs.Outline.{is_forced, speaks_of}
 use Rattle.s38_rules.specs.Forcing.{Ceiling, Forced, Header, Removed, Whole}
-use Rattle.s38_step_parts.specs.Forcings.{all_of, forced_of}
+use Rattle.s38_extents.specs.Forcings.{all_forced, forced_as}
 use Rattle.s38_step_parts.specs.Numbers.{numbers, with_all, with_forced, with_number}
-use Rattle.s38_step_parts.specs.declared.forcing.Forcing.{Forcing}
+use Rattle.s38_extents.specs.declared.forcing.Forcing.{Forcing}
 
 -- ---- a number in its place
 
@@ -71,16 +71,16 @@ place_last n at ns all end so_far =
 -- ---- the numbers of what is forced
 
 -- one more is passed
-pub numbers_on : (i : ℕ) (d : Forcing) (all : List Forcing) (ns new total : List ℕ) → i < length all → new ≡ with_forced ns (forced_of (get_or all i d)) → with_all ns (all_of (drop i all)) ≡ total → with_all new (all_of (drop (i + 1) all)) ≡ total
+pub numbers_on : (i : ℕ) (d : Forcing) (all : List Forcing) (ns new total : List ℕ) → i < length all → new ≡ with_forced ns (forced_as (get_or all i d)) → with_all ns (all_forced (drop i all)) ≡ total → with_all new (all_forced (drop (i + 1) all)) ≡ total
 unfolding with_all
 numbers_on i d all ns new total within more so_far =
     let next : suc i ≡ i + 1 = omega arith in
     let here : drop i all ≡ get_or all i d ∷ drop (i + 1) all = drop-cons all i d within ∙ ap (λ (k : ℕ). get_or all i d ∷ drop k all) next in
-    ap (λ (ms : List ℕ). with_all ms (all_of (drop (i + 1) all))) more ∙ ap (λ (fs : List Forcing). with_all ns (all_of fs)) (sym here) ∙ so_far
+    ap (λ (ms : List ℕ). with_all ms (all_forced (drop (i + 1) all))) more ∙ ap (λ (fs : List Forcing). with_all ns (all_forced fs)) (sym here) ∙ so_far
 
-pub numbers_done : (i : ℕ) (all : List Forcing) (ns total : List ℕ) → length all ≤ i → with_all ns (all_of (drop i all)) ≡ total → ns ≡ total
+pub numbers_done : (i : ℕ) (all : List Forcing) (ns total : List ℕ) → length all ≤ i → with_all ns (all_forced (drop i all)) ≡ total → ns ≡ total
 unfolding with_all
-numbers_done i all ns total end so_far = ap (λ (fs : List Forcing). with_all ns (all_of fs)) (sym (drop_all i all end)) ∙ so_far
+numbers_done i all ns total end so_far = ap (λ (fs : List Forcing). with_all ns (all_forced fs)) (sym (drop_all i all end)) ∙ so_far
 
 -- ---- the numbers rise, and are those that are spoken of
 

@@ -1,4 +1,3 @@
-pub mod Forcings
 pub mod Numbers
 pub mod Fronts
 pub mod Putting

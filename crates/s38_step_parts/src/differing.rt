@@ -20,8 +20,9 @@ ghost use Rattle.s38_step_parts.specs.declared.fault.ForceFault.TheVariants as f
 ghost use Rattle.s38_vault.specs.Content.{Content};
 
 use crate::fault::ForceFault;
-use crate::parts::{front_parts, whole_parts};
+use crate::parts::front_parts;
 use s38_base::{Change, Key, Page};
+use s38_closing::whole_parts;
 use s38_codecs::ReadFault;
 use s38_commits::Units;
 use s38_forcing::{PartRange, add_differences};

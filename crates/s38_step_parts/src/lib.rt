@@ -4,7 +4,6 @@
 
 mod differing;
 mod fault;
-mod forcing;
 mod numbers;
 mod objects;
 mod parts;
@@ -12,5 +11,4 @@ mod putting;
 mod step;
 
 pub use fault::ForceFault;
-pub use forcing::Forcing;
 pub use step::force;

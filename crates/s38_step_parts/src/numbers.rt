@@ -1,10 +1,10 @@
 //! The numbers of the objects that a step forces.
 ghost use Rattle.std.specs.Prelude.{◌≡◌, IfOk, OnOk};
-ghost use Rattle.s38_step_parts.specs.Forcings.{all_of, forced_of};
+ghost use Rattle.s38_extents.specs.Forcings.{all_forced, forced_as};
 ghost use Rattle.s38_step_parts.specs.Numbers.{numbers, with_forced, with_number};
 
-use crate::forcing::Forcing;
 use s38_base::NoMemory;
+use s38_extents::Forcing;
 use std::alloc::Global;
 
 /// Adds a number in its place among rising ones, where it is not there yet.
@@ -26,7 +26,7 @@ fn add_number(into: &mut Vec<u64>, number: u64) -> Result<(), NoMemory>
 
 /// Adds the number of the object that is spoken of, if one is.
 fn add_forced(into: &mut Vec<u64>, one: Forcing) -> Result<(), NoMemory>
-    ensures { OnOk result (into.new.items ≡ with_forced into.old.items (forced_of one)) }
+    ensures { OnOk result (into.new.items ≡ with_forced into.old.items (forced_as one)) }
 {
     match one {
         Forcing::Ceiling => Ok(()),
@@ -38,7 +38,7 @@ fn add_forced(into: &mut Vec<u64>, one: Forcing) -> Result<(), NoMemory>
 
 /// The numbers of the objects that are forced, in rising order, each once.
 pub(crate) fn numbers_of(alloc: Global, all: &[Forcing]) -> Result<Vec<u64>, NoMemory>
-    ensures { IfOk result (λ found. found.items ≡ numbers (all_of all.now)) }
+    ensures { IfOk result (λ found. found.items ≡ numbers (all_forced all.now)) }
 {
     let mut found = Vec::new(alloc);
     for one in all {

@@ -14,7 +14,7 @@ ghost use Rattle.s38_rules.specs.Forcing.{is_whole};
 ghost use Rattle.s38_rules.specs.Held.{object_in};
 ghost use Rattle.s38_rules.specs.State.{State};
 ghost use Rattle.s38_rules.specs.Storable.{IsStorable};
-ghost use Rattle.s38_step_parts.specs.Forcings.{all_of, forced_of};
+ghost use Rattle.s38_extents.specs.Forcings.{all_forced, forced_as};
 ghost use Rattle.s38_step_parts.specs.Fronts.{AddsAt};
 ghost use Rattle.s38_step_parts.specs.Numbers.{numbers};
 ghost use Rattle.s38_step_parts.specs.Outcomes.{IsUnread};
@@ -24,11 +24,11 @@ ghost use Rattle.s38_vault.specs.Content.{AreRising, Content, HaveObjects};
 
 use crate::differing::{add_followed, add_gone, add_whole};
 use crate::fault::ForceFault;
-use crate::forcing::Forcing;
 use crate::numbers::numbers_of;
-use crate::parts::{CEILING_KEY, ceiling_parts};
 use s38_base::{Change, ObjNum};
+use s38_closing::{CEILING_KEY, ceiling_parts};
 use s38_commits::Units;
+use s38_extents::Forcing;
 use s38_keeping::add_wanted;
 use s38_objects::Objects;
 use s38_rules::Object;
@@ -37,7 +37,7 @@ use std::alloc::Global;
 
 /// Whether this forces an object whole.
 fn is_whole(one: Forcing, number: u64) -> bool
-    ensures { result ≡ is_whole number (forced_of one) }
+    ensures { result ≡ is_whole number (forced_as one) }
 {
     match one {
         Forcing::Whole(object) => object.0 == number,
@@ -47,7 +47,7 @@ fn is_whole(one: Forcing, number: u64) -> bool
 
 /// Whether an object is forced whole.
 fn forces_whole(all: &[Forcing], number: u64) -> bool
-    ensures { result ≡ list_any (is_whole number) (all_of all.now) }
+    ensures { result ≡ list_any (is_whole number) (all_forced all.now) }
 {
     for one in all {
         if is_whole(*one, number) {
@@ -59,7 +59,7 @@ fn forces_whole(all: &[Forcing], number: u64) -> bool
 
 /// Whether this forces the ceiling.
 fn is_ceiling(one: Forcing) -> bool
-    ensures { result ≡ is_ceiling (forced_of one) }
+    ensures { result ≡ is_ceiling (forced_as one) }
 {
     match one {
         Forcing::Ceiling => true,
@@ -69,7 +69,7 @@ fn is_ceiling(one: Forcing) -> bool
 
 /// Whether the ceiling is forced.
 fn forces_ceiling(all: &[Forcing]) -> bool
-    ensures { result ≡ list_any is_ceiling (all_of all.now) }
+    ensures { result ≡ list_any is_ceiling (all_forced all.now) }
 {
     for one in all {
         if is_ceiling(*one) {
@@ -94,7 +94,7 @@ fn add_there<V: Vault>(
     requires number { IsNumber object.now.number.0 }
     requires there { object_in objects.now.objects object.now.number.0 ≡ Some object.now }
     ensures told { OnOk result ((m : Content) (d : Durable) (s : State) → V.holds vault.old m → Precedes objects.now units.now m d s
-        → into.new.items ≡ into.old.items ++ differences (get m) (range_of object.now.number.0) (parts_in (kept_there (all_of all.now) s d.objects object.now))) }
+        → into.new.items ≡ into.old.items ++ differences (get m) (range_of object.now.number.0) (parts_in (kept_there (all_forced all.now) s d.objects object.now))) }
     ensures adds { OnOk result (AddsAt object.now.number.0 into.old.items into.new.items) }
     ensures bad { IfErr result (IsUnread ((m : Content) (d : Durable) (s : State) → V.holds vault.old m → Precedes objects.now units.now m d s → ⊥)) }
     ensures stays { Stays V.view V.holds V.leaves vault.old vault.new }
@@ -124,7 +124,7 @@ fn add_object<V: Vault>(
     requires settles { All (λ o. CanSettle units.now o.number.0 o.body) objects.now.objects }
     requires number { IsNumber number }
     ensures told { OnOk result ((m : Content) (d : Durable) (s : State) → V.holds vault.old m → Precedes objects.now units.now m d s
-        → into.new.items ≡ into.old.items ++ differences (get m) (range_of number) (parts_at (durable_after (all_of all.now) d s) number)) }
+        → into.new.items ≡ into.old.items ++ differences (get m) (range_of number) (parts_at (durable_after (all_forced all.now) d s) number)) }
     ensures adds { OnOk result (AddsAt number into.old.items into.new.items) }
     ensures bad { IfErr result (IsUnread ((m : Content) (d : Durable) (s : State) → V.holds vault.old m → Precedes objects.now units.now m d s → ⊥)) }
     ensures stays { Stays V.view V.holds V.leaves vault.old vault.new }
@@ -151,11 +151,11 @@ fn add_each<V: Vault>(
 ) -> Result<(), ForceFault>
     requires storable { All IsStorable objects.now.objects }
     requires settles { All (λ o. CanSettle units.now o.number.0 o.body) objects.now.objects }
-    requires numbers { AreNumbers (all_of all.now) }
-    requires forced { forced.now ≡ numbers (all_of all.now) }
+    requires numbers { AreNumbers (all_forced all.now) }
+    requires forced { forced.now ≡ numbers (all_forced all.now) }
     requires none { into.old.items ≡ [] }
     ensures told { OnOk result ((m : Content) (d : Durable) (s : State) → V.holds vault.old m → Precedes objects.now units.now m d s
-        → into.new.items ≡ object_changes (all_of all.now) (get m) (durable_after (all_of all.now) d s)) }
+        → into.new.items ≡ object_changes (all_forced all.now) (get m) (durable_after (all_forced all.now) d s)) }
     ensures rising { OnOk result (AreRising into.new.items) }
     ensures objects { OnOk result (AllByRecursion (λ c. IsNumber c.key.object) into.new.items) }
     ensures bad { IfErr result (IsUnread ((m : Content) (d : Durable) (s : State) → V.holds vault.old m → Precedes objects.now units.now m d s → ⊥)) }
@@ -180,10 +180,10 @@ pub(crate) fn add_objects<V: Vault>(
 ) -> Result<(), ForceFault>
     requires storable { All IsStorable objects.now.objects }
     requires settles { All (λ o. CanSettle units.now o.number.0 o.body) objects.now.objects }
-    requires numbers { AreNumbers (all_of all.now) }
+    requires numbers { AreNumbers (all_forced all.now) }
     requires none { into.old.items ≡ [] }
     ensures told { OnOk result ((m : Content) (d : Durable) (s : State) → V.holds vault.old m → Precedes objects.now units.now m d s
-        → into.new.items ≡ object_changes (all_of all.now) (get m) (durable_after (all_of all.now) d s)) }
+        → into.new.items ≡ object_changes (all_forced all.now) (get m) (durable_after (all_forced all.now) d s)) }
     ensures rising { OnOk result (AreRising into.new.items) }
     ensures objects { OnOk result (AllByRecursion (λ c. IsNumber c.key.object) into.new.items) }
     ensures bad { IfErr result (IsUnread ((m : Content) (d : Durable) (s : State) → V.holds vault.old m → Precedes objects.now units.now m d s → ⊥)) }
@@ -205,7 +205,7 @@ pub(crate) fn add_ceiling<V: Vault>(
 ) -> Result<(), ForceFault>
     requires none { into.old.items ≡ [] }
     ensures told { OnOk result ((m : Content) (d : Durable) (s : State) → V.holds vault.old m → s.held ≡ objects.now
-        → into.new.items ≡ ceiling_changes (all_of all.now) (get m) (durable_after (all_of all.now) d s)) }
+        → into.new.items ≡ ceiling_changes (all_forced all.now) (get m) (durable_after (all_forced all.now) d s)) }
     ensures rising { OnOk result (AreRising into.new.items) }
     ensures own { OnOk result (AllByRecursion (λ c. c.key.object ≡ ceiling_key) into.new.items) }
     ensures bad { IfErr result (IsUnread ⊥) }

@@ -7,7 +7,7 @@ ghost use Rattle.s38_durable.specs.Stands.{Stands};
 ghost use Rattle.s38_image_printing.specs.Parts.{CanSettle};
 ghost use Rattle.s38_rules.specs.State.{State};
 ghost use Rattle.s38_rules.specs.Storable.{IsStorable};
-ghost use Rattle.s38_step_parts.specs.Forcings.{all_of};
+ghost use Rattle.s38_extents.specs.Forcings.{all_forced};
 ghost use Rattle.s38_step_parts.specs.Outcomes.{IfBad, IsFullFor};
 ghost use Rattle.s38_step_parts.specs.Putting.{IsBetweenPuts};
 ghost use Rattle.s38_step_parts.specs.Stepping.{AreNumbers, IsDue, Precedes, ceiling_changes, object_changes, put_forced, raised};
@@ -16,10 +16,10 @@ ghost use Rattle.s38_vault.specs.Content.{Content};
 ghost use Rattle.s38_vault.specs.Directory.{new_keys};
 
 use crate::fault::ForceFault;
-use crate::forcing::Forcing;
 use crate::objects::{add_ceiling, add_objects};
 use crate::putting::put_both;
 use s38_commits::Units;
+use s38_extents::Forcing;
 use s38_objects::Objects;
 use s38_vault::Vault;
 use std::alloc::Global;
@@ -38,19 +38,19 @@ pub fn force<V: Vault>(
 ) -> Result<(), ForceFault>
     requires storable { All IsStorable objects.now.objects }
     requires settles { All (λ o. CanSettle units.now o.number.0 o.body) objects.now.objects }
-    requires numbers { AreNumbers (all_of all.now) }
+    requires numbers { AreNumbers (all_forced all.now) }
 
     // What was held for what was durable before the step is held for what is durable behind it.
-    ensures stands { OnOk result ((m n : Content) (d : Durable) (s : State) → V.holds vault.old m → V.holds vault.new n → Precedes objects.now units.now m d s → IsDue (all_of all.now) d s
-        → Stands n (durable_after (all_of all.now) d s)) }
+    ensures stands { OnOk result ((m n : Content) (d : Durable) (s : State) → V.holds vault.old m → V.holds vault.new n → Precedes objects.now units.now m d s → IsDue (all_forced all.now) d s
+        → Stands n (durable_after (all_forced all.now) d s)) }
     ensures holds { OnOk result ((m : Content) (d : Durable) (s : State) → V.holds vault.old m → Precedes objects.now units.now m d s
-        → V.holds vault.new (put_forced (all_of all.now) m (durable_after (all_of all.now) d s))) }
+        → V.holds vault.new (put_forced (all_forced all.now) m (durable_after (all_forced all.now) d s))) }
     ensures told { OnOk result ((n : Content) → V.holds vault.new n → (m : Content) × V.holds vault.old m) }
 
     // Where it is full, a header is bad, or memory was refused, nothing was changed; after any error it holds what it held,
     // if it still tells.
     ensures full { IfErr result (λ fault. (m : Content) (d : Durable) (s : State) → V.holds vault.old m → Precedes objects.now units.now m d s
-        → IsFullFor (new_keys (V.view vault.old).keys (ceiling_changes (all_of all.now) (get m) (durable_after (all_of all.now) d s)) + new_keys (V.view vault.old).keys (object_changes (all_of all.now) (get m) (durable_after (all_of all.now) d s))) (V.view vault.old).free fault) }
+        → IsFullFor (new_keys (V.view vault.old).keys (ceiling_changes (all_forced all.now) (get m) (durable_after (all_forced all.now) d s)) + new_keys (V.view vault.old).keys (object_changes (all_forced all.now) (get m) (durable_after (all_forced all.now) d s))) (V.view vault.old).free fault) }
     ensures bad { IfErr result (IfBad ((m : Content) (d : Durable) (s : State) → V.holds vault.old m → Precedes objects.now units.now m d s → ⊥)) }
     ensures refused { IfErr result (λ fault. fault ≢ faults.Failed → V.view vault.new ≡ record (V.view vault.old) { spare = (V.view vault.new).spare; faults = (V.view vault.new).faults }) }
     ensures refused_holds { IfErr result (λ fault. fault ≢ faults.Failed → (m : Content) → V.holds vault.old m ↔ V.holds vault.new m) }
@@ -61,13 +61,13 @@ pub fn force<V: Vault>(
     ensures past { (t : ℕ) (m : Content) → t ≤ (V.view vault.old).moment → V.leaves vault.old t m ↔ V.leaves vault.new t m }
     ensures during { (m : Content) (d : Durable) (s : State) → V.holds vault.old m → Precedes objects.now units.now m d s
         → (t : ℕ) (n : Content) → (V.view vault.old).moment < t → t ≤ (V.view vault.new).moment → V.leaves vault.new t n
-        → IsBetweenPuts (V.view vault.old).shape.most m (ceiling_changes (all_of all.now) (get m) (durable_after (all_of all.now) d s)) (object_changes (all_of all.now) (get m) (durable_after (all_of all.now) d s)) n }
-    ensures once { (m : Content) (d : Durable) (s : State) → V.holds vault.old m → Precedes objects.now units.now m d s → IsDue (all_of all.now) d s
-        → length (object_changes (all_of all.now) (get m) (durable_after (all_of all.now) d s)) ≤ (V.view vault.old).shape.most
+        → IsBetweenPuts (V.view vault.old).shape.most m (ceiling_changes (all_forced all.now) (get m) (durable_after (all_forced all.now) d s)) (object_changes (all_forced all.now) (get m) (durable_after (all_forced all.now) d s)) n }
+    ensures once { (m : Content) (d : Durable) (s : State) → V.holds vault.old m → Precedes objects.now units.now m d s → IsDue (all_forced all.now) d s
+        → length (object_changes (all_forced all.now) (get m) (durable_after (all_forced all.now) d s)) ≤ (V.view vault.old).shape.most
         → (t : ℕ) (n : Content) → (V.view vault.old).moment < t → t ≤ (V.view vault.new).moment → V.leaves vault.new t n
-        → Stands n d ⊎ (Stands n (raised d s) ⊎ Stands n (durable_after (all_of all.now) d s)) }
+        → Stands n d ⊎ (Stands n (raised d s) ⊎ Stands n (durable_after (all_forced all.now) d s)) }
     ensures after { OnOk result ((m n : Content) (d : Durable) (s : State) → V.holds vault.old m → Precedes objects.now units.now m d s → V.leaves vault.new (V.view vault.new).moment n
-        → n ≡ put_forced (all_of all.now) m (durable_after (all_of all.now) d s)) }
+        → n ≡ put_forced (all_forced all.now) m (durable_after (all_forced all.now) d s)) }
     ensures later { (V.view vault.old).moment ≤ (V.view vault.new).moment }
 
     // Faults, and what no call changes.

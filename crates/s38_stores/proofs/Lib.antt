@@ -1,3 +1,7 @@
 mod KeepLaws
 mod InstallLaws
 mod OpenLaws
+mod StrayLaws
+mod CrashLaws
+mod WatchLaws
+mod SureLaws

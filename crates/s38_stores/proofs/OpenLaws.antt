@@ -1,5 +1,5 @@
 -- A store that was opened, or refused.
-use Rattle.std.proofs.Common.{◌≡◌, ◌<◌, ◌^◌, ℕ, List, Option, Some, None, true, is_some, subst, sym, arith}
+use Rattle.std.proofs.Common.{◌≡◌, ◌<◌, ◌^◌, ℕ, List, Option, Some, None, true, is_some, refl, subst, sym, arith}
 use Rattle.std.specs.Prelude.{IfSome}
 use Rattle.s38_base.specs.Limits.{body_limit}
 use Rattle.s38_base.specs.declared.page.Change.{Change}
@@ -51,3 +51,8 @@ refusal_of size f m (refusals.Bad (bad.TwoBlocks first second)) stands is = absu
 refusal_of size f m (refusals.Bad (bad.BadImage object part)) stands is = record { content = m; stands = stands; first = is }
 refusal_of size f m refusals.Failed stands is = tt
 refusal_of size f m refusals.NoMemory stands is = tt
+
+pub was_failed : (fault : RestartFault) → of_restart fault ≡ refusals.Failed → fault ≡ faults.Failed
+was_failed (faults.BadImage object part) e = absurd (cc)
+was_failed faults.Failed e = refl
+was_failed faults.NoMemory e = absurd (cc)

@@ -1,3 +1,4 @@
+pub mod Crashes
 pub mod Stores
 pub mod Opened
 pub mod Refusals

@@ -6,6 +6,7 @@ ghost use Rattle.s38_disk.specs.Blocks.{State};
 ghost use Rattle.s38_disk.specs.Disk.{IsAt};
 ghost use Rattle.s38_pages.specs.Formats.{first_content, most_first};
 ghost use Rattle.s38_rules.specs.Opening.{held_installed};
+ghost use Rattle.s38_stores.specs.Crashes.{AtRest, DuringCall, IsNoneOrInstalled};
 ghost use Rattle.s38_stores.specs.Refusals.{IsUnmadeBy};
 ghost use Rattle.s38_stores.specs.Stores.{Keeps, Leaves, installed_store};
 ghost use Rattle.s38_vault.specs.Content.{AreRising, HaveObjects};
@@ -39,7 +40,8 @@ fn installing_changes(alloc: Global, objects: &Objects) -> Result<Vec<Change>, N
 }
 
 /// Makes a store on a disk that has none, with the objects that are handed in: the machine context and the security officer.
-/// The disk comes back with the reason where no store is made, as it was unless it failed.
+/// The disk comes back with the reason where no store is made, as it was unless it failed. Whenever a crash comes meanwhile,
+/// the disk has no label, or the store is whole.
 pub fn install<D: Disk>(alloc: Global, disk: D, objects: &Objects) -> Result<D, (D, StoreRefusal)>
     requires { objects.now ≡ held_installed }
     ensures made { IfOk result (λ new. Leaves (D.view disk) (D.view new) (λ f g. Keeps (D.view new).size g installed_store)) }
@@ -47,6 +49,10 @@ pub fn install<D: Disk>(alloc: Global, disk: D, objects: &Objects) -> Result<D, 
     ensures refused { IfErr result (λ refusal. IsUnmadeBy (D.view disk) refusal.1) }
     ensures stays { IfErr result (λ refusal. (refusal.1 ≡ StoreRefusal.Failed → ⊥) → (D.view refusal.0).past ≡ (D.view disk).past) }
     ensures cause { IfErr result (λ refusal. refusal.1 ≡ StoreRefusal.Failed → Rose (D.view disk).faults (D.view refusal.0).faults) }
+
+    // Whatever it answers, a crash leaves no label or the whole store.
+    ensures during { IfOk result (λ new. AtRest (D.view disk) (λ _. DuringCall (D.view disk) (D.view new) (IsNoneOrInstalled (D.view new).size))) }
+    ensures crash { IfErr result (λ refusal. AtRest (D.view disk) (λ _. DuringCall (D.view disk) (D.view refusal.0) (IsNoneOrInstalled (D.view refusal.0).size))) }
 {
     let changes = match installing_changes(alloc, objects) {
         Ok(changes) => changes,

@@ -1,4 +1,4 @@
-ghost use Rattle.std.specs.Prelude.{◌≡◌, ◌≤◌, ℕ, All, Err, IfErr, OnOk};
+ghost use Rattle.std.specs.Prelude.{◌≡◌, ◌≤◌, ◌≢◌, ℕ, All, Err, IfErr, OnOk};
 ghost use Rattle.s38_base.specs.Faults.{Rose};
 ghost use Rattle.s38_closing.specs.Closing.{closing};
 ghost use Rattle.s38_disk.specs.Blocks.{State};
@@ -6,6 +6,7 @@ ghost use Rattle.s38_disk.specs.Disk.{IsAt};
 ghost use Rattle.s38_image_printing.specs.Parts.{CanSettle};
 ghost use Rattle.s38_pages.specs.Vaults.{page_holds, page_view};
 ghost use Rattle.s38_rules.specs.Storable.{IsStorable};
+ghost use Rattle.s38_stores.specs.Crashes.{DuringCall, IsBetween};
 ghost use Rattle.s38_stores.specs.Stores.{IsFullOf, Keeps};
 ghost use Rattle.s38_vault.specs.Content.{Content};
 
@@ -14,7 +15,7 @@ use s38_commits::Units;
 use s38_disk::Disk;
 use s38_keeping::KeepFault;
 use s38_objects::Objects;
-use s38_pages::PageVault;
+use s38_pages::{PageVault, WatchedVault};
 use s38_vault::Vault;
 use std::alloc::Global;
 
@@ -28,7 +29,7 @@ pub struct Kept<D> {
 /// the ceiling of numbers, and nothing else. Where it is full the store is as it was.
 pub fn keep<D: Disk>(
     alloc: Global,
-    mut vault: PageVault<D>,
+    vault: PageVault<D>,
     objects: &Objects,
     units: &Units,
 ) -> Kept<D>
@@ -41,10 +42,18 @@ pub fn keep<D: Disk>(
     ensures full { (needed free : ℕ) → result.end ≡ Err (KeepFault.Full needed free) → (m : Content) → page_holds vault m → (t : State) → IsAt (D.view result.disk).past t
         → IsFullOf (D.view result.disk).size t.now (closing units.now objects.now) needed free }
     ensures cause { IfErr result.end (λ fault. fault ≡ KeepFault.Failed → Rose vault.start (D.view result.disk).faults) }
+
+    // Unless the disk failed, an error leaves it as it was. Whatever it answers, a crash leaves what was held before or
+    // after some of the puts; where one put takes all changes, all of them or none.
+    ensures stays { IfErr result.end (λ fault. fault ≢ KeepFault.Failed → (D.view result.disk).past ≡ vault.disk.past) }
+    ensures during { (m : Content) → page_holds vault m → DuringCall vault.disk (D.view result.disk) (IsBetween (D.view result.disk).size m (closing units.now objects.now)) }
 {
     // Its contract says that the keys are those of the content.
     let _free = vault.free();
-    let end = close(alloc, &mut vault, objects, units);
-    let disk = vault.release();
+    // Its contract says how many changes a put takes.
+    let _most = vault.most();
+    let mut watched = WatchedVault::of(vault);
+    let end = close(alloc, &mut watched, objects, units);
+    let disk = watched.end().release();
     Kept { disk, end }
 }

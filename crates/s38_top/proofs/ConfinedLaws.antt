@@ -17,6 +17,7 @@ use Rattle.s38_rules.specs.Headers.{rows_in}
 use Rattle.s38_rules.specs.Held.{Held, has_number, object_in}
 use Rattle.s38_rules.specs.Opening.{general_context, installed, locked_queue, machine_context, officer, officer_rows, opening, plain_user}
 use Rattle.s38_rules.specs.PrivateRows.{AreRows}
+use Rattle.s38_rules.specs.State.{State}
 use Rattle.s38_confinement.specs.Confined.{AreRun, BeginsClosed}
 use Rattle.s38_confinement.specs.NoWay.{IsHarmless, NoWay, NoWayIn}
 use Rattle.s38_confinement.proofs.ProcessLaws.{begins}
@@ -33,8 +34,8 @@ made_is : (deck : Deck) (job : Job) (made : CreateResult) → made_for deck job 
 made_is deck job made h = ap (λ (m : Option CreateResult). fresh (unwrap_or m no_program) job.budget) h
 
 -- each process of the deck ran by its job
-each_ran : (held : Held) (picks : List ℕ) (deck : Deck) (history : List Entry) → IsRunOf held picks deck history → AreRun (processes_of deck) history
-each_ran held picks deck history run = record {
+each_ran : (held : Held) (Order : State → List Entry → Type 0) (deck : Deck) (history : List Entry) → IsRunOf held Order deck history → AreRun (processes_of deck) history
+each_ran held Order deck history run = record {
   each = λ k d there.
       let at = mapped_at (process_of deck) deck.jobs k d there in
       let one = run.each k at.0 at.1 in
@@ -87,6 +88,6 @@ begins_shut held deck users o r in_order some none = record {
   variables = begins_closed deck o r;
 }
 
-pub run_confined : (held : Held) (picks : List ℕ) (deck : Deck) (history : List Entry) → All (λ x. AreRows x.rows) held.objects → (run : IsRunOf held picks deck history) → IsConfined held deck history run.state
-run_confined held picks deck history in_order run users o r some none within =
-    closed_history (processes_of deck) (opened held deck) history run.state users o r (begins_shut held deck users o r in_order some none) run.legal within (each_ran held picks deck history run)
+pub run_confined : (held : Held) (Order : State → List Entry → Type 0) (deck : Deck) (history : List Entry) → All (λ x. AreRows x.rows) held.objects → (run : IsRunOf held Order deck history) → IsConfined held deck history run.state
+run_confined held Order deck history in_order run users o r some none within =
+    closed_history (processes_of deck) (opened held deck) history run.state users o r (begins_shut held deck users o r in_order some none) run.legal within (each_ran held Order deck history run)

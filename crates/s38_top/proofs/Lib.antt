@@ -2,4 +2,4 @@ pub mod DeckLaws
 pub mod TopLaws
 mod StoreLaws
 mod ConfinedLaws
-mod CommandLaws
+pub mod CommandLaws

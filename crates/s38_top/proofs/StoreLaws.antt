@@ -1,7 +1,8 @@
 -- From a store that was opened to what a run over it comes to.
 use Rattle.std.proofs.Common.{◌≡◌, ℕ, List, [], length, refl, sym, ◌∙◌, ap, subst}
-use Rattle.std.specs.Prelude.{Err, IfErr, Ok, OnOk, Option, Result, Some, None}
+use Rattle.std.specs.Prelude.{Err, IfErr, IfOk, Ok, OnOk, Option, Result, Some, None}
 use Rattle.s38_base.specs.Faults.{Rose}
+use Rattle.s38_base.specs.declared.fault.NoMemory.{NoMemory as Fault}
 use Rattle.s38_keeping.specs.declared.fault.KeepFault.{KeepFault}
 use Rattle.s38_keeping.specs.declared.fault.KeepFault.TheVariants as closes
 use Rattle.s38_code.specs.declared.deck.Deck.{Deck}
@@ -22,15 +23,21 @@ use Rattle.s38_stores.specs.Stores.{IsFullOf, Keeps, Restarts}
 use Rattle.s38_stores.specs.declared.fault.StoreRefusal.{StoreRefusal}
 use Rattle.s38_stores.specs.declared.fault.StoreRefusal.TheVariants as refusals
 use Rattle.s38_template.specs.Grammar.{Spells}
-use Rattle.s38_top.specs.declared.command.Command.TheVariants.{Serial}
+use Rattle.s38_top.specs.declared.command.Command.{Command}
+use Rattle.s38_top.specs.declared.command.Command.TheVariants.{Jobs}
 use Rattle.s38_top.specs.declared.outcome.Outcome.{Outcome}
 use Rattle.s38_top.specs.declared.outcome.Outcome.TheVariants.{BadWords, BadDeck, DeckFault, NoMemory, Ran, Checked, Demonstrated, Installed, Listed, Refused, DiskFault}
 use Rattle.s38_top.specs.declared.outcome.RunEnd.{RunEnd}
 use Rattle.s38_top.specs.declared.outcome.RunEnd.TheVariants as ends
 use Rattle.s38_top.specs.declared.outcome.Whole.{Whole}
-use Rattle.s38_top.specs.Decks.{AreMarks, IsRunOf, checked_of, opened, picks_by}
-use Rattle.s38_top.specs.Ends.{CameFrom, IsEnd, IsRunBehind, end_of}
+use Rattle.s38_top.specs.declared.start.Started.{Started}
+use Rattle.s38_top.specs.declared.turns.Turns.{Turns}
+use Rattle.s38_top.specs.Begun.{IsStarted, IsWholeOf, held_of}
+use Rattle.s38_top.specs.Decks.{AreMarks, IsRunOf, checked_of, opened, order_of}
+use Rattle.s38_top.specs.Ends.{CameFrom, IsDecided, IsEnd, IsEndOf, IsReadFrom, IsReady, IsRunBehind, end_of}
 use Rattle.s38_top.specs.Outcome.{OfText, refused}
+use Rattle.s38_top.specs.Outside.{outside}
+use Rattle.s38_top.proofs.TopLaws.{source_holds, text_comes}
 use Rattle.s38_top.specs.Runs.{EndsWith, LeavesBehind, kept_of}
 use Rattle.s38_vault.specs.Content.{Content}
 
@@ -63,28 +70,28 @@ pub leaves_at : {e e' : State} → e ≡ e' → (v : PageStore) (new : DiskView)
 leaves_at {e} same v new r end is kept full failed = subst (λ s. LeavesBehind v new s end) same (leaves_of v new e r end is kept full failed)
 
 -- what a run from some objects comes to, by what it left
-pub end_came : (pick : ℕ) (held : Held) (deck : Deck) (v : PageStore) (new : DiskView) (whole : Whole) (o : Outcome) → whole.deck ≡ deck
-    → (run : IsRunOf held (picks_by pick (length whole.history.items)) deck whole.history.items) × (run.state ≡ whole.state) → AreMarks whole.marks.items whole.history.items
-    → IsEnd pick whole v new o → CameFrom pick held deck v new o
-end_came pick held deck v new whole (Ran n ran end) deck_is run marks is =
-    let here = subst (λ d. (r : IsRunOf held (picks_by pick (length whole.history.items)) d whole.history.items) × (r.state ≡ whole.state)) (sym deck_is) run in
+pub end_came : (turns : Turns) (held : Held) (deck : Deck) (v : PageStore) (new : DiskView) (whole : Whole) (o : Outcome) → whole.deck ≡ deck
+    → (run : IsRunOf held (order_of turns) deck whole.history.items) × (run.state ≡ whole.state) → AreMarks whole.marks.items whole.history.items
+    → IsEnd turns whole v new o → CameFrom turns held deck v new o
+end_came turns held deck v new whole (Ran x ran end) deck_is run marks is =
+    let here = subst (λ d. (r : IsRunOf held (order_of turns) d whole.history.items) × (r.state ≡ whole.state)) (sym deck_is) run in
     let behind : LeavesBehind v new here.0.state end = subst (λ e. LeavesBehind v new e end) (sym here.1) is.1.1 in
-    let came : IsRunBehind pick held deck v new whole end = record { deck_is = deck_is; run = here.0; marks = marks; behind = behind } in
-    (is.0, subst (λ w. IsRunBehind pick held deck v new w end) (sym is.1.0) came)
-end_came pick held deck v new whole NoMemory deck_is run marks is = tt
-end_came pick held deck v new whole BadWords deck_is run marks is = absurd is
-end_came pick held deck v new whole (BadDeck line code) deck_is run marks is = absurd is
-end_came pick held deck v new whole DeckFault deck_is run marks is = absurd is
-end_came pick held deck v new whole (Refused bad) deck_is run marks is = absurd is
-end_came pick held deck v new whole DiskFault deck_is run marks is = absurd is
-end_came pick held deck v new whole (Checked checked) deck_is run marks is = absurd is
-end_came pick held deck v new whole (Demonstrated size ran) deck_is run marks is = absurd is
-end_came pick held deck v new whole Installed deck_is run marks is = absurd is
-end_came pick held deck v new whole (Listed objects) deck_is run marks is = absurd is
+    let came : IsRunBehind turns held deck v new whole end = record { deck_is = deck_is; run = here.0; marks = marks; behind = behind } in
+    (is.0, subst (λ w. IsRunBehind turns held deck v new w end) (sym is.1.0) came)
+end_came turns held deck v new whole NoMemory deck_is run marks is = tt
+end_came turns held deck v new whole BadWords deck_is run marks is = absurd is
+end_came turns held deck v new whole (BadDeck line code) deck_is run marks is = absurd is
+end_came turns held deck v new whole DeckFault deck_is run marks is = absurd is
+end_came turns held deck v new whole (Refused bad) deck_is run marks is = absurd is
+end_came turns held deck v new whole DiskFault deck_is run marks is = absurd is
+end_came turns held deck v new whole (Checked checked) deck_is run marks is = absurd is
+end_came turns held deck v new whole (Demonstrated size ran) deck_is run marks is = absurd is
+end_came turns held deck v new whole Installed deck_is run marks is = absurd is
+end_came turns held deck v new whole (Listed objects) deck_is run marks is = absurd is
 
 -- a run from an opening can be closed
-pub run_closes : (held : Held) (picks : List ℕ) (deck : Deck) (history : List Entry) (e : State) → IsOpening held → (run : IsRunOf held picks deck history) × (run.state ≡ e) → IsLawful e.held → CanClose e
-run_closes held picks deck history e opening run lawful =
+pub run_closes : (held : Held) (Order : State → List Entry → Type 0) (deck : Deck) (history : List Entry) (e : State) → IsOpening held → (run : IsRunOf held Order deck history) × (run.state ≡ e) → IsLawful e.held → CanClose e
+run_closes held Order deck history e opening run lawful =
     end_closes held (checked_of deck) deck.jobs history e opening (subst (λ s. Leads (opened held deck) [] history s) run.1 run.0.legal) lawful
 
 -- what is behind in a vault is behind on its disk
@@ -94,10 +101,10 @@ ends_behind old new v e ends.Failed cleaned faultless behind = subst (λ n. Rose
 ends_behind old new v e (ends.Full needed free) cleaned faultless behind = λ s t at is. behind _ (cleaned s at).1.1 t is
 
 -- what a run over the store of a disk comes to
-pub opened_ends : (pick : ℕ) (old new : DiskView) (held : Held) (text : List ℕ) (deck : Deck) (v : PageStore) (o : Outcome) → Spells text deck → IsOpening held
-    → ((s : Blocks) → IsAt old.past s → Restarts old.size s.now held) → HoldsCleaned old v → IsFaultless old v → CameFrom pick held deck v new o → OfText (Serial pick) text old new o
-opened_ends pick old new held text deck v (Ran n whole end) spelled opening restarts cleaned faultless came =
-    subst (λ m. OfText (Serial pick) text old new (Ran m whole end)) (sym came.0) (
+pub opened_ends : (turns : Turns) (old new : DiskView) (held : Held) (text : List ℕ) (deck : Deck) (v : PageStore) (o : Outcome) → Spells text deck → IsOpening held
+    → ((s : Blocks) → IsAt old.past s → Restarts old.size s.now held) → HoldsCleaned old v → IsFaultless old v → CameFrom turns held deck v new o → OfText (Jobs turns) text old new o
+opened_ends turns old new held text deck v (Ran x whole end) spelled opening restarts cleaned faultless came =
+    subst (λ m. OfText (Jobs turns) text old new (Ran m whole end)) (sym came.0) (
       refl,
       (
         subst (λ d. Spells text d) (sym came.1.deck_is) spelled,
@@ -108,20 +115,52 @@ opened_ends pick old new held text deck v (Ran n whole end) spelled opening rest
         },
       ),
     )
-opened_ends pick old new held text deck v NoMemory spelled opening restarts cleaned faultless came = tt
-opened_ends pick old new held text deck v BadWords spelled opening restarts cleaned faultless came = absurd came
-opened_ends pick old new held text deck v (BadDeck line code) spelled opening restarts cleaned faultless came = absurd came
-opened_ends pick old new held text deck v DeckFault spelled opening restarts cleaned faultless came = absurd came
-opened_ends pick old new held text deck v (Refused bad) spelled opening restarts cleaned faultless came = absurd came
-opened_ends pick old new held text deck v DiskFault spelled opening restarts cleaned faultless came = absurd came
-opened_ends pick old new held text deck v (Checked checked) spelled opening restarts cleaned faultless came = absurd came
-opened_ends pick old new held text deck v (Demonstrated size ran) spelled opening restarts cleaned faultless came = absurd came
-opened_ends pick old new held text deck v Installed spelled opening restarts cleaned faultless came = absurd came
-opened_ends pick old new held text deck v (Listed objects) spelled opening restarts cleaned faultless came = absurd came
+opened_ends turns old new held text deck v NoMemory spelled opening restarts cleaned faultless came = tt
+opened_ends turns old new held text deck v BadWords spelled opening restarts cleaned faultless came = absurd came
+opened_ends turns old new held text deck v (BadDeck line code) spelled opening restarts cleaned faultless came = absurd came
+opened_ends turns old new held text deck v DeckFault spelled opening restarts cleaned faultless came = absurd came
+opened_ends turns old new held text deck v (Refused bad) spelled opening restarts cleaned faultless came = absurd came
+opened_ends turns old new held text deck v DiskFault spelled opening restarts cleaned faultless came = absurd came
+opened_ends turns old new held text deck v (Checked checked) spelled opening restarts cleaned faultless came = absurd came
+opened_ends turns old new held text deck v (Demonstrated size ran) spelled opening restarts cleaned faultless came = absurd came
+opened_ends turns old new held text deck v Installed spelled opening restarts cleaned faultless came = absurd came
+opened_ends turns old new held text deck v (Listed objects) spelled opening restarts cleaned faultless came = absurd came
 
 -- a store that is refused for a run
-pub refused_run : (pick : ℕ) (old new : DiskView) (text : List ℕ) (refusal : StoreRefusal) → ((s : Blocks) → IsAt old.past s → IsRefusal old.size s.now refusal)
-    → (refusal ≡ refusals.Failed → Rose old.faults new.faults) → OfText (Serial pick) text old new (refused refusal)
-refused_run pick old new text (refusals.Bad bad) is cause = (pick, (refl, is))
-refused_run pick old new text refusals.Failed is cause = (pick, (refl, cause refl))
-refused_run pick old new text refusals.NoMemory is cause = tt
+pub refused_run : (turns : Turns) (old new : DiskView) (text : List ℕ) (refusal : StoreRefusal) → ((s : Blocks) → IsAt old.past s → IsRefusal old.size s.now refusal)
+    → (refusal ≡ refusals.Failed → Rose old.faults new.faults) → OfText (Jobs turns) text old new (refused refusal)
+refused_run turns old new text (refusals.Bad bad) is cause = (turns, (refl, is))
+refused_run turns old new text refusals.Failed is cause = (turns, (refl, cause refl))
+refused_run turns old new text refusals.NoMemory is cause = tt
+
+-- a whole run from an opening can be closed
+pub whole_closes : (held : Held) (Order : State → List Entry → Type 0) (deck : Deck) (r : Result Whole Fault) → IsOpening held → IfOk r (λ whole. IsWholeOf held Order deck whole) → IfOk r (λ whole. CanClose whole.state)
+whole_closes held Order deck (Ok whole) opening w = run_closes held Order deck whole.history.items whole.state opening (w.run, w.state_is) w.lawful
+whole_closes held Order deck (Err fault) opening w = tt
+
+-- what a run that was made comes to
+pub run_came : (turns : Turns) (held : Held) (deck : Deck) (v : PageStore) (new : DiskView) (r : Result Whole Fault) (o : Outcome)
+    → IfOk r (λ whole. IsWholeOf held (order_of turns) deck whole) → IsEndOf turns r v new o → CameFrom turns held deck v new o
+run_came turns held deck v new (Ok whole) o w is = end_came turns held deck v new whole o w.deck_is (w.run, w.state_is) w.marks is
+run_came turns held deck v new (Err fault) o w is = subst (λ (x : Outcome). CameFrom turns held deck v new x) (sym is) tt
+
+-- what a run that was prepared comes to has its cause
+pub ready_decided : (asked : Option Command) (turns : Turns) (left left' : Option (List ℕ)) (taken taken' : ℕ) (old new : DiskView) (started : Started) (v : PageStore) (o : Outcome)
+    → asked ≡ Some (Jobs turns) → IsReadFrom left left' started.deck → IsReady old started v → CameFrom turns (held_of started) started.deck v new o
+    → IsDecided asked left left' taken taken' old new o
+ready_decided asked turns left left' taken taken' old new started v o is reads ready came written written' put put' =
+    let text : List ℕ = reads.0 in
+    let ends : OfText (Jobs turns) text old new o = opened_ends turns old new (held_of started) text started.deck v o reads.1.1 ready.opening ready.restarts ready.holds ready.faultless came in
+    source_holds asked (outside left taken written put old) (outside left' taken' written' put' new) (Jobs turns) o is refl
+    (text_comes (Jobs turns) left left' taken taken' old new text o reads.1.0 ends)
+
+-- what is known of a run that was prepared over a store that was opened
+pub ready_of : (old : DiskView) (held : Held) (started : Started) (v : PageStore) → held_of started ≡ held → IsStarted started → IsOpening held
+    → ((s : Blocks) → IsAt old.past s → Restarts old.size s.now held) → HoldsCleaned old v → IsFaultless old v → IsReady old started v
+ready_of old held started v same begins opening restarts holds faultless = record {
+  begins = begins;
+  opening = subst IsOpening (sym same) opening;
+  restarts = subst (λ (h : Held). (s : Blocks) → IsAt old.past s → Restarts old.size s.now h) (sym same) restarts;
+  holds = holds;
+  faultless = faultless;
+}

@@ -1,29 +1,45 @@
 -- Which command the words are.
-use Rattle.std.specs.Prelude.{ℕ, Bool, true, false, ◌&&◌, List, [], ◌∷◌, Option, Some, None, codes, nat_le, if◌then◌else◌}
+use Rattle.std.specs.Prelude.{◌≤◌, ℕ, Bool, true, false, ◌&&◌, List, [], ◌∷◌, Option, Some, None, codes, nat_le, not, if◌then◌else◌}
 use Rattle.std.specs.Str.{bytes_eq}
 use Rattle.s38_words.specs.Number.{natural_of}
 use Rattle.s38_top.specs.declared.command.Command.{Command}
-use Rattle.s38_top.specs.declared.command.Command.TheVariants.{Serial, Check, Demo, Install, List as Listing}
+use Rattle.s38_top.specs.declared.command.Command.TheVariants.{Jobs, Check, Demo, Install, List as Listing}
+use Rattle.s38_top.specs.declared.turns.Turns.{Turns}
+use Rattle.s38_top.specs.declared.turns.Turns.TheVariants.{Serial, Workers}
 
 abbrev pub greatest_pick : ℕ
 greatest_pick = 4294967295
 
+-- how many workers there are if nothing is said of them, and how many there may be
+abbrev pub usual_workers : ℕ
+usual_workers = 4
+
+abbrev pub most_workers : ℕ
+most_workers = 64
+
 abbrev pub command_by : List ℕ → Option Command
 command_by word =
-    if bytes_eq word (codes "serial") then Some (Serial 0)
+    if bytes_eq word (codes "serial") then Some (Jobs (Serial 0))
+    else (if bytes_eq word (codes "run") then Some (Jobs (Workers usual_workers))
     else (if bytes_eq word (codes "check") then Some Check
     else (if bytes_eq word (codes "install") then Some Install
-    else (if bytes_eq word (codes "list") then Some Listing else None)))
+    else (if bytes_eq word (codes "list") then Some Listing else None))))
 
 -- a number of at most 32 bits
 abbrev pub pick_of : Option ℕ → Option Command
 pick_of None = None
-pick_of (Some n) = if nat_le n greatest_pick then Some (Serial n) else None
+pick_of (Some n) = if nat_le n greatest_pick then Some (Jobs (Serial n)) else None
+
+-- a number of workers, 1 to 64
+abbrev pub workers_of : Option ℕ → Option Command
+workers_of None = None
+workers_of (Some n) = if nat_le n most_workers && nat_le 1 n then Some (Jobs (Workers n)) else None
 
 -- the number is decimal digits without a leading zero
 abbrev pub picked_by : List ℕ → List ℕ → List ℕ → Option Command
 picked_by word option number =
-    if bytes_eq word (codes "serial") && bytes_eq option (codes "--pick") then pick_of (natural_of number) else None
+    if bytes_eq word (codes "serial") && bytes_eq option (codes "--pick") then pick_of (natural_of number)
+    else (if bytes_eq word (codes "run") && bytes_eq option (codes "--workers") then workers_of (natural_of number) else None)
 
 abbrev pub most_postings : ℕ
 most_postings = 200
@@ -36,7 +52,7 @@ demo_of (Some n) = if nat_le n most_postings && nat_le 1 n then Some (Demo n) el
 abbrev pub sized_by : List ℕ → List ℕ → Option Command
 sized_by word number = if bytes_eq word (codes "demo") then demo_of (natural_of number) else None
 
--- `install`, `list`, `serial`, `serial --pick n`, `check`, `demo n`
+-- `install`, `list`, `serial`, `serial --pick n`, `run`, `run --workers n`, `check`, `demo n`
 abbrev pub command_of : List (List ℕ) → Option Command
 command_of [] = None
 command_of (word ∷ []) = command_by word
@@ -46,7 +62,7 @@ command_of (word ∷ option ∷ number ∷ other ∷ words) = None
 
 -- the command reads a deck
 abbrev pub reads_deck : Command → Bool
-reads_deck (Serial pick) = true
+reads_deck (Jobs turns) = true
 reads_deck Check = true
 reads_deck (Demo size) = false
 reads_deck Install = false
@@ -54,8 +70,43 @@ reads_deck Listing = false
 
 -- the command is about a deck: one that it reads, or one that it makes
 abbrev pub has_deck : Command → Bool
-has_deck (Serial pick) = true
+has_deck (Jobs turns) = true
 has_deck Check = true
 has_deck (Demo size) = true
 has_deck Install = false
 has_deck Listing = false
+
+-- ---- threads
+
+-- the command starts threads
+abbrev pub takes_threads : Command → Bool
+takes_threads (Jobs (Serial pick)) = false
+takes_threads (Jobs (Workers count)) = true
+takes_threads Check = false
+takes_threads (Demo size) = false
+takes_threads Install = false
+takes_threads Listing = false
+
+abbrev pub asks_threads : Option Command → Bool
+asks_threads None = false
+asks_threads (Some command) = takes_threads command
+
+abbrev pub same_side : Bool → Bool → Bool
+same_side true b = b
+same_side false b = not b
+
+-- the command of a call that starts threads, or of one that starts none
+abbrev pub served_by : Bool → Option Command → Option Command
+served_by threads None = None
+served_by threads (Some command) = if same_side threads (takes_threads command) then Some command else None
+
+-- which command the words are to a call that starts threads, or to one that starts none
+abbrev pub command_on : Bool → List (List ℕ) → Option Command
+command_on threads words = served_by threads (command_of words)
+
+-- the turns of a call that starts threads, or of one that starts none
+abbrev pub AreTurnsOn : Bool → Turns → Type 0
+AreTurnsOn true (Workers count) = 1 ≤ count
+AreTurnsOn true (Serial pick) = ⊥
+AreTurnsOn false (Workers count) = ⊥
+AreTurnsOn false (Serial pick) = Unit {0}

@@ -21,6 +21,8 @@ use Rattle.s38_run.specs.Pickers.{number_after, number_answer, picks_of}
 use Rattle.s38_run.specs.Whole.{RanWhole}
 use Rattle.s38_template.specs.Grammar.{name_of}
 use Rattle.s38_template.specs.Places.{template_of}
+use Rattle.s38_top.specs.declared.turns.Turns.{Turns}
+use Rattle.s38_top.specs.declared.turns.Turns.TheVariants.{Serial, Workers}
 
 -- a template by its name, and what creation makes of its lines
 abbrev pub checked_template : List (List ℕ) → CheckedTemplate
@@ -48,12 +50,22 @@ picks_by pick count = picks_of number_answer number_after count pick
 abbrev pub opened : Held → Deck → State
 opened held deck = state_of held (checked_of deck) deck.jobs
 
+-- on one thread each entry is that of a job, made by the process that its pick chooses of those that are ready
+abbrev pub turns_by : {P : Type 0} → (P → ℕ) → (P → P) → P → State → List Entry → Type 0
+turns_by answer after picker s history = Picked (picks_of answer after (length history) picker) s history
+
+-- in which order entries are made: on one thread by the picks of the picker that begins at a number; of threads nothing is
+-- said
+abbrev pub order_of : Turns → State → List Entry → Type 0
+order_of (Serial pick) s history = Picked (picks_by pick (length history)) s history
+order_of (Workers count) s history = Unit {0}
+
 -- the history is the one-thread machine's, from these objects with the deck's templates, for the whole runs of all
--- jobs of the deck; each entry is that of a job, made by the process that its pick chooses of those that are ready
-pub record IsRunOf (held : Held) (picks : List ℕ) (deck : Deck) (history : List Entry) : Type 0 where
+-- jobs of the deck, and its entries are in this order
+pub record IsRunOf (held : Held) (Order : State → List Entry → Type 0) (deck : Deck) (history : List Entry) : Type 0 where
   pub state : State
   pub legal : Leads (opened held deck) [] history state
-  pub order : Picked picks (opened held deck) history
+  pub order : Order (opened held deck) history
   pub each : (k : ℕ) (job : Job) → slice_get deck.jobs k ≡ Some job → IsRunOfJob deck job (entries_of (k + 1) history)
 
 -- ---- confinement

@@ -20,6 +20,8 @@ use Rattle.s38_rules.specs.Held.{Held}
 use Rattle.s38_rules.specs.Opening.{held_installed}
 use Rattle.s38_stores.specs.Refusals.{IsBad, IsTaken}
 use Rattle.s38_stores.specs.Stores.{IsCleaned, Keeps, Leaves, Restarts, installed_store}
+use Rattle.s38_object_laws.specs.Well.{AllWell}
+use Rattle.s38_run.specs.Progress.{AllGoing, AreAwake}
 use Rattle.s38_stores.specs.declared.fault.BadStore.{BadStore}
 use Rattle.s38_stores.specs.declared.fault.StoreRefusal.{StoreRefusal}
 use Rattle.s38_stores.specs.declared.fault.StoreRefusal.TheVariants as refusals
@@ -27,14 +29,16 @@ use Rattle.s38_template.specs.Grammar.{Spells}
 use Rattle.s38_template.specs.Reading.{read_of}
 use Rattle.s38_template.specs.declared.fault.DeckFault.TheVariants as faults
 use Rattle.s38_top.specs.declared.command.Command.{Command}
-use Rattle.s38_top.specs.declared.command.Command.TheVariants.{Serial, Check, Demo, Install, List as Listing}
+use Rattle.s38_top.specs.declared.command.Command.TheVariants.{Jobs, Check, Demo, Install, List as Listing}
 use Rattle.s38_top.specs.declared.outcome.Outcome.{Outcome}
 use Rattle.s38_top.specs.declared.outcome.RunEnd.{RunEnd}
 use Rattle.s38_top.specs.declared.outcome.RunEnd.TheVariants.{Kept, Failed, Full}
 use Rattle.s38_top.specs.declared.outcome.Whole.{Whole}
 use Rattle.s38_top.specs.declared.outcome.Outcome.TheVariants.{BadWords, BadDeck, DeckFault, NoMemory, Ran, Checked, Demonstrated, Installed, Listed, Refused, DiskFault}
-use Rattle.s38_top.specs.Commands.{command_of, reads_deck}
-use Rattle.s38_top.specs.Decks.{AreMarks, IsConfined, IsRunOf, checked_of, opened, picks_by}
+use Rattle.s38_top.specs.declared.turns.Turns.{Turns}
+use Rattle.s38_top.specs.declared.turns.Turns.TheVariants.{Serial}
+use Rattle.s38_top.specs.Commands.{reads_deck}
+use Rattle.s38_top.specs.Decks.{AreMarks, IsConfined, IsRunOf, checked_of, opened, order_of}
 use Rattle.s38_top.specs.Lines.{bad_store_line, disk_fault_line, full_line, line}
 use Rattle.s38_top.specs.Outside.{Outside, Unread, Untouched}
 use Rattle.s38_top.specs.Runs.{EndsWith, RanOver, kept_of}
@@ -91,7 +95,7 @@ answer_of (Refused bad) = without_run 3 (bad_store_line bad)
 answer_of DiskFault = without_run 4 disk_fault_line
 answer_of DeckFault = without_run 5 (line (codes "DECK FAULT"))
 answer_of NoMemory = without_run 7 (line (codes "NO MEMORY"))
-answer_of (Ran pick whole end) = of_run (end_status end) (run_text whole.deck whole.history.items end) whole
+answer_of (Ran turns whole end) = of_run (end_status end) (run_text whole.deck whole.history.items end) whole
 answer_of (Checked checked) = without_run 0 (checked_text checked.templates)
 answer_of (Demonstrated size whole) = of_run 0 (demo_text size whole.history.items) whole
 answer_of Installed = without_run 0 (last_line 0)
@@ -118,8 +122,8 @@ refused refusals.NoMemory = NoMemory
 -- ---- what it rests on
 
 -- the words are a command
-abbrev pub IsServed : List (List ℕ) → Type 0
-IsServed words = IsTrue (is_some (command_of words))
+abbrev pub IsServed : Option Command → Type 0
+IsServed asked = IsTrue (is_some asked)
 
 -- the text that was taken spells the deck
 pub record HasDeck (old new : Outside) (deck : Deck) : Type 0 where
@@ -131,11 +135,11 @@ pub record HasDeck (old new : Outside) (deck : Deck) : Type 0 where
 -- number of its postings
 pub record RanGenerated (size : ℕ) (deck : Deck) (history : List Entry) : Type 0 where
   pub is : Spells (deck_of size) deck
-  pub run : IsRunOf held_installed (picks_by size (length history)) deck history
+  pub run : IsRunOf held_installed (order_of (Serial size)) deck history
 
 -- a run over the store of a disk, its marks, and what it left on the disk
-pub record CameToRun (pick : ℕ) (old new : DiskView) (whole : Whole) (end : RunEnd) : Type 0 where
-  pub ran : RanOver pick old whole.deck whole.history.items
+pub record CameToRun (turns : Turns) (old new : DiskView) (whole : Whole) (end : RunEnd) : Type 0 where
+  pub ran : RanOver turns old whole.deck whole.history.items
   pub marks : AreMarks whole.marks.items whole.history.items
   pub ends : EndsWith old new ran.run.state end
 
@@ -143,10 +147,10 @@ pub record CameToRun (pick : ℕ) (old new : DiskView) (whole : Whole) (end : Ru
 abbrev pub HasBadStore : DiskView → BadStore → Type 0
 HasBadStore disk bad = (s : Blocks) → IsAt disk.past s → IsBad disk.size s.now bad
 
--- the text that a command is about: a demonstration makes it, `serial` and `check` take it from the source, and the others
+-- the text that a command is about: a demonstration makes it, a run and `check` take it from the source, and the others
 -- have none
 abbrev pub Takes : Command → Outside → Outside → List ℕ → Type 0
-Takes (Serial pick) old new text = ReadsAll most old.left new.left text
+Takes (Jobs turns) old new text = ReadsAll most old.left new.left text
 Takes Check old new text = ReadsAll most old.left new.left text
 Takes (Demo size) old new text = Unread old new × (text ≡ deck_of size)
 Takes Install old new text = ⊥
@@ -158,12 +162,12 @@ OfText command text old new BadWords = ⊥
 OfText command text old new (BadDeck line code) = (read_of text ≡ Err (faults.Bad line code)) × (((deck : Deck) → Spells text deck → ⊥) × (new ≡ old))
 OfText command text old new DeckFault = ⊥
 OfText command text old new NoMemory = Unit {0}
-OfText command text old new (Ran pick whole end) = (command ≡ Serial pick) × (Spells text whole.deck × CameToRun pick old new whole end)
-OfText command text old new (Refused bad) = (pick : ℕ) × ((command ≡ Serial pick) × HasBadStore old bad)
-OfText command text old new DiskFault = (pick : ℕ) × ((command ≡ Serial pick) × Rose old.faults new.faults)
+OfText command text old new (Ran turns whole end) = (command ≡ Jobs turns) × (Spells text whole.deck × CameToRun turns old new whole end)
+OfText command text old new (Refused bad) = (turns : Turns) × ((command ≡ Jobs turns) × HasBadStore old bad)
+OfText command text old new DiskFault = (turns : Turns) × ((command ≡ Jobs turns) × Rose old.faults new.faults)
 OfText command text old new (Checked checked) = (command ≡ Check) × (Spells text checked.deck × ((checked.templates ≡ checked_of checked.deck) × (new ≡ old)))
 OfText command text old new (Demonstrated size whole) =
-    (command ≡ Demo size) × (Spells text whole.deck × (IsRunOf held_installed (picks_by size (length whole.history.items)) whole.deck whole.history.items × (AreMarks whole.marks.items whole.history.items × (new ≡ old))))
+    (command ≡ Demo size) × (Spells text whole.deck × (IsRunOf held_installed (order_of (Serial size)) whole.deck whole.history.items × (AreMarks whole.marks.items whole.history.items × (new ≡ old))))
 OfText command text old new Installed = ⊥
 OfText command text old new (Listed objects) = ⊥
 
@@ -183,7 +187,7 @@ OfStore command old new BadWords = ⊥
 OfStore command old new (BadDeck line code) = ⊥
 OfStore command old new DeckFault = ⊥
 OfStore command old new NoMemory = Unit {0}
-OfStore command old new (Ran pick whole end) = ⊥
+OfStore command old new (Ran turns whole end) = ⊥
 OfStore command old new (Refused bad) = ((command ≡ Install) × IsTaken old bad) ⊎ ((command ≡ Listing) × HasBadStore old bad)
 OfStore command old new DiskFault = (reads_deck command ≡ false) × Rose old.faults new.faults
 OfStore command old new (Checked checked) = ⊥
@@ -192,40 +196,40 @@ OfStore command old new Installed = (command ≡ Install) × IsMade old new
 OfStore command old new (Listed objects) = (command ≡ Listing) × IsListing old new objects
 
 -- the words are a command, and the text that it is about comes to the outcome
-pub record FromText (words : List (List ℕ)) (old new : Outside) (o : Outcome) : Type 0 where
+pub record FromText (asked : Option Command) (old new : Outside) (o : Outcome) : Type 0 where
   pub command : Command
-  pub is : command_of words ≡ Some command
+  pub is : asked ≡ Some command
   pub text : List ℕ
   pub takes : Takes command old new text
   pub comes : OfText command text old.disk new.disk o
 
 -- the words are a command that reads nothing, and it comes to the outcome
-pub record FromStore (words : List (List ℕ)) (old new : Outside) (o : Outcome) : Type 0 where
+pub record FromStore (asked : Option Command) (old new : Outside) (o : Outcome) : Type 0 where
   pub command : Command
-  pub is : command_of words ≡ Some command
+  pub is : asked ≡ Some command
   pub unread : Unread old new
   pub comes : OfStore command old.disk new.disk o
 
 -- the words are a command that reads a deck
-pub record ReadsDeck (words : List (List ℕ)) : Type 0 where
+pub record ReadsDeck (asked : Option Command) : Type 0 where
   pub command : Command
-  pub is : command_of words ≡ Some command
+  pub is : asked ≡ Some command
   pub reads : reads_deck command ≡ true
 
 -- each outcome has its cause: words that are no command, a source that failed, want of memory, which is free, the text, or
 -- the store
-abbrev pub Holds : List (List ℕ) → Outside → Outside → Outcome → Type 0
-Holds words old new BadWords = (command_of words ≡ None) × (Unread old new × Untouched old new)
-Holds words old new (BadDeck line code) = ReadsDeck words × FromText words old new (BadDeck line code)
-Holds words old new DeckFault = ReadsDeck words × (Rose old.taken new.taken × Untouched old new)
-Holds words old new NoMemory = Unit {0}
-Holds words old new (Ran pick whole end) = FromText words old new (Ran pick whole end)
-Holds words old new (Refused bad) = FromText words old new (Refused bad) ⊎ FromStore words old new (Refused bad)
-Holds words old new DiskFault = FromText words old new DiskFault ⊎ FromStore words old new DiskFault
-Holds words old new (Checked checked) = FromText words old new (Checked checked)
-Holds words old new (Demonstrated size whole) = FromText words old new (Demonstrated size whole)
-Holds words old new Installed = FromStore words old new Installed
-Holds words old new (Listed objects) = FromStore words old new (Listed objects)
+abbrev pub Holds : Option Command → Outside → Outside → Outcome → Type 0
+Holds asked old new BadWords = (asked ≡ None) × (Unread old new × Untouched old new)
+Holds asked old new (BadDeck line code) = ReadsDeck asked × FromText asked old new (BadDeck line code)
+Holds asked old new DeckFault = ReadsDeck asked × (Rose old.taken new.taken × Untouched old new)
+Holds asked old new NoMemory = Unit {0}
+Holds asked old new (Ran turns whole end) = FromText asked old new (Ran turns whole end)
+Holds asked old new (Refused bad) = FromText asked old new (Refused bad) ⊎ FromStore asked old new (Refused bad)
+Holds asked old new DiskFault = FromText asked old new DiskFault ⊎ FromStore asked old new DiskFault
+Holds asked old new (Checked checked) = FromText asked old new (Checked checked)
+Holds asked old new (Demonstrated size whole) = FromText asked old new (Demonstrated size whole)
+Holds asked old new Installed = FromStore asked old new Installed
+Holds asked old new (Listed objects) = FromStore asked old new (Listed objects)
 
 -- ---- how it is told
 
@@ -243,9 +247,9 @@ abbrev pub Tells : Outside → Outside → ℕ → Outcome → Type 0
 Tells old new status o = IsTold old.written new.written old.put new.put status o
 
 -- the program came to an outcome that holds, and told it
-pub record Ends (words : List (List ℕ)) (old new : Outside) (status : ℕ) (history : List Entry) (marks : List ℕ) : Type 0 where
+pub record Ends (asked : Option Command) (old new : Outside) (status : ℕ) (history : List Entry) (marks : List ℕ) : Type 0 where
   pub outcome : Outcome
-  pub holds : Holds words old new outcome
+  pub holds : Holds asked old new outcome
   pub tells : Tells old new status outcome
   pub kept : history ≡ history_of outcome
   pub marked : marks ≡ marks_of outcome
@@ -258,13 +262,17 @@ ReadOut old new = (bytes : List ℕ) → old.left ≡ Some bytes → new.left �
 
 -- a deck was spelled, the history is that of its whole runs over the store and opens no way to a right, what it left is
 -- kept, its text was written, and the input was read to its end
-pub record IsComplete (pick : ℕ) (old new : Outside) (history : List Entry) : Type 0 where
+pub record IsComplete (turns : Turns) (old new : Outside) (history : List Entry) : Type 0 where
   pub deck : Deck
   pub taken : HasDeck old new deck
-  pub ran : RanOver pick old.disk deck history
+  pub ran : RanOver turns old.disk deck history
   pub confined : IsConfined ran.held deck history ran.run.state
   -- in each state on the way the units of changes are right
   pub right : AllRight (opened ran.held deck) history
+  -- a store can keep each object, none is ready only where all have ended, and who waits asks for nothing before an effect
+  pub well : AllWell (opened ran.held deck) history
+  pub going : AllGoing (opened ran.held deck) history
+  pub awake : AreAwake [] history
   pub kept : Leaves old.disk new.disk (λ f g. Keeps new.disk.size g (kept_of ran.run.state))
   pub told : Appends old.written new.written (run_text deck history Kept)
   pub finished : ReadOut old new
@@ -286,6 +294,10 @@ pub record IsDemonstrated (size : ℕ) (old new : Outside) (history : List Entry
   pub ran : RanGenerated size deck history
   pub confined : IsConfined held_installed deck history ran.run.state
   pub right : AllRight (opened held_installed deck) history
+  -- a store can keep each object, none is ready only where all have ended, and who waits asks for nothing before an effect
+  pub well : AllWell (opened held_installed deck) history
+  pub going : AllGoing (opened held_installed deck) history
+  pub awake : AreAwake [] history
   pub told : Appends old.written new.written (demo_text size history)
   pub unread : Unread old new
   pub untouched : Untouched old new
@@ -308,7 +320,7 @@ pub record IsListed (old new : Outside) (history : List Entry) : Type 0 where
 -- what status 0 says of each command
 abbrev pub Serves : Option Command → Outside → Outside → List Entry → Type 0
 Serves None old new history = ⊥
-Serves (Some (Serial pick)) old new history = IsComplete pick old new history
+Serves (Some (Jobs turns)) old new history = IsComplete turns old new history
 Serves (Some Check) old new history = IsChecked old new history
 Serves (Some (Demo size)) old new history = IsDemonstrated size old new history
 Serves (Some Install) old new history = IsInstalled old new history
@@ -332,16 +344,16 @@ pub record IsGoodStore (disk : DiskView) : Type 0 where
 -- what a command asks of what is to be read and of the disk
 abbrev pub IsGoodFor : Option Command → Outside → Type 0
 IsGoodFor None old = ⊥
-IsGoodFor (Some (Serial pick)) old = IsGoodDeck old.left × IsGoodStore old.disk
+IsGoodFor (Some (Jobs turns)) old = IsGoodDeck old.left × IsGoodStore old.disk
 IsGoodFor (Some Check) old = IsGoodDeck old.left
 IsGoodFor (Some (Demo size)) old = Unit {0}
 IsGoodFor (Some Install) old = (bad : BadStore) → IsTaken old.disk bad → ⊥
 IsGoodFor (Some Listing) old = IsGoodStore old.disk
 
 -- good words, a good deck and a good store where they are used, and no count of faults that rose
-pub record IsGood (words : List (List ℕ)) (old new : Outside) : Type 0 where
-  pub served : IsServed words
-  pub good_for : IsGoodFor (command_of words) old
+pub record IsGood (asked : Option Command) (old new : Outside) : Type 0 where
+  pub served : IsServed asked
+  pub good_for : IsGoodFor (asked) old
   pub source : Rose old.taken new.taken → ⊥
   pub sink : Rose old.put new.put → ⊥
   pub disk : Rose old.disk.faults new.disk.faults → ⊥
@@ -349,3 +361,12 @@ pub record IsGood (words : List (List ℕ)) (old new : Outside) : Type 0 where
 -- such a call is served, unless memory is wanted, or what a run leaves finds no room
 abbrev pub IsServedBy : ℕ → Type 0
 IsServedBy status = (status ≡ 0) ⊎ ((status ≡ 7) ⊎ (status ≡ 8))
+
+-- ---- all of it
+
+-- each status but that of want of memory has its cause, and its text is written; status 0 has what its command promises; and
+-- a good call is served
+pub record IsAnswered (asked : Option Command) (old new : Outside) (status : ℕ) (history : List Entry) (marks : List ℕ) : Type 0 where
+  pub ends : Ends asked old new status history marks
+  pub serves : status ≡ 0 → Serves asked old new history
+  pub good : IsGood asked old new → IsServedBy status

@@ -1,5 +1,5 @@
 -- Runs over the store of a disk, and what they leave on it.
-use Rattle.std.specs.Prelude.{◌≡◌, ℕ, List, length}
+use Rattle.std.specs.Prelude.{◌≡◌, ℕ, List}
 use Rattle.s38_base.specs.Faults.{Rose}
 use Rattle.s38_closing.specs.Closing.{closing}
 use Rattle.s38_code.specs.declared.deck.Deck.{Deck}
@@ -12,22 +12,23 @@ use Rattle.s38_pages.specs.Vaults.{PageStore, page_holds}
 use Rattle.s38_rules.specs.Held.{Held}
 use Rattle.s38_rules.specs.State.{State}
 use Rattle.s38_stores.specs.Stores.{IsFullOf, Keeps, Leaves, Restarts}
-use Rattle.s38_top.specs.Decks.{IsRunOf, picks_by}
+use Rattle.s38_top.specs.Decks.{IsRunOf, order_of}
 use Rattle.s38_top.specs.declared.outcome.RunEnd.{RunEnd}
 use Rattle.s38_top.specs.declared.outcome.RunEnd.TheVariants as ends
+use Rattle.s38_top.specs.declared.turns.Turns.{Turns}
 use Rattle.s38_vault.specs.Content.{Content}
 
 -- what is kept of a machine in this state: each object, with every change that is not committed taken back, and the ceiling
 abbrev pub kept_of : State → Durable
 kept_of e = closing e.units e.held
 
--- the history is that of the whole runs of the jobs of a deck, in turns of the picker that begins at a number, from the
--- objects to which the store of the disk is restarted
-pub record RanOver (pick : ℕ) (disk : DiskView) (deck : Deck) (history : List Entry) : Type 0 where
+-- the history is that of the whole runs of the jobs of a deck, in these turns, from the objects to which the store of the
+-- disk is restarted
+pub record RanOver (turns : Turns) (disk : DiskView) (deck : Deck) (history : List Entry) : Type 0 where
   pub held : Held
   pub opening : IsOpening held
   pub restarts : (s : Blocks) → IsAt disk.past s → Restarts disk.size s.now held
-  pub run : IsRunOf held (picks_by pick (length history)) deck history
+  pub run : IsRunOf held (order_of turns) deck history
 
 -- what a machine in this state leaves on the disk: all of it; or the disk failed; or the store is as it was, since it is
 -- too full

@@ -2,15 +2,22 @@
 #![tactic(auto)]
 
 mod command;
+mod decide;
 mod lines;
 mod outcome;
+mod prepare;
+mod report;
 mod run;
+mod start;
 mod store;
 mod tell;
 mod templates;
 mod top;
+mod turns;
 
+pub use command::takes_threads;
 pub use outcome::Whole;
+pub use report::Report;
 pub use run::run_deck;
 pub use templates::checked_templates;
-pub use top::{Report, plain_top};
+pub use top::{plain_top, run_top};

@@ -1,6 +1,7 @@
 ghost use Rattle.std.specs.Prelude.{◌≡◌, if◌then◌else◌};
 ghost use Rattle.s38_top.specs.Outcome.{end_status, faulted, status_of};
 
+use crate::turns::Turns;
 use s38_code::{Checked, Deck, Entry};
 use s38_machine::State;
 use s38_objects::Objects;
@@ -47,9 +48,9 @@ pub enum Outcome {
     DeckFault,
     /// Memory was refused.
     NoMemory,
-    /// Each job ran to its end over the store; the picker began at this number.
+    /// Each job ran to its end over the store, in these turns.
     Ran {
-        pick: u32,
+        turns: Turns,
         whole: Whole,
         end: RunEnd,
     },

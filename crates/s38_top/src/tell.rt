@@ -128,9 +128,9 @@ pub fn tell<O: Sink>(alloc: Global, outcome: Outcome, out: &mut O) -> Told
             let text = bad_store_line(alloc, bad);
             tell_made(Outcome::Refused(bad), text, out)
         }
-        Outcome::Ran { pick, whole, end } => {
+        Outcome::Ran { turns, whole, end } => {
             let text = run_text(alloc, &whole.deck, whole.history.as_slice(), end);
-            tell_made(Outcome::Ran { pick, whole, end }, text, out)
+            tell_made(Outcome::Ran { turns, whole, end }, text, out)
         }
         Outcome::Checked(checked) => {
             let text = checked_text(alloc, checked.templates.as_slice());

@@ -104,7 +104,7 @@ fn go_on<M: Stepper + Drop, R: Wait, G: Gate>(
 }
 
 /// A job does events until it must wait, is over or has failed.
-pub fn go_far<M: Stepper + Drop, R: Wait, G: Gate>(
+fn go_far<M: Stepper + Drop, R: Wait, G: Gate>(
     rt: &R,
     alloc: Global,
     turn: &Turn<M>,
@@ -125,4 +125,28 @@ pub fn go_far<M: Stepper + Drop, R: Wait, G: Gate>(
         }
     }
     unreachable!()
+}
+
+/// A job of the current stage goes as far as it can. One of a later stage asks for nothing, since it would only be told to
+/// wait.
+pub fn go_in_stage<M: Stepper + Drop, R: Wait, G: Gate>(
+    rt: &R,
+    alloc: Global,
+    turn: &Turn<M>,
+    gate: &G,
+    jobs: &[Job],
+    made: &[CreateResult],
+    stage: u16,
+    runner: &mut Runner<M>,
+)
+    requires running { IsRunning (WasStopped M.is_sound M.origin M.steps turn.now.machine) turn.now made.now jobs.now runner.old }
+    requires may { AllMayAsk M.may_ask (M.origin turn.now.machine) turn.now.processes }
+    requires jobs { length jobs.now ≡ turn.now.processes }
+    requires made { length made.now ≡ turn.now.processes }
+    ensures { IsFurther (WasStopped M.is_sound M.origin M.steps turn.now.machine) turn.now made.now jobs.now runner.old runner.new }
+{
+    let at = runner.number as usize - 1;
+    if jobs[at].stage <= stage {
+        go_far(rt, alloc, turn, gate, jobs, made, runner);
+    }
 }

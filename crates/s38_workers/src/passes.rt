@@ -7,7 +7,7 @@ ghost use Rattle.s38_workers.specs.Runs.{AreFurther, HasFailed, IsOver};
 ghost use Rattle.s38_workers.specs.declared.run_end.RunEnd.{RunEnd};
 
 use crate::gate::Gate;
-use crate::going::go_far;
+use crate::going::go_in_stage;
 use crate::run_end::RunEnd;
 use crate::runner::{Progress, Runner};
 use s38_base::NoMemory;
@@ -18,7 +18,24 @@ use std::sync::Wait;
 use std::thread;
 use std::thread::Threads;
 
-/// In one pass each job goes as far as it can.
+fn is_over<M>(runner: &Runner<M>) -> bool
+    ensures { result ≡ true → IsOver runner.now }
+{
+    matches!(runner.progress, Progress::Over)
+}
+
+/// The least stage of a job whose process has not ended.
+fn current_stage<M>(jobs: &[Job], runners: &[Runner<M>]) -> u16 {
+    let mut least = u16::MAX;
+    for (job, runner) in jobs.iter().zip(runners) {
+        if !is_over(runner) {
+            least = least.min(job.stage);
+        }
+    }
+    least
+}
+
+/// In one pass each job of the current stage goes as far as it can.
 fn pass<M: Stepper + Drop + Send, R: Threads + Wait + Sync, G: Gate + Sync>(
     rt: &R,
     alloc: Global,
@@ -36,13 +53,14 @@ fn pass<M: Stepper + Drop + Send, R: Threads + Wait + Sync, G: Gate + Sync>(
     requires made { length made.now ≡ turn.now.processes }
     ensures { AreFurther (WasStopped M.is_sound M.origin M.steps turn.now.machine) turn.now made.now jobs.now runners.old runners.new }
 {
+    let stage = current_stage(jobs, runners);
     let further = |_: usize, runner: &mut Runner<M>|
         requires running { IsRunning (WasStopped M.is_sound M.origin M.steps turn.now.machine) turn.now made.now jobs.now runner.now }
         requires may { AllMayAsk M.may_ask (M.origin turn.now.machine) turn.now.processes }
         requires jobs { length jobs.now ≡ turn.now.processes }
         requires made { length made.now ≡ turn.now.processes }
         ensures { IsFurther (WasStopped M.is_sound M.origin M.steps turn.entry.now.machine) turn.entry.now made.entry.now jobs.entry.now runner.entry.now runner.exit.now }
-    { go_far(rt, alloc, turn, gate, jobs, made, runner) };
+    { go_in_stage(rt, alloc, turn, gate, jobs, made, stage, runner) };
     thread::for_each_mut(rt, runners, workers, &further);
 }
 
@@ -56,12 +74,6 @@ fn fault_of<M>(runners: &[Runner<M>]) -> Option<StepFault>
         }
     }
     None
-}
-
-fn is_over<M>(runner: &Runner<M>) -> bool
-    ensures { result ≡ true → IsOver runner.now }
-{
-    matches!(runner.progress, Progress::Over)
 }
 
 /// Whether the process of each job has ended.

@@ -29,7 +29,8 @@ fn any_machine_is_shared(rt: HostRuntime) -> Result<(), Fail> {
     Ok(())
 }
 
-/// The processes of later stages wait for those of the earlier ones.
+/// The processes of later stages ask for nothing before those of the earlier ones have ended: each starts and ends, and none
+/// is told to wait.
 #[test]
 fn stages_follow_one_another(rt: HostRuntime) -> Result<(), Fail> {
     let alloc = rt.alloc();
@@ -51,6 +52,7 @@ fn stages_follow_one_another(rt: HostRuntime) -> Result<(), Fail> {
             &NoGate,
         )?;
         assert!(rt; ended(machine.history()) == 6);
+        assert!(rt; machine.history().len() == 12);
     }
     Ok(())
 }

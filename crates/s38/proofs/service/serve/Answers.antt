@@ -4,7 +4,7 @@ use Rattle.s38_code.specs.declared.entry.Entry.{Entry}
 use Rattle.s38_disk.specs.Disk.{DiskView}
 use Rattle.s38_top.specs.declared.outcome.Outcome.TheVariants as outcomes
 use Rattle.s38_top.specs.Commands.{command_of}
-use Rattle.s38_top.specs.Outcome.{Ends, IsGood, IsServedBy, IsTold, Serves}
+use Rattle.s38_top.specs.Outcome.{IsAnswered, IsTold}
 use Rattle.s38_top.specs.Outside.{Outside, outside}
 use Rattle.s38.specs.CommandLine.{EndsSomehow}
 use Rattle.s38.proofs.service.serve.Goals as goal
@@ -16,9 +16,11 @@ no_memory words old written put status told = record {
   history = [];
   marks = [];
   disk = old.disk;
-  ends = record { outcome = outcomes.NoMemory; holds = tt; tells = told; kept = refl; marked = refl };
-  serves = λ is. absurd (other status (seven told) is);
-  good = λ good. inr (inl (seven told));
+  answered = record {
+    ends = record { outcome = outcomes.NoMemory; holds = tt; tells = told; kept = refl; marked = refl };
+    serves = λ is. absurd (other status (seven told) is);
+    good = λ good. inr (inl (seven told));
+  };
 }
   where
     seven : IsTold old.written written old.put put status outcomes.NoMemory → status ≡ 7
@@ -29,16 +31,14 @@ no_memory words old written put status told = record {
     other n is zero = omega (arith, is, zero)
 
 -- what a call with a disk behind it comes to
-ends_of : {D X Y : Type 0} (view : D → DiskView) (f : X → List ℕ) (now : Y → List ℕ) (behind : List X) (texts words : List Y) (disk : Option D) (old : Outside) (left : Option (List ℕ)) (taken : ℕ) (written : Option (List ℕ)) (put status : ℕ) (history : List Entry) (marks : List ℕ)
+answered_of : {D X Y : Type 0} (view : D → DiskView) (f : X → List ℕ) (now : Y → List ℕ) (behind : List X) (texts words : List Y) (disk : Option D) (old : Outside) (left : Option (List ℕ)) (taken : ℕ) (written : Option (List ℕ)) (put status : ℕ) (history : List Entry) (marks : List ℕ)
     → map now texts ≡ map f behind → words ≡ texts → IsSome disk
-    → IfSome disk (λ new. Ends (map now words) old (outside left taken written put (view new)) status history marks)
-    → IfSome disk (λ new. status ≡ 0 → Serves (command_of (map now words)) old (outside left taken written put (view new)) history)
-    → IfSome disk (λ new. IsGood (map now words) old (outside left taken written put (view new)) → IsServedBy status)
+    → IfSome disk (λ new. IsAnswered (command_of (map now words)) old (outside left taken written put (view new)) status history marks)
     → EndsSomehow (map f behind) old left taken written put status
-ends_of view f now behind texts words None old left taken written put status history marks same is there ends serves good = cc
-ends_of view f now behind texts words (Some d) old left taken written put status history marks same is there ends serves good =
+answered_of view f now behind texts words None old left taken written put status history marks same is there answered = cc
+answered_of view f now behind texts words (Some d) old left taken written put status history marks same is there answered =
     subst (λ (ws : List (List ℕ)). EndsSomehow ws old left taken written put status) (ap (map now) is ∙ same)
-    (record { history = history; marks = marks; disk = view d; ends = ends; serves = serves; good = good })
+    (record { history = history; marks = marks; disk = view d; answered = answered })
 
 pub returns-in-Err : goal.returns-in-Err
 returns-in-Err g c =
@@ -46,6 +46,6 @@ returns-in-Err g c =
 
 pub returns-in-Ok : goal.returns-in-Ok
 returns-in-Ok g c =
-    ends_of g.D.Disk.view _ (λ text. text.now) _ c.in-Ok.texts.items c.as_slice.result.now c.plain_top-report.result.disk
+    answered_of g.D.Disk.view _ (λ text. text.now) _ c.in-Ok.texts.items c.as_slice.result.now c.serve_texts-report.result.disk
     (outside (g.I.Source.left c.args.deck.now) (g.I.Source.faults c.args.deck.now) (g.O.Sink.written c.args.out.now) (g.O.Sink.faults c.args.out.now) (g.D.Disk.view c.args.disk)) _ _ _ _ _ _ _
-    c.in-Ok.ensures c.as_slice.ensures.value c.plain_top-report.ensures.back c.plain_top-report.ensures.ends c.plain_top-report.ensures.serves c.plain_top-report.ensures.good
+    c.in-Ok.ensures c.as_slice.ensures.value c.serve_texts-report.ensures.back c.serve_texts-report.ensures.answered

@@ -1,13 +1,13 @@
-use Rattle.std.proofs.Common.{◌≡◌, ℕ, ◌-◌, ◌≤◌, ◌⊎◌, inl, inr, List, [], ◌∷◌, Option, length, map, take, drop, ap, subst, arith}
+use Rattle.std.proofs.Common.{◌≡◌, ℕ, ◌-◌, ◌≤◌, ◌⊎◌, inl, inr, List, [], ◌∷◌, Option, Some, IfSome, length, map, take, drop, ap, subst, arith}
 use Rattle.std.proofs.KnownBytes.{Keeps-refl}
 use Rattle.std.proofs.lemmas.Grind.{common_steps}
 use Rattle.std.specs.Io.KnownBytes.{Keeps}
 use Rattle.s38_disk.specs.Disk.{DiskView}
-use Rattle.s38_disk.specs.Files.{file_view}
+use Rattle.s38_disk.specs.Files.{FileStore, file_view}
 use Rattle.s38_top.specs.declared.outcome.Outcome.TheVariants as outcomes
 use Rattle.s38_top.specs.Outcome.{IsTold}
 use Rattle.s38_top.specs.Outside.{outside}
-use Rattle.s38.specs.CommandLine.{EndsSomehow, IsServed, fresh_file}
+use Rattle.s38.specs.CommandLine.{EndsSomehow, IsServed, fresh_file, fresh_store}
 use Rattle.s38.proofs.service.serve_over_file.Goals as goal
 
 behind_is : {X : Type 0} (w : X) (ws : List X) → take (length (w ∷ ws) - 1) (drop 1 (w ∷ ws)) ≡ ws
@@ -30,8 +30,11 @@ served_over f words left left' taken taken' written written' put put' status dis
     served f words left left' taken taken' written written' put put' status some
     (inr (subst (λ (v : DiskView). EndsSomehow (map f (take (length words - 1) (drop 1 words))) (outside left taken written put v) left' taken' written' put' status) is ends))
 
-pub returns-in-Err : goal.returns-in-Err
-returns-in-Err g c = served _ c.args.words.now _ _ _ _ _ _ _ _ _ c.in-len1-up.len_at_least (inl (Keeps-refl (g.I.Source.left c.args.deck.now), c.refuse-in-Err.ensures))
+opened : (file : Option FileStore) (disk : FileStore) → file ≡ Some disk → IfSome file (λ d. d ≡ fresh_store) → disk ≡ fresh_store
+opened file disk is fresh = subst (λ (o : Option FileStore). IfSome o (λ d. d ≡ fresh_store)) is fresh
 
-pub returns-in-Ok : goal.returns-in-Ok
-returns-in-Ok g c = served_over _ c.args.words.now _ _ _ _ _ _ _ _ _ _ c.in-len1-up.len_at_least (ap file_view c.in-Ok.ensures) c.serve.ensures
+pub returns-in-None : goal.returns-in-None
+returns-in-None g c = served _ c.args.words.now _ _ _ _ _ _ _ _ _ c.in-len1-up.len_at_least (inl (Keeps-refl (g.I.Source.left c.args.deck.now), c.refuse-in-None.ensures))
+
+pub returns-in-Some : goal.returns-in-Some
+returns-in-Some g c = served_over _ c.args.words.now _ _ _ _ _ _ _ _ _ _ c.in-len1-up.len_at_least (ap file_view (opened c.args.file c.in-Some.disk c.in-Some.is c.requires)) c.serve.ensures

@@ -8,13 +8,13 @@ use Rattle.s38_image.specs.Faults.{ceiling_key}
 use Rattle.s38_keeping.specs.Replacing.{range_of}
 use Rattle.s38_step_parts.proofs.EachLaws.{added_own, added_rising, ceiling_told}
 use Rattle.s38_step_parts.proofs.KeptLaws.{adds_at}
-use Rattle.s38_step_parts.specs.Forcings.{all_of}
+use Rattle.s38_extents.specs.Forcings.{all_forced}
 use Rattle.s38_step_parts.specs.Stepping.{is_ceiling}
 use Rattle.s38_step_parts.proofs.objects.add_ceiling.Goals as goal
 
 pub returns-clause-told : goal.returns-clause-told
 returns-clause-told g c = λ m d s held same.
-    let all = all_of c.args.all.now in
+    let all = all_forced c.args.all.now in
     let old = c.args.into.now.items in
     let new = c.add_wanted.new.into.items in
     let forced : list_any is_ceiling all ≡ true = sym c.forces_ceiling.ensures ∙ c.if-not-forces_ceiling.false in

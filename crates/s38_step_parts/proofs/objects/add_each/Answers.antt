@@ -8,12 +8,12 @@ use Rattle.s38_step_parts.proofs.FollowedLaws.{bad_on, handed}
 use Rattle.s38_step_parts.specs.Outcomes.{IsUnread}
 use Rattle.s38_step_parts.specs.Stepping.{Precedes}
 use Rattle.s38_step_parts.specs.declared.fault.ForceFault.{ForceFault}
-use Rattle.s38_step_parts.specs.Forcings.{all_of}
+use Rattle.s38_extents.specs.Forcings.{all_forced}
 use Rattle.s38_step_parts.proofs.objects.add_each.Goals as goal
 
 pub loop-number-init : goal.loop-number-init
 loop-number-init g c =
-    each_begun (all_of c.args.all.now) c.args.objects.now c.args.units.now c.args.vault.now c.args.forced.now c.args.into.now.items c.requires.numbers c.requires.forced c.requires.none (stays_begun c.args.vault.now)
+    each_begun (all_forced c.args.all.now) c.args.objects.now c.args.units.now c.args.vault.now c.args.forced.now c.args.into.now.items c.requires.numbers c.requires.forced c.requires.none (stays_begun c.args.vault.now)
 
 pub loop-number-preserved : goal.loop-number-preserved
 loop-number-preserved g c =
@@ -21,7 +21,7 @@ loop-number-preserved g c =
     let at = c.loop-number.number-index in
     let within : at < length ns = omega (arith, c.loop-number-test.true) in
     let x = get_or ns at 0 in
-    each_on (all_of c.args.all.now) c.args.objects.now c.args.units.now c.args.vault.now c.loop-number.vault c.add_object.new.vault ns at x c.loop-number.into.items c.add_object.new.into.items
+    each_on (all_forced c.args.all.now) c.args.objects.now c.args.units.now c.args.vault.now c.loop-number.vault c.add_object.new.vault ns at x c.loop-number.into.items c.add_object.new.into.items
     c.loop-number.invariant within (at_place at 0 ns within) (to_place at 0 ns within)
     c.in_ok-add_object.ensures.told c.in_ok-add_object.ensures.adds c.add_object.ensures.stays c.in_ok-add_object.ensures.count
 
@@ -29,7 +29,7 @@ pub returns-clause-told : goal.returns-clause-told
 returns-clause-told g c = λ m d s held p.
     let ns = c.args.forced.now in
     let end : length ns ≤ c.loop-number.number-index = omega (arith, c.loop-number-test.false) in
-    each_done (all_of c.args.all.now) c.args.objects.now c.args.units.now c.args.vault.now c.loop-number.vault ns c.loop-number.number-index c.loop-number.into.items c.loop-number.invariant end c.requires.forced m d s held p
+    each_done (all_forced c.args.all.now) c.args.objects.now c.args.units.now c.args.vault.now c.loop-number.vault ns c.loop-number.number-index c.loop-number.into.items c.loop-number.invariant end c.requires.forced m d s held p
 
 pub returns-in_err-add_object-clause-bad : goal.returns-in_err-add_object-clause-bad
 returns-in_err-add_object-clause-bad g c =

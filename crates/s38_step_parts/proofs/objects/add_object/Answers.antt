@@ -10,7 +10,7 @@ use Rattle.s38_rules.specs.Storable.{IsStorable}
 use Rattle.s38_durable.specs.Stands.{parts_in}
 use Rattle.s38_step_parts.proofs.EachLaws.{found_at, found_is, found_own, number_none, number_there}
 use Rattle.s38_step_parts.proofs.FollowedLaws.{on_ok}
-use Rattle.s38_step_parts.specs.Forcings.{all_of}
+use Rattle.s38_extents.specs.Forcings.{all_forced}
 use Rattle.s38_step_parts.specs.Fronts.{AddsAt}
 use Rattle.s38_step_parts.specs.Stepping.{IsNumber, kept_there}
 use Rattle.s38_step_parts.proofs.objects.add_object.Goals as goal
@@ -39,7 +39,7 @@ pub returns-in-Some-clause-told : goal.returns-in-Some-clause-told
 returns-in-Some-clause-told g c =
     let h = c.args.objects.now in
     let us = c.args.units.now in
-    let all = all_of c.args.all.now in
+    let all = all_forced c.args.all.now in
     let o = c.in-Some.object.now in
     let n = c.args.number in
     let there : object h n ≡ Some o = sym c.get.ensures ∙ ap (λ r. option_copied r) c.in-Some.is in
@@ -61,7 +61,7 @@ pub returns-in-None-clause-told : goal.returns-in-None-clause-told
 returns-in-None-clause-told g c =
     let h = c.args.objects.now in
     let us = c.args.units.now in
-    let all = all_of c.args.all.now in
+    let all = all_forced c.args.all.now in
     let n = c.args.number in
     let none : object h n ≡ None = sym c.get.ensures ∙ ap (λ r. option_copied r) c.in-None.is in
     on_ok c.add_gone.result _ _

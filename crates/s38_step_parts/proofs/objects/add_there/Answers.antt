@@ -7,7 +7,7 @@ use Rattle.s38_keeping.specs.Replacing.{range_of}
 use Rattle.s38_rules.specs.Forcing.{is_whole}
 use Rattle.s38_step_parts.proofs.EachLaws.{there_followed, there_whole}
 use Rattle.s38_step_parts.proofs.FollowedLaws.{on_ok}
-use Rattle.s38_step_parts.specs.Forcings.{all_of}
+use Rattle.s38_extents.specs.Forcings.{all_forced}
 use Rattle.s38_step_parts.proofs.objects.add_there.Goals as goal
 
 pub returns-then-forces_whole-clause-told : goal.returns-then-forces_whole-clause-told
@@ -15,7 +15,7 @@ returns-then-forces_whole-clause-told g c =
     let o = c.args.object.now in
     let h = c.args.objects.now in
     let us = c.args.units.now in
-    let all = all_of c.args.all.now in
+    let all = all_forced c.args.all.now in
     let forced : list_any (is_whole o.number.0) all ≡ true = sym c.forces_whole.ensures ∙ c.if-forces_whole.true in
     on_ok c.add_whole.result _ _
     (λ told m d s held p.
@@ -25,7 +25,7 @@ returns-then-forces_whole-clause-told g c =
 pub returns-clause-told : goal.returns-clause-told
 returns-clause-told g c =
     let o = c.args.object.now in
-    let all = all_of c.args.all.now in
+    let all = all_forced c.args.all.now in
     let not : list_any (is_whole o.number.0) all ≡ false = sym c.forces_whole.ensures ∙ c.if-forces_whole.false in
     on_ok c.add_followed.result _ _
     (λ told m d s held p.

@@ -4,15 +4,14 @@ use Rattle.std.specs.List.{AllByRecursion}
 use Rattle.s38_base.specs.declared.page.Change.{Change}
 use Rattle.s38_durable.specs.Durable.{Durable, durable_after}
 use Rattle.s38_image.specs.Faults.{ceiling_key}
-use Rattle.s38_keeping.proofs.SoFarLaws.{stays_on}
+use Rattle.s38_keeping.proofs.SoFarLaws.{all_of as each_of, stays_on}
 use Rattle.s38_rules.specs.State.{State}
 use Rattle.s38_vault.specs.Content.{Content, HaveObjects, changed}
 use Rattle.s38_vault.specs.Directory.{new_keys}
 use Rattle.s38_vault.specs.Vaults.{VaultView}
-use Rattle.s38_step_parts.proofs.BothLaws.{all_of as each_of}
 use Rattle.s38_step_parts.proofs.FollowedLaws.{handed}
 use Rattle.s38_step_parts.proofs.ForceLaws.{AreForced, during_known, full_known, never_bad_put, once_known, put_known, stands_known, unread_bad, unread_full}
-use Rattle.s38_step_parts.specs.Forcings.{all_of}
+use Rattle.s38_extents.specs.Forcings.{all_forced}
 use Rattle.s38_step_parts.specs.Outcomes.{IfBad, IsFullFor}
 use Rattle.s38_step_parts.specs.Putting.{IsBetweenPuts}
 use Rattle.s38_step_parts.specs.Stepping.{Precedes, ceiling_changes, object_changes}
@@ -33,7 +32,7 @@ returns-in_err-add_objects-clause-full g c =
     let old = c.args.vault.now in
     let h = c.args.objects.now in
     let us = c.args.units.now in
-    let all = all_of c.args.all.now in
+    let all = all_forced c.args.all.now in
     let fault = c.in_err-add_objects.field-0.0 in
     handed (λ (e : ForceFault). (m : Content) (d : Durable) (s : State) → V.holds old m → Precedes h us m d s
     → IsFullFor (new_keys (V.view old).keys (ceiling_changes all (get m) (durable_after all d s)) + new_keys (V.view old).keys (object_changes all (get m) (durable_after all d s))) (V.view old).free e)
@@ -46,7 +45,7 @@ returns-in_err-add_objects-clause-bad g c =
     let old = c.args.vault.now in
     let h = c.args.objects.now in
     let us = c.args.units.now in
-    let all = all_of c.args.all.now in
+    let all = all_forced c.args.all.now in
     let fault = c.in_err-add_objects.field-0.0 in
     handed (λ (e : ForceFault). IfBad ((m : Content) (d : Durable) (s : State) → V.holds old m → Precedes h us m d s → ⊥) e)
     c.from_residual.result fault c.from_residual.ensures.1 (unread_bad _ _ (λ bad. bad) fault c.in_err-add_objects.ensures.bad)
@@ -57,7 +56,7 @@ returns-in_err-add_ceiling-clause-full g c =
     let old = c.args.vault.now in
     let h = c.args.objects.now in
     let us = c.args.units.now in
-    let all = all_of c.args.all.now in
+    let all = all_forced c.args.all.now in
     let fault = c.in_err-add_ceiling.field-0.0 in
     handed (λ (e : ForceFault). (m : Content) (d : Durable) (s : State) → V.holds old m → Precedes h us m d s
     → IsFullFor (new_keys (V.view old).keys (ceiling_changes all (get m) (durable_after all d s)) + new_keys (V.view old).keys (object_changes all (get m) (durable_after all d s))) (V.view old).free e)
@@ -70,7 +69,7 @@ returns-in_err-add_ceiling-clause-bad g c =
     let old = c.args.vault.now in
     let h = c.args.objects.now in
     let us = c.args.units.now in
-    let all = all_of c.args.all.now in
+    let all = all_forced c.args.all.now in
     let fault = c.in_err-add_ceiling.field-0.0 in
     handed (λ (e : ForceFault). IfBad ((m : Content) (d : Durable) (s : State) → V.holds old m → Precedes h us m d s → ⊥) e)
     c.from_residual-in_err-add_ceiling.result fault c.from_residual-in_err-add_ceiling.ensures.1 (unread_bad _ _ (λ bad. absurd bad) fault c.in_err-add_ceiling.ensures.bad)
@@ -81,7 +80,7 @@ returns-in_err-put_both-clause-full g c =
     let old = c.args.vault.now in
     let h = c.args.objects.now in
     let us = c.args.units.now in
-    let all = all_of c.args.all.now in
+    let all = all_forced c.args.all.now in
     let first = c.deref.result.now in
     let others = c.deref-2.result.now in
     let known : AreForced (V.holds old) all h us first others = record {
@@ -101,7 +100,7 @@ returns-in_err-put_both-clause-during g c = λ m d s held p t n low high left.
     let old = c.args.vault.now in
     let h = c.args.objects.now in
     let us = c.args.units.now in
-    let all = all_of c.args.all.now in
+    let all = all_forced c.args.all.now in
     let first = c.deref.result.now in
     let others = c.deref-2.result.now in
     let known : AreForced (V.holds old) all h us first others = record {
@@ -119,7 +118,7 @@ returns-in_err-put_both-clause-once g c = λ m d s held p due small t n low high
     let old = c.args.vault.now in
     let h = c.args.objects.now in
     let us = c.args.units.now in
-    let all = all_of c.args.all.now in
+    let all = all_forced c.args.all.now in
     let first = c.deref.result.now in
     let others = c.deref-2.result.now in
     let known : AreForced (V.holds old) all h us first others = record {
@@ -138,7 +137,7 @@ returns-clause-during g c = λ m d s held p t n low high left.
     let old = c.args.vault.now in
     let h = c.args.objects.now in
     let us = c.args.units.now in
-    let all = all_of c.args.all.now in
+    let all = all_forced c.args.all.now in
     let first = c.deref.result.now in
     let others = c.deref-2.result.now in
     let known : AreForced (V.holds old) all h us first others = record {
@@ -156,7 +155,7 @@ returns-clause-once g c = λ m d s held p due small t n low high left.
     let old = c.args.vault.now in
     let h = c.args.objects.now in
     let us = c.args.units.now in
-    let all = all_of c.args.all.now in
+    let all = all_forced c.args.all.now in
     let first = c.deref.result.now in
     let others = c.deref-2.result.now in
     let known : AreForced (V.holds old) all h us first others = record {
@@ -175,7 +174,7 @@ returns-clause-holds g c = λ m d s held p.
     let old = c.args.vault.now in
     let h = c.args.objects.now in
     let us = c.args.units.now in
-    let all = all_of c.args.all.now in
+    let all = all_forced c.args.all.now in
     let first = c.deref.result.now in
     let others = c.deref-2.result.now in
     let known : AreForced (V.holds old) all h us first others = record {
@@ -196,7 +195,7 @@ returns-clause-stands g c = λ m n d s held left p due.
     let old = c.args.vault.now in
     let h = c.args.objects.now in
     let us = c.args.units.now in
-    let all = all_of c.args.all.now in
+    let all = all_forced c.args.all.now in
     let first = c.deref.result.now in
     let others = c.deref-2.result.now in
     let known : AreForced (V.holds old) all h us first others = record {
@@ -214,7 +213,7 @@ returns-clause-after g c = λ m n d s held p left.
     let old = c.args.vault.now in
     let h = c.args.objects.now in
     let us = c.args.units.now in
-    let all = all_of c.args.all.now in
+    let all = all_forced c.args.all.now in
     let first = c.deref.result.now in
     let others = c.deref-2.result.now in
     let known : AreForced (V.holds old) all h us first others = record {

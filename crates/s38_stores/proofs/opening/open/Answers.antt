@@ -1,5 +1,8 @@
 use Rattle.s38_stores.proofs.KeepLaws.{err_on, ok_on}
+use Rattle.std.proofs.Common.{◌∙◌, ap, sym}
+use Rattle.s38_pages.specs.Mounts.{layout_of}
 use Rattle.s38_stores.proofs.OpenLaws.{refusal_of}
+use Rattle.s38_stores.proofs.WatchLaws.{opened_during, refused_during}
 use Rattle.s38_stores.proofs.opening.open.Goals as goal
 
 pub returns-in-Ok-clause-restarts : goal.returns-in-Ok-clause-restarts
@@ -19,3 +22,15 @@ returns-in-Ok-clause-refused g c =
     err_on _ _ c.restarted.result c.restarted.ensures.refused (λ refusal h s is.
     let was = c.in-Ok.ensures.content s is in
     refusal_of (g.D.Disk.view c.args.disk).size s.now was.0 refusal.1 was.1.0 (h was.0 was.1.1))
+
+pub restarted-requires-clause-layout : goal.restarted-requires-clause-layout
+restarted-requires-clause-layout g c = c.in-Ok.ensures.vault.2 ∙ ap layout_of (sym c.in-Ok.ensures.moves.size)
+
+pub returns-in-Ok-clause-during : goal.returns-in-Ok-clause-during
+returns-in-Ok-clause-during g c = ok_on _ _ c.restarted.result c.restarted.ensures.during (λ store h. opened_during c.in-Ok.vault c.in-Ok.ensures.moves c.in-Ok.ensures.content h)
+
+pub returns-in-Ok-clause-crash : goal.returns-in-Ok-clause-crash
+returns-in-Ok-clause-crash g c = err_on _ _ c.restarted.result c.restarted.ensures.crash (λ refusal h. opened_during c.in-Ok.vault c.in-Ok.ensures.moves c.in-Ok.ensures.content h)
+
+pub returns-in-Err-clause-crash : goal.returns-in-Err-clause-crash
+returns-in-Err-clause-crash g c = refused_during c.in-Err.ensures.crash

@@ -1,14 +1,51 @@
-use Rattle.s38_stores.proofs.OpenLaws.{fault_of, opening_of}
+use Rattle.std.proofs.Common.{◌∙◌, ap, subst, sym}
+use Rattle.s38_base.specs.Faults.{Rose}
+use Rattle.s38_pages.specs.Vaults.{PageStore, page_view}
+use Rattle.s38_stores.proofs.OpenLaws.{fault_of, opening_of, was_failed}
+use Rattle.s38_stores.proofs.WatchLaws.{caused, given_back, held_now, held_then, now_is, restart_during, seen_from}
+use Rattle.s38_stores.specs.Crashes.{IsPartlyCleaned}
 use Rattle.s38_stores.proofs.opening.restarted.Goals as goal
 
 pub can_be_kept-requires : goal.can_be_kept-requires
 can_be_kept-requires g c = opening_of c.in-Ok.objects c.in-Ok.ensures.read
 
 pub returns-in-Err-clause-refused : goal.returns-in-Err-clause-refused
-returns-in-Err-clause-refused g c m held = fault_of m c.in-Err.fault c.of_restart.result c.of_restart.ensures (c.in-Err.ensures.bad m held)
+returns-in-Err-clause-refused g c m held =
+    fault_of m c.in-Err.fault c.of_restart.result c.of_restart.ensures (c.in-Err.ensures.bad m (held_then c.of-watched.ensures c.in-Err.ensures.shape c.end.ensures.vault c.end.ensures.watched m held))
+
+pub returns-in-Err-clause-crash : goal.returns-in-Err-clause-crash
+returns-in-Err-clause-crash g c m held =
+    given_back (λ size. IsPartlyCleaned size m) _ _ c.release.ensures.disk
+    (restart_during c.of-watched.ensures c.in-Err.ensures.shape c.end.ensures.vault c.end.ensures.watched c.requires.layout c.in-Err.ensures.during m held)
 
 pub returns-then-can_be_kept-clause-restarts : goal.returns-then-can_be_kept-clause-restarts
-returns-then-can_be_kept-clause-restarts g c m held = (record { sound = c.in-Ok.ensures.sound m held; is = c.in-Ok.ensures.told m held }, c.in-Ok.ensures.holds m held)
+returns-then-can_be_kept-clause-restarts g c m held =
+    let then = held_then c.of-watched.ensures c.in-Ok.ensures.shape c.end-vault.ensures.vault c.end-vault.ensures.watched m held in
+    (record { sound = c.in-Ok.ensures.sound m then; is = c.in-Ok.ensures.told m then }, held_now c.of-watched.ensures c.in-Ok.ensures.shape c.end-vault.ensures.vault c.end-vault.ensures.watched _ (c.in-Ok.ensures.holds m then))
 
 pub returns-then-can_be_kept-clause-opening : goal.returns-then-can_be_kept-clause-opening
 returns-then-can_be_kept-clause-opening g c = opening_of c.in-Ok.objects c.in-Ok.ensures.read
+
+pub returns-then-can_be_kept-clause-during : goal.returns-then-can_be_kept-clause-during
+returns-then-can_be_kept-clause-during g c m held =
+    restart_during c.of-watched.ensures c.in-Ok.ensures.shape c.end-vault.ensures.vault c.end-vault.ensures.watched c.requires.layout c.in-Ok.ensures.during m held
+
+pub returns-then-can_be_kept-clause-start : goal.returns-then-can_be_kept-clause-start
+returns-then-can_be_kept-clause-start g c = (seen_from c.of-watched.ensures c.in-Ok.ensures.shape c.end-vault.ensures.vault c.end-vault.ensures.watched).start
+
+pub returns-then-can_be_kept-clause-faults : goal.returns-then-can_be_kept-clause-faults
+returns-then-can_be_kept-clause-faults g c =
+    let faults = λ (y : PageStore). (page_view y).faults in
+    ap faults c.end-vault.ensures.vault ∙ c.in-Ok.ensures.count ∙ ap faults (now_is c.of-watched.ensures c.in-Ok.ensures.shape c.end-vault.ensures.vault c.end-vault.ensures.watched)
+
+pub returns-in-Err-clause-cause : goal.returns-in-Err-clause-cause
+returns-in-Err-clause-cause g c failed =
+    let seen = seen_from c.of-watched.ensures c.in-Err.ensures.shape c.end.ensures.vault c.end.ensures.watched in
+    let rose = c.in-Err.ensures.cause.failed (was_failed c.in-Err.fault (sym c.of_restart.ensures ∙ failed)) in
+    subst (λ n. Rose n (g.D.Disk.view c.release.result).faults) seen.start
+    (c.release.ensures.cause (caused c.of-watched.ensures c.in-Err.ensures.shape c.end.ensures.vault c.end.ensures.watched c.requires.faultless rose))
+
+pub returns-else-can_be_kept-clause-crash : goal.returns-else-can_be_kept-clause-crash
+returns-else-can_be_kept-clause-crash g c m held =
+    given_back (λ size. IsPartlyCleaned size m) _ _ c.release-else-can_be_kept.ensures.disk
+    (restart_during c.of-watched.ensures c.in-Ok.ensures.shape c.end-vault.ensures.vault c.end-vault.ensures.watched c.requires.layout c.in-Ok.ensures.during m held)

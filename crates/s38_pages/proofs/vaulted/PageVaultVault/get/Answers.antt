@@ -6,6 +6,8 @@ use Rattle.s38_blocks.proofs.CommitLemmas.{home_below}
 use Rattle.s38_pages.specs.Vaults.{PageStore, page_holds}
 use Rattle.s38_pages.proofs.Blaming.{of_read}
 use Rattle.s38_pages.proofs.VaultLemmas.{keeps_vault, page_here, placed_still}
+use Rattle.s38_pages.proofs.Watching.{read_only}
+use Rattle.s38_disk.proofs.Runs.{stays}
 use Rattle.s38_pages.proofs.vaulted.PageVaultVault.get.Goals as goal
 
 pub read_page-requires : goal.read_page-requires
@@ -34,3 +36,12 @@ returns-in-None-clause-there g c =
 pub returns-in_ok-read_page-in-Some-clause-page : goal.returns-in_ok-read_page-in-Some-clause-page
 returns-in_ok-read_page-in-Some-clause-page g c m holds =
     page_here c.self.invariant.vault c.args.key (Some c.in-Some.home) (sym c.get.ensures ∙ c.in-Some.is) (Some c.in_ok-read_page-in-Some.field-0) (λ s is. sym (ap Some (c.in_ok-read_page-in-Some.ensures.gives s is))) m (subst (λ (v : PageStore). page_holds v m) (sym c.self.view_is) holds)
+
+pub returns-in_err-read_page-in-Some-clause-whole : goal.returns-in_err-read_page-in-Some-clause-whole
+returns-in_err-read_page-in-Some-clause-whole g c = read_only c.self.view_is c.read_page.ensures.size c.read_page.ensures.cause.later c.read_page.ensures.past
+
+pub returns-in_ok-read_page-in-Some-clause-whole : goal.returns-in_ok-read_page-in-Some-clause-whole
+returns-in_ok-read_page-in-Some-clause-whole g c = read_only c.self.view_is c.read_page.ensures.size c.read_page.ensures.cause.later c.read_page.ensures.past
+
+pub returns-in-None-clause-whole : goal.returns-in-None-clause-whole
+returns-in-None-clause-whole g c = stays _ _

@@ -1,4 +1,4 @@
-use Rattle.std.proofs.Common.{◌≡◌, ◌≤◌, ◌-◌, ap, refl, subst, arith}
+use Rattle.std.proofs.Common.{◌≡◌, ◌≤◌, ◌-◌, ap, refl, rules, subst, arith}
 use Rattle.std.specs.FinMap.{len}
 use Rattle.std.specs.Vec.{vec_capacity}
 use Rattle.s38_vault.specs.Directory.{keys_of, new_keys}
@@ -7,7 +7,7 @@ use Rattle.s38_disk.proofs.CostLaws.{costs_nothing}
 use Rattle.s38_pages.specs.Index.{parts_of}
 use Rattle.s38_pages.specs.Vaults.{IsVault, LeavesAt, PageStore}
 use Rattle.s38_pages.proofs.Finishing.{only_read}
-use Rattle.s38_pages.proofs.VaultLemmas.{free_after, told_moments}
+use Rattle.s38_pages.proofs.VaultLemmas.{free_after, put_whole, told_moments}
 use Rattle.s38_pages.proofs.vaulted.PageVaultVault.put.Goals as goal
 
 pub returns-in-Ok-clause-free : goal.returns-in-Ok-clause-free
@@ -43,5 +43,23 @@ returns-then-not-self-clause-cost g c = costs_nothing _ _ (ap (λ (v : PageStore
 
 pub returns-then-not-self-clause-moves : goal.returns-then-not-self-clause-moves
 returns-then-not-self-clause-moves g c =
+    let later = ap (λ (v : PageStore). v.disk.faults) c.self.view_is in
+    only_read _ _ (ap (λ (v : PageStore). v.disk.size) c.self.view_is) (omega (arith, later)) (ap (λ (v : PageStore). v.disk.past) c.self.view_is)
+
+pub returns-in-Ok-clause-whole : goal.returns-in-Ok-clause-whole
+returns-in-Ok-clause-whole g c =
+    let vault = subst (λ (v : PageStore). IsVault v.layout v.disk v.homes c.self.inside.marks c.self.inside.slots.items (vec_capacity c.self.inside.slots) v.good) c.self.view_is c.self.invariant.vault in
+    put_whole vault (search rules) c.put_all.ensures.moves
+
+pub returns-in-Err-clause-whole : goal.returns-in-Err-clause-whole
+returns-in-Err-clause-whole g c =
+    let vault = subst (λ (v : PageStore). IsVault v.layout v.disk v.homes c.self.inside.marks c.self.inside.slots.items (vec_capacity c.self.inside.slots) v.good) c.self.view_is c.self.invariant.vault in
+    put_whole vault (search rules) c.put_all.ensures.moves
+
+pub returns-then-needed-free-clause-whole : goal.returns-then-needed-free-clause-whole
+returns-then-needed-free-clause-whole g c = only_read _ _ refl (omega arith) refl
+
+pub returns-then-not-self-clause-whole : goal.returns-then-not-self-clause-whole
+returns-then-not-self-clause-whole g c =
     let later = ap (λ (v : PageStore). v.disk.faults) c.self.view_is in
     only_read _ _ (ap (λ (v : PageStore). v.disk.size) c.self.view_is) (omega (arith, later)) (ap (λ (v : PageStore). v.disk.past) c.self.view_is)

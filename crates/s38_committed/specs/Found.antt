@@ -1,0 +1,61 @@
+-- What a restart finds of an entry; and when a state, and what is durable of it, are as a machine leaves them.
+use Rattle.std.specs.Prelude.{◌≡◌, ◌+◌, ℕ, false, List, Some}
+use Rattle.s38_code.specs.declared.entry.Entry.{Entry}
+use Rattle.s38_code.specs.declared.event.Event.TheVariants.{Act}
+use Rattle.s38_code.specs.declared.event.Request.{Request}
+use Rattle.s38_code.specs.declared.reply.Reply.TheVariants.{Done}
+use Rattle.s38_code.specs.declared.reply.Val.{Val}
+use Rattle.s38_commitment_laws.specs.Right.{IsRight}
+use Rattle.s38_commits.specs.Unit.{CommitUnit}
+use Rattle.s38_commits.specs.Units.{unit_of}
+use Rattle.s38_dataspaces.specs.Entries as spaces
+use Rattle.s38_dataspaces.specs.Entries.{entry_at}
+use Rattle.s38_durable.specs.Durable.{Durable, kept}
+use Rattle.s38_image.specs.declared.stored.Stored.{Stored}
+use Rattle.s38_journals.specs.Journals.{JournalList}
+use Rattle.s38_object_laws.specs.Well.{AreWell}
+use Rattle.s38_restart.specs.Restarted.{all_followed}
+use Rattle.s38_rules.specs.Changes.{Committed}
+use Rattle.s38_rules.specs.Held.{Held}
+use Rattle.s38_rules.specs.Journaling.{journal_for}
+use Rattle.s38_rules.specs.Parts.{journal_of, table_at}
+use Rattle.s38_rules.specs.Rows.{row}
+use Rattle.s38_rules.specs.State.{State}
+use Rattle.s38_committed.specs.Imaged.{AreKept}
+use Rattle.s38_committed.specs.Linked.{AreLinked}
+use Rattle.s38_committed.specs.Told.{AreTold, entries_at}
+
+-- the objects that a restart makes of what is durable
+abbrev pub restart_of : Durable → Held
+restart_of d = record { objects = all_followed d.objects; next = d.ceiling + 1; ceiling = d.ceiling }
+
+-- the entry that it finds under an ordinal of a data space
+abbrev pub found : Durable → ℕ → ℕ → spaces.Entry
+found d n at = entry_at (table_at (restart_of d) n).entries at
+
+-- the entry as it stands
+abbrev pub entry_now : State → ℕ → ℕ → spaces.Entry
+entry_now s n at = entry_at (table_at s.held n).entries at
+
+pub record AreSound (s : State) (d : Durable) : Type 0 where
+  pub right : IsRight s
+  pub well : AreWell s
+  pub linked : AreLinked s.held
+  pub told : AreTold s.held s.units
+  pub kept : AreKept s.held s.units d (λ n. false)
+
+-- all entries of the journal space of a data space are kept
+abbrev pub IsJournalKept : State → Durable → ℕ → Type 0
+IsJournalKept s d n = (journal : ℕ) (x : Stored) (j : JournalList) → journal_for s.held n ≡ Some journal → kept d.objects journal ≡ Some x → journal_of x.object.body ≡ Some j
+    → j.entries ≡ entries_at s.held journal
+
+-- an entry of a history is that of a COMMIT that takes effect in a state, and of this unit
+pub record Commits (s : State) (e : Entry) (unit : CommitUnit) : Type 0 where
+  pub depth : ℕ
+  pub request : Request
+  pub values : List Val
+  pub block : ℕ
+  pub event : e.event ≡ Act depth request
+  pub changes : (row request.op).changes s e.process depth request ≡ Committed block
+  pub found : unit_of s.units block ≡ Some unit
+  pub reply : e.reply ≡ Done values

@@ -1,0 +1,112 @@
+//! The room of a store.
+ghost use Rattle.std.specs.Prelude.{◌≡◌, ◌+◌, ◌-◌, ◌≤◌, OnErr, OnOk, length, sum_by};
+ghost use Rattle.s38_extents.specs.Extents.{AreRising, with_extent, without};
+ghost use Rattle.s38_rules.specs.Room.{extent_at, free, parts_of};
+
+use crate::extent::Extent;
+use crate::extents;
+use s38_base::{NoMemory, ObjNum};
+use std::marker::Model;
+
+/// How many parts a store has for objects, and the extent of each object that it keeps, in rising order of number.
+/// Contracts see it as the definitions say it, and beside it how many extents more take no memory.
+#[derive(Drop)]
+pub struct Room {
+    parts: u32,
+    extents: Vec<Extent>,
+}
+
+impl Model for Room {
+    ghost use Rattle.std.specs.Prelude.{◌-◌, vec_capacity, vec_len};
+    ghost use Rattle.s38_extents.specs.Extents.{AreRising};
+    ghost use Rattle.s38_extents.specs.Keeping.{RoomHeld};
+
+    ghost Value = { RoomHeld };
+
+    ghost view = { λ r. record { room = record { parts = r.parts; extents = r.extents.items }; spare = vec_capacity r.extents - vec_len r.extents } };
+
+    ghost invariant = { λ r. AreRising r.extents.items };
+}
+
+/// How many of some parts are left behind those of extents.
+fn left(parts: u32, extents: &[Extent]) -> u32
+    ensures { result ≡ parts - sum_by parts_of extents.now }
+{
+    let mut left = u64::from(parts);
+    for extent in extents {
+        left = left.saturating_sub(extent.parts());
+    }
+    left as u32
+}
+
+impl Room {
+    /// The room of a store with so many parts for objects, which keeps these extents.
+    pub fn new(parts: u32, extents: Vec<Extent>) -> Room
+        requires { AreRising extents.items }
+        ensures { result.room ≡ record { parts = parts; extents = extents.items } }
+    {
+        Room { parts, extents }
+    }
+
+    /// How many further parts the store takes, in time that grows with the number of objects that it keeps.
+    pub fn free(&self) -> u32
+        ensures free { result ≡ free self.now.room }
+        ensures rising { AreRising self.now.room.extents }
+    {
+        left(self.parts, self.extents.as_slice())
+    }
+
+    /// The extent of a number, in time that grows with the number of objects that the store keeps.
+    pub fn extent(&self, number: ObjNum) -> Option<Extent>
+        ensures { result ≡ extent_at self.now.room.extents number.0 }
+    {
+        extents::extent_at(self.extents.as_slice(), number)
+    }
+
+    /// How many objects the store keeps.
+    pub fn count(&self) -> usize
+        ensures count { result ≡ length self.now.room.extents }
+        ensures rising { AreRising self.now.room.extents }
+    {
+        self.extents.len()
+    }
+
+    /// Takes the memory of so many extents more. `NoMemory` where memory was refused, and nothing changed.
+    pub fn reserve(&mut self, extents: usize) -> Result<(), NoMemory>
+        ensures room { self.new.room ≡ self.old.room }
+        ensures ok { OnOk result (extents ≤ self.new.spare) }
+        ensures err { OnErr result (self.new.spare ≡ self.old.spare) }
+    {
+        match self.extents.reserve(extents) {
+            Ok(()) => Ok(()),
+            Err(_) => Err(NoMemory),
+        }
+    }
+
+    /// How many extents more take no memory.
+    pub fn spare(&self) -> usize
+        ensures { result ≡ self.now.spare }
+    {
+        self.extents.capacity() - self.extents.len()
+    }
+
+    /// Puts the extent of an object, in place of the one that was there of its number. Its memory was reserved. It takes
+    /// time that grows with the number of objects that the store keeps.
+    pub fn put(&mut self, extent: Extent)
+        requires { 1 ≤ self.old.spare }
+        ensures extents { self.new.room.extents ≡ with_extent extent self.old.room.extents }
+        ensures parts { self.new.room.parts ≡ self.old.room.parts }
+        ensures spare { self.old.spare ≤ self.new.spare + 1 }
+    {
+        extents::put(&mut self.extents, extent);
+    }
+
+    /// Takes the extent of a number out, if there is one, in time that grows with the number of objects that the store keeps.
+    pub fn take_out(&mut self, number: ObjNum)
+        ensures extents { self.new.room.extents ≡ without number.0 self.old.room.extents }
+        ensures parts { self.new.room.parts ≡ self.old.room.parts }
+        ensures spare { self.old.spare ≤ self.new.spare }
+    {
+        extents::take_out(&mut self.extents, number);
+    }
+}

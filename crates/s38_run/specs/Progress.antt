@@ -1,0 +1,40 @@
+-- Progress: no process is left alone with those that wait, and who waits asks for nothing before an effect.
+use Rattle.std.specs.Prelude.{◌≡◌, ◌==◌, ℕ, Bool, false, true, List, [], ◌∷◌, Some, slice_get}
+use Rattle.std.specs.List.{list_any}
+use Rattle.s38_code.specs.declared.entry.Entry.{Entry}
+use Rattle.s38_code.specs.declared.reply.Reply.{Reply}
+use Rattle.s38_code.specs.declared.reply.Reply.TheVariants.{Done, MustWait, Signal}
+use Rattle.s38_rules.specs.declared.process.ProcessEntry.{ProcessEntry}
+use Rattle.s38_rules.specs.State.{State, ready_list}
+use Rattle.s38_rules.specs.Step.{step}
+
+-- ---- one is ready
+
+-- each process has ended
+abbrev pub AllEnded : State → Type 0
+AllEnded s = (k : ℕ) (x : ProcessEntry) → slice_get s.processes k ≡ Some x → x.ended ≡ true
+
+-- none is ready only where each has ended
+abbrev pub IsGoing : State → Type 0
+IsGoing s = ready_list s ≡ [] → AllEnded s
+
+-- so it is in each state on the way
+abbrev pub AllGoing : State → List Entry → Type 0
+AllGoing s [] = IsGoing s
+AllGoing s (e ∷ es) = IsGoing s × AllGoing (step s e.process e.event).state es
+
+-- ---- who waits is silent
+
+-- who waits behind an answer to a process: an effect wakes all
+abbrev pub waiting_behind : Reply → ℕ → List ℕ → List ℕ
+waiting_behind (Done values) p waiting = []
+waiting_behind (Signal x) p waiting = waiting
+waiting_behind MustWait p waiting = p ∷ waiting
+
+abbrev pub is_waiting : ℕ → List ℕ → Bool
+is_waiting p waiting = list_any (λ w. w == p) waiting
+
+-- each entry is of a process that does not wait: one that was told to wait has no further entry before the next effect
+abbrev pub AreAwake : List ℕ → List Entry → Type 0
+AreAwake waiting [] = Unit {0}
+AreAwake waiting (e ∷ es) = (is_waiting e.process waiting ≡ false) × AreAwake (waiting_behind e.reply e.process waiting) es

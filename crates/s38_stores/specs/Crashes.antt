@@ -1,0 +1,60 @@
+-- What a crash may leave while a call goes on.
+use Rattle.std.specs.Prelude.{◌≡◌, ◌↔◌, ◌⊎◌, ◌<◌, ◌≤◌, ℕ, false, length, take}
+use Rattle.std.specs.FinMap.{get}
+use Rattle.s38_blocks.specs.Coding.{is_label}
+use Rattle.s38_blocks.specs.Store.{Stands}
+use Rattle.s38_closing.specs.Closing.{closing_changes, content_of}
+use Rattle.s38_disk.specs.Blocks.{State}
+use Rattle.s38_disk.specs.Disk.{DiskView, IsAt, Leaves, moment_of}
+use Rattle.s38_disk.specs.Moves.{IsSettled}
+use Rattle.s38_disk.specs.declared.block.Block.{Block}
+use Rattle.s38_durable.specs.Durable.{Durable}
+use Rattle.s38_forcing.specs.Puts.{IsAfterPuts}
+use Rattle.s38_groups.specs.Groups.{removals}
+use Rattle.s38_pages.specs.Mounts.{layout_of}
+use Rattle.s38_restart.specs.Parts.{all_parts}
+use Rattle.s38_rules.specs.Held.{Held}
+use Rattle.s38_stores.specs.Stores.{Keeps, Restarts, installed_store}
+use Rattle.s38_vault.specs.Content.{Content, changed}
+use Rattle.s38_vault.specs.Vaults.{most_changes}
+
+-- A call leaves each earlier moment of the disk as it was, and each image that a crash at a moment of the call may leave is
+-- so.
+pub record DuringCall (old new : DiskView) (P : (ℕ → Block) → Type 0) : Type 0 where
+  pub size : new.size ≡ old.size
+  pub later : moment_of old.past ≤ moment_of new.past
+  pub before : (t : ℕ) (image : ℕ → Block) → t ≤ moment_of old.past → Leaves old.past t image ↔ Leaves new.past t image
+  pub each : (t : ℕ) (image : ℕ → Block) → moment_of old.past < t → t ≤ moment_of new.past → Leaves new.past t image → P image
+
+-- where the disk tells its past and nothing is pending, this holds of its blocks
+abbrev pub AtRest : DiskView → ((ℕ → Block) → Type 0) → Type 0
+AtRest disk P = (s : State) → IsAt disk.past s → IsSettled s → P s.now
+
+-- ---- a store that is made
+
+-- there is no label, or the whole store that is installed
+abbrev pub IsNoneOrInstalled : ℕ → (ℕ → Block) → Type 0
+IsNoneOrInstalled size g = (is_label (g 0) ≡ false) ⊎ Keeps size g installed_store
+
+-- ---- a store that is opened
+
+-- the blocks are a store of this content, of which the first parts that belong to nothing may be gone
+pub record IsPartlyCleaned (size : ℕ) (m : Content) (g : ℕ → Block) : Type 0 where
+  pub count : ℕ
+  pub stands : Stands (layout_of size) g (changed m (take count (removals (all_parts m))))
+
+-- While a store is opened, whatever comes of it, a crash takes none of its parts that belongs to something, and the store
+-- is restarted to the very objects to which it was restarted before.
+pub record KeepsRestarting (old new : DiskView) : Type 0 where
+  pub content : AtRest old (λ f. (m : Content) → Stands (layout_of old.size) f m → DuringCall old new (IsPartlyCleaned new.size m))
+  pub objects : AtRest old (λ f. (h : Held) → Restarts old.size f h → DuringCall old new (λ g. Restarts new.size g h))
+
+-- ---- a store in which a run is kept
+
+-- The blocks are a store of what was held before, or of what stands behind some of the puts that keep what is durable;
+-- where one put takes all changes, of what was held or of what is durable.
+pub record IsBetween (size : ℕ) (m : Content) (d : Durable) (g : ℕ → Block) : Type 0 where
+  pub content : Content
+  pub stands : Stands (layout_of size) g content
+  pub puts : IsAfterPuts most_changes m (closing_changes (get m) d) content
+  pub once : length (closing_changes (get m) d) ≤ most_changes → (content ≡ m) ⊎ (content ≡ content_of d)

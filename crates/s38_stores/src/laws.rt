@@ -1,0 +1,21 @@
+//! What holds of stores, as contracts of functions that do nothing.
+ghost use Rattle.std.specs.Prelude.{◌≡◌, ◌⊎◌, ℕ, take};
+ghost use Rattle.s38_groups.specs.Groups.{removals};
+ghost use Rattle.s38_restart.specs.Parts.{all_parts};
+ghost use Rattle.s38_vault.specs.Content.{Content, changed};
+ghost use Rattle.s38_disk.specs.declared.block.Block.{Block as Blocks};
+ghost use Rattle.s38_rules.specs.Held.{Held};
+ghost use Rattle.s38_stores.specs.Refusals.{IsRefusal};
+ghost use Rattle.s38_stores.specs.Stores.{AreOf, Restarts};
+ghost use Rattle.s38_stores.specs.declared.fault.StoreRefusal.{StoreRefusal};
+ghost use Rattle.s38_stores.specs.declared.fault.StoreRefusal.TheVariants as refusals;
+
+/// A store that restarts is refused only where the disk fails or memory is wanted.
+pub fn a_store_that_restarts_is_opened()
+    ensures { (size : ℕ) (f : ℕ → Blocks) (h : Held) → Restarts size f h → (refusal : StoreRefusal) → IsRefusal size f refusal → (refusal ≡ refusals.Failed) ⊎ (refusal ≡ refusals.NoMemory) }
+{}
+
+/// Whatever parts that belong to nothing are taken away first, a store is restarted to the same objects.
+pub fn parts_that_belong_to_nothing_may_go()
+    ensures { (m : Content) (count : ℕ) (h : Held) → AreOf h m → AreOf h (changed m (take count (removals (all_parts m)))) }
+{}

@@ -1,0 +1,16 @@
+use Rattle.std.proofs.Common.{Bor, List, ℕ, true, map}
+use Rattle.s38_top.specs.Commands.{command_on}
+use Rattle.s38_top.proofs.StoreLaws.{ready_decided}
+use Rattle.s38_top.proofs.decide.decide_on_threads.Goals as goal
+
+pub run_on_threads-requires-clause-started : goal.run_on_threads-requires-clause-started
+run_on_threads-requires-clause-started g c κs lives = c.in-Ok.ensures.ready.begins
+
+pub run_on_threads-requires-clause-opening : goal.run_on_threads-requires-clause-opening
+run_on_threads-requires-clause-opening g c κs lives = c.in-Ok.ensures.ready.opening
+
+pub returns-in-Ok : goal.returns-in-Ok
+returns-in-Ok g c =
+    ready_decided (command_on true (map {A = Bor (List ℕ)} {B = List ℕ} (λ w. w.now) c.args.words.now)) c.in-Ok.ready.turns (g.S.Source.left c.args.source.now) (g.S.Source.left c.prepare.new.source)
+    (g.S.Source.faults c.args.source.now) (g.S.Source.faults c.prepare.new.source) (g.D.Disk.view c.args.disk) (g.D.Disk.view c.run_on_threads.result.disk) c.in-Ok.ready.started c.in-Ok.ready.vault c.run_on_threads.result.outcome
+    c.in-Ok.ensures.asked c.in-Ok.ensures.read c.in-Ok.ensures.ready c.run_on_threads.ensures

@@ -1,0 +1,21 @@
+use Rattle.std.proofs.Common.{All, ap, refl, subst, sym, ◌∙◌}
+use Rattle.s38_image_printing.specs.Parts.{CanSettle}
+use Rattle.s38_openings.specs.Opening.{IsNumbered}
+use Rattle.s38_rules.specs.Storable.{IsStorable}
+use Rattle.s38_top.specs.declared.outcome.Whole.{Whole}
+use Rattle.s38_top.proofs.StoreLaws.{leaves_at}
+use Rattle.s38_top.proofs.decide.of_whole.Goals as goal
+
+pub keep-disk-requires-clause-storable : goal.keep-disk-requires-clause-storable
+keep-disk-requires-clause-storable g c = subst (λ (w : Whole). All IsStorable w.state.held.objects) (sym c.whole.view_is) c.requires.end.storable
+
+pub keep-disk-requires-clause-settles : goal.keep-disk-requires-clause-settles
+keep-disk-requires-clause-settles g c = subst (λ (w : Whole). All (λ o. CanSettle w.state.units o.number.0 o.body) w.state.held.objects) (sym c.whole.view_is) c.requires.end.settles
+
+pub keep-disk-requires-clause-numbers : goal.keep-disk-requires-clause-numbers
+keep-disk-requires-clause-numbers g c = subst (λ (w : Whole). All IsNumbered w.state.held.objects) (sym c.whole.view_is) c.requires.end.numbers
+
+pub returns-in-Some : goal.returns-in-Some
+returns-in-Some g c =
+    let same = ap (λ (w : Whole). w.state) c.whole.view_is in
+    (refl, (refl, leaves_at same c.args.vault (g.D.Disk.view c.keep-disk.result.disk) c.keep-disk.result.end c.in-Some.end (sym c.in-Some.is ∙ c.run_end.ensures) c.keep-disk.ensures.kept c.keep-disk.ensures.full c.keep-disk.ensures.cause))
