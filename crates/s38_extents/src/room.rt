@@ -1,11 +1,12 @@
 //! The room of a store.
-ghost use Rattle.std.specs.Prelude.{◌≡◌, ◌+◌, ◌-◌, ◌≤◌, OnErr, OnOk, length, sum_by};
+ghost use Rattle.std.specs.Prelude.{◌≡◌, ◌+◌, ◌-◌, ◌≤◌, IfOk, OnErr, OnOk, length, sum_by};
 ghost use Rattle.s38_extents.specs.Extents.{AreRising, with_extent, without};
 ghost use Rattle.s38_rules.specs.Room.{extent_at, free, parts_of};
 
 use crate::extent::Extent;
 use crate::extents;
 use s38_base::{NoMemory, ObjNum};
+use std::alloc::Global;
 use std::marker::Model;
 
 /// How many parts a store has for objects, and the extent of each object that it keeps, in rising order of number.
@@ -81,6 +82,19 @@ impl Room {
             Ok(()) => Ok(()),
             Err(_) => Err(NoMemory),
         }
+    }
+
+    /// A copy, with the memory of so many extents more. `NoMemory` where memory was refused.
+    pub fn copy_with_spare(&self, alloc: Global, extents: usize) -> Result<Room, NoMemory>
+        ensures room { IfOk result (λ copy. copy.room ≡ self.now.room) }
+        ensures spare { IfOk result (λ copy. extents ≤ copy.spare) }
+    {
+        let mut copy = Room {
+            parts: self.parts,
+            extents: self.extents.as_slice().to_vec(alloc)?,
+        };
+        copy.reserve(extents)?;
+        Ok(copy)
     }
 
     /// How many extents more take no memory.

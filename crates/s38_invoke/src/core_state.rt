@@ -5,6 +5,7 @@ ghost use Rattle.s38_rules.specs.Kept.{CanBeKept};
 use s38_base::NoMemory;
 use s38_code::Checked;
 use s38_commits::Units;
+use s38_extents::Room;
 use s38_locks::LockTable;
 use s38_profiles::Profiles;
 use s38_rules::{ProcessEntry, Table, TableRows, UserMaps};
@@ -26,11 +27,14 @@ pub struct Core<T: Table, P: UserMaps> {
     pub locks: LockTable,
     /// The units of changes that are not committed.
     pub units: Units,
+    /// What the store has room for; none without a store.
+    pub room: Option<Room>,
 }
 
 impl<T: Table, P: UserMaps> Model for Core<T, P> {
-    ghost use Rattle.std.specs.Prelude.{◌≤◌, None};
+    ghost use Rattle.std.specs.Prelude.{◌≤◌};
     ghost use Rattle.s38_base.specs.Limits.{furthest};
+    ghost use Rattle.s38_extents.specs.Keeping.{room_in};
     ghost use Rattle.s38_rules.specs.Kept.{Mirrors};
     ghost use Rattle.s38_rules.specs.State.{State};
 
@@ -44,14 +48,14 @@ impl<T: Table, P: UserMaps> Model for Core<T, P> {
       waiting = w.waiting.items;
       locks = w.locks;
       units = w.units;
-      room = None;
+      room = room_in w.room;
     } };
 
     ghost invariant = { λ w. (w.limit ≤ furthest) × Mirrors (P.maps w.profiles) (T.held w.objects) };
 }
 
 impl<T: TableRows + Drop> Core<T, Profiles> {
-    /// The core of these objects, where nobody waits, no object is locked and no unit is begun. `NoMemory` where memory was refused.
+    /// The core of these objects without a store, where nobody waits, no object is locked and no unit is begun. `NoMemory` where memory was refused.
     pub fn new(
         alloc: Global,
         objects: T,
@@ -73,15 +77,7 @@ impl<T: TableRows + Drop> Core<T, Profiles> {
             waiting: Vec::new(alloc),
             locks: LockTable::new(alloc),
             units: Units::new(alloc),
+            room: None,
         })
-    }
-}
-
-impl<T: Table, P: UserMaps> Core<T, P> {
-    /// There is no store yet, which could be full.
-    pub fn has_no_store(&self)
-        ensures { self.now.room ≡ None }
-    {
-        let _limit = self.limit;
     }
 }

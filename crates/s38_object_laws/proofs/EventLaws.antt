@@ -140,7 +140,7 @@ act_well s p d t well met =
     delivered_well (done s p x) (shift_at s.held t.op t.operands) (receiver_at t.op t.operands) ((row t.op).gives s p d t)
     (done_well x s p well.objects (row_may (family_of t.op) t.op s p d t well met))
 
-event_well : (s : State) (p : ℕ) (e : Event) → AreWell s → awake_verdict s p e ≡ Permit → HoldsWell (effect_of s p e).state.held
+pub event_well : (s : State) (p : ℕ) (e : Event) → AreWell s → awake_verdict s p e ≡ Permit → HoldsWell (effect_of s p e).state.held
 unfolding effect_of ruled_verdict
 event_well s p Start well may = start_well s p (process_entry s p) well.objects
 event_well s p (Act d t) well may = act_well s p d t well (permitted_none s p t (refused_by (row t.op) s p d t) (permitted_by_rules s p (Act d t) may))

@@ -7,8 +7,9 @@ use Rattle.s38_disk.specs.Moves.{Moves}
 use Rattle.s38_disk.proofs.Runs.{joins, same_past, stays}
 use Rattle.s38_vault.specs.Vaults.{VaultShape, VaultView}
 use Rattle.s38_blocks.specs.declared.layout.Layout.{Layout}
+use Rattle.s38_pages.specs.Stored.{store_code}
 use Rattle.s38_pages.specs.Vaults.{IsWhole, PageStore, page_view}
-use Rattle.s38_pages.specs.Watched.{IsWatched, WatchedStore, paired, store_code, store_number, tree_number, watched_view}
+use Rattle.s38_pages.specs.Watched.{IsWatched, WatchedStore, paired, store_number, tree_number, watched_view}
 
 -- ---- one number for two
 

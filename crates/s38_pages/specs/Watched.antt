@@ -1,11 +1,11 @@
 -- A page vault that is watched from a moment on.
 use Rattle.std.specs.Prelude.{◌≡◌, ℕ, zero, suc, ◌+◌}
-use Rattle.std.specs.Coded.{Coded, codes}
 use base.Stored.{Gv}
 use base.Stored.Gv.{gnil, gnum, gcons}
 use Rattle.s38_disk.specs.Moves.{Moves}
 use Rattle.s38_vault.specs.Vaults.{VaultView}
-use Rattle.s38_pages.specs.Vaults.{IsWhole, PageStore, homes_code, page_view}
+use Rattle.s38_pages.specs.Stored.{store_code}
+use Rattle.s38_pages.specs.Vaults.{IsWhole, PageStore, page_view}
 
 -- the vault as it was when the watch began, and as it is
 pub record WatchedStore : Type 0 where
@@ -31,9 +31,6 @@ unfoldable pub tree_number : Gv → ℕ
 tree_number gnil = 0
 tree_number (gnum n) = paired 0 n
 tree_number (gcons a b) = paired (suc (tree_number a)) (tree_number b)
-
-abbrev pub store_code : Coded PageStore
-store_code = Prim.hlevel (codes, homes_code)
 
 -- no two vaults that differ have the same
 unfoldable pub store_number : PageStore → ℕ
