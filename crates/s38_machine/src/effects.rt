@@ -10,11 +10,14 @@ ghost use Rattle.s38_rules.specs.State.{State};
 ghost use Rattle.s38_rules.specs.Step.{awake, awake_verdict};
 ghost use Rattle.s38_rules.specs.Storing.{stored};
 ghost use Rattle.s38_machine.specs.Events.{GoesAsThatOf};
+ghost use Rattle.s38_machine.specs.Stored.{FitsStore, anew};
 
 use crate::deliveries::{parted, put};
 use crate::rows;
+use crate::storing::{anew, keep, prepared};
 use s38_base::{NoMemory, Seq};
 use s38_code::{Event, Val, Vals};
+use s38_extents::Forcings;
 use s38_invoke::{Core, Profiles, start};
 use s38_objects::Objects;
 use s38_operands::{Act, receiver_at, shift_at};
@@ -119,28 +122,32 @@ fn take_effect(
     }
 }
 
-/// A permitted event takes effect, with the value that goes into the space of its receiver, and nobody waits any
-/// more; where memory is refused nothing changes. There is no store yet, which would keep what it forces.
-#[tactic(auto, using(s38_rules::proofs::Laws::effect_keeps, s38_rules::proofs::StoreLaws::without_store))]
+/// A permitted event takes effect, with the value that goes into the space of its receiver, nobody waits any more, and what
+/// the store is to keep anew of it is given back; where memory is refused nothing changes.
 pub fn apply(
     alloc: Global,
     world: &mut Core<Objects, Profiles>,
     process: u32,
     event: &Event,
     value: Option<Val>,
-) -> Result<(), NoMemory>
+) -> Result<Forcings, NoMemory>
     requires permit { awake_verdict world.old process event.now ≡ Verdict.Permit }
     requires value { GoesAsThatOf world.old process event.now value }
+    requires fits { FitsStore world.old }
     ensures ok { OnOk result (world.new ≡ awake (stored world.old process event.now (effect_of world.old process event.now).state)) }
+    ensures anew { IfOk result (λ all. all ≡ anew world.old process event.now) }
     ensures err { OnErr result (world.new ≡ world.old) }
     ensures kept { length world.new.processes ≡ length world.old.processes }
+    ensures fits { FitsStore world.new }
 {
-    world.has_no_store();
+    let all = anew(world, process, event);
+    let spare = prepared(alloc, world, &all)?;
     match take_effect(alloc, world, process, event, value) {
         Err(fault) => Err(fault),
         Ok(()) => {
+            keep(world, &all, spare);
             world.waiting.clear();
-            Ok(())
+            Ok(all)
         }
     }
 }

@@ -12,6 +12,7 @@ mod opening;
 mod resolved;
 mod rights;
 mod rows;
+mod storing;
 mod verdicts;
 
 use log::Log;

@@ -2,18 +2,21 @@ ghost use Rattle.std.specs.Prelude.{◌≡◌, ◌++◌, ◌∷◌, ◌+◌, ◌
 ghost use Rattle.std.specs.Option.{option_copied};
 ghost use Rattle.s38_code.specs.History.{entry_after};
 ghost use Rattle.s38_code.specs.Asking.{last_reply};
+ghost use Rattle.s38_machine.specs.Log.{with_last};
 
 use s38_base::NoMemory;
 use s38_code::{Entry, Event, Reply};
 use std::alloc::Global;
 use std::marker::Model;
 
-/// The history, a mark for each entry, and how many entries each process has.
+/// The history, a mark for each entry, how many entries each process has, and the moments of the store at the start and now.
 #[derive(Drop)]
 pub struct Log {
     entries: Vec<Entry>,
     marks: Vec<u64>,
     counts: Vec<u64>,
+    first: u64,
+    moment: u64,
 }
 
 impl Model for Log {
@@ -28,6 +31,8 @@ impl Model for Log {
       marks = l.marks.items;
       processes = vec_len l.counts;
       spare = min (vec_capacity l.entries - vec_len l.entries) (vec_capacity l.marks - vec_len l.marks);
+      first = l.first;
+      moment = l.moment;
     } };
 
     ghost invariant = { λ l. (k : ℕ) → k < vec_len l.counts → slice_index l.counts.items k ≡ count_of (k + 1) l.entries.items };
@@ -53,15 +58,26 @@ fn count(counts: &mut Vec<u64>, at: usize, all: usize)
     counts[at] += 1;
 }
 
+/// The last mark becomes another one.
+fn set_last(marks: &mut Vec<u64>, moment: u64)
+    ensures { marks.new.items ≡ with_last moment marks.old.items }
+{
+    if let Some(last) = marks.last_mut() {
+        *last = moment;
+    }
+}
+
 impl Log {
-    /// A log without an entry, for this many processes.
-    pub fn new(alloc: Global, processes: usize) -> Result<Log, NoMemory>
-        ensures { IfOk result (λ log. (log.history ≡ []) × (log.marks ≡ []) × (log.processes ≡ processes)) }
+    /// A log without an entry, for this many processes, over a store at this moment.
+    pub fn new(alloc: Global, processes: usize, moment: u64) -> Result<Log, NoMemory>
+        ensures { IfOk result (λ log. (log.history ≡ []) × (log.marks ≡ []) × (log.processes ≡ processes) × (log.first ≡ moment) × (log.moment ≡ moment)) }
     {
         Ok(Log {
             entries: Vec::new(alloc),
             marks: Vec::new(alloc),
             counts: zeros(alloc, processes)?,
+            first: moment,
+            moment,
         })
     }
 
@@ -90,6 +106,16 @@ impl Log {
         }
     }
 
+    /// The store has come to this moment, and the last entry, if there is one, was answered then.
+    pub fn stamp(&mut self, moment: u64)
+        ensures marks { self.new.marks ≡ with_last moment self.old.marks }
+        ensures moment { self.new.moment ≡ moment }
+        ensures same { (self.new.history ≡ self.old.history) × (self.new.processes ≡ self.old.processes) × (self.new.first ≡ self.old.first) }
+    {
+        set_last(&mut self.marks, moment);
+        self.moment = moment;
+    }
+
     /// The entries and the marks.
     pub fn into_parts(self) -> (Vec<Entry>, Vec<u64>)
         ensures { (result.0.items ≡ self.history) × (result.1.items ≡ self.marks) }
@@ -98,6 +124,8 @@ impl Log {
             entries,
             marks,
             counts: _,
+            first: _,
+            moment: _,
         } = self;
         (entries, marks)
     }
@@ -107,21 +135,23 @@ impl Log {
     pub fn reserve(&mut self) -> Result<(), NoMemory>
         ensures ok { OnOk result (0 < self.new.spare) }
         ensures same { (self.new.history ≡ self.old.history) × (self.new.marks ≡ self.old.marks) × (self.new.processes ≡ self.old.processes) }
+        ensures moments { (self.new.first ≡ self.old.first) × (self.new.moment ≡ self.old.moment) }
     {
         self.entries.reserve(1)?;
         self.marks.reserve(1)?;
         Ok(())
     }
 
-    /// Adds the entry of an answer, and the moment at which it was answered; it takes no memory.
+    /// Adds the entry of an answer, with the moment at which the store is; it takes no memory.
     #[inline(always)]
-    pub fn push(&mut self, process: u32, event: Event, reply: Reply, mark: u64)
+    pub fn push(&mut self, process: u32, event: Event, reply: Reply)
         requires room { 0 < self.old.spare }
         requires first { 0 < process }
         requires last { process ≤ self.old.processes }
         ensures history { self.new.history ≡ self.old.history ++ entry_after self.old.history process event reply ∷ [] }
-        ensures marks { self.new.marks ≡ self.old.marks ++ mark ∷ [] }
+        ensures marks { self.new.marks ≡ self.old.marks ++ self.old.moment ∷ [] }
         ensures processes { self.new.processes ≡ self.old.processes }
+        ensures moments { (self.new.first ≡ self.old.first) × (self.new.moment ≡ self.old.moment) }
     {
         let at = process as usize - 1;
         let seq = self.counts[at];
@@ -134,7 +164,7 @@ impl Log {
                 reply,
             },
         );
-        push_reserved(&mut self.marks, mark);
+        push_reserved(&mut self.marks, self.moment);
         let all = self.entries.len();
         count(&mut self.counts, at, all);
     }

@@ -3,6 +3,7 @@ ghost use Rattle.std.specs.Option.{option_copied};
 ghost use Rattle.s38_code.specs.Asking.{last_reply, reply_by};
 ghost use Rattle.s38_rules.specs.declared.verdict.Verdict.{Verdict};
 ghost use Rattle.s38_machine.specs.Events.{GoesAsThatOf};
+ghost use Rattle.s38_machine.specs.Stored.{FitsStore, anew, anew_by, kept_anew, stamped, stored_state_of};
 ghost use Rattle.s38_rules.specs.Effect.{effect_of};
 ghost use Rattle.s38_rules.specs.Kept.{CanBeKept};
 ghost use Rattle.s38_rules.specs.Legal.{IsProcess, IsSound, after, after_by, begun, no_moment};
@@ -16,6 +17,8 @@ use crate::opening::opened;
 use crate::verdicts::{awake_verdict, verdict_of};
 use s38_base::{Exception, NoMemory, TryClone, try_clones};
 use s38_code::{Asked, Checked, Entry, Event, Job, Reply, StepFault, Stepper, Val, Vals};
+use s38_commits::Units;
+use s38_extents::{Forcings, Room};
 use s38_invoke::{Core, Profiles, World};
 use s38_objects::Objects;
 use s38_rules::Verdict;
@@ -26,11 +29,13 @@ use std::snapshot::Snapshot;
 /// The objects and the processes of a machine.
 pub type State = Core<Objects, Profiles>;
 
-/// The moment at which each entry is answered if there is no store.
+/// The moment of a machine without a store.
 const NO_MOMENT: u64 = 0;
 
 /// The machine: its objects and processes, and the history of its answers. Contracts see what it was started
-/// with, its state, its history and its marks, and the moments of its store, of which it has none yet.
+/// with, its state, its history and its marks, and the moments of its store at the start and now. Where it has the room of a
+/// store, an event is permitted only if the store has room for what it keeps, and the room follows; that the store keeps it
+/// is up to whoever has the store.
 #[derive(Drop)]
 pub struct Machine {
     alloc: Global,
@@ -41,17 +46,33 @@ pub struct Machine {
 
 impl Model for Machine {
     ghost use Rattle.std.specs.Prelude.{◌≡◌, length};
-    ghost use Rattle.s38_rules.specs.Legal.{Run, no_moment};
+    ghost use Rattle.s38_machine.specs.Stored.{FitsStore};
+    ghost use Rattle.s38_rules.specs.Legal.{Run};
 
     ghost Value = { Run };
 
-    ghost view = { λ m. record { origin = m.origin.value; state = m.world.state; history = m.log.history; marks = m.log.marks; first = no_moment; moment = no_moment } };
+    ghost view = { λ m. record { origin = m.origin.value; state = m.world.state; history = m.log.history; marks = m.log.marks; first = m.log.first; moment = m.log.moment } };
 
-    ghost invariant = { λ m. m.log.processes ≡ length m.world.state.processes };
+    ghost invariant = { λ m. (m.log.processes ≡ length m.world.state.processes) × FitsStore m.world.state };
 }
 
 impl Machine {
-    /// A machine with the objects that it begins with, the templates of a deck, each checked, and its jobs.
+    /// A machine that begins from this core, at a moment of its store.
+    fn begin(alloc: Global, core: State, moment: u64) -> Result<Machine, NoMemory>
+        requires { FitsStore core }
+        ensures { IfOk result (λ machine. machine ≡ begun moment core) }
+    {
+        let log = Log::new(alloc, core.processes.len(), moment)?;
+        let origin = Snapshot::of(&core);
+        Ok(Machine {
+            alloc,
+            world: World { core },
+            log,
+            origin,
+        })
+    }
+
+    /// A machine without a store, with the objects that it begins with, the templates of a deck, each checked, and its jobs.
     pub fn start(
         alloc: Global,
         objects: Objects,
@@ -62,14 +83,39 @@ impl Machine {
         ensures { IfOk result (λ machine. machine ≡ begun no_moment (state_of objects templates jobs.now)) }
     {
         let core = opened(alloc, objects, templates, jobs)?;
-        let log = Log::new(alloc, jobs.len())?;
-        let origin = Snapshot::of(&core);
-        Ok(Machine {
-            alloc,
-            world: World { core },
-            log,
-            origin,
-        })
+        Machine::begin(alloc, core, NO_MOMENT)
+    }
+
+    /// The same over a store that has this room and is at this moment.
+    pub fn start_stored(
+        alloc: Global,
+        objects: Objects,
+        templates: Checked,
+        jobs: &[Job],
+        room: Room,
+        moment: u64,
+    ) -> Result<Machine, NoMemory>
+        requires kept { CanBeKept objects }
+        requires fits { FitsStore (stored_state_of (Some room.room) objects templates jobs.now) }
+        ensures { IfOk result (λ machine. machine ≡ begun moment (stored_state_of (Some room.room) objects templates jobs.now)) }
+    {
+        let mut core = opened(alloc, objects, templates, jobs)?;
+        core.room = Some(room);
+        Machine::begin(alloc, core, moment)
+    }
+
+    /// The objects as they are.
+    pub fn objects(&self) -> &Objects
+        ensures { result.now ≡ self.now.state.held }
+    {
+        &self.world.core.objects
+    }
+
+    /// The units of changes that are not committed.
+    pub fn units(&self) -> &Units
+        ensures { result.now ≡ self.now.state.units }
+    {
+        &self.world.core.units
     }
 
     /// The entries of the history.
@@ -139,7 +185,7 @@ impl Machine {
     }
 
     /// A permitted event takes effect and is entered, with the values of its reply, and the value that goes into the
-    /// space of its receiver.
+    /// space of its receiver; what the store is to keep anew is given back.
     #[inline(always)]
     fn enter_permitted(
         &mut self,
@@ -147,39 +193,40 @@ impl Machine {
         event: Event,
         values: Vals,
         value: Option<Val>,
-    ) -> Result<(), NoMemory>
+    ) -> Result<Forcings, NoMemory>
         requires first { 0 < process }
         requires last { process ≤ length self.old.state.processes }
         requires permit { awake_verdict self.old.state process event ≡ Verdict.Permit }
         requires values { values ≡ (effect_of self.old.state process event).values }
         requires value { GoesAsThatOf self.old.state process event value }
         ensures ok { OnOk result (self.new ≡ after_by self.old self.old.moment process event (by_verdict self.old.state process event Verdict.Permit)) }
+        ensures anew { IfOk result (λ all. all ≡ anew self.old.state process event) }
         ensures err { OnErr result (self.new ≡ self.old) }
     {
         self.log.reserve()?;
-        match apply(self.alloc, &mut self.world.core, process, &event, value) {
-            Ok(()) => {}
+        let all = match apply(self.alloc, &mut self.world.core, process, &event, value) {
+            Ok(all) => all,
             Err(fault) => return Err(fault),
-        }
-        self.log
-            .push(process, event, Reply::Done(values), NO_MOMENT);
-        Ok(())
+        };
+        self.log.push(process, event, Reply::Done(values));
+        Ok(all)
     }
 
-    /// A permitted event takes effect and is entered.
+    /// A permitted event takes effect and is entered; what the store is to keep anew is given back.
     #[inline(always)]
-    fn permit(&mut self, process: u32, event: Event) -> Result<(), NoMemory>
+    fn permit(&mut self, process: u32, event: Event) -> Result<Forcings, NoMemory>
         requires first { 0 < process }
         requires last { process ≤ length self.old.state.processes }
         requires permit { awake_verdict self.old.state process event ≡ Verdict.Permit }
         ensures ok { OnOk result (self.new ≡ after_by self.old self.old.moment process event (by_verdict self.old.state process event Verdict.Permit)) }
+        ensures anew { IfOk result (λ all. all ≡ anew self.old.state process event) }
         ensures err { OnErr result (self.new ≡ self.old) }
     {
         let (values, value) = parted_values(self.alloc, &self.world.core, process, &event)?;
         self.enter_permitted(process, event, values, value)
     }
 
-    /// The same, with a copy of the reply.
+    /// The same, with a copy of the reply in place of what the store is to keep.
     fn permit_copied(&mut self, process: u32, event: Event) -> Result<Reply, NoMemory>
         requires first { 0 < process }
         requires last { process ≤ length self.old.state.processes }
@@ -191,7 +238,7 @@ impl Machine {
         let (values, value) = parted_values(self.alloc, &self.world.core, process, &event)?;
         let copy = try_clones(self.alloc, values.as_slice())?;
         match self.enter_permitted(process, event, values, value) {
-            Ok(()) => Ok(Reply::Done(copy)),
+            Ok(_) => Ok(Reply::Done(copy)),
             Err(fault) => Err(fault),
         }
     }
@@ -204,8 +251,7 @@ impl Machine {
         ensures err { OnErr result (self.new ≡ self.old) }
     {
         self.log.reserve()?;
-        self.log
-            .push(process, event, Reply::Signal(exception), NO_MOMENT);
+        self.log.push(process, event, Reply::Signal(exception));
         Ok(())
     }
 
@@ -221,40 +267,58 @@ impl Machine {
             Ok(()) => {}
             Err(_) => return Err(NoMemory),
         }
-        self.log.push(process, event, Reply::MustWait, NO_MOMENT);
+        self.log.push(process, event, Reply::MustWait);
         Ok(())
     }
 
-    fn answer(&mut self, process: u32, event: Event, verdict: Verdict) -> Result<(), NoMemory>
+    /// An event that was given this verdict is entered; what the store is to keep anew is given back.
+    fn answer(&mut self, process: u32, event: Event, verdict: Verdict) -> Result<Forcings, NoMemory>
         requires first { 0 < process }
         requires last { process ≤ length self.old.state.processes }
         requires verdict { awake_verdict self.old.state process event ≡ verdict }
         ensures ok { OnOk result (self.new ≡ after_by self.old self.old.moment process event (by_verdict self.old.state process event verdict)) }
+        ensures anew { IfOk result (λ all. all ≡ anew_by self.old.state process event verdict) }
         ensures err { OnErr result (self.new ≡ self.old) }
     {
         match verdict {
             Verdict::Permit => self.permit(process, event),
-            Verdict::Wait => self.wait(process, event),
-            Verdict::Refuse(exception) => self.refuse(process, event, exception),
+            Verdict::Wait => match self.wait(process, event) {
+                Ok(()) => Ok(Forcings::none()),
+                Err(fault) => Err(fault),
+            },
+            Verdict::Refuse(exception) => match self.refuse(process, event, exception) {
+                Ok(()) => Ok(Forcings::none()),
+                Err(fault) => Err(fault),
+            },
         }
     }
 
-    #[tactic(auto, using(crate::proofs::AskingLaws::entered_by), unfolding(s38_rules::specs::Step::step, s38_rules::specs::Legal::after))]
-    fn ask_or(&mut self, process: u32, event: Event) -> Result<Asked, NoMemory>
+    /// Answers one event of a job's process as `ask` does, and says what the store is to keep anew behind the answer: nothing
+    /// where the event does not take effect.
+    #[tactic(auto, using(crate::proofs::AskingLaws::entered_by), unfolding(s38_rules::specs::Step::step, s38_rules::specs::Legal::after, s38_rules::specs::Step::verdict_of))]
+    pub fn ask_anew(&mut self, process: u32, event: Event) -> Result<(Asked, Forcings), NoMemory>
         requires first { 0 < process }
         requires last { process ≤ length self.old.state.processes }
         ensures ok { OnOk result (self.new ≡ after self.old self.old.moment process event) }
-        ensures reply { IfOk result (λ asked. reply_by asked self.new.history ≡ Some (step self.old.state process event).reply) }
+        ensures reply { IfOk result (λ answer. reply_by answer.0 self.new.history ≡ Some (step self.old.state process event).reply) }
+        ensures anew { IfOk result (λ answer. answer.1 ≡ kept_anew self.old.state process event) }
         ensures err { OnErr result (self.new ≡ self.old) }
     {
         if self.world.core.waits(process) {
-            return Ok(Asked::WaitsStill);
+            return Ok((Asked::WaitsStill, Forcings::none()));
         }
         let verdict = awake_verdict(&self.world.core, process, &event);
         match self.answer(process, event, verdict) {
-            Ok(()) => Ok(Asked::Entered),
+            Ok(all) => Ok((Asked::Entered, all)),
             Err(fault) => Err(fault),
         }
+    }
+
+    /// The store has come to this moment, and the last entry, if there is one, was answered then.
+    pub fn stamp(&mut self, moment: u64)
+        ensures { self.new ≡ stamped moment self.old }
+    {
+        self.log.stamp(moment);
     }
 
     /// Answers one event of a job's process, which goes into the history with its reply: it takes effect, is refused
@@ -270,8 +334,8 @@ impl Machine {
         ensures sound { IsSound self.new }
         ensures going { IsErrOf result StepFault.Stopped → ⊥ }
     {
-        match self.ask_or(process, event) {
-            Ok(asked) => Ok(asked),
+        match self.ask_anew(process, event) {
+            Ok((asked, _)) => Ok(asked),
             Err(_) => Err(StepFault::NoMemory),
         }
     }

@@ -3,7 +3,10 @@ ghost use Rattle.std.specs.Prelude.{◌≡◌, ◌≤◌, length, map};
 ghost use Rattle.std.specs.Option.{option_copied};
 ghost use Rattle.s38_base.specs.Signals.{first};
 ghost use Rattle.s38_machine.specs.Resolved.{Each, IsResolved, needs_of};
+ghost use Rattle.s38_machine.specs.Stored.{FitsStore};
 ghost use Rattle.s38_rules.specs.Authority.{lacks_special};
+ghost use Rattle.s38_rules.specs.Effect.{effect_of};
+ghost use Rattle.s38_rules.specs.Forcing.{forced, store_rule};
 ghost use Rattle.s38_rules.specs.Needs.{first_of};
 ghost use Rattle.s38_rules.specs.Rows.{row};
 ghost use Rattle.s38_rules.specs.Users.{acting};
@@ -22,6 +25,7 @@ use s38_code::{Event, Operand, Request};
 use s38_invoke::{Acting, Core, Profiles, start_failure};
 use s38_objects::Objects;
 use s38_operands::{Act, word_at};
+use s38_room::room_failure;
 use s38_rules::{Need, ProcessEntry, Verdict};
 
 /// The special authority, and then the authority over each object, that an instruction needs of these users.
@@ -240,18 +244,34 @@ fn ruled_verdict(world: &Core<Objects, Profiles>, process: u32, event: &Event) -
     }
 }
 
-/// What becomes of an event of a process that doesn't wait. There is no store yet, which could be full.
-#[tactic(auto, using(s38_rules::proofs::RoomLaws::unlimited), unfolding(s38_rules::specs::Step::awake_verdict))]
+/// The exception of a permitted event for which the store has no room; none without a store.
+fn store_failure(world: &Core<Objects, Profiles>, process: u32, event: &Event) -> Option<Exception>
+    requires { FitsStore world.now }
+    ensures { result ≡ store_rule world.now.room (forced world.now process event.now) (effect_of world.now process event.now).state.held.objects }
+{
+    match &world.room {
+        None => None,
+        Some(room) => room_failure(room, world, process, event),
+    }
+}
+
+/// What becomes of an event of a process that doesn't wait: what the rules make of it, and where they permit it, whether the
+/// store has room for what it keeps.
+#[tactic(auto, unfolding(s38_rules::specs::Step::awake_verdict))]
 pub fn awake_verdict(world: &Core<Objects, Profiles>, process: u32, event: &Event) -> Verdict
+    requires { FitsStore world.now }
     ensures { result ≡ awake_verdict world.now process event.now }
 {
-    world.has_no_store();
-    ruled_verdict(world, process, event)
+    match ruled_verdict(world, process, event) {
+        Verdict::Permit => of_failure(store_failure(world, process, event)),
+        verdict => verdict,
+    }
 }
 
 /// What becomes of an event; a process that waits goes on waiting.
 #[tactic(auto, unfolding(s38_rules::specs::Step::verdict_of))]
 pub fn verdict_of(world: &Core<Objects, Profiles>, process: u32, event: &Event) -> Verdict
+    requires { FitsStore world.now }
     ensures { result ≡ verdict_of world.now process event.now }
 {
     if world.waits(process) {

@@ -55,63 +55,74 @@ use Rattle.s38_object_laws.proofs.WordLaws.{HoldsWell, all_decommitted_well, don
 use Rattle.s38_object_laws.specs.Outline.{is_forced, outline_at}
 use Rattle.s38_object_laws.specs.Well.{AllWell, AreWell, IsWell}
 
--- ---- the limit of a body stays
+-- ---- the limit of a body and the room of the store stay
 
-logged_limit : (s : State) (p block : ℕ) (change : UnitChange) (journal : Option ℕ) → (logged_in s p block change journal).limit ≡ s.limit
-logged_limit s p block change None = refl
-logged_limit s p block change (Some journal) = refl
+-- two states have one limit and one room
+pub record IsBeside (s t : State) : Type 0 where
+  pub limit : t.limit ≡ s.limit
+  pub room : t.room ≡ s.room
 
-entered_limit : (s : State) (p block : ℕ) (change : UnitChange) → (logged s p block change).limit ≡ s.limit
+joined : {s t u : State} → IsBeside t u → IsBeside s t → IsBeside s u
+joined x y = record { limit = x.limit ∙ y.limit; room = x.room ∙ y.room }
+
+logged_beside : (s : State) (p block : ℕ) (change : UnitChange) (journal : Option ℕ) → IsBeside s (logged_in s p block change journal)
+logged_beside s p block change None = record { limit = refl; room = refl }
+logged_beside s p block change (Some journal) = record { limit = refl; room = refl }
+
+entered_beside : (s : State) (p block : ℕ) (change : UnitChange) → IsBeside s (logged s p block change)
 unfolding logged
-entered_limit s p block change = logged_limit s p block change (journal_for s.held change.space.0)
+entered_beside s p block change = logged_beside s p block change (journal_for s.held change.space.0)
 
-committed_limit : (s : State) (p block : ℕ) (unit : Option CommitUnit) → (committed s p block unit).limit ≡ s.limit
-committed_limit s p block None = refl
-committed_limit s p block (Some unit) = refl
+committed_beside : (s : State) (p block : ℕ) (unit : Option CommitUnit) → IsBeside s (committed s p block unit)
+committed_beside s p block None = record { limit = refl; room = refl }
+committed_beside s p block (Some unit) = record { limit = refl; room = refl }
 
-decommitted_limit : (s : State) (p block : ℕ) (unit : Option CommitUnit) → (decommitted s p block unit).limit ≡ s.limit
-decommitted_limit s p block None = refl
-decommitted_limit s p block (Some unit) = refl
+decommitted_beside : (s : State) (p block : ℕ) (unit : Option CommitUnit) → IsBeside s (decommitted s p block unit)
+decommitted_beside s p block None = record { limit = refl; room = refl }
+decommitted_beside s p block (Some unit) = record { limit = refl; room = refl }
 
-all_decommitted_limit : (units : UnitMap) (s : State) (p : ℕ) → (all_decommitted s p units).limit ≡ s.limit
+all_decommitted_beside : (units : UnitMap) (s : State) (p : ℕ) → IsBeside s (all_decommitted s p units)
 unfolding all_decommitted
-all_decommitted_limit [] s p = refl
-all_decommitted_limit (e ∷ units) s p =
+all_decommitted_beside [] s p = record { limit = refl; room = refl }
+all_decommitted_beside (e ∷ units) s p =
     let taken = decommitted s p e.0 (Some e.1) in
-    cond_both (e.1.process == p) taken s (λ (t : State). (all_decommitted t p units).limit ≡ s.limit)
-    (λ own. all_decommitted_limit units taken p ∙ decommitted_limit s p e.0 (Some e.1))
-    (λ other. all_decommitted_limit units s p)
+    cond_both (e.1.process == p) taken s (λ (t : State). IsBeside s (all_decommitted t p units))
+    (λ own. joined (all_decommitted_beside units taken p) (decommitted_beside s p e.0 (Some e.1)))
+    (λ other. all_decommitted_beside units s p)
 
-restacked_limit : (f : List ObjNum → List ObjNum) (s : State) (p : ℕ) (x : Option ProcessEntry) → (restack_at f s p x).limit ≡ s.limit
-restacked_limit f s p None = refl
-restacked_limit f s p (Some x) = refl
+restacked_beside : (f : List ObjNum → List ObjNum) (s : State) (p : ℕ) (x : Option ProcessEntry) → IsBeside s (restack_at f s p x)
+restacked_beside f s p None = record { limit = refl; room = refl }
+restacked_beside f s p (Some x) = record { limit = refl; room = refl }
 
-done_limit : (x : Changes) (s : State) (p : ℕ) → (done s p x).limit ≡ s.limit
-done_limit (Entered block change f) s p = entered_limit s p block change
-done_limit (Framed f) s p = restacked_limit f s p (process_entry s p)
-done_limit (Committed block) s p = committed_limit s p block (unit_of s.units block)
-done_limit (Decommitted block) s p = decommitted_limit s p block (unit_of s.units block)
-done_limit (Then a b) s p = done_limit b (done s p a) p ∙ done_limit a s p
-done_limit _ s p = refl
+done_beside : (x : Changes) (s : State) (p : ℕ) → IsBeside s (done s p x)
+done_beside (Entered block change f) s p = let logs = entered_beside s p block change in record { limit = logs.limit; room = logs.room }
+done_beside (Framed f) s p = restacked_beside f s p (process_entry s p)
+done_beside (Committed block) s p = committed_beside s p block (unit_of s.units block)
+done_beside (Decommitted block) s p = decommitted_beside s p block (unit_of s.units block)
+done_beside (Then a b) s p = joined (done_beside b (done s p a) p) (done_beside a s p)
+done_beside _ s p = record { limit = refl; room = refl }
 
-delivered_limit : (s : State) (shift : ℕ) (receiver : Option Operand) (v : Option Val) → (delivered s shift receiver v).state.limit ≡ s.limit
-delivered_limit s shift receiver None = refl
-delivered_limit s shift (Some (operands.InSpace base offset attr)) (Some v) = refl
-delivered_limit s shift _ (Some v) = refl
+delivered_beside : (s : State) (shift : ℕ) (receiver : Option Operand) (v : Option Val) → IsBeside s (delivered s shift receiver v).state
+delivered_beside s shift receiver None = record { limit = refl; room = refl }
+delivered_beside s shift (Some (operands.InSpace base offset attr)) (Some v) = record { limit = refl; room = refl }
+delivered_beside s shift _ (Some v) = record { limit = refl; room = refl }
 
-start_limit : (s : State) (p : ℕ) (x : Option ProcessEntry) → (start_at s p x).limit ≡ s.limit
-start_limit s p None = refl
-start_limit s p (Some x) = refl
+start_beside : (s : State) (p : ℕ) (x : Option ProcessEntry) → IsBeside s (start_at s p x)
+start_beside s p None = record { limit = refl; room = refl }
+start_beside s p (Some x) = record { limit = refl; room = refl }
 
-finish_limit : (s : State) (p : ℕ) (x : Option ProcessEntry) → (end_at s p x).limit ≡ s.limit
-finish_limit s p None = refl
-finish_limit s p (Some x) = all_decommitted_limit s.units s p
+finish_beside : (s : State) (p : ℕ) (x : Option ProcessEntry) → IsBeside s (end_at s p x)
+finish_beside s p None = record { limit = refl; room = refl }
+finish_beside s p (Some x) = let taken = all_decommitted_beside s.units s p in record { limit = taken.limit; room = taken.room }
 
-effect_limit : (s : State) (p : ℕ) (e : Event) → (effect_of s p e).state.limit ≡ s.limit
+-- no effect changes either of them
+pub effect_beside : (s : State) (p : ℕ) (e : Event) → IsBeside s (effect_of s p e).state
 unfolding effect_of effect
-effect_limit s p Start = start_limit s p (process_entry s p)
-effect_limit s p (Act d t) = delivered_limit (done s p ((row t.op).changes s p d t)) (shift_at s.held t.op t.operands) (receiver_at t.op t.operands) ((row t.op).gives s p d t) ∙ done_limit ((row t.op).changes s p d t) s p
-effect_limit s p (Finish cause) = finish_limit s p (process_entry s p)
+effect_beside s p Start = start_beside s p (process_entry s p)
+effect_beside s p (Act d t) =
+    joined (delivered_beside (done s p ((row t.op).changes s p d t)) (shift_at s.held t.op t.operands) (receiver_at t.op t.operands) ((row t.op).gives s p d t))
+    (done_beside ((row t.op).changes s p d t) s p)
+effect_beside s p (Finish cause) = finish_beside s p (process_entry s p)
 
 -- ---- an event
 
@@ -150,7 +161,7 @@ event_well s p (Finish cause) well may = finish_well s p (process_entry s p) wel
 
 verdict_well : (s : State) (p : ℕ) (e : Event) (v : Verdict) → AreWell s → awake_verdict s p e ≡ v → AreWell (by_verdict s p e v).state
 verdict_well s p e Permit well is = record {
-  limit = subst (λ (n : ℕ). n ≤ furthest) (sym ((stored_beside s p e (effect_of s p e).state).limit ∙ effect_limit s p e)) well.limit;
+  limit = subst (λ (n : ℕ). n ≤ furthest) (sym ((stored_beside s p e (effect_of s p e).state).limit ∙ (effect_beside s p e).limit)) well.limit;
   objects = stored_holds HoldsWell (λ h n so_far. journal_well h n journals.forced so_far) s p e (effect_of s p e).state (event_well s p e well is);
 }
 verdict_well s p e Wait well is = record { limit = well.limit; objects = well.objects }

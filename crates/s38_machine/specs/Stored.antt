@@ -1,0 +1,55 @@
+-- A machine with a store: what the room of the store fits, what a step has the store keep anew, and what is prepared for it.
+use Rattle.std.specs.Prelude.{◌≡◌, ◌≤◌, ℕ, List, [], ◌∷◌, length, Option, Some, None, IfSome}
+use Rattle.s38_code.specs.declared.deck.Job.{Job}
+use Rattle.s38_code.specs.declared.event.Event.{Event}
+use Rattle.s38_code.specs.declared.made.CheckedTemplate.{CheckedTemplate}
+use Rattle.s38_extents.specs.Keeping.{RoomHeld}
+use Rattle.s38_machine.specs.Log.{with_last}
+use Rattle.s38_object_laws.specs.Well.{AreWell}
+use Rattle.s38_room.specs.Following.{Fits}
+use Rattle.s38_rules.specs.declared.verdict.Verdict.{Verdict}
+use Rattle.s38_rules.specs.declared.verdict.Verdict.TheVariants.{Permit, Wait, Refuse}
+use Rattle.s38_rules.specs.Forcing.{Forced, forced}
+use Rattle.s38_rules.specs.Held.{Held}
+use Rattle.s38_rules.specs.Legal.{Run}
+use Rattle.s38_rules.specs.Opening.{state_of}
+use Rattle.s38_rules.specs.Room.{Room}
+use Rattle.s38_rules.specs.State.{State}
+use Rattle.s38_rules.specs.Step.{verdict_of}
+
+-- the state in which jobs find a machine over a store that has this room
+abbrev pub stored_state_of : Option Room → Held → List CheckedTemplate → List Job → State
+stored_state_of room held templates jobs = record (state_of held templates jobs) { room = room }
+
+-- where there is a store, its room fits the objects, and the objects are well
+abbrev pub FitsStore : State → Type 0
+FitsStore s = IfSome s.room (λ room. Fits room.extents s.held × AreWell s)
+
+-- ---- a step
+
+-- what a permitted event has the store keep anew; nothing without a store
+abbrev pub anew_in : Option Room → List Forced → List Forced
+anew_in None all = []
+anew_in (Some room) all = all
+
+abbrev pub anew : State → ℕ → Event → List Forced
+anew s p event = anew_in s.room (forced s p event)
+
+abbrev pub anew_by : State → ℕ → Event → Verdict → List Forced
+anew_by s p event Permit = anew s p event
+anew_by s p event Wait = []
+anew_by s p event (Refuse x) = []
+
+-- what an event has the store keep anew: nothing where it is not permitted
+abbrev pub kept_anew : State → ℕ → Event → List Forced
+kept_anew s p event = anew_by s p event (verdict_of s p event)
+
+-- what is prepared: where something is kept anew, the room of the store once more, with the memory for that
+abbrev pub IsPrepared : Option Room → List Forced → Option RoomHeld → Type 0
+IsPrepared room [] spare = spare ≡ None
+IsPrepared room (one ∷ more) None = room ≡ None
+IsPrepared room (one ∷ more) (Some next) = (room ≡ Some next.room) × (length (one ∷ more) ≤ next.spare)
+
+-- the store of a machine has come to a moment, and the last entry was answered then
+abbrev pub stamped : ℕ → Run → Run
+stamped moment m = record m { marks = with_last moment m.marks; moment = moment }

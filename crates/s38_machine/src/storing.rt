@@ -1,0 +1,116 @@
+//! What a step has a store keep: the room behind the step, and journal spaces of which every byte is kept.
+ghost use Rattle.std.specs.Prelude.{◌≡◌, All, IfOk, IfSome, None, Some};
+ghost use Rattle.s38_extents.specs.Forcings.{all_forced, forced_as};
+ghost use Rattle.s38_extents.specs.Keeping.{room_in};
+ghost use Rattle.s38_journals.specs.Journals.{forced as forced_journal};
+ghost use Rattle.s38_machine.specs.Stored.{IsPrepared, anew};
+ghost use Rattle.s38_room.specs.Following.{FitsBut};
+ghost use Rattle.s38_rules.specs.Parts.{on_journal};
+ghost use Rattle.s38_rules.specs.Storable.{IsStorable};
+ghost use Rattle.s38_rules.specs.Storing.{all_kept, kept_one, stored_in};
+
+use s38_base::{NoMemory, ObjNum};
+use s38_code::Event;
+use s38_extents::{Forcing, Forcings, Room};
+use s38_invoke::{Core, Profiles};
+use s38_objects::Objects;
+use s38_room::{follow, forced};
+use std::alloc::Global;
+
+/// What a permitted event has the store keep anew; nothing without a store.
+pub fn anew(world: &Core<Objects, Profiles>, process: u32, event: &Event) -> Forcings
+    ensures { result ≡ anew world.now process event.now }
+{
+    match &world.room {
+        None => Forcings::none(),
+        Some(_) => forced(world, process, event),
+    }
+}
+
+/// The room of the store once more, with the memory for what is kept anew; None where nothing is.
+pub fn prepared(
+    alloc: Global,
+    world: &Core<Objects, Profiles>,
+    all: &Forcings,
+) -> Result<Option<Room>, NoMemory>
+    ensures { IfOk result (λ spare. IsPrepared world.now.room all.now spare) }
+{
+    if all.is_empty() {
+        return Ok(None);
+    }
+    match &world.room {
+        None => Ok(None),
+        Some(room) => Ok(Some(room.copy_with_spare(alloc, all.len())?)),
+    }
+}
+
+/// Every byte of a journal space is kept.
+fn keep_journal(objects: &mut Objects, number: ObjNum)
+    ensures { objects.new ≡ on_journal objects.old number.0 forced_journal }
+{
+    if let Some(journal) = objects.journal_mut(number) {
+        journal.set_forced();
+    }
+}
+
+fn keep_one(objects: &mut Objects, one: Forcing)
+    ensures { objects.new ≡ kept_one objects.old (forced_as one) }
+{
+    match one {
+        Forcing::Whole(number) => keep_journal(objects, number),
+        _ => {}
+    }
+}
+
+/// Every byte is kept of each journal space that is kept whole.
+#[tactic(auto, unfolding(s38_rules::specs::Storing::all_kept))]
+fn keep_each(objects: &mut Objects, all: &[Forcing])
+    ensures { objects.new ≡ all_kept objects.old (all_forced all.now) }
+{
+    match all {
+        [] => {}
+        [one, more @ ..] => {
+            keep_one(objects, *one);
+            keep_each(objects, more);
+        }
+    }
+}
+
+/// The store keeps nothing anew.
+fn keep_nothing(world: &mut Core<Objects, Profiles>, all: &Forcings)
+    requires nothing { IsPrepared world.old.room all.now None }
+    requires fits { IfSome world.old.room (λ room. FitsBut all.now room.extents world.old.held) }
+    requires storable { IfSome world.old.room (λ _. All IsStorable world.old.held.objects) }
+    ensures { world.new ≡ stored_in world.old.room all.now world.old }
+{
+    match &mut world.room {
+        None => {}
+        Some(room) => follow(room, all, &world.objects),
+    }
+}
+
+/// The store keeps this anew.
+fn keep_these(world: &mut Core<Objects, Profiles>, all: &Forcings, spare: Room)
+    requires prepared { IsPrepared world.old.room all.now (Some spare) }
+    requires fits { IfSome world.old.room (λ room. FitsBut all.now room.extents world.old.held) }
+    requires storable { IfSome world.old.room (λ _. All IsStorable world.old.held.objects) }
+    ensures { world.new ≡ stored_in world.old.room all.now world.old }
+{
+    let mut room = spare;
+    follow(&mut room, all, &world.objects);
+    world.room = Some(room);
+    keep_each(&mut world.objects, all.as_slice());
+}
+
+/// The store keeps what a step forces that led to these objects, where its room fits all others of them.
+pub fn keep(world: &mut Core<Objects, Profiles>, all: &Forcings, spare: Option<Room>)
+    requires prepared { IsPrepared world.old.room all.now spare }
+    requires fits { IfSome world.old.room (λ room. FitsBut all.now room.extents world.old.held) }
+    requires storable { IfSome world.old.room (λ _. All IsStorable world.old.held.objects) }
+    ensures { world.new ≡ stored_in world.old.room all.now world.old }
+{
+    match spare {
+        None => keep_nothing(world, all),
+        Some(room) => keep_these(world, all, room),
+    }
+}
