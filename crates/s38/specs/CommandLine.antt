@@ -8,7 +8,7 @@ use Rattle.s38_disk.specs.Disk.{DiskView}
 use Rattle.s38_disk.specs.Files.{FileStore, file_view}
 use Rattle.s38_top.specs.declared.outcome.Outcome.{Outcome}
 use Rattle.s38_top.specs.declared.outcome.Outcome.TheVariants as outcomes
-use Rattle.s38_top.specs.Commands.{command_of}
+use Rattle.s38_command.specs.Commands.{command_of}
 use Rattle.s38_top.specs.Outcome.{IsAnswered, IsTold}
 use Rattle.s38_top.specs.Outside.{Outside, outside}
 use Rattle.s38.specs.declared.refusal.Refusal.{Refusal}

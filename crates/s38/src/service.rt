@@ -1,5 +1,5 @@
 ghost use Rattle.std.specs.Prelude.{◌≡◌, IfOk, IfSome, IsSome, map, string_bytes};
-ghost use Rattle.s38_top.specs.Commands.{command_of};
+ghost use Rattle.s38_command.specs.Commands.{asks_threads, command_of};
 ghost use Rattle.s38_top.specs.Outcome.{IsAnswered};
 ghost use Rattle.s38_top.specs.Outside.{outside};
 ghost use Rattle.s38.specs.CommandLine.{EndsSomehow, IsServed, fresh_store};
@@ -24,21 +24,23 @@ fn texts(alloc: Global, words: &[String]) -> Result<Vec<&str>, AllocError>
     Ok(texts)
 }
 
-/// Serves words over a disk: on threads if their command starts some.
-#[tactic(auto, using(s38_top::proofs::CommandLaws::on_its_side))]
+/// Serves words over a disk: on threads where their command starts some.
+#[tactic(auto, using(s38_command::proofs::CommandLaws::on_its_side))]
 fn serve_texts<R: Threads + Wait + Sync, D: Disk, I: Source, O: Sink>(
     rt: &R,
     alloc: Global,
+    threads: bool,
     texts: &[&str],
     deck: &mut I,
     disk: D,
     out: &mut O,
 ) -> Report<D>
+    requires { threads ≡ asks_threads (command_of (map (λ w. w.now) texts.now)) }
     ensures back { IsSome result.disk }
     ensures answered { IfSome result.disk (λ new. IsAnswered (command_of (map (λ w. w.now) texts.now)) (outside (I.left deck.old) (I.faults deck.old) (O.written out.old) (O.faults out.old) (D.view disk))
         (outside (I.left deck.new) (I.faults deck.new) (O.written out.new) (O.faults out.new) (D.view new)) result.status result.history.items result.marks.items) }
 {
-    if takes_threads(texts) {
+    if threads {
         run_top(rt, alloc, texts, deck, disk, out)
     } else {
         plain_top(alloc, texts, deck, disk, out)
@@ -60,12 +62,15 @@ fn serve<R: Threads + Wait + Sync, D: Disk + Drop, I: Source, O: Sink>(
 {
     match texts(alloc, words) {
         Err(_) => refuse(Refusal::NoMemory, out),
-        Ok(texts) => {
-            let report = serve_texts(rt, alloc, texts.as_slice(), deck, disk, out);
-            let status = report.status;
-            mem::forget(report);
-            status
-        }
+        Ok(texts) => match takes_threads(alloc, texts.as_slice()) {
+            Err(_) => refuse(Refusal::NoMemory, out),
+            Ok(threads) => {
+                let report = serve_texts(rt, alloc, threads, texts.as_slice(), deck, disk, out);
+                let status = report.status;
+                mem::forget(report);
+                status
+            }
+        },
     }
 }
 

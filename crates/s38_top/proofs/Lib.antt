@@ -2,4 +2,3 @@ pub mod DeckLaws
 pub mod TopLaws
 mod StoreLaws
 mod ConfinedLaws
-pub mod CommandLaws

@@ -23,15 +23,15 @@ use Rattle.s38_stores.specs.Stores.{IsFullOf, Keeps, Restarts}
 use Rattle.s38_stores.specs.declared.fault.StoreRefusal.{StoreRefusal}
 use Rattle.s38_stores.specs.declared.fault.StoreRefusal.TheVariants as refusals
 use Rattle.s38_template.specs.Grammar.{Spells}
-use Rattle.s38_top.specs.declared.command.Command.{Command}
-use Rattle.s38_top.specs.declared.command.Command.TheVariants.{Jobs}
+use Rattle.s38_command.specs.declared.command.Command.{Command}
+use Rattle.s38_command.specs.declared.command.Command.TheVariants.{Jobs}
 use Rattle.s38_top.specs.declared.outcome.Outcome.{Outcome}
 use Rattle.s38_top.specs.declared.outcome.Outcome.TheVariants.{BadWords, BadDeck, DeckFault, NoMemory, Ran, Checked, Demonstrated, Installed, Listed, Refused, DiskFault}
 use Rattle.s38_top.specs.declared.outcome.RunEnd.{RunEnd}
 use Rattle.s38_top.specs.declared.outcome.RunEnd.TheVariants as ends
 use Rattle.s38_top.specs.declared.outcome.Whole.{Whole}
 use Rattle.s38_top.specs.declared.start.Started.{Started}
-use Rattle.s38_top.specs.declared.turns.Turns.{Turns}
+use Rattle.s38_command.specs.declared.turns.Turns.{Turns}
 use Rattle.s38_top.specs.Begun.{IsStarted, IsWholeOf, held_of}
 use Rattle.s38_top.specs.Decks.{AreMarks, IsRunOf, checked_of, opened, order_of}
 use Rattle.s38_top.specs.Ends.{CameFrom, IsDecided, IsEnd, IsEndOf, IsReadFrom, IsReady, IsRunBehind, end_of}

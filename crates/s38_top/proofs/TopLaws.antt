@@ -33,18 +33,18 @@ use Rattle.s38_template.specs.Grammar.{Spells}
 use Rattle.s38_template.specs.Reading.{read_of}
 use Rattle.s38_template.specs.declared.fault.DeckFault.{DeckFault as BadText}
 use Rattle.s38_template.specs.declared.fault.DeckFault.TheVariants as faults
-use Rattle.s38_top.specs.declared.command.Command.{Command}
-use Rattle.s38_top.specs.declared.command.Command.TheVariants.{Jobs, Check, Demo, Install, List as Listing}
+use Rattle.s38_command.specs.declared.command.Command.{Command}
+use Rattle.s38_command.specs.declared.command.Command.TheVariants.{Jobs, Check, Demo, Install, List as Listing}
 use Rattle.s38_top.specs.declared.outcome.Outcome.{Outcome}
 use Rattle.s38_top.specs.declared.outcome.Outcome.TheVariants.{BadWords, BadDeck, DeckFault, NoMemory, Ran, Checked, Demonstrated, Installed, Listed, Refused, DiskFault}
 use Rattle.s38_top.specs.declared.outcome.RunEnd.TheVariants.{Kept, Failed, Full}
-use Rattle.s38_top.specs.Commands.{has_deck, reads_deck}
+use Rattle.s38_command.specs.Commands.{has_deck, reads_deck}
 use Rattle.s38_objects.specs.Lawful.{IsLawful}
 use Rattle.s38_top.specs.declared.outcome.CheckedDeck.{CheckedDeck}
 use Rattle.s38_top.specs.declared.outcome.Whole.{Whole}
 use Rattle.s38_top.specs.declared.start.Started.{Started}
-use Rattle.s38_top.specs.declared.turns.Turns.{Turns}
-use Rattle.s38_top.specs.declared.turns.Turns.TheVariants.{Serial}
+use Rattle.s38_command.specs.declared.turns.Turns.{Turns}
+use Rattle.s38_command.specs.declared.turns.Turns.TheVariants.{Serial}
 use Rattle.s38_top.specs.Begun.{IsStarted, IsWholeOf, held_of}
 use Rattle.s38_top.specs.Decks.{AreMarks, IsRunOf, IsUnstored, checked_of, made_for, opened, order_of}
 use Rattle.s38_commitment_laws.proofs.StepLaws.{history_right, installed_right}

@@ -21,8 +21,8 @@ use Rattle.s38_run.specs.Pickers.{number_after, number_answer, picks_of}
 use Rattle.s38_run.specs.Whole.{RanWhole}
 use Rattle.s38_template.specs.Grammar.{name_of}
 use Rattle.s38_template.specs.Places.{template_of}
-use Rattle.s38_top.specs.declared.turns.Turns.{Turns}
-use Rattle.s38_top.specs.declared.turns.Turns.TheVariants.{Serial, Workers}
+use Rattle.s38_command.specs.declared.turns.Turns.{Turns}
+use Rattle.s38_command.specs.declared.turns.Turns.TheVariants.{Serial, Workers}
 
 -- a template by its name, and what creation makes of its lines
 abbrev pub checked_template : List (List ℕ) → CheckedTemplate

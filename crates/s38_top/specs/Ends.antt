@@ -15,14 +15,14 @@ use Rattle.s38_rules.specs.Held.{Held}
 use Rattle.s38_stores.specs.Opened.{HoldsCleaned, IsFaultless}
 use Rattle.s38_stores.specs.Stores.{Restarts}
 use Rattle.s38_template.specs.Grammar.{Spells}
-use Rattle.s38_top.specs.declared.command.Command.{Command}
+use Rattle.s38_command.specs.declared.command.Command.{Command}
 use Rattle.s38_top.specs.declared.outcome.Outcome.{Outcome}
 use Rattle.s38_top.specs.declared.outcome.Outcome.TheVariants.{BadWords, BadDeck, DeckFault, NoMemory, Ran, Checked, Demonstrated, Installed, Listed, Refused, DiskFault}
 use Rattle.s38_top.specs.declared.outcome.RunEnd.{RunEnd}
 use Rattle.s38_top.specs.declared.outcome.RunEnd.TheVariants as ends
 use Rattle.s38_top.specs.declared.outcome.Whole.{Whole}
 use Rattle.s38_top.specs.declared.start.Started.{Started}
-use Rattle.s38_top.specs.declared.turns.Turns.{Turns}
+use Rattle.s38_command.specs.declared.turns.Turns.{Turns}
 use Rattle.s38_top.specs.Begun.{IsStarted, held_of}
 use Rattle.s38_top.specs.Decks.{AreMarks, IsRunOf, order_of}
 use Rattle.s38_top.specs.Outcome.{Holds, OfText, most}

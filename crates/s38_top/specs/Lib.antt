@@ -1,4 +1,3 @@
-pub mod Commands
 pub mod Decks
 pub mod Begun
 pub mod Outside

@@ -28,16 +28,16 @@ use Rattle.s38_stores.specs.declared.fault.StoreRefusal.TheVariants as refusals
 use Rattle.s38_template.specs.Grammar.{Spells}
 use Rattle.s38_template.specs.Reading.{read_of}
 use Rattle.s38_template.specs.declared.fault.DeckFault.TheVariants as faults
-use Rattle.s38_top.specs.declared.command.Command.{Command}
-use Rattle.s38_top.specs.declared.command.Command.TheVariants.{Jobs, Check, Demo, Install, List as Listing}
+use Rattle.s38_command.specs.declared.command.Command.{Command}
+use Rattle.s38_command.specs.declared.command.Command.TheVariants.{Jobs, Check, Demo, Install, List as Listing}
 use Rattle.s38_top.specs.declared.outcome.Outcome.{Outcome}
 use Rattle.s38_top.specs.declared.outcome.RunEnd.{RunEnd}
 use Rattle.s38_top.specs.declared.outcome.RunEnd.TheVariants.{Kept, Failed, Full}
 use Rattle.s38_top.specs.declared.outcome.Whole.{Whole}
 use Rattle.s38_top.specs.declared.outcome.Outcome.TheVariants.{BadWords, BadDeck, DeckFault, NoMemory, Ran, Checked, Demonstrated, Installed, Listed, Refused, DiskFault}
-use Rattle.s38_top.specs.declared.turns.Turns.{Turns}
-use Rattle.s38_top.specs.declared.turns.Turns.TheVariants.{Serial}
-use Rattle.s38_top.specs.Commands.{reads_deck}
+use Rattle.s38_command.specs.declared.turns.Turns.{Turns}
+use Rattle.s38_command.specs.declared.turns.Turns.TheVariants.{Serial}
+use Rattle.s38_command.specs.Commands.{reads_deck}
 use Rattle.s38_top.specs.Decks.{AreMarks, IsConfined, IsRunOf, checked_of, opened, order_of}
 use Rattle.s38_top.specs.Lines.{bad_store_line, disk_fault_line, full_line, line}
 use Rattle.s38_top.specs.Outside.{Outside, Unread, Untouched}

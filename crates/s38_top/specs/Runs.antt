@@ -15,7 +15,7 @@ use Rattle.s38_stores.specs.Stores.{IsFullOf, Keeps, Leaves, Restarts}
 use Rattle.s38_top.specs.Decks.{IsRunOf, order_of}
 use Rattle.s38_top.specs.declared.outcome.RunEnd.{RunEnd}
 use Rattle.s38_top.specs.declared.outcome.RunEnd.TheVariants as ends
-use Rattle.s38_top.specs.declared.turns.Turns.{Turns}
+use Rattle.s38_command.specs.declared.turns.Turns.{Turns}
 use Rattle.s38_vault.specs.Content.{Content}
 
 -- what is kept of a machine in this state: each object, with every change that is not committed taken back, and the ceiling

@@ -4,14 +4,14 @@ ghost use Rattle.s38_openings.specs.Closing.{CanClose};
 ghost use Rattle.s38_openings.specs.Opening.{IsOpening};
 ghost use Rattle.s38_pages.specs.Vaults.{page_view};
 ghost use Rattle.s38_top.specs.Begun.{IsStarted, held_of};
-ghost use Rattle.s38_top.specs.Commands.{AreTurnsOn, command_on};
+ghost use Rattle.s38_command.specs.Commands.{AreTurnsOn, command_on};
 ghost use Rattle.s38_top.specs.Ends.{CameFrom, IsDecided, IsEnd, IsEndOf, end_of};
 
 use crate::outcome::{Outcome, RunEnd, Whole};
 use crate::prepare::{ReadyRun, prepare};
 use crate::run::{run_picked, run_shared};
 use crate::store::Decided;
-use crate::turns::Turns;
+use s38_command::Turns;
 use s38_base::NoMemory;
 use s38_disk::Disk;
 use s38_io::Source;

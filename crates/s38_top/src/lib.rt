@@ -1,7 +1,6 @@
 //! The program as one call: the words, a deck's source, a disk and a sink come to a status, a history and its marks.
 #![tactic(auto)]
 
-mod command;
 mod decide;
 mod lines;
 mod outcome;
@@ -13,11 +12,10 @@ mod store;
 mod tell;
 mod templates;
 mod top;
-mod turns;
 
-pub use command::takes_threads;
 pub use outcome::Whole;
 pub use report::Report;
 pub use run::run_deck;
+pub use s38_command::takes_threads;
 pub use templates::checked_templates;
 pub use top::{plain_top, run_top};

@@ -1,22 +1,22 @@
 //! From the words, the text of a source and a disk up to a run over the store of the disk, or to what they come to without
 //! one.
-ghost use Rattle.std.specs.Prelude.{◌≡◌, ◌≤◌, ℕ, List, IfErr, IfOk, Some, map};
+ghost use Rattle.std.specs.Prelude.{◌≡◌, ◌≤◌, ℕ, List, Option, IfErr, IfOk, Some, map};
 ghost use Rattle.s38_demo.specs.GeneratedDeck.{deck_of};
 ghost use Rattle.s38_disk.specs.Disk.{DiskView};
 ghost use Rattle.s38_template.specs.Grammar.{Spells};
-ghost use Rattle.s38_top.specs.declared.command.Command.{Command};
-ghost use Rattle.s38_top.specs.Commands.{AreTurnsOn, command_on};
+ghost use Rattle.s38_command.specs.declared.command.Command.{Command};
+ghost use Rattle.s38_command.specs.declared.turns.Turns.{Turns};
+ghost use Rattle.s38_command.specs.Commands.{AreTurnsOn, command_on};
 ghost use Rattle.s38_top.specs.Decks.{checked_of};
 ghost use Rattle.s38_top.specs.Ends.{IsDecided, IsReady, IsReadFrom, IsSpelled, ReadsFrom};
 ghost use Rattle.s38_top.specs.Outcome.{OfText};
 
-use crate::command::{Command, command_on};
 use crate::outcome::{CheckedDeck, Outcome};
 use crate::run::run_deck;
 use crate::start::{Started, start};
 use crate::store::{Decided, of_install, of_list, refused};
 use crate::templates::checked_templates;
-use crate::turns::Turns;
+use s38_command::{Command, Turns, command_on};
 use s38_demo::deck_of;
 use s38_disk::Disk;
 use s38_io::{ReadFault, Source, read_to_end};
@@ -172,6 +172,22 @@ fn ready_run<S: Source, D: Disk>(
     }
 }
 
+/// The command that the words are to a call that starts threads, or to one that starts none; or what they come to without
+/// one.
+fn asked(alloc: Global, threads: bool, words: &[&str]) -> Result<Command, Outcome>
+    ensures command { IfOk result (λ command. command_on threads (map (λ w. w.now) words.now) ≡ Some command) }
+    ensures size { IfOk result (λ command. (n : ℕ) → command ≡ Command.Demo n → (1 ≤ n) × (n ≤ 200)) }
+    ensures turns { IfOk result (λ command. (turns : Turns) → command ≡ Command.Jobs turns → AreTurnsOn threads turns) }
+    ensures cause { IfErr result (λ outcome. (left : Option (List ℕ)) (taken : ℕ) (disk : DiskView)
+        → IsDecided (command_on threads (map (λ w. w.now) words.now)) left left taken taken disk disk outcome) }
+{
+    match command_on(alloc, threads, words) {
+        Err(_) => Err(Outcome::NoMemory),
+        Ok(None) => Err(Outcome::BadWords),
+        Ok(Some(command)) => Ok(command),
+    }
+}
+
 /// What the words, the text of a source and a disk come to without a run; or the run that is to be made. The words are
 /// looked at first, then the text, and then the disk; a command without a deck reads nothing, and `check` and a
 /// demonstration leave the disk alone.
@@ -189,11 +205,9 @@ pub fn prepare<S: Source, D: Disk>(
     ensures decided { IfErr result (λ decided. IsDecided (command_on threads (map (λ w. w.now) words.now)) (S.left source.old) (S.left source.new) (S.faults source.old) (S.faults source.new)
         (D.view disk) (D.view decided.disk) decided.outcome) }
 {
-    let Some(command) = command_on(threads, words) else {
-        return Err(Decided {
-            outcome: Outcome::BadWords,
-            disk,
-        });
+    let command = match asked(alloc, threads, words) {
+        Err(outcome) => return Err(Decided { outcome, disk }),
+        Ok(command) => command,
     };
     match command {
         Command::Jobs { turns } => ready_run(alloc, turns, source, disk),

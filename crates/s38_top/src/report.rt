@@ -1,7 +1,7 @@
 //! What the program came to, as its caller gets it.
 ghost use Rattle.std.specs.Prelude.{◌≡◌, [], ℕ, List, Option, Some, if◌then◌else◌};
 ghost use Rattle.s38_disk.specs.Disk.{DiskView};
-ghost use Rattle.s38_top.specs.declared.command.Command.{Command};
+ghost use Rattle.s38_command.specs.declared.command.Command.{Command};
 ghost use Rattle.s38_top.specs.Ends.{IsDecided};
 ghost use Rattle.s38_top.specs.Outcome.{IsAnswered, faulted, history_of, marks_of, status_of};
 ghost use Rattle.s38_top.specs.Outside.{outside};

@@ -2,7 +2,7 @@
 ghost use Rattle.std.specs.Prelude.{◌≡◌};
 ghost use Rattle.s38_top.specs.Outcome.{OfStore, refused};
 
-use crate::command::Command;
+use s38_command::Command;
 use crate::outcome::Outcome;
 use s38_disk::Disk;
 use s38_machine::installed;

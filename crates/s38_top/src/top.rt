@@ -1,5 +1,5 @@
 ghost use Rattle.std.specs.Prelude.{IfSome, IsSome, false, map, true};
-ghost use Rattle.s38_top.specs.Commands.{command_on};
+ghost use Rattle.s38_command.specs.Commands.{command_on};
 ghost use Rattle.s38_top.specs.Outcome.{IsAnswered};
 ghost use Rattle.s38_top.specs.Outside.{outside};
 

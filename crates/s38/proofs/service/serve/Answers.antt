@@ -3,7 +3,7 @@ use Rattle.std.specs.Option.{IsSome}
 use Rattle.s38_code.specs.declared.entry.Entry.{Entry}
 use Rattle.s38_disk.specs.Disk.{DiskView}
 use Rattle.s38_top.specs.declared.outcome.Outcome.TheVariants as outcomes
-use Rattle.s38_top.specs.Commands.{command_of}
+use Rattle.s38_command.specs.Commands.{command_of}
 use Rattle.s38_top.specs.Outcome.{IsAnswered, IsTold}
 use Rattle.s38_top.specs.Outside.{Outside, outside}
 use Rattle.s38.specs.CommandLine.{EndsSomehow}

@@ -1,5 +1,5 @@
 use Rattle.std.proofs.Common.{Bor, List, ℕ, true, map}
-use Rattle.s38_top.specs.Commands.{command_on}
+use Rattle.s38_command.specs.Commands.{command_on}
 use Rattle.s38_top.proofs.StoreLaws.{ready_decided}
 use Rattle.s38_top.proofs.decide.decide_on_threads.Goals as goal
 

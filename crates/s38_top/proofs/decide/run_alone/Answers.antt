@@ -1,6 +1,6 @@
 use Rattle.std.proofs.Common.{subst, sym}
-use Rattle.s38_top.specs.declared.turns.Turns.{Turns}
-use Rattle.s38_top.specs.declared.turns.Turns.TheVariants.{Serial}
+use Rattle.s38_command.specs.declared.turns.Turns.{Turns}
+use Rattle.s38_command.specs.declared.turns.Turns.TheVariants.{Serial}
 use Rattle.s38_top.specs.Begun.{held_of}
 use Rattle.s38_top.specs.Decks.{order_of}
 use Rattle.s38_top.specs.Ends.{CameFrom}

@@ -1,5 +1,5 @@
 use Rattle.std.proofs.Common.{refl}
-use Rattle.s38_top.specs.declared.command.Command.TheVariants.{Check}
+use Rattle.s38_command.specs.declared.command.Command.TheVariants.{Check}
 use Rattle.s38_top.proofs.prepare.of_check.Goals as goal
 
 pub returns-in-Ok : goal.returns-in-Ok

@@ -1,4 +1,4 @@
-use Rattle.s38_top.specs.declared.command.Command.TheVariants.{Jobs}
+use Rattle.s38_command.specs.declared.command.Command.TheVariants.{Jobs}
 use Rattle.s38_top.proofs.TopLaws.{cause_of_deck, deck_read}
 use Rattle.s38_top.proofs.prepare.ready_run.Goals as goal
 

@@ -1,5 +1,5 @@
 use Rattle.s38_top.proofs.TopLaws.{as_many_made, begins_run, few_begun, whole_of_run}
-use Rattle.s38_top.specs.declared.turns.Turns.TheVariants.{Workers}
+use Rattle.s38_command.specs.declared.turns.Turns.TheVariants.{Workers}
 use Rattle.s38_top.specs.Decks.{order_of}
 use Rattle.s38_top.proofs.run.run_shared.Goals as goal
 

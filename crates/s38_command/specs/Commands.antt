@@ -1,11 +1,12 @@
 -- Which command the words are.
-use Rattle.std.specs.Prelude.{◌≤◌, ℕ, Bool, true, false, ◌&&◌, List, [], ◌∷◌, Option, Some, None, codes, nat_le, not, if◌then◌else◌}
+use Rattle.std.specs.Prelude.{◌≤◌, ℕ, Bool, true, false, ◌&&◌, List, Option, Some, None, codes, nat_le, not, if◌then◌else◌}
 use Rattle.std.specs.Str.{bytes_eq}
 use Rattle.s38_words.specs.Number.{natural_of}
-use Rattle.s38_top.specs.declared.command.Command.{Command}
-use Rattle.s38_top.specs.declared.command.Command.TheVariants.{Jobs, Check, Demo, Install, List as Listing}
-use Rattle.s38_top.specs.declared.turns.Turns.{Turns}
-use Rattle.s38_top.specs.declared.turns.Turns.TheVariants.{Serial, Workers}
+use Rattle.s38_command.specs.Said.{WordsSaid, said_of}
+use Rattle.s38_command.specs.declared.command.Command.{Command}
+use Rattle.s38_command.specs.declared.command.Command.TheVariants.{Jobs, Check, Demo, Install, List as Listing}
+use Rattle.s38_command.specs.declared.turns.Turns.{Turns}
+use Rattle.s38_command.specs.declared.turns.Turns.TheVariants.{Serial, Workers}
 
 abbrev pub greatest_pick : ℕ
 greatest_pick = 4294967295
@@ -17,13 +18,12 @@ usual_workers = 4
 abbrev pub most_workers : ℕ
 most_workers = 64
 
-abbrev pub command_by : List ℕ → Option Command
-command_by word =
-    if bytes_eq word (codes "serial") then Some (Jobs (Serial 0))
-    else (if bytes_eq word (codes "run") then Some (Jobs (Workers usual_workers))
-    else (if bytes_eq word (codes "check") then Some Check
+-- a word that stands alone
+abbrev pub bare_by : List ℕ → Option Command
+bare_by word =
+    if bytes_eq word (codes "check") then Some Check
     else (if bytes_eq word (codes "install") then Some Install
-    else (if bytes_eq word (codes "list") then Some Listing else None))))
+    else (if bytes_eq word (codes "list") then Some Listing else None))
 
 -- a number of at most 32 bits
 abbrev pub pick_of : Option ℕ → Option Command
@@ -35,12 +35,6 @@ abbrev pub workers_of : Option ℕ → Option Command
 workers_of None = None
 workers_of (Some n) = if nat_le n most_workers && nat_le 1 n then Some (Jobs (Workers n)) else None
 
--- the number is decimal digits without a leading zero
-abbrev pub picked_by : List ℕ → List ℕ → List ℕ → Option Command
-picked_by word option number =
-    if bytes_eq word (codes "serial") && bytes_eq option (codes "--pick") then pick_of (natural_of number)
-    else (if bytes_eq word (codes "run") && bytes_eq option (codes "--workers") then workers_of (natural_of number) else None)
-
 abbrev pub most_postings : ℕ
 most_postings = 200
 
@@ -49,16 +43,45 @@ abbrev pub demo_of : Option ℕ → Option Command
 demo_of None = None
 demo_of (Some n) = if nat_le n most_postings && nat_le 1 n then Some (Demo n) else None
 
-abbrev pub sized_by : List ℕ → List ℕ → Option Command
-sized_by word number = if bytes_eq word (codes "demo") then demo_of (natural_of number) else None
+-- a number is decimal digits without a leading zero
+abbrev pub serial_by : Option (List ℕ) → Option Command
+serial_by None = Some (Jobs (Serial 0))
+serial_by (Some number) = pick_of (natural_of number)
 
--- `install`, `list`, `serial`, `serial --pick n`, `run`, `run --workers n`, `check`, `demo n`
+abbrev pub run_by : Option (List ℕ) → Option Command
+run_by None = Some (Jobs (Workers usual_workers))
+run_by (Some number) = workers_of (natural_of number)
+
+abbrev pub demo_by : Option (List ℕ) → Option Command
+demo_by None = None
+demo_by (Some number) = demo_of (natural_of number)
+
+-- where the others are missing
+abbrev pub alone : Option (List ℕ) → Option (List ℕ) → Option Command → Option Command
+alone None None command = command
+alone None (Some word) command = None
+alone (Some word) other command = None
+
+-- `serial` has a pick or none, `run` a number of workers or none, `demo` one further word, and the others have nothing more
+abbrev pub command_by : List ℕ → WordsSaid → Option Command
+command_by word said =
+    if bytes_eq word (codes "serial") then alone said.rest said.workers (serial_by said.pick)
+    else (if bytes_eq word (codes "run") then alone said.rest said.pick (run_by said.workers)
+    else (if bytes_eq word (codes "demo") then alone said.pick said.workers (demo_by said.rest)
+    else alone said.rest said.pick (alone said.workers None (bare_by word))))
+
+abbrev pub command_from : WordsSaid → Option (List ℕ) → Option Command
+command_from said None = None
+command_from said (Some word) = command_by word said
+
+abbrev pub command_in : Option WordsSaid → Option Command
+command_in None = None
+command_in (Some said) = command_from said said.command
+
+-- `install`, `list`, `serial`, `serial --pick n`, `run`, `run --workers n`, `check`, `demo n`, as the simple command reads
+-- the words
 abbrev pub command_of : List (List ℕ) → Option Command
-command_of [] = None
-command_of (word ∷ []) = command_by word
-command_of (word ∷ number ∷ []) = sized_by word number
-command_of (word ∷ option ∷ number ∷ []) = picked_by word option number
-command_of (word ∷ option ∷ number ∷ other ∷ words) = None
+command_of words = command_in (said_of words)
 
 -- the command reads a deck
 abbrev pub reads_deck : Command → Bool
