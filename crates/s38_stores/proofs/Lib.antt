@@ -2,6 +2,6 @@ mod KeepLaws
 mod InstallLaws
 mod OpenLaws
 mod StrayLaws
-mod CrashLaws
+pub mod CrashLaws
 mod WatchLaws
 mod SureLaws

@@ -2,3 +2,4 @@ pub mod DeckLaws
 pub mod TopLaws
 mod StoreLaws
 mod ConfinedLaws
+pub mod SafeLaws

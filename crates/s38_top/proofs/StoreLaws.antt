@@ -17,6 +17,7 @@ use Rattle.s38_pages.specs.Vaults.{PageStore, page_holds}
 use Rattle.s38_rules.specs.Held.{Held}
 use Rattle.s38_rules.specs.Legal.{Leads}
 use Rattle.s38_rules.specs.State.{State}
+use Rattle.s38_stores.specs.Crashes.{KeepsRestarting}
 use Rattle.s38_stores.specs.Opened.{HoldsCleaned, IsFaultless}
 use Rattle.s38_stores.specs.Refusals.{IsRefusal}
 use Rattle.s38_stores.specs.Stores.{IsFullOf, Keeps, Restarts}
@@ -156,11 +157,12 @@ ready_decided asked turns left left' taken taken' old new started v o is reads r
 
 -- what is known of a run that was prepared over a store that was opened
 pub ready_of : (old : DiskView) (held : Held) (started : Started) (v : PageStore) → held_of started ≡ held → IsStarted started → IsOpening held
-    → ((s : Blocks) → IsAt old.past s → Restarts old.size s.now held) → HoldsCleaned old v → IsFaultless old v → IsReady old started v
-ready_of old held started v same begins opening restarts holds faultless = record {
+    → ((s : Blocks) → IsAt old.past s → Restarts old.size s.now held) → HoldsCleaned old v → IsFaultless old v → KeepsRestarting old v.disk → IsReady old started v
+ready_of old held started v same begins opening restarts holds faultless during = record {
   begins = begins;
   opening = subst IsOpening (sym same) opening;
   restarts = subst (λ (h : Held). (s : Blocks) → IsAt old.past s → Restarts old.size s.now h) (sym same) restarts;
   holds = holds;
   faultless = faultless;
+  during = during;
 }

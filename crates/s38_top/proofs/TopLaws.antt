@@ -46,6 +46,7 @@ use Rattle.s38_top.specs.declared.start.Started.{Started}
 use Rattle.s38_command.specs.declared.turns.Turns.{Turns}
 use Rattle.s38_command.specs.declared.turns.Turns.TheVariants.{Serial}
 use Rattle.s38_top.specs.Begun.{IsStarted, IsWholeOf, held_of}
+use Rattle.s38_top.specs.Crash.{IsSafe}
 use Rattle.s38_top.specs.Decks.{AreMarks, IsRunOf, IsUnstored, checked_of, made_for, opened, order_of}
 use Rattle.s38_commitment_laws.proofs.StepLaws.{history_right, installed_right}
 use Rattle.s38_top.proofs.ConfinedLaws.{installed_in_order, run_confined}
@@ -487,11 +488,12 @@ turns_by_call (Ok x) turns_of P turns is h = subst P (sym h) is
 turns_by_call (Err d) turns_of P turns is h = tt
 
 -- all that is said of a call
-pub answered_of : (asked : Option Command) (old new : Outside) (status : ℕ) (history : List Entry) (marks : List ℕ) → Ends asked old new status history marks → IsAnswered asked old new status history marks
-answered_of asked old new status history marks ends = record {
+pub answered_of : (asked : Option Command) (old new : Outside) (status : ℕ) (history : List Entry) (marks : List ℕ) → Ends asked old new status history marks → IsSafe asked old.disk new.disk → IsAnswered asked old new status history marks
+answered_of asked old new status history marks ends safe = record {
   ends = ends;
   serves = serves_of asked old new status history marks ends;
   good = good_of asked old new status history marks ends;
+  safe = safe;
 }
 
 -- what is there is told of

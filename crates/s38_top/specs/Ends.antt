@@ -12,6 +12,7 @@ use Rattle.s38_io.specs.Source.{ReadsAll}
 use Rattle.s38_openings.specs.Opening.{IsOpening}
 use Rattle.s38_pages.specs.Vaults.{PageStore}
 use Rattle.s38_rules.specs.Held.{Held}
+use Rattle.s38_stores.specs.Crashes.{KeepsRestarting}
 use Rattle.s38_stores.specs.Opened.{HoldsCleaned, IsFaultless}
 use Rattle.s38_stores.specs.Stores.{Restarts}
 use Rattle.s38_template.specs.Grammar.{Spells}
@@ -82,6 +83,8 @@ pub record IsReady (old : DiskView) (started : Started) (v : PageStore) : Type 0
   pub restarts : (s : Blocks) → IsAt old.past s → Restarts old.size s.now (held_of started)
   pub holds : HoldsCleaned old v
   pub faultless : IsFaultless old v
+  -- while the store was opened a crash left it as it is
+  pub during : KeepsRestarting old v.disk
 
 -- the outcome has its cause, whatever is written
 abbrev pub IsDecided : Option Command → Option (List ℕ) → Option (List ℕ) → ℕ → ℕ → DiskView → DiskView → Outcome → Type 0

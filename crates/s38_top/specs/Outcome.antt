@@ -38,6 +38,7 @@ use Rattle.s38_top.specs.declared.outcome.Outcome.TheVariants.{BadWords, BadDeck
 use Rattle.s38_command.specs.declared.turns.Turns.{Turns}
 use Rattle.s38_command.specs.declared.turns.Turns.TheVariants.{Serial}
 use Rattle.s38_command.specs.Commands.{reads_deck}
+use Rattle.s38_top.specs.Crash.{IsSafe}
 use Rattle.s38_top.specs.Decks.{AreMarks, IsConfined, IsRunOf, checked_of, opened, order_of}
 use Rattle.s38_top.specs.Lines.{bad_store_line, disk_fault_line, full_line, line}
 use Rattle.s38_top.specs.Outside.{Outside, Unread, Untouched}
@@ -364,9 +365,10 @@ IsServedBy status = (status ≡ 0) ⊎ ((status ≡ 7) ⊎ (status ≡ 8))
 
 -- ---- all of it
 
--- each status but that of want of memory has its cause, and its text is written; status 0 has what its command promises; and
--- a good call is served
+-- each status but that of want of memory has its cause, and its text is written; status 0 has what its command promises; a
+-- good call is served; and whenever a crash comes, the store is whole
 pub record IsAnswered (asked : Option Command) (old new : Outside) (status : ℕ) (history : List Entry) (marks : List ℕ) : Type 0 where
   pub ends : Ends asked old new status history marks
   pub serves : status ≡ 0 → Serves asked old new history
   pub good : IsGood asked old new → IsServedBy status
+  pub safe : IsSafe asked old.disk new.disk

@@ -1,8 +1,8 @@
 ghost use Rattle.std.specs.Prelude.{◌≡◌, if◌then◌else◌};
 ghost use Rattle.s38_top.specs.Outcome.{end_status, faulted, status_of};
 
-use s38_command::Turns;
 use s38_code::{Checked, Deck, Entry};
+use s38_command::Turns;
 use s38_machine::State;
 use s38_objects::Objects;
 use s38_stores::BadStore;

@@ -7,6 +7,8 @@ ghost use Rattle.s38_template.specs.Grammar.{Spells};
 ghost use Rattle.s38_command.specs.declared.command.Command.{Command};
 ghost use Rattle.s38_command.specs.declared.turns.Turns.{Turns};
 ghost use Rattle.s38_command.specs.Commands.{AreTurnsOn, command_on};
+ghost use Rattle.s38_stores.specs.Crashes.{KeepsRestarting};
+ghost use Rattle.s38_top.specs.Crash.{IsSafe};
 ghost use Rattle.s38_top.specs.Decks.{checked_of};
 ghost use Rattle.s38_top.specs.Ends.{IsDecided, IsReady, IsReadFrom, IsSpelled, ReadsFrom};
 ghost use Rattle.s38_top.specs.Outcome.{OfText};
@@ -128,6 +130,7 @@ fn ready_on<D: Disk>(
     ensures deck { IfOk result (λ ready. ready.started.deck ≡ checked.deck) }
     ensures ready { IfOk result (λ ready. IsReady (D.view disk) ready.started ready.vault) }
     ensures cause { IfErr result (λ decided. (text : List ℕ) → OfText (Command.Jobs turns) text (D.view disk) (D.view decided.disk) decided.outcome) }
+    ensures safe { IfErr result (λ decided. KeepsRestarting (D.view disk) (D.view decided.disk)) }
 {
     let OpenStore { vault, objects } = match open(alloc, disk) {
         Err((disk, refusal)) => {
@@ -165,6 +168,7 @@ fn ready_run<S: Source, D: Disk>(
     ensures ready { IfOk result (λ ready. IsReady (D.view disk) ready.started ready.vault) }
     ensures cause { IfErr result (λ decided. ReadsFrom (Command.Jobs turns) (S.left source.old) (S.left source.new) (S.faults source.old) (S.faults source.new)
         (D.view disk) (D.view decided.disk) decided.outcome) }
+    ensures safe { IfErr result (λ decided. KeepsRestarting (D.view disk) (D.view decided.disk)) }
 {
     match deck_of_source(alloc, source) {
         Err(outcome) => Err(Decided { outcome, disk }),
@@ -204,6 +208,7 @@ pub fn prepare<S: Source, D: Disk>(
     ensures ready { IfOk result (λ ready. IsReady (D.view disk) ready.started ready.vault) }
     ensures decided { IfErr result (λ decided. IsDecided (command_on threads (map (λ w. w.now) words.now)) (S.left source.old) (S.left source.new) (S.faults source.old) (S.faults source.new)
         (D.view disk) (D.view decided.disk) decided.outcome) }
+    ensures safe { IfErr result (λ decided. IsSafe (command_on threads (map (λ w. w.now) words.now)) (D.view disk) (D.view decided.disk)) }
 {
     let command = match asked(alloc, threads, words) {
         Err(outcome) => return Err(Decided { outcome, disk }),

@@ -9,9 +9,9 @@ ghost use Rattle.s38_top.specs.Decks.{checked_of, order_of, turns_by};
 
 use crate::outcome::Whole;
 use crate::start::{Started, start};
-use s38_command::Turns;
 use s38_base::NoMemory;
 use s38_code::{Checked, Deck};
+use s38_command::Turns;
 use s38_machine::Machine;
 use s38_objects::Objects;
 use s38_run::{NumberPicker, Picker, serial};

@@ -1,9 +1,10 @@
 //! The commands that are about a store alone.
-ghost use Rattle.std.specs.Prelude.{◌≡◌};
+ghost use Rattle.std.specs.Prelude.{◌≡◌, Some};
+ghost use Rattle.s38_top.specs.Crash.{IsSafe};
 ghost use Rattle.s38_top.specs.Outcome.{OfStore, refused};
 
-use s38_command::Command;
 use crate::outcome::Outcome;
+use s38_command::Command;
 use s38_disk::Disk;
 use s38_machine::installed;
 use s38_stores::{OpenStore, StoreRefusal, install, open};
@@ -29,7 +30,8 @@ pub fn refused(refusal: StoreRefusal) -> Outcome
 
 /// A store is made.
 pub fn of_install<D: Disk>(alloc: Global, disk: D) -> Decided<D>
-    ensures { OfStore Command.Install (D.view disk) (D.view result.disk) result.outcome }
+    ensures comes { OfStore Command.Install (D.view disk) (D.view result.disk) result.outcome }
+    ensures safe { IsSafe (Some Command.Install) (D.view disk) (D.view result.disk) }
 {
     let Ok(objects) = installed(alloc) else {
         return Decided {
@@ -51,7 +53,8 @@ pub fn of_install<D: Disk>(alloc: Global, disk: D) -> Decided<D>
 
 /// The objects of a store are listed.
 pub fn of_list<D: Disk>(alloc: Global, disk: D) -> Decided<D>
-    ensures { OfStore Command.List (D.view disk) (D.view result.disk) result.outcome }
+    ensures comes { OfStore Command.List (D.view disk) (D.view result.disk) result.outcome }
+    ensures safe { IsSafe (Some Command.List) (D.view disk) (D.view result.disk) }
 {
     match open(alloc, disk) {
         Ok(OpenStore { vault, objects }) => Decided {

@@ -3,6 +3,7 @@ use Rattle.s38_image_printing.specs.Parts.{CanSettle}
 use Rattle.s38_openings.specs.Opening.{IsNumbered}
 use Rattle.s38_rules.specs.Storable.{IsStorable}
 use Rattle.s38_top.specs.declared.outcome.Whole.{Whole}
+use Rattle.s38_top.proofs.SafeLaws.{kept_at}
 use Rattle.s38_top.proofs.StoreLaws.{leaves_at}
 use Rattle.s38_top.proofs.decide.of_whole.Goals as goal
 
@@ -15,7 +16,15 @@ keep-disk-requires-clause-settles g c = subst (λ (w : Whole). All (λ o. CanSet
 pub keep-disk-requires-clause-numbers : goal.keep-disk-requires-clause-numbers
 keep-disk-requires-clause-numbers g c = subst (λ (w : Whole). All IsNumbered w.state.held.objects) (sym c.whole.view_is) c.requires.end.numbers
 
-pub returns-in-Some : goal.returns-in-Some
-returns-in-Some g c =
+pub returns-in-Some-clause-end : goal.returns-in-Some-clause-end
+returns-in-Some-clause-end g c =
     let same = ap (λ (w : Whole). w.state) c.whole.view_is in
     (refl, (refl, leaves_at same c.args.vault (g.D.Disk.view c.keep-disk.result.disk) c.keep-disk.result.end c.in-Some.end (sym c.in-Some.is ∙ c.run_end.ensures) c.keep-disk.ensures.kept c.keep-disk.ensures.full c.keep-disk.ensures.cause))
+
+pub returns-in-Some-clause-during : goal.returns-in-Some-clause-during
+returns-in-Some-clause-during g c = λ m holds.
+    kept_at (ap (λ (w : Whole). w.state) c.whole.view_is) c.args.vault.disk (g.D.Disk.view c.keep-disk.result.disk) m (c.keep-disk.ensures.during m holds)
+
+pub returns-in-None-clause-during : goal.returns-in-None-clause-during
+returns-in-None-clause-during g c = λ m holds.
+    kept_at (ap (λ (w : Whole). w.state) c.whole.view_is) c.args.vault.disk (g.D.Disk.view c.keep-disk.result.disk) m (c.keep-disk.ensures.during m holds)

@@ -4,6 +4,7 @@ use Rattle.std.specs.Prelude.{Some}
 use Rattle.s38_command.specs.declared.command.Command.TheVariants.{Check, Demo, Install, Jobs, List as Listing}
 use Rattle.s38_command.specs.Commands.{AreTurnsOn, command_on}
 use Rattle.s38_top.specs.Outside.{outside}
+use Rattle.s38_top.proofs.SafeLaws.{safe_none, safe_of, unprepared_safe}
 use Rattle.s38_top.proofs.TopLaws.{asked_by, generated_holds, source_decided, source_holds, store_holds, turns_by_call}
 use Rattle.s38_top.proofs.prepare.prepare.Goals as goal
 
@@ -41,11 +42,32 @@ returns-in-Install-clause-decided g c = λ written written' put put'.
     store_holds (command_on c.args.threads (map {A = Bor (List ℕ)} {B = List ℕ} (λ w. w.now) c.args.words.now))
     (outside (g.S.Source.left c.args.source.now) (g.S.Source.faults c.args.source.now) written put (g.D.Disk.view c.args.disk))
     (outside (g.S.Source.left c.args.source.now) (g.S.Source.faults c.args.source.now) written' put' (g.D.Disk.view c.of_install.result.disk))
-    Install c.of_install.result.outcome (c.in-Ok.ensures.command ∙ ap Some c.in-Install.is) (Keeps-refl (g.S.Source.left c.args.source.now)) c.of_install.ensures
+    Install c.of_install.result.outcome (c.in-Ok.ensures.command ∙ ap Some c.in-Install.is) (Keeps-refl (g.S.Source.left c.args.source.now)) c.of_install.ensures.comes
 
 pub returns-in-List-clause-decided : goal.returns-in-List-clause-decided
 returns-in-List-clause-decided g c = λ written written' put put'.
     store_holds (command_on c.args.threads (map {A = Bor (List ℕ)} {B = List ℕ} (λ w. w.now) c.args.words.now))
     (outside (g.S.Source.left c.args.source.now) (g.S.Source.faults c.args.source.now) written put (g.D.Disk.view c.args.disk))
     (outside (g.S.Source.left c.args.source.now) (g.S.Source.faults c.args.source.now) written' put' (g.D.Disk.view c.of_list.result.disk))
-    Listing c.of_list.result.outcome (c.in-Ok.ensures.command ∙ ap Some c.in-List.is) (Keeps-refl (g.S.Source.left c.args.source.now)) c.of_list.ensures
+    Listing c.of_list.result.outcome (c.in-Ok.ensures.command ∙ ap Some c.in-List.is) (Keeps-refl (g.S.Source.left c.args.source.now)) c.of_list.ensures.comes
+
+pub returns-in-Err-clause-safe : goal.returns-in-Err-clause-safe
+returns-in-Err-clause-safe g c = safe_none (command_on c.args.threads (map {A = Bor (List ℕ)} {B = List ℕ} (λ w. w.now) c.args.words.now)) (g.D.Disk.view c.args.disk)
+
+pub returns-in-Jobs-clause-safe : goal.returns-in-Jobs-clause-safe
+returns-in-Jobs-clause-safe g c =
+    unprepared_safe c.ready_run.result (λ d. g.D.Disk.view d.disk) (command_on c.args.threads (map {A = Bor (List ℕ)} {B = List ℕ} (λ w. w.now) c.args.words.now)) c.in-Jobs.turns (g.D.Disk.view c.args.disk) (c.in-Ok.ensures.command ∙ ap Some c.in-Jobs.is) c.ready_run.ensures.safe
+
+pub returns-in-Check-clause-safe : goal.returns-in-Check-clause-safe
+returns-in-Check-clause-safe g c = safe_none (command_on c.args.threads (map {A = Bor (List ℕ)} {B = List ℕ} (λ w. w.now) c.args.words.now)) (g.D.Disk.view c.args.disk)
+
+pub returns-in-Demo-clause-safe : goal.returns-in-Demo-clause-safe
+returns-in-Demo-clause-safe g c = safe_none (command_on c.args.threads (map {A = Bor (List ℕ)} {B = List ℕ} (λ w. w.now) c.args.words.now)) (g.D.Disk.view c.args.disk)
+
+pub returns-in-Install-clause-safe : goal.returns-in-Install-clause-safe
+returns-in-Install-clause-safe g c =
+    safe_of (command_on c.args.threads (map {A = Bor (List ℕ)} {B = List ℕ} (λ w. w.now) c.args.words.now)) Install (g.D.Disk.view c.args.disk) (g.D.Disk.view c.of_install.result.disk) (c.in-Ok.ensures.command ∙ ap Some c.in-Install.is) c.of_install.ensures.safe
+
+pub returns-in-List-clause-safe : goal.returns-in-List-clause-safe
+returns-in-List-clause-safe g c =
+    safe_of (command_on c.args.threads (map {A = Bor (List ℕ)} {B = List ℕ} (λ w. w.now) c.args.words.now)) Listing (g.D.Disk.view c.args.disk) (g.D.Disk.view c.of_list.result.disk) (c.in-Ok.ensures.command ∙ ap Some c.in-List.is) c.of_list.ensures.safe

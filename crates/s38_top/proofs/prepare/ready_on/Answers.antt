@@ -1,3 +1,4 @@
+use Rattle.s38_top.proofs.SafeLaws.{keeps_given}
 use Rattle.s38_top.proofs.StoreLaws.{ready_of}
 use Rattle.s38_top.proofs.prepare.ready_on.Goals as goal
 
@@ -10,4 +11,7 @@ start-requires-clause-few g c = c.requires.spelled.1.few_jobs
 pub returns-in-Ok-start-clause-ready : goal.returns-in-Ok-start-clause-ready
 returns-in-Ok-start-clause-ready g c =
     ready_of (g.D.Disk.view c.args.disk) c.in-Ok.store.objects c.in-Ok-start.started c.in-Ok.store.vault c.in-Ok-start.ensures.held c.in-Ok-start.ensures.started
-    c.in-Ok.ensures.opening c.in-Ok.ensures.restarts c.in-Ok.ensures.holds c.in-Ok.ensures.faultless
+    c.in-Ok.ensures.opening c.in-Ok.ensures.restarts c.in-Ok.ensures.holds c.in-Ok.ensures.faultless c.in-Ok.ensures.during
+
+pub returns-in-Err-start-clause-safe : goal.returns-in-Err-start-clause-safe
+returns-in-Err-start-clause-safe g c = keeps_given (g.D.Disk.view c.args.disk) c.in-Ok.store.vault.disk (g.D.Disk.view c.release.result) c.release.ensures.disk c.in-Ok.ensures.during

@@ -1,4 +1,5 @@
 use Rattle.s38_command.specs.declared.command.Command.TheVariants.{Jobs}
+use Rattle.s38_top.proofs.SafeLaws.{keeps_none}
 use Rattle.s38_top.proofs.TopLaws.{cause_of_deck, deck_read}
 use Rattle.s38_top.proofs.prepare.ready_run.Goals as goal
 
@@ -13,3 +14,6 @@ returns-in-Ok-clause-cause g c =
 
 pub returns-in-Err-clause-cause : goal.returns-in-Err-clause-cause
 returns-in-Err-clause-cause g c = c.in-Err.ensures.cause (Jobs c.args.turns) (g.D.Disk.view c.args.disk)
+
+pub returns-in-Err-clause-safe : goal.returns-in-Err-clause-safe
+returns-in-Err-clause-safe g c = keeps_none (g.D.Disk.view c.args.disk)

@@ -1,8 +1,9 @@
 use Rattle.std.proofs.Common.{refl}
+use Rattle.s38_top.proofs.SafeLaws.{keeps_given}
 use Rattle.s38_top.proofs.store.of_list.Goals as goal
 
-pub returns-in-Ok : goal.returns-in-Ok
-returns-in-Ok g c = (
+pub returns-in-Ok-clause-comes : goal.returns-in-Ok-clause-comes
+returns-in-Ok-clause-comes g c = (
   refl,
   record {
     objects_are = c.in-Ok.ensures.restarts;
@@ -11,3 +12,6 @@ returns-in-Ok g c = (
         record { content = was.0; before = was.1.0; after = c.release.ensures.stands _ was.1.1 t is };
   },
 )
+
+pub returns-in-Ok-clause-safe : goal.returns-in-Ok-clause-safe
+returns-in-Ok-clause-safe g c = keeps_given (g.D.Disk.view c.args.disk) c.in-Ok.store.vault.disk (g.D.Disk.view c.release.result) c.release.ensures.disk c.in-Ok.ensures.during

@@ -3,4 +3,4 @@ use Rattle.s38_top.proofs.top.plain_top.Goals as goal
 
 pub returns-clause-answered : goal.returns-clause-answered
 returns-clause-answered g c =
-    some_is _ c.reported.result.disk c.decide_alone-decided.result.disk c.reported.ensures.disk (c.reported.ensures.answered _ _ _ _ _ _ _ c.decide_alone-decided.ensures)
+    some_is _ c.reported.result.disk c.decide_alone-decided.result.disk c.reported.ensures.disk (c.reported.ensures.answered _ _ _ _ _ _ _ c.decide_alone-decided.ensures.decided c.decide_alone-decided.ensures.safe)
