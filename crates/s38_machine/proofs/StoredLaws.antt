@@ -1,24 +1,31 @@
 -- What a step has the store keep, and that the room of the store fits the objects behind it.
-use Rattle.std.proofs.Common.{◌≡◌, ◌×◌, ◌≤◌, ℕ, List, [], ◌∷◌, length, refl, sym, ◌∙◌, ap, subst}
+use Rattle.std.proofs.Common.{◌≡◌, ◌≤◌, ℕ, List, [], ◌∷◌, length, refl, sym, ◌∙◌, ap, subst}
 use Rattle.std.proofs.lemmas.List.Elements.{All-weaker}
 use Rattle.std.specs.Prelude.{All, Option, Some, None, IfSome}
 use Rattle.s38_code.specs.declared.event.Event.{Event}
 use Rattle.s38_extents.specs.Keeping.{RoomHeld, room_in}
+use Rattle.s38_journals.specs.Journals as journals
 use Rattle.s38_machine.specs.Stored.{FitsStore, IsPrepared, anew, anew_in}
 use Rattle.s38_object_laws.proofs.EventLaws.{effect_beside, event_well, verdict_well}
 use Rattle.s38_object_laws.specs.Well.{AreWell, IsWell}
 use Rattle.s38_objects.specs.Lawful.{IsLawful}
+use Rattle.s38_profiles.specs.ProfileMaps.{ProfileMaps}
 use Rattle.s38_room.proofs.FittingLaws.{fits_behind, fits_but, fits_stored}
 use Rattle.s38_room.specs.Following.{Fits, FitsBut}
+use Rattle.s38_rules.proofs.Laws.{effect_keeps}
+use Rattle.s38_rules.proofs.StoreLaws.{stored_beside}
 use Rattle.s38_rules.specs.declared.object.Object.{Object}
 use Rattle.s38_rules.specs.declared.verdict.Verdict.TheVariants.{Permit}
 use Rattle.s38_rules.specs.Effect.{effect_of}
-use Rattle.s38_rules.specs.Forcing.{Forced, forced}
+use Rattle.s38_rules.specs.Forcing.{Forced, Ceiling, Header, Removed, Whole, forced}
+use Rattle.s38_rules.specs.Held.{Held}
+use Rattle.s38_rules.specs.Kept.{Mirrors}
 use Rattle.s38_rules.specs.Room.{Room}
 use Rattle.s38_rules.specs.State.{State}
 use Rattle.s38_rules.specs.Step.{awake, awake_verdict}
 use Rattle.s38_rules.specs.Storable.{IsStorable}
-use Rattle.s38_rules.specs.Storing.{room_after, stored, stored_in}
+use Rattle.s38_rules.specs.Storing.{all_kept, kept_one, room_after, stored, stored_in}
+use Rattle.s38_units.proofs.KeptLaws.{journal_kept}
 
 -- ---- a world with a store
 
@@ -42,6 +49,28 @@ prepared_some room (one ∷ more) next is = is
 pub prepared_none : (room : Room) (all : List Forced) → IsPrepared (Some room) all None → all ≡ []
 prepared_none room [] is = refl
 prepared_none room (one ∷ more) is = cc
+
+-- the room that is prepared is that of the store
+pub fits_prepared : (o : Option Room) (P : Room → Type 0) (all : List Forced) (next : RoomHeld) → IsPrepared o all (Some next) → IfSome o P → P next.room
+fits_prepared o P all next is fits = subst (λ (x : Option Room). IfSome x P) (prepared_some o all next is).0 fits
+
+-- nothing is kept anew where nothing is prepared
+pub none_prepared : (o : Option Room) (all : List Forced) (room : Room) → o ≡ Some room → IsPrepared o all None → length all ≡ 0
+none_prepared o all room some is = ap length (prepared_none room all (subst (λ (x : Option Room). IsPrepared x all None) some is))
+
+-- ---- journal spaces that are kept
+
+one_mirrored : (maps : ProfileMaps) (h : Held) (one : Forced) → Mirrors maps h → Mirrors maps (kept_one h one)
+one_mirrored maps h (Whole n) m = journal_kept maps h n journals.forced m
+one_mirrored maps h Ceiling m = m
+one_mirrored maps h (Header n) m = m
+one_mirrored maps h (Removed n) m = m
+
+-- what is kept of users stays what the objects say
+pub all_mirrored : (maps : ProfileMaps) (h : Held) (all : List Forced) → Mirrors maps h → Mirrors maps (all_kept h all)
+unfolding all_kept
+all_mirrored maps h [] m = m
+all_mirrored maps h (one ∷ more) m = all_mirrored maps (kept_one h one) more (one_mirrored maps h one m)
 
 -- ---- a permitted event
 
@@ -100,3 +129,34 @@ fits_anew s p e may lawful fits = by s.room refl fits
         (let fit = fits_stored s p e t (room_after room (forced s p e) t.held.objects).extents (fits_behind room (forced s p e) t.held lawful.rising) in
         let well = verdict_well s p e Permit f.1 may in
         (record { rows = fit.rows }, record { limit = well.limit; objects = well.objects }))
+
+-- ---- the state to which the effect leads
+
+-- what is prepared before it, is behind it
+pub prepared_at : (s t : State) (p : ℕ) (e : Event) (all : List Forced) (spare : Option RoomHeld) → t ≡ (effect_of s p e).state → IsPrepared s.room all spare → IsPrepared t.room all spare
+prepared_at s t p e all spare is prepared = subst (λ (u : State). IsPrepared u.room all spare) (sym is) (prepared_behind s p e all spare prepared)
+
+-- the room fits all that is not kept anew
+pub fits_at : (s t : State) (p : ℕ) (e : Event) (all : List Forced) → t ≡ (effect_of s p e).state → all ≡ anew s p e → FitsStore s → IfSome t.room (λ room. FitsBut all room.extents t.held)
+fits_at s t p e all is these fits =
+    let Fitting : State → List Forced → Type 0 = λ u these. IfSome u.room (λ room. FitsBut these room.extents u.held) in
+    subst (λ (u : State). Fitting u all) (sym is) (subst (λ (l : List Forced). Fitting (effect_of s p e).state l) (sym these) (fits_others s p e fits))
+
+-- each object can be kept
+pub storable_at : (s t : State) (p : ℕ) (e : Event) → t ≡ (effect_of s p e).state → awake_verdict s p e ≡ Permit → FitsStore s → IfSome t.room (λ _. All IsStorable t.held.objects)
+storable_at s t p e is may fits = subst (λ (u : State). IfSome u.room (λ _. All IsStorable u.held.objects)) (sym is) (storable_behind s p e may fits)
+
+-- the store keeps what it is to keep anew
+pub stored_at : (s t : State) (p : ℕ) (e : Event) (all : List Forced) → t ≡ (effect_of s p e).state → all ≡ anew s p e → stored_in t.room all t ≡ stored s p e (effect_of s p e).state
+stored_at s t p e all is these =
+    ap (λ (u : State). stored_in u.room all u) is
+    ∙ ap (λ (l : List Forced). stored_in (effect_of s p e).state.room l (effect_of s p e).state) these
+    ∙ stored_anew s p e
+
+-- as many processes as before
+pub stored_keeps : (s t : State) (p : ℕ) (e : Event) → t ≡ stored s p e (effect_of s p e).state → length t.processes ≡ length s.processes
+stored_keeps s t p e is = ap (λ (u : State). length u.processes) is ∙ rw (stored_beside s p e (effect_of s p e).state).processes (effect_keeps s p e)
+
+-- the room fits what is there
+pub fits_stored_at : (s t : State) (p : ℕ) (e : Event) → t ≡ (effect_of s p e).state → awake_verdict s p e ≡ Permit → IsLawful t.held → FitsStore s → FitsStore (awake (stored s p e (effect_of s p e).state))
+fits_stored_at s t p e is may lawful fits = fits_anew s p e may (subst (λ (u : State). IsLawful u.held) is lawful) fits

@@ -10,14 +10,14 @@ ghost use Rattle.s38_rules.specs.State.{State};
 ghost use Rattle.s38_rules.specs.Step.{awake, awake_verdict};
 ghost use Rattle.s38_rules.specs.Storing.{stored};
 ghost use Rattle.s38_machine.specs.Events.{GoesAsThatOf};
-ghost use Rattle.s38_machine.specs.Stored.{FitsStore, anew};
+ghost use Rattle.s38_machine.specs.Stored.{FitsStore, IsPrepared, anew};
 
 use crate::deliveries::{parted, put};
 use crate::rows;
 use crate::storing::{anew, keep, prepared};
 use s38_base::{NoMemory, Seq};
 use s38_code::{Event, Val, Vals};
-use s38_extents::Forcings;
+use s38_extents::{Forcings, Room};
 use s38_invoke::{Core, Profiles, start};
 use s38_objects::Objects;
 use s38_operands::{Act, receiver_at, shift_at};
@@ -122,8 +122,38 @@ fn take_effect(
     }
 }
 
+/// A permitted event takes effect, and the store keeps what it is to keep anew of it, for which the memory is prepared.
+fn take_stored(
+    alloc: Global,
+    world: &mut Core<Objects, Profiles>,
+    process: u32,
+    event: &Event,
+    value: Option<Val>,
+    all: &Forcings,
+    spare: Option<Room>,
+) -> Result<(), NoMemory>
+    requires permit { awake_verdict world.old process event.now ≡ Verdict.Permit }
+    requires value { GoesAsThatOf world.old process event.now value }
+    requires fits { FitsStore world.old }
+    requires anew { all.now ≡ anew world.old process event.now }
+    requires prepared { IsPrepared world.old.room all.now spare }
+    ensures ok { OnOk result (world.new ≡ stored world.old process event.now (effect_of world.old process event.now).state) }
+    ensures err { OnErr result (world.new ≡ world.old) }
+    ensures fits { OnOk result (FitsStore (awake (stored world.old process event.now (effect_of world.old process event.now).state))) }
+{
+    match take_effect(alloc, world, process, event, value) {
+        Err(fault) => Err(fault),
+        Ok(()) => {
+            let _count = world.objects.len();
+            keep(world, all, spare);
+            Ok(())
+        }
+    }
+}
+
 /// A permitted event takes effect, with the value that goes into the space of its receiver, nobody waits any more, and what
 /// the store is to keep anew of it is given back; where memory is refused nothing changes.
+#[tactic(auto, using(crate::proofs::StoredLaws::stored_keeps))]
 pub fn apply(
     alloc: Global,
     world: &mut Core<Objects, Profiles>,
@@ -137,15 +167,14 @@ pub fn apply(
     ensures ok { OnOk result (world.new ≡ awake (stored world.old process event.now (effect_of world.old process event.now).state)) }
     ensures anew { IfOk result (λ all. all ≡ anew world.old process event.now) }
     ensures err { OnErr result (world.new ≡ world.old) }
-    ensures kept { length world.new.processes ≡ length world.old.processes }
-    ensures fits { FitsStore world.new }
+    ensures kept { OnOk result (length world.new.processes ≡ length world.old.processes) }
+    ensures fits { OnOk result (FitsStore world.new) }
 {
     let all = anew(world, process, event);
     let spare = prepared(alloc, world, &all)?;
-    match take_effect(alloc, world, process, event, value) {
+    match take_stored(alloc, world, process, event, value, &all, spare) {
         Err(fault) => Err(fault),
         Ok(()) => {
-            keep(world, &all, spare);
             world.waiting.clear();
             Ok(all)
         }

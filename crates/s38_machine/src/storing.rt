@@ -1,7 +1,6 @@
 //! What a step has a store keep: the room behind the step, and journal spaces of which every byte is kept.
-ghost use Rattle.std.specs.Prelude.{◌≡◌, All, IfOk, IfSome, None, Some};
+ghost use Rattle.std.specs.Prelude.{◌≡◌, ◌≤◌, All, IfOk, IfSome, Some, length};
 ghost use Rattle.s38_extents.specs.Forcings.{all_forced, forced_as};
-ghost use Rattle.s38_extents.specs.Keeping.{room_in};
 ghost use Rattle.s38_journals.specs.Journals.{forced as forced_journal};
 ghost use Rattle.s38_machine.specs.Stored.{IsPrepared, anew};
 ghost use Rattle.s38_room.specs.Following.{FitsBut};
@@ -76,41 +75,31 @@ fn keep_each(objects: &mut Objects, all: &[Forcing])
     }
 }
 
-/// The store keeps nothing anew.
-fn keep_nothing(world: &mut Core<Objects, Profiles>, all: &Forcings)
-    requires nothing { IsPrepared world.old.room all.now None }
-    requires fits { IfSome world.old.room (λ room. FitsBut all.now room.extents world.old.held) }
-    requires storable { IfSome world.old.room (λ _. All IsStorable world.old.held.objects) }
-    ensures { world.new ≡ stored_in world.old.room all.now world.old }
+/// The store keeps this anew, and this room, which has the memory for it, follows.
+fn keep_these(world: &mut Core<Objects, Profiles>, all: &Forcings, room: Room)
+    requires spare { length all.now ≤ room.spare }
+    requires fits { FitsBut all.now room.room.extents world.old.held }
+    requires storable { All IsStorable world.old.held.objects }
+    ensures { world.new ≡ stored_in (Some room.room) all.now world.old }
 {
-    match &mut world.room {
-        None => {}
-        Some(room) => follow(room, all, &world.objects),
-    }
-}
-
-/// The store keeps this anew.
-fn keep_these(world: &mut Core<Objects, Profiles>, all: &Forcings, spare: Room)
-    requires prepared { IsPrepared world.old.room all.now (Some spare) }
-    requires fits { IfSome world.old.room (λ room. FitsBut all.now room.extents world.old.held) }
-    requires storable { IfSome world.old.room (λ _. All IsStorable world.old.held.objects) }
-    ensures { world.new ≡ stored_in world.old.room all.now world.old }
-{
-    let mut room = spare;
+    let mut room = room;
     follow(&mut room, all, &world.objects);
     world.room = Some(room);
     keep_each(&mut world.objects, all.as_slice());
 }
 
 /// The store keeps what a step forces that led to these objects, where its room fits all others of them.
+#[tactic(auto, using(crate::proofs::StoredLaws::fits_prepared, crate::proofs::StoredLaws::none_prepared, crate::proofs::StoredLaws::prepared_some))]
 pub fn keep(world: &mut Core<Objects, Profiles>, all: &Forcings, spare: Option<Room>)
     requires prepared { IsPrepared world.old.room all.now spare }
     requires fits { IfSome world.old.room (λ room. FitsBut all.now room.extents world.old.held) }
     requires storable { IfSome world.old.room (λ _. All IsStorable world.old.held.objects) }
     ensures { world.new ≡ stored_in world.old.room all.now world.old }
 {
-    match spare {
-        None => keep_nothing(world, all),
-        Some(room) => keep_these(world, all, room),
+    if let Some(room) = spare {
+        return keep_these(world, all, room);
+    }
+    if let Some(room) = world.room.take() {
+        keep_these(world, all, room);
     }
 }
