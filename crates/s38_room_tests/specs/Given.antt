@@ -1,5 +1,5 @@
 -- The object of the tests.
-use Rattle.std.specs.Prelude.{◌≡◌, ℕ, List, [], ◌∷◌}
+use Rattle.std.specs.Prelude.{◌≡◌, List, [], ◌∷◌}
 use Rattle.std.specs.List.{AllByRecursion}
 use Rattle.s38_commits.specs.Units.{UnitMap}
 use Rattle.s38_image_printing.specs.Parts.{CanSettle}

@@ -1,0 +1,12 @@
+pub mod SameLaws
+pub mod GoesLaws
+pub mod MayLaws
+pub mod StepLaws
+pub mod FoundLaws
+pub mod ImageLaws
+pub mod SettleLaws
+pub mod KeepLaws
+pub mod NumberLaws
+pub mod StandLaws
+pub mod BeginLaws
+pub mod CrashLaws

@@ -1,0 +1,94 @@
+-- How what is durable goes with a state at every moment of a run.
+use Rattle.std.specs.Prelude.{◌≡◌, ◌+◌, ◌<◌, ◌≤◌, ℕ, All, Bool, true, List, [], ◌∷◌, None, Some, filter, is_some, length, map, not}
+use Rattle.std.specs.List.{list_any}
+use Rattle.s38_base.specs.Limits.{body_limit, ceiling_step, last_number}
+use Rattle.s38_code.specs.declared.entry.Entry.{Entry}
+use Rattle.s38_code.specs.declared.event.Event.TheVariants.{Act, Finish, Start}
+use Rattle.s38_code.specs.declared.event.Event.{Event}
+use Rattle.s38_code.specs.declared.reply.Reply.{Reply}
+use Rattle.s38_code.specs.declared.reply.Reply.TheVariants.{Done, MustWait, Signal}
+use Rattle.s38_commitment_laws.specs.Right.{IsRight}
+use Rattle.s38_durable.specs.Durable.{Durable, kept, whole}
+use Rattle.s38_durable.specs.Following.{AreRising, Counts, Follows, number_of}
+use Rattle.s38_image.specs.Fitting.{IsImage, header_codec, rows_codec}
+use Rattle.s38_image.specs.declared.stored.Stored.{Stored}
+use Rattle.s38_image_printing.specs.Parts.{header_with}
+use Rattle.s38_object_laws.specs.Outline.{is_forced, speaks_of}
+use Rattle.s38_object_laws.specs.Well.{AreWell}
+use Rattle.s38_rules.specs.Forcing.{Forced, forced, is_whole}
+use Rattle.s38_rules.specs.Held.{Held, kind_of, object}
+use Rattle.s38_rules.specs.Parts.{profile_of}
+use Rattle.s38_rules.specs.State.{State}
+use Rattle.s38_rules.specs.Step.{step}
+use Rattle.s38_rules.specs.declared.object.Object.{Object}
+
+-- ---- numbers
+
+-- numbers rise and were given, 0 is that of no object, and each number that was given is at most the ceiling, which a store
+-- can keep
+pub record AreNumbered (h : Held) : Type 0 where
+  pub rising : AreRising h
+  pub given : All (λ n. n < h.next) (map number_of h.objects)
+  pub none : object h 0 ≡ None
+  pub first : 1 ≤ h.next
+  pub within : h.next ≤ h.ceiling + 1
+  pub low : h.ceiling ≤ last_number + ceiling_step
+
+-- ---- what is durable goes with a state
+
+-- what is durable is the header, the rows and the users of the objects on disk, and of nothing else, and each body is of the
+-- kind that is said; the room of the store counts it; the ceiling is that of the machine; and the machine's objects are in
+-- order
+pub record IsKeptOf (s : State) (d : Durable) : Type 0 where
+  pub follows : Follows s.held d
+  pub bodies : (n : ℕ) (x : Stored) → kept d.objects n ≡ Some x → kind_of x.object.body ≡ x.object.id.kind
+  pub counts : Counts s.room d
+  pub ceiling : d.ceiling ≡ s.held.ceiling
+  pub well : AreWell s
+  pub right : IsRight s
+  pub numbered : AreNumbered s.held
+
+-- ---- what can be read again
+
+-- all that is kept can be
+abbrev pub AreImages : Durable → Type 0
+AreImages d = (n : ℕ) (x : Stored) → kept d.objects n ≡ Some x → IsImage body_limit x
+
+-- header and rows can be, however long the body is
+pub record IsFront (o : Object) : Type 0 where
+  pub header : (len : ℕ) → len ≤ 16777216 → header_codec.fits (header_with o len) ≡ true
+  pub rows : (rows_codec (length o.rows)).fits o.rows ≡ true
+
+-- what a step has the store keep anew can be: of the objects on disk those that are kept whole, users, and what is kept of
+-- the others beside their bodies
+pub record AreReadable (all : List Forced) (s : State) : Type 0 where
+  pub as_whole : (n : ℕ) (o : Object) → list_any (is_whole n) all ≡ true → object s.held n ≡ Some o → o.on_disk ≡ true → IsImage body_limit (whole s o)
+  pub user : (n : ℕ) (o : Object) → is_forced n all ≡ true → object s.held n ≡ Some o → o.on_disk ≡ true → is_some (profile_of o.body) ≡ true → IsImage body_limit (whole s o)
+  pub front : (n : ℕ) (o : Object) → is_forced n all ≡ true → object s.held n ≡ Some o → o.on_disk ≡ true → IsFront o
+
+-- of what takes effect
+abbrev pub IsReadableBehind : State → Entry → Reply → Type 0
+IsReadableBehind s e (Done values) = AreReadable (forced s e.process e.event) (step s e.process e.event).state
+IsReadableBehind s e (Signal x) = Unit {0}
+IsReadableBehind s e MustWait = Unit {0}
+
+-- behind each entry of a history
+abbrev pub AllReadable : State → List Entry → Type 0
+AllReadable s [] = Unit {0}
+AllReadable s (e ∷ es) = IsReadableBehind s e e.reply × AllReadable (step s e.process e.event).state es
+
+-- ---- what is forced
+
+-- an instruction has an operand
+abbrev pub HasOperand : Event → Type 0
+HasOperand Start = Unit {0}
+HasOperand (Act depth request) = 1 ≤ length request.operands
+HasOperand (Finish cause) = Unit {0}
+
+-- nothing of the number of no object
+abbrev pub is_numbered : Forced → Bool
+is_numbered one = not (speaks_of 0 one)
+
+-- what is forced, but for that
+abbrev pub numbered : List Forced → List Forced
+numbered all = filter is_numbered all

@@ -1,0 +1,120 @@
+//! Laws about what is durable, at every moment of a run.
+ghost use Rattle.std.specs.Prelude.{◌≡◌, ◌∷◌, ◌++◌, ◌<◌, ◌≤◌, ℕ, All, List, None, Option, [], length};
+ghost use Rattle.s38_base.specs.Limits.{body_limit};
+ghost use Rattle.s38_base.specs.declared.exception.Exception.{Exception};
+ghost use Rattle.s38_code.specs.declared.deck.Job.{Job};
+ghost use Rattle.s38_code.specs.declared.entry.Entry.{Entry};
+ghost use Rattle.s38_code.specs.declared.event.Event.{Event};
+ghost use Rattle.s38_code.specs.declared.made.CheckedTemplate.{CheckedTemplate};
+ghost use Rattle.s38_code.specs.declared.reply.Reply.TheVariants.{Done, MustWait, Signal};
+ghost use Rattle.s38_code.specs.declared.reply.Val.{Val};
+ghost use Rattle.s38_durable.specs.Durable.{Durable, after_reply, durable, durable_after};
+ghost use Rattle.s38_durable.specs.Following.{Counts};
+ghost use Rattle.s38_durable.specs.Stands.{Stands};
+ghost use Rattle.s38_groups.specs.Stores.{first_fault};
+ghost use Rattle.s38_image_printing.specs.Parts.{CanSettle};
+ghost use Rattle.s38_kept_laws.specs.Beginning.{cleaned, durable_in, origin_of};
+ghost use Rattle.s38_kept_laws.specs.Crashes.{IsKeptPrefix, StandsBetween, led};
+ghost use Rattle.s38_kept_laws.specs.Kept.{AllReadable, AreImages, AreReadable, HasOperand, IsKeptOf, numbered};
+ghost use Rattle.s38_openings.specs.Opening.{IsOpening};
+ghost use Rattle.s38_restart.specs.Parts.{AreParts, all_parts};
+ghost use Rattle.s38_restart.specs.Restarted.{restarted};
+ghost use Rattle.s38_rules.specs.Forcing.{forced};
+ghost use Rattle.s38_rules.specs.Held.{Held};
+ghost use Rattle.s38_rules.specs.Legal.{AreMoments, IsEntry, Leads};
+ghost use Rattle.s38_rules.specs.Room.{Room};
+ghost use Rattle.s38_rules.specs.State.{State};
+ghost use Rattle.s38_rules.specs.Step.{step};
+ghost use Rattle.s38_rules.specs.Storable.{IsStorable};
+ghost use Rattle.s38_step_parts.specs.Stepping.{AreNumbers, IsDue, Precedes};
+ghost use Rattle.s38_vault.specs.Content.{Content};
+
+use s38_durable::{
+    room_counts_what_is_durable, what_is_durable_follows, what_is_not_forced_stays_durable,
+};
+
+/// A content without a fault stands, once the parts that belong to nothing are taken away, for what a restart reads of it,
+/// which can be read again; and this goes with the state in which a run begins that has the restarted objects, if the room
+/// counts it.
+pub fn a_run_begins_kept()
+    ensures stands { (m : Content) → AreParts (all_parts m) → first_fault body_limit (all_parts m) ≡ None → Stands (cleaned m) (durable_in m) }
+    ensures images { (m : Content) → AreParts (all_parts m) → first_fault body_limit (all_parts m) ≡ None → AreImages (durable_in m) }
+    ensures begins { (m : Content) (h : Held) (templates : List CheckedTemplate) (jobs : List Job) (room : Option Room) → AreParts (all_parts m) → first_fault body_limit (all_parts m) ≡ None
+        → h ≡ restarted body_limit (all_parts m) → IsOpening h → Counts room (durable_in m) → IsKeptOf (origin_of h templates jobs room) (durable_in m) }
+{}
+
+/// What is durable goes with the state behind each step: what takes effect makes durable what it forces, and nothing else
+/// does. So it does at the end of a history.
+pub fn what_is_durable_is_kept()
+    ensures done { (s : State) (p : ℕ) (e : Event) (values : List Val) (d : Durable) → IsKeptOf s d → (step s p e).reply ≡ Done values
+        → IsKeptOf (step s p e).state (durable_after (forced s p e) d (step s p e).state) }
+    ensures refused { (s : State) (p : ℕ) (e : Event) (x : Exception) (d : Durable) → IsKeptOf s d → (step s p e).reply ≡ Signal x → IsKeptOf (step s p e).state d }
+    ensures waits { (s : State) (p : ℕ) (e : Event) (d : Durable) → IsKeptOf s d → (step s p e).reply ≡ MustWait → IsKeptOf (step s p e).state d }
+    ensures entries { (s : State) (before : List Entry) (e : Entry) (d : Durable) → IsEntry s before e → IsKeptOf s d → IsKeptOf (step s e.process e.event).state (after_reply d s e e.reply) }
+    ensures histories { (s : State) (before : List Entry) (history : List Entry) (end : State) (d : Durable) → Leads s before history end → IsKeptOf s d → IsKeptOf end (durable d s history) }
+{
+    what_is_durable_follows();
+    room_counts_what_is_durable();
+    what_is_not_forced_stays_durable();
+}
+
+/// If what was durable can be read again, and what a step has the store keep anew can be, then what is durable behind the step
+/// can be; so it can be at the end of a history.
+pub fn what_is_durable_can_be_read()
+    ensures done { (s : State) (p : ℕ) (e : Event) (values : List Val) (d : Durable) → IsKeptOf s d → (step s p e).reply ≡ Done values → AreImages d → AreReadable (forced s p e) (step s p e).state
+        → AreImages (durable_after (forced s p e) d (step s p e).state) }
+    ensures histories { (s : State) (before : List Entry) (history : List Entry) (end : State) (d : Durable) → Leads s before history end → IsKeptOf s d → AreImages d → AllReadable s history
+        → AreImages (durable d s history) }
+{
+    what_is_durable_follows();
+    room_counts_what_is_durable();
+    what_is_not_forced_stays_durable();
+}
+
+/// What a step forces that takes effect can be put: the content that stands for what was durable, if that can be read again,
+/// precedes the step, and what the step does not force stays durable. A store can keep each object behind it, with every
+/// uncommitted change taken back. All that is forced is the number of an object, but that an instruction without operands may
+/// force the number of none; this makes no difference.
+pub fn what_is_forced_can_be_put()
+    ensures precedes { (s : State) (p : ℕ) (e : Event) (values : List Val) (d : Durable) (m : Content) → IsKeptOf s d → (step s p e).reply ≡ Done values → AreImages d → Stands m d
+        → Precedes (step s p e).state.held (step s p e).state.units m d (step s p e).state }
+    ensures due { (s : State) (p : ℕ) (e : Event) (values : List Val) (d : Durable) → IsKeptOf s d → (step s p e).reply ≡ Done values → IsDue (forced s p e) d (step s p e).state }
+    ensures due_numbered { (s : State) (p : ℕ) (e : Event) (values : List Val) (d : Durable) → IsKeptOf s d → (step s p e).reply ≡ Done values → IsDue (numbered (forced s p e)) d (step s p e).state }
+    ensures numbers { (s : State) (p : ℕ) (e : Event) (values : List Val) (d : Durable) → IsKeptOf s d → (step s p e).reply ≡ Done values → AreNumbers (numbered (forced s p e)) }
+    ensures operands { (s : State) (p : ℕ) (e : Event) (values : List Val) (d : Durable) → IsKeptOf s d → (step s p e).reply ≡ Done values → HasOperand e → AreNumbers (forced s p e) }
+    ensures same { (s : State) (p : ℕ) (e : Event) (values : List Val) (d : Durable) → IsKeptOf s d → (step s p e).reply ≡ Done values
+        → durable_after (numbered (forced s p e)) d (step s p e).state ≡ durable_after (forced s p e) d (step s p e).state }
+    ensures storable { (s : State) (p : ℕ) (e : Event) (values : List Val) (d : Durable) → IsKeptOf s d → (step s p e).reply ≡ Done values → All IsStorable (step s p e).state.held.objects }
+    ensures settles { (s : State) (p : ℕ) (e : Event) (values : List Val) (d : Durable) → IsKeptOf s d → (step s p e).reply ≡ Done values
+        → All (λ o. CanSettle (step s p e).state.units o.number.0 o.body) (step s p e).state.held.objects }
+{
+    what_is_durable_follows();
+    room_counts_what_is_durable();
+    what_is_not_forced_stays_durable();
+}
+
+/// What is durable behind one more entry, and the state to which it leads.
+pub fn one_more_entry_is_durable()
+    ensures durable { (s : State) (before : List Entry) (history : List Entry) (t : State) (e : Entry) (d : Durable) → Leads s before history t
+        → durable d s (history ++ e ∷ []) ≡ after_reply (durable d s history) t e e.reply }
+    ensures led { (s : State) (before : List Entry) (history : List Entry) (t : State) → Leads s before history t → led s history ≡ t }
+    ensures led_more { (s : State) (history : List Entry) (e : Entry) → led s (history ++ e ∷ []) ≡ (step (led s history) e.process e.event).state }
+{}
+
+/// What a crash leaves of a run at a moment stands for what is durable behind the entries that were answered by then, for that
+/// with the ceiling behind one entry more, or for what is durable behind one entry more. It is so as the run begins, and where
+/// one more entry is marked by a later moment, or a call is stopped: of each moment before the puts, of each moment of them,
+/// and of each moment from the mark on.
+pub fn a_crash_leaves_a_prefix()
+    ensures begins { (d : Durable) (s : State) (t : ℕ) (m : Content) → Stands m d → IsKeptPrefix d s [] [] t m }
+    ensures earlier { (d : Durable) (s : State) (history : List Entry) (marks : List ℕ) (e : Entry) (now t : ℕ) (m : Content) → length marks ≡ length history
+        → (durable d s history).ceiling ≡ (led s history).held.ceiling → t < now → IsKeptPrefix d s history marks t m → IsKeptPrefix d s (history ++ e ∷ []) (marks ++ now ∷ []) t m }
+    ensures during { (d : Durable) (s : State) (history : List Entry) (marks : List ℕ) (e : Entry) (first before now t : ℕ) (m : Content) → length marks ≡ length history → AreMoments first marks before
+        → before ≤ t → t < now → StandsBetween m (durable d s history) (led s (history ++ e ∷ [])) (durable d s (history ++ e ∷ [])) → IsKeptPrefix d s (history ++ e ∷ []) (marks ++ now ∷ []) t m }
+    ensures answered { (d : Durable) (s : State) (history : List Entry) (marks : List ℕ) (e : Entry) (first before now t : ℕ) (m : Content) → length marks ≡ length history → AreMoments first marks before
+        → before ≤ now → now ≤ t → Stands m (durable d s (history ++ e ∷ [])) → IsKeptPrefix d s (history ++ e ∷ []) (marks ++ now ∷ []) t m }
+    ensures stopped_earlier { (d : Durable) (s : State) (history : List Entry) (marks : List ℕ) (e : Entry) (t : ℕ) (m : Content) → length marks ≡ length history
+        → (durable d s history).ceiling ≡ (led s history).held.ceiling → IsKeptPrefix d s history marks t m → IsKeptPrefix d s (history ++ e ∷ []) marks t m }
+    ensures stopped_during { (d : Durable) (s : State) (history : List Entry) (marks : List ℕ) (e : Entry) (first before t : ℕ) (m : Content) → length marks ≡ length history → AreMoments first marks before
+        → before ≤ t → StandsBetween m (durable d s history) (led s (history ++ e ∷ [])) (durable d s (history ++ e ∷ [])) → IsKeptPrefix d s (history ++ e ∷ []) marks t m }
+{}

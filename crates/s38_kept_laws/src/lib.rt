@@ -1,0 +1,10 @@
+//! What is durable goes with the state of a machine at every moment of a run: as the run begins, and behind each step; and
+//! what a crash leaves of a run. Definitions and proofs alone, but that laws are called.
+#![tactic(auto)]
+
+mod laws;
+
+pub use laws::{
+    a_crash_leaves_a_prefix, a_run_begins_kept, one_more_entry_is_durable,
+    what_is_durable_can_be_read, what_is_durable_is_kept, what_is_forced_can_be_put,
+};
