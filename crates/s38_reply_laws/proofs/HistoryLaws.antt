@@ -16,6 +16,7 @@ use Rattle.s38_code.specs.declared.entry.Entry.{Entry}
 use Rattle.s38_code.specs.declared.event.Event.TheVariants.{Act, Finish, Start}
 use Rattle.s38_code.specs.declared.event.Event.{Event}
 use Rattle.s38_code.specs.declared.event.Request.{Request}
+use Rattle.s38_code.specs.declared.made.CreateResult.{CreateResult}
 use Rattle.s38_code.specs.declared.operand.Operand.{Operand}
 use Rattle.s38_code.specs.declared.program.Arg.{Arg}
 use Rattle.s38_code.specs.declared.program.Instruction.{Instruction}
@@ -150,7 +151,7 @@ into_called x i vs Callx program is call here = (call, here)
 into_called x i vs Xctl program is call here = call
 into_called x i vs op program is call here = cc
 
-act_suits : (s : State) (p : ℕ) (own : _) (d : ProcessState) (depth : ℕ) (r : Request) → AreKept s → Stands s p own d → IsLawful d → event_of d ≡ Some (Act depth r) → awake_verdict s p (Act depth r) ≡ Permit
+act_suits : (s : State) (p : ℕ) (own : CreateResult) (d : ProcessState) (depth : ℕ) (r : Request) → AreKept s → Stands s p own d → IsLawful d → event_of d ≡ Some (Act depth r) → awake_verdict s p (Act depth r) ≡ Permit
     → SuitsReply d (Done (effect_of s p (Act depth r)).values)
 act_suits s p own d depth r kept stands lawful asks may =
     subst (λ o. SuitsBy d.stack o vs) (sym for.next) (by (is_call r.op) refl)
@@ -186,28 +187,21 @@ empty_suits : (x : Stack) (o : Option Instruction) → SuitsBy x o []
 empty_suits x None = tt
 empty_suits x (Some i) = into_none x i [] i.op (nothing_suits i.op (rows_in x.top.made) x.top.frame.homes x.values (classes i.op) i.args)
 
-permit_suits : (s : State) (p : ℕ) (own : _) (d : ProcessState) (e : Event) → AreKept s → Stands s p own d → IsLawful d → event_of d ≡ Some e → awake_verdict s p e ≡ Permit
+permit_suits : (s : State) (p : ℕ) (own : CreateResult) (d : ProcessState) (e : Event) → AreKept s → Stands s p own d → IsLawful d → event_of d ≡ Some e → awake_verdict s p e ≡ Permit
     → SuitsReply d (Done (effect_of s p e).values)
-permit_suits s p own d Start kept stands lawful asks may = started_suits (effect_of s p Start).values refl
-  where
-    started_suits : (vs : List Val) → vs ≡ (effect_of s p Start).values → SuitsReply d (Done vs)
-    unfolding effect_of
-    started_suits vs is = subst (λ ws. SuitsReply d (Done ws)) (sym is) (empty_suits d.stack (instruction_of d.stack.top))
+unfolding effect_of
+permit_suits s p own d Start kept stands lawful asks may = empty_suits d.stack (instruction_of d.stack.top)
 permit_suits s p own d (Act depth r) kept stands lawful asks may = act_suits s p own d depth r kept stands lawful asks may
-permit_suits s p own d (Finish cause) kept stands lawful asks may = ended_suits (effect_of s p (Finish cause)).values refl
-  where
-    ended_suits : (vs : List Val) → vs ≡ (effect_of s p (Finish cause)).values → SuitsReply d (Done vs)
-    unfolding effect_of
-    ended_suits vs is = subst (λ ws. SuitsReply d (Done ws)) (sym is) (empty_suits d.stack (instruction_of d.stack.top))
+permit_suits s p own d (Finish cause) kept stands lawful asks may = empty_suits d.stack (instruction_of d.stack.top)
 
-verdict_suits : (s : State) (p : ℕ) (own : _) (d : ProcessState) (e : Event) (v : Verdict) → AreKept s → Stands s p own d → IsLawful d → event_of d ≡ Some e → awake_verdict s p e ≡ v
+verdict_suits : (s : State) (p : ℕ) (own : CreateResult) (d : ProcessState) (e : Event) (v : Verdict) → AreKept s → Stands s p own d → IsLawful d → event_of d ≡ Some e → awake_verdict s p e ≡ v
     → SuitsReply d (by_verdict s p e v).reply
 verdict_suits s p own d e Permit kept stands lawful asks is = permit_suits s p own d e kept stands lawful asks is
 verdict_suits s p own d e Wait kept stands lawful asks is = tt
 verdict_suits s p own d e (Refuse x) kept stands lawful asks is = tt
 
 -- the reply of a step suits who asked
-step_suits : (s : State) (p : ℕ) (own : _) (d : ProcessState) (e : Event) → AreKept s → Stands s p own d → IsLawful d → event_of d ≡ Some e → SuitsReply d (step s p e).reply
+step_suits : (s : State) (p : ℕ) (own : CreateResult) (d : ProcessState) (e : Event) → AreKept s → Stands s p own d → IsLawful d → event_of d ≡ Some e → SuitsReply d (step s p e).reply
 unfolding step
 step_suits s p own d e kept stands lawful asks = by (waits s p)
   where

@@ -31,7 +31,7 @@ use Rattle.s38_code.specs.declared.rule.OperandRule.{OperandRule}
 use Rattle.s38_compute.specs.Computed.{copies_left, copies_right, is_copy}
 use Rattle.s38_local.specs.Law.Shape.{OfBytes, OfNeither, OfPointer}
 use Rattle.s38_local.specs.Law.{AreHeld, Holds, Shape, shape_at, shape_for, shape_of, shapes_of}
-use Rattle.s38_local.specs.Variables.{form_in, is_based, place_of, value_of_item}
+use Rattle.s38_local.specs.Variables.{form_in, is_based, place_of, value_of_item, value_pointer}
 use Rattle.s38_odt.specs.OperandRules.{attr_length, is_short_binary, keeps_rule}
 use Rattle.s38_odt.specs.Suited.{IsSuited}
 use Rattle.s38_odt.specs.Suits.{all_suit, are_bytes, form_attr, form_suits, has_cells, is_number, is_pointer, item_attr, item_suits, row_attr, suits}
@@ -157,13 +157,13 @@ pointer_place op values (Some at) attr p pointer holds = λ old is. pointer_ther
 pub record IsItem (rows : List Row) (a : Arg) (attr : Attr) : Type 0 where
   pub item : ℕ
   pub row : Row
-  pub arg : a ≡ args.Item item
+  pub is : a ≡ args.Item item
   pub declared : slice_get rows item ≡ Some row
-  pub attr : form_attr row.form ≡ Some attr
+  pub declares : form_attr row.form ≡ Some attr
 
 item_by_row : (rows : List Row) (j : ℕ) (attr : Attr) (o : Option Row) → slice_get rows j ≡ o → option_and_then (λ (x : Row). form_attr x.form) o ≡ Some attr → IsItem rows (args.Item j) attr
 item_by_row rows j attr None there is = cc
-item_by_row rows j attr (Some row) there is = record { item = j; row = row; arg = refl; declared = there; attr = is }
+item_by_row rows j attr (Some row) there is = record { item = j; row = row; is = refl; declared = there; declares = is }
 
 item_is : (rows : List Row) (a : Arg) (attr : Attr) → item_attr rows a ≡ Some attr → IsItem rows a attr
 item_is rows (args.Item j) attr is = item_by_row rows j attr (slice_get rows j) refl is
@@ -189,7 +189,8 @@ stands homes values j (forms.Parm k own) attr is =
     inl (record { own = refl; operand = ap operands.Receiver same; holds = λ shape h. h ∙ ap (λ a. Some (shape_for a)) same })
 stands homes values j (forms.Based base offset own) attr is =
     let same : own ≡ attr = same_Some own attr is in
-    inr (record { base = _; offset = offset; operand = ap (λ a. operands.InSpace _ offset a) same })
+    let there = value_pointer (value_of_item homes values base) in
+    inr (record { base = there; offset = offset; operand = ap (λ a. operands.InSpace there offset a) same })
 stands homes values j (forms.Handler code at) attr is = cc
 
 -- ---- what an instruction gives to its first operand
@@ -214,13 +215,13 @@ first_suits : (op : Op) (rows : List Row) (homes : List ℕ) (values : List Val)
     → ((x : Val) → v ≡ Some x → (o : Option ℕ) → operand_of rows homes values class arg ≡ operands.Receiver attr → shape_at (shapes_of values) o ≡ Some (shape_for attr) → SuitsPlace op values o x)
     → SuitValues op rows homes values (class ∷ more) (arg ∷ rest) (Back s shift (Some (operand_of rows homes values class arg)) v)
 first_suits op rows homes values class more arg rest attr s shift v gets held it suits =
-    elim (stands homes values it.item it.row.form attr it.attr) as (λ _. P (Back s shift (Some (operand_of rows homes values class arg)) v)) [
+    elim (stands homes values it.item it.row.form attr it.declares) as (λ _. P (Back s shift (Some (operand_of rows homes values class arg)) v)) [
       | inl variable ↦ back_by P s shift (Some (operand_of rows homes values class arg)) v none (λ x is.
-          let at : place_of homes (Some arg) ≡ slice_get homes it.item = ap (λ a. place_of homes (Some a)) it.arg in
+          let at : place_of homes (Some arg) ≡ slice_get homes it.item = ap (λ a. place_of homes (Some a)) it.is in
           let shape = variable.holds (shape_at (shapes_of values) (slice_get homes it.item)) (held.each it.item it.row it.declared) in
           let goes = subst (λ o. SuitsPlace op values o x) (sym at) (suits x is (slice_get homes it.item) (operand ∙ variable.operand) shape) in
           let takes : takes_value rows class arg ≡ true =
-          ap (λ a. takes_value rows class a) it.arg ∙ ap (λ b. b && not (is_based (form_in (slice_get rows it.item)))) gets ∙ ap (λ o. not (is_based (form_in o))) it.declared ∙ ap not variable.own in
+          ap (λ a. takes_value rows class a) it.is ∙ ap (λ b. b && not (is_based (form_in (slice_get rows it.item)))) gets ∙ ap (λ o. not (is_based (form_in o))) it.declared ∙ ap not variable.own in
           taken_by (takes_value rows class arg) _ _ takes (goes, nothing_suits op rows homes values more rest))
       | inr space ↦
           let back : Back s shift (Some (operand_of rows homes values class arg)) v ≡ [] =
@@ -236,7 +237,7 @@ first_suits op rows homes values class more arg rest attr s shift v gets held it
 
     operand : operand_of rows homes values class arg ≡ item_by homes values true it.item (Some it.row.form)
     operand =
-        ap (operand_of rows homes values class) it.arg ∙ ap (λ b. item_by homes values b it.item (form_in (slice_get rows it.item))) gets
+        ap (operand_of rows homes values class) it.is ∙ ap (λ b. item_by homes values b it.item (form_in (slice_get rows it.item))) gets
         ∙ ap (λ o. item_by homes values true it.item (form_in o)) it.declared
 
 -- ---- by the class of the first operand
@@ -305,13 +306,13 @@ numeric_scalar _ is = refl
 pub record IsCells (rows : List Row) (arg : Arg) : Type 0 where
   pub item : ℕ
   pub row : Row
-  pub arg : arg ≡ args.Item item
+  pub is : arg ≡ args.Item item
   pub declared : slice_get rows item ≡ Some row
   pub cells : has_cells row.form ≡ true
 
 cells_by : (rows : List Row) (j : ℕ) (o : Option Row) → slice_get rows j ≡ o → form_suits has_cells o ≡ true → IsCells rows (args.Item j)
 cells_by rows j None there is = cc
-cells_by rows j (Some row) there is = record { item = j; row = row; arg = refl; declared = there; cells = is }
+cells_by rows j (Some row) there is = record { item = j; row = row; is = refl; declared = there; cells = is }
 
 cells_of : (rows : List Row) (arg : Arg) → item_suits has_cells rows arg ≡ true → IsCells rows arg
 cells_of rows (args.Item j) is = cells_by rows j (slice_get rows j) refl is
@@ -401,11 +402,11 @@ cells_get op more rows homes values (arg ∷ rest) s shift v is forth suited rul
     let cells = cells_of rows arg (and_parts (item_suits has_cells rows arg) (all_suit rows more rest) suited).0 in
     let form = cells_attr cells.row.form cells.cells in
     let attr = form.0 in
-    let it : IsItem rows arg attr = record { item = cells.item; row = cells.row; arg = cells.arg; declared = cells.declared; attr = form.1.0 } in
+    let it : IsItem rows arg attr = record { item = cells.item; row = cells.row; is = cells.is; declared = cells.declared; declares = form.1.0 } in
     first_suits op rows homes values CellsReceiver more arg rest attr s shift v refl held it
     (λ x given o operand holds.
     let there : item_by homes values true cells.item (Some cells.row.form) ≡ operands.Receiver attr =
-    sym (ap (operand_of rows homes values CellsReceiver) cells.arg ∙ ap (λ y. item_by homes values true cells.item (form_in y)) cells.declared) ∙ operand in
+    sym (ap (operand_of rows homes values CellsReceiver) cells.is ∙ ap (λ y. item_by homes values true cells.item (form_in y)) cells.declared) ∙ operand in
     pointer_goes op ops values o attr x (ap first_gets_bytes is) forth (form.1.1 (own_by homes values cells.item cells.row.form attr there)) holds (given_fills op ops v x given fills))
 
 class_suits : (op : Op) (cs : List Class) → SuitsGiven op cs
