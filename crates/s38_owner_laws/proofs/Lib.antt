@@ -1,4 +1,5 @@
 pub mod CallLaws
+pub mod CreateLaws
 pub mod FrameLaws
 pub mod HistoryLaws
 pub mod ObjectLaws

@@ -4,4 +4,4 @@
 
 mod laws;
 
-pub use laws::the_right_owner_acts;
+pub use laws::{the_right_owner_acts, what_is_created_is_checked};
