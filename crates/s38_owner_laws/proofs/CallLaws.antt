@@ -1,5 +1,5 @@
 -- A call that the rules permit goes into a program that is there, gives it, and puts its number among the frames.
-use Rattle.std.proofs.Common.{◌+◌, ◌-◌, ◌<◌, ◌==◌, ◌∙◌, ◌∷◌, ◌≡◌, ◌≤◌, ◌⊎◌, Bool, List, [], ap, arith, cond, false, inl, inr, length, refl, subst, sym, true, ℕ}
+use Rattle.std.proofs.Common.{◌<◌, ◌∙◌, ◌∷◌, ◌≡◌, ◌⊎◌, Bool, List, [], ap, arith, cond, false, inl, inr, refl, subst, sym, true, ℕ}
 use Rattle.std.proofs.lemmas.Bool.Decides.{nat_tests}
 use Rattle.std.specs.Option.{option_map}
 use Rattle.std.specs.Prelude.{None, Option, Some, nat_le, not}
@@ -8,7 +8,6 @@ use Rattle.s38_base.specs.Pointers.{object_of, target_of}
 use Rattle.s38_base.specs.RightNames as rights
 use Rattle.s38_base.specs.declared.exception.Exception.{Exception}
 use Rattle.s38_base.specs.declared.id.Kind.TheVariants as kinds
-use Rattle.s38_base.specs.declared.id.ObjNum.{ObjNum}
 use Rattle.s38_base.specs.declared.op.Op.TheVariants.{Callx, Xctl}
 use Rattle.s38_base.specs.declared.op.Op.{Op}
 use Rattle.s38_base.specs.declared.pointer.Pointer.{Pointer}
@@ -24,15 +23,14 @@ use Rattle.s38_code.specs.declared.reply.Val.{Val}
 use Rattle.s38_rules.proofs.RoomLaws.{permitted_by_rules}
 use Rattle.s38_rules.proofs.RuleLaws.{fails_none, first_none, not_false}
 use Rattle.s38_rules.proofs.VerdictLaws.{permitted_none, rule_met}
-use Rattle.s38_rules.specs.Changes.{Changes, Framed, done}
+use Rattle.s38_rules.specs.Changes.{Framed, done}
 use Rattle.s38_rules.specs.Computing.{is_call, receiver_at, shift_at}
 use Rattle.s38_rules.specs.Effect.{effect, effect_of}
 use Rattle.s38_rules.specs.Held.{Held, kind_of, object}
 use Rattle.s38_rules.specs.Instruction.{Instruction}
 use Rattle.s38_rules.specs.Invocations.{frames_used, most_frames, pushed, replaced, stack_of}
-use Rattle.s38_rules.specs.Needs.{on_object}
-use Rattle.s38_rules.specs.Operands.{deliver, delivered, pointer_at, target}
-use Rattle.s38_rules.specs.Programs.{argument_rule, call_gives, call_needs, callx, callx_fails, code_of, frame_rule, program_at, programs_row, xctl}
+use Rattle.s38_rules.specs.Operands.{delivered, pointer_at, target}
+use Rattle.s38_rules.specs.Programs.{argument_rule, call_gives, call_needs, callx_fails, code_of, frame_rule, program_at, programs_row}
 use Rattle.s38_rules.specs.Rows.{row, row_in}
 use Rattle.s38_rules.specs.State.{State}
 use Rattle.s38_rules.specs.Step.{awake_verdict}

@@ -1,16 +1,14 @@
 -- What creation makes of a template is checked.
-use Rattle.std.proofs.Common.{◌≡◌, ◌≤◌, ◌<◌, Bool, List, [], arith, false, length, refl, subst, sym, take, true, ℕ}
+use Rattle.std.proofs.Common.{◌≡◌, ◌≤◌, ◌<◌, List, [], arith, length, refl, subst, ℕ}
 use Rattle.std.proofs.lemmas.Bool.Decides.{nat_tests}
 use Rattle.std.proofs.lemmas.Bool.{and_parts, cond_both}
 use Rattle.std.proofs.lemmas.List.Elements.{All-cons, All-nil}
 use Rattle.std.proofs.lemmas.List.{length-take}
 use Rattle.std.proofs.lemmas.Option.{same_Some, slice_get_within}
-use Rattle.std.specs.Prelude.{All, Err, IfOk, None, Ok, Option, Result, Some, map, nat_le, slice_get}
-use Rattle.std.proofs.Common.{◌∷◌, ap, suc, zero}
-use Rattle.s38_code.specs.declared.deck.Job.{Job}
+use Rattle.std.specs.Prelude.{Err, IfOk, None, Ok, Option, Result, Some, map, nat_le, slice_get}
+use Rattle.std.proofs.Common.{◌∷◌, suc, zero}
 use Rattle.s38_code.specs.declared.made.CheckedTemplate.{CheckedTemplate}
-use Rattle.s38_code.specs.declared.made.CreateResult.TheVariants.{Created, Refused}
-use Rattle.s38_code.specs.declared.made.CreateResult.{CreateResult}
+use Rattle.s38_code.specs.declared.made.CreateResult.TheVariants.{Refused}
 use Rattle.s38_code.specs.declared.program.CreateFault.TheVariants.{Bad, NoMemory}
 use Rattle.s38_code.specs.declared.program.CreateFault.{CreateFault}
 use Rattle.s38_code.specs.declared.program.Instruction.{Instruction}

@@ -1,6 +1,6 @@
 -- Frames of programs: they stay those of their programs when objects change, when frames behind them change, and when one
 -- more program comes.
-use Rattle.std.proofs.Common.{◌++◌, ◌+◌, ◌-◌, ◌<◌, ◌==◌, ◌∙◌, ◌∷◌, ◌≡◌, ◌≢◌, ◌≤◌, ◌⊎◌, Bool, List, [], ap, arith, cond, false, inl, inr, length, min, refl, subst, suc, sym, take, true, zero, ℕ}
+use Rattle.std.proofs.Common.{◌++◌, ◌+◌, ◌<◌, ◌∙◌, ◌∷◌, ◌≡◌, ◌≤◌, Bool, List, [], ap, arith, cond, false, inl, inr, length, refl, subst, suc, sym, take, true, zero, ℕ}
 use Rattle.std.proofs.lemmas.List.Elements.{All-head, All-tail}
 use Rattle.std.proofs.lemmas.List.{length-map, length-take-le}
 use Rattle.std.proofs.lemmas.Option.{slice_get_within}
@@ -18,7 +18,7 @@ use Rattle.s38_rules.specs.Held.{Held, has_number, object, object_in}
 use Rattle.s38_rules.specs.Invocations.{frames_used, in_use}
 use Rattle.s38_rules.specs.Programs.{code_of}
 use Rattle.s38_rules.specs.declared.object.Object.{Object}
-use Rattle.s38_owner_laws.proofs.ObjectLaws.{Follows, IsNew, WasThere}
+use Rattle.s38_owner_laws.proofs.ObjectLaws.{Follows}
 use Rattle.s38_owner_laws.specs.Beginnings.{AreInOrder, HoldsChecked}
 use Rattle.s38_owner_laws.specs.Owners.{Agree, AreFramesOf, IsAt, IsFrameOf, WasGivenTo, programs_of}
 
@@ -140,11 +140,10 @@ pub frames_more : (h : Held) (own : CreateResult) (frames : List ObjNum) (frame 
     → IsFrameOf h own frame program → AreFramesOf h own frames programs → AreFramesOf h own (take n frames ++ frame ∷ []) (program ∷ programs)
 frames_more h own frames frame programs program n count is are =
     let enough = frames_enough h own frames programs are in
-    let long : length (take n frames) ≡ length programs = length-take-le n frames (omega (arith, count, enough)) ∙ count in
-    (
+    let long : length (take n frames) ≡ length programs = length-take-le n frames (omega (arith, count, enough)) ∙ count in (
       subst (λ x. IsAt h own x program) (sym (get_seam (take n frames) frame (length programs) long)) is,
       frames_like h own frames (take n frames ++ frame ∷ []) programs
-      (λ k few. get_left (take n frames) (frame ∷ []) k (omega (arith, few, long)) ∙ get_front n frames k (omega (arith, few, count))) are,
+          (λ k few. get_left (take n frames) (frame ∷ []) k (omega (arith, few, long)) ∙ get_front n frames k (omega (arith, few, count))) are,
     )
 
 -- ---- frames that are in use

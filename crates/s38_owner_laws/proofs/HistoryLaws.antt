@@ -1,11 +1,10 @@
 -- Over a history the frames of each process are those of its invocations.
-use Rattle.std.proofs.Common.{◌++◌, ◌+◌, ◌-◌, ◌<◌, ◌==◌, ◌∙◌, ◌∷◌, ◌≡◌, ◌≢◌, ◌≤◌, Bool, List, [], ap, append_assoc, arith, cond, false, inl, inr, refl, subst, suc, sym, true, zero, ℕ}
+use Rattle.std.proofs.Common.{◌++◌, ◌+◌, ◌-◌, ◌<◌, ◌==◌, ◌∙◌, ◌∷◌, ◌≡◌, ◌≢◌, Bool, List, [], ap, append_assoc, arith, cond, false, inl, inr, length, refl, subst, suc, sym, true, zero, ℕ}
 use Rattle.std.proofs.lemmas.Bool.Decides.{nat_tests}
 use Rattle.std.proofs.lemmas.List.Elements.{All-cons, All-nil, All-weaker}
 use Rattle.std.proofs.lemmas.List.{append-nil}
-use Rattle.std.specs.Prelude.{All, IfSome, None, Option, Some, slice_get}
+use Rattle.std.specs.Prelude.{IfSome, None, Option, Some, is_some, slice_get}
 use Rattle.s38_base.specs.declared.id.ObjNum.{ObjNum}
-use Rattle.s38_base.specs.declared.op.Op.TheVariants.{Callx, Xctl}
 use Rattle.s38_code.specs.History.{entries_of, is_of}
 use Rattle.s38_code.specs.Operations.{family_of}
 use Rattle.s38_code.specs.declared.deck.Job.{Job}
@@ -19,19 +18,18 @@ use Rattle.s38_code.specs.declared.made.CreateResult.{CreateResult}
 use Rattle.s38_code.specs.declared.reply.Reply.TheVariants.{Done, MustWait, Signal}
 use Rattle.s38_code.specs.declared.reply.Reply.{Reply}
 use Rattle.s38_code.specs.declared.reply.Val.{Val}
-use Rattle.s38_process.specs.Invocations.{Stack, depth_of, first_stack}
+use Rattle.s38_process.specs.Invocations.{depth_of}
 use Rattle.s38_process.specs.Process.{ProcessState, RanFrom, absorbed, behind, event_of, fresh}
 use Rattle.s38_rules.proofs.StoreLaws.{stored_beside}
-use Rattle.s38_rules.specs.Changes.{Framed, done}
+use Rattle.s38_rules.specs.Changes.{done}
 use Rattle.s38_rules.specs.Computing.{is_call}
 use Rattle.s38_rules.specs.Effect.{effect_of}
 use Rattle.s38_rules.specs.Held.{Held}
-use Rattle.s38_rules.specs.Invocations.{pushed, replaced, restack, restacked}
-use Rattle.s38_rules.specs.Legal.{IsEntry, Leads}
+use Rattle.s38_rules.specs.Invocations.{in_use, pushed, replaced, restack, stack_in, stack_of}
+use Rattle.s38_rules.specs.Legal.{IsEntry, IsProcess, Leads}
 use Rattle.s38_rules.specs.Opening.{process_entries, state_of}
 use Rattle.s38_rules.specs.Operands.{target}
 use Rattle.s38_rules.specs.Programs.{program_by}
-use Rattle.s38_rules.specs.Rows.{row}
 use Rattle.s38_rules.specs.State.{State, process_entry, started, started_in, waits}
 use Rattle.s38_rules.specs.Step.{awake, awake_verdict, by_verdict, by_waiting, step}
 use Rattle.s38_rules.specs.Storing.{stored}
@@ -47,7 +45,7 @@ use Rattle.s38_owner_laws.proofs.StackLaws.{absorbed_kept, asks_for}
 use Rattle.s38_owner_laws.proofs.StateLaws.{act_processes, effect_templates, ends, quiet_processes, restacks, starts, step_others}
 use Rattle.s38_owner_laws.proofs.StepLaws.{AreKept, Stands, acted, asked_begins, called, effect_follows, goes_on, signalled, stands_still, started_own, stored_follows, transferred}
 use Rattle.s38_owner_laws.specs.Beginnings.{AreAsked, AreChecked, AreInOrder, Begin, IsChecked, IsFresh}
-use Rattle.s38_owner_laws.specs.Owners.{AllOwnersAgree, IsAskedAtDepth, NamesDepth, OwnersAgree, programs_of}
+use Rattle.s38_owner_laws.specs.Owners.{ActsFor, Agree, AllOwnersAgree, IsActedFor, OwnersAgree}
 
 -- ---- a step
 
@@ -112,37 +110,37 @@ act_stands s t p own d depth r kept may asks follows same stands = by (is_call r
         let quiet = row_quiet IsCheckedProgram (family_of r.op) r.op s p depth r kept.templates in
         acted s t p own d depth r vs follows (started_of s t p s.processes (started s p) (same ∙ quiet_processes s p depth r (quiet.leaves other)) refl) asks other stands
 
-permit_stands : (s t : State) (p : ℕ) (own : CreateResult) (d : ProcessState) (e : Event) → AreKept s → awake_verdict s p e ≡ Permit → event_of d ≡ Some e
+permit_stands : (s t : State) (p : ℕ) (own : CreateResult) (d : ProcessState) (e : Event) → is_some (process_entry s p) ≡ true → AreKept s → awake_verdict s p e ≡ Permit → event_of d ≡ Some e
     → Follows IsCheckedProgram s.held t.held → t.processes ≡ (effect_of s p e).state.processes → Stands s p own d → Stands t p own (absorbed d (Done (effect_of s p e).values))
-permit_stands s t p own d Start kept may asks follows same stands =
-    started_own s t p own d (effect_of s p Start).values (started_of s t p (effect_of s p Start).state.processes _ same (starts s p).own) asks stands
-permit_stands s t p own d (Act depth r) kept may asks follows same stands = act_stands s t p own d depth r kept may asks follows same stands
-permit_stands s t p own d (Finish cause) kept may asks follows same stands =
+permit_stands s t p own d Start there kept may asks follows same stands =
+    started_own s t p own d (effect_of s p Start).values there (started_of s t p (effect_of s p Start).state.processes _ same (starts s p).own) asks stands
+permit_stands s t p own d (Act depth r) there kept may asks follows same stands = act_stands s t p own d depth r kept may asks follows same stands
+permit_stands s t p own d (Finish cause) there kept may asks follows same stands =
     let vs = (effect_of s p (Finish cause)).values in
-    goes_on s t p own d (Finish cause) (Done vs) follows (started_of s t p (effect_of s p (Finish cause)).state.processes (started s p) same (ends s p cause).own) asks
+    goes_on s t p own d (Finish cause) (Done vs) (λ none. none) follows (started_of s t p (effect_of s p (Finish cause)).state.processes (started s p) same (ends s p cause).own) asks
     (λ P closed h. absorbed_kept P closed d (Finish cause) (Done vs) asks tt h) stands
 
 no_values : (vs : List Val) → MustWait ≡ Done vs → ⊥
 no_values vs h = cc
 
-verdict_stands : (s : State) (p : ℕ) (own : CreateResult) (d : ProcessState) (e : Event) (v : Verdict) → AreKept s → awake_verdict s p e ≡ v → event_of d ≡ Some e
+verdict_stands : (s : State) (p : ℕ) (own : CreateResult) (d : ProcessState) (e : Event) (v : Verdict) → is_some (process_entry s p) ≡ true → AreKept s → awake_verdict s p e ≡ v → event_of d ≡ Some e
     → Stands s p own d → Stands (by_verdict s p e v).state p own (absorbed d (by_verdict s p e v).reply)
-verdict_stands s p own d e Permit kept is asks stands =
+verdict_stands s p own d e Permit there kept is asks stands =
     let t = (effect_of s p e).state in
-    permit_stands s (awake (stored s p e t)) p own d e kept is asks (stored_follows s.held s p e t (effect_follows s p e kept.templates)) (stored_beside s p e t).processes stands
-verdict_stands s p own d e Wait kept is asks stands =
+    permit_stands s (awake (stored s p e t)) p own d e there kept is asks (stored_follows s.held s p e t (effect_follows s p e kept.templates)) (stored_beside s p e t).processes stands
+verdict_stands s p own d e Wait there kept is asks stands =
     stands_still s (record s { waiting = p ∷ s.waiting }) p own (absorbed d MustWait) (same_follows IsCheckedProgram s.held) refl (signalled s p own d e MustWait no_values asks stands)
-verdict_stands s p own d e (Refuse x) kept is asks stands = signalled s p own d e (Signal x) (λ vs h. cc) asks stands
+verdict_stands s p own d e (Refuse x) there kept is asks stands = signalled s p own d e (Signal x) (λ vs h. cc) asks stands
 
 -- the one that asked
-pub own_stands : (s : State) (p : ℕ) (own : CreateResult) (d : ProcessState) (e : Event) → AreKept s → event_of d ≡ Some e → Stands s p own d
+pub own_stands : (s : State) (p : ℕ) (own : CreateResult) (d : ProcessState) (e : Event) → is_some (process_entry s p) ≡ true → AreKept s → event_of d ≡ Some e → Stands s p own d
     → Stands (step s p e).state p own (absorbed d (step s p e).reply)
 unfolding step
-own_stands s p own d e kept asks stands = by (waits s p)
+own_stands s p own d e there kept asks stands = by (waits s p)
   where
     by : (b : Bool) → Stands (by_waiting b s p e).state p own (absorbed d (by_waiting b s p e).reply)
     by true = signalled s p own d e MustWait no_values asks stands
-    by false = verdict_stands s p own d e (awake_verdict s p e) kept refl asks stands
+    by false = verdict_stands s p own d e (awake_verdict s p e) there kept refl asks stands
 
 -- ---- entries of one process
 
@@ -186,6 +184,14 @@ behind_other before e k d off = ap (behind d) (other_entries (k + 1) before [] e
 
 -- ---- all processes
 
+some_at : (xs : List ProcessEntry) (k : ℕ) → k < length xs → is_some (slice_get xs k) ≡ true
+some_at [] k few = absurd (omega arith)
+some_at (x ∷ xs) zero few = refl
+some_at (x ∷ xs) (suc k) few = some_at xs k (omega (arith, few))
+
+is_there : (s : State) (p : ℕ) → IsProcess s p → is_some (process_entry s p) ≡ true
+is_there s p is = some_at s.processes (p - 1) (omega (arith, is.first, is.last))
+
 pub record AllStand (processes : List ProcessState) (before : List Entry) (s : State) : Type 0 where
   pub kept : AreKept s
   pub each : (k : ℕ) (d : ProcessState) → slice_get processes k ≡ Some d → Stands s (k + 1) d.stack.top.made (behind d (entries_of (k + 1) before))
@@ -209,7 +215,7 @@ all_next processes before es e s all entry asked = record { kept = keeps.kept; e
         let now = behind d (entries_of (k + 1) before) in
         let asks = entry_asked processes before es e k d asked there is in
         let stands = subst (λ q. Stands s q d.stack.top.made now) (sym is) (all.each k d there) in
-        let next = own_stands s e.process d.stack.top.made now e.event all.kept asks stands in
+        let next = own_stands s e.process d.stack.top.made now e.event (is_there s e.process entry.process) all.kept asks stands in
         let at = subst (λ q. Stands t q d.stack.top.made (absorbed now (step s e.process e.event).reply)) is next in
         let replied = subst (λ (r : Reply). Stands t (k + 1) d.stack.top.made (absorbed now r)) entry.reply at in
         subst (Stands t (k + 1) d.stack.top.made) (sym (behind_own before e k d is)) replied
@@ -226,21 +232,39 @@ all_next processes before es e s all entry asked = record { kept = keeps.kept; e
 
 -- ---- a history
 
-all_agree : (processes : List ProcessState) (before : List Entry) (s : State) → AllStand processes before s → OwnersAgree processes before s
-all_agree processes before s all k d x there is =
-    let now = behind d (entries_of (k + 1) before) in agree_of s.held d.stack.top.made x.stack now.stack ((all.each k d there).agree x is)
+some_of : (o : Option Started) → is_some o ≡ true → (x : Started) × (o ≡ Some x)
+some_of None h = cc
+some_of (Some x) h = (x, refl)
 
-names_depth : (d : ProcessState) (e : Event) → event_of d ≡ Some e → NamesDepth d e
-names_depth d Start asks = tt
-names_depth d (Act depth r) asks = (asks_for d depth r asks).deep
-names_depth d (Finish cause) asks = tt
+stands_agree : (s : State) (p : ℕ) (own : CreateResult) (d : ProcessState) → Stands s p own d → is_some (started s p) ≡ true → Agree s.held own (in_use (depth_of d.stack) (stack_of s p)) d.stack
+stands_agree s p own d stands is =
+    let x = some_of (started s p) is in
+    subst (λ o. Agree s.held own (in_use (depth_of d.stack) (stack_in o)) d.stack) (sym x.1) (agree_of s.held own x.0.stack d.stack (stands.agree x.0 x.1))
+
+all_agree : (processes : List ProcessState) (before : List Entry) (s : State) → AllStand processes before s → OwnersAgree processes before s
+all_agree processes before s all k d there =
+    let now = behind d (entries_of (k + 1) before) in
+    let stands = all.each k d there in
+    record { begun = stands.begun; agree = stands_agree s (k + 1) d.stack.top.made now stands }
+
+acts_for : (s : State) (p : ℕ) (own : CreateResult) (d : ProcessState) (e : Event) → Stands s p own d → event_of d ≡ Some e → ActsFor s p own d.stack e
+acts_for s p own d Start stands asks = tt
+acts_for s p own d (Act depth r) stands asks =
+    let for = asks_for d depth r asks in
+    (for.deep, subst (λ n. Agree s.held own (in_use n (stack_of s p)) d.stack) (sym for.deep) (stands_agree s p own d stands (stands.begun for.running)))
+acts_for s p own d (Finish cause) stands asks = tt
+
+entry_acts : (processes : List ProcessState) (before es : List Entry) (e : Entry) (s : State) → AllStand processes before s → AreAsked processes (before ++ e ∷ es) → IsActedFor processes before s e
+entry_acts processes before es e s all asked k d there own =
+    let now = behind d (entries_of (k + 1) before) in
+    acts_for s e.process d.stack.top.made now e.event (subst (λ q. Stands s q d.stack.top.made now) (sym own) (all.each k d there)) (entry_asked processes before es e k d asked there own)
 
 owners_on : (processes : List ProcessState) (s : State) (before history : List Entry) (end : State) → AllStand processes before s → Leads s before history end → AreAsked processes (before ++ history)
     → AllOwnersAgree processes s before history
 owners_on processes s before [] end all leads asked = all_agree processes before s all
 owners_on processes s before (e ∷ es) end all leads asked = (
   all_agree processes before s all,
-  λ k d there own. names_depth (behind d (entries_of (k + 1) before)) e.event (entry_asked processes before es e k d asked there own),
+  entry_acts processes before es e s all asked,
   owners_on processes (step s e.process e.event).state (before ++ e ∷ []) es end (all_next processes before es e s all leads.0 asked) leads.1
       (subst (AreAsked processes) (sym (append_assoc before (e ∷ []) es)) asked),
 )
@@ -257,6 +281,7 @@ templates_of templates checked = All-weaker (λ (t : CheckedTemplate). IsChecked
 fresh_stands : (s : State) (p : ℕ) (d : ProcessState) → started s p ≡ None → IsFresh d → Stands s p d.stack.top.made d
 fresh_stands s p d none fresh = subst (λ (x : ProcessState). Stands s p x.stack.top.made x) (sym fresh.is) (record {
   young = λ h. refl;
+  begun = λ h. cc;
   checked = All-cons IsChecked fresh.made [] fresh.checked (All-nil IsChecked);
   agree = λ x is. absurd (apart x (sym none ∙ is));
 })

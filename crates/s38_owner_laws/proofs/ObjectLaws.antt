@@ -5,12 +5,10 @@ use Rattle.std.proofs.lemmas.Bool.Decides.{nat_tests}
 use Rattle.std.proofs.lemmas.Bool.{cond_both}
 use Rattle.std.specs.Option.{option_map}
 use Rattle.std.specs.Prelude.{IfSome, None, Option, Some}
-use Rattle.s38_base.specs.Limits.{ceiling_step}
 use Rattle.s38_base.specs.Pointers.{start_of, target_of}
 use Rattle.s38_base.specs.declared.id.Id.{Id}
 use Rattle.s38_base.specs.declared.id.Kind.{Kind}
 use Rattle.s38_base.specs.declared.id.ObjNum.{ObjNum}
-use Rattle.s38_code.specs.declared.made.CheckedTemplate.{CheckedTemplate}
 use Rattle.s38_code.specs.declared.operand.Operand.TheVariants as operands
 use Rattle.s38_code.specs.declared.operand.Operand.{Operand}
 use Rattle.s38_code.specs.declared.program.Program.{Program}
@@ -30,13 +28,13 @@ use Rattle.s38_rules.specs.Cells.{with_bytes, with_cells, with_pointer}
 use Rattle.s38_rules.specs.Changes.{Changes, CellsPut, Committed, Decommitted, Ensured, Entered, Framed, Gone, Journaled, Locked, Made, Moved, Named, OnCursor, OnIndex, OnQueue, Profiled, Resized, Stands, Stays, Then, done, made_by, renamed_by, through_port}
 use Rattle.s38_rules.specs.Changing.{logged, logged_in}
 use Rattle.s38_rules.specs.Creation.{created, creation_changes, destroyed, is_of_kind, new_object}
-use Rattle.s38_rules.specs.Held.{Held, change, change_in, has_number, kept_on_disk, object, object_in, with_object, without}
+use Rattle.s38_rules.specs.Held.{Held, change, has_number, kept_on_disk, object, object_in, with_object, without}
 use Rattle.s38_rules.specs.Invocations.{restack_at}
 use Rattle.s38_rules.specs.Journaling.{journal_for, journal_for_block}
 use Rattle.s38_rules.specs.Operands.{cells_put, delivered, put_value}
 use Rattle.s38_rules.specs.Parts.{IsPart, Part, cursor_lawful, cursor_part, data_lawful, data_part, index_lawful, index_part, journal_lawful, journal_part, on_journal, on_space, over_object, over_part, over_table, profile_lawful, profile_part, queue_lawful, queue_part, space_lawful, space_part}
 use Rattle.s38_rules.specs.Programs.{code_of}
-use Rattle.s38_rules.specs.Standing.{Standing, standing_of, with_standing}
+use Rattle.s38_rules.specs.Standing.{standing_of, with_standing}
 use Rattle.s38_rules.specs.State.{State, process_entry}
 use Rattle.s38_rules.specs.Units.{all_decommitted, all_undone, committed, decommitted, end_entry, end_written, put_back, with_entry}
 use Rattle.s38_rules.specs.declared.creating.Creating.{Creating}

@@ -1,6 +1,6 @@
 -- Programs are made by one instruction alone, of the deck's templates, and frames are changed by calls alone: one case a
 -- family.
-use Rattle.std.proofs.Common.{◌≡◌, Bool, List, [], ◌∷◌, cond, false, refl, true, ℕ}
+use Rattle.std.proofs.Common.{◌≡◌, Bool, List, [], ◌∷◌, false, refl, true, ℕ}
 use Rattle.std.proofs.lemmas.Bool.{cond_both}
 use Rattle.std.proofs.lemmas.List.Elements.{All-head, All-tail}
 use Rattle.std.specs.Option.{option_map}

@@ -1,9 +1,9 @@
 -- Invocations end newest first: what holds of the programs of all invocations, and stays true when the newest one ends,
 -- holds wherever a process goes on but into a program.
-use Rattle.std.proofs.Common.{◌+◌, ◌-◌, ◌∙◌, ◌∷◌, ◌≡◌, ◌≢◌, ◌⊎◌, Bool, List, [], ap, arith, cond, false, inl, inr, length, map, refl, subst, suc, sym, take, true, zero, ℕ}
+use Rattle.std.proofs.Common.{◌-◌, ◌∙◌, ◌∷◌, ◌≡◌, Bool, List, [], ap, cond, false, inl, inr, map, refl, subst, suc, sym, take, true, zero, ℕ}
 use Rattle.std.proofs.lemmas.Bool.{cond_both}
 use Rattle.std.proofs.lemmas.Option.{same_Some}
-use Rattle.std.specs.Prelude.{IfSome, None, Option, Some, nat_le, nat_lt}
+use Rattle.std.specs.Prelude.{None, Option, Some, nat_le, nat_lt}
 use Rattle.s38_base.specs.declared.op.Op.TheVariants.{Callx, Xctl}
 use Rattle.s38_base.specs.declared.op.Op.{Op}
 use Rattle.s38_code.specs.declared.event.EndCause.TheVariants as causes
@@ -21,10 +21,10 @@ use Rattle.s38_code.specs.declared.reply.Val.{Val}
 use Rattle.s38_local.specs.Frames.{Went}
 use Rattle.s38_local.specs.declared.local_end.LocalEnd.TheVariants as ends
 use Rattle.s38_local.specs.declared.local_end.LocalEnd.{LocalEnd}
-use Rattle.s38_process.proofs.Alone.{IsLater, Moves, settled_later, settled_still}
+use Rattle.s38_process.proofs.Alone.{Moves, settled_later, settled_still}
 use Rattle.s38_process.specs.Exceptions.{Offered, label_by, offered, offered_from, or_else}
-use Rattle.s38_process.specs.Invocations.{Stack, deepest, depth_of, entered, exchanged, instruction_of, popped, popped_to, rows_in}
-use Rattle.s38_process.specs.Process.{ProcessState, absorbed, act_of, acts, after_act, after_asked, after_end, after_event, after_local, after_run, after_signal, after_start, alone, alone_by, asks, begun_by, event_of, is_return, local_step, local_steps, program_in, ran, returns, runs, settled, signal_status, went_by, went_into, went_on, with_frame}
+use Rattle.s38_process.specs.Invocations.{Stack, deepest, depth_of, entered, instruction_of, popped_to, rows_in}
+use Rattle.s38_process.specs.Process.{ProcessState, absorbed, act_of, acts, after_asked, after_event, after_local, after_run, alone, alone_by, asks, begun_by, event_of, is_return, local_step, local_steps, program_in, ran, returns, runs, settled, signal_status, went_by, went_into, went_on, with_frame}
 use Rattle.s38_process.specs.declared.invocation.Invocation.{Invocation}
 use Rattle.s38_process.specs.declared.status.Status.TheVariants.{Ended, Ending, Fresh, Running}
 use Rattle.s38_process.specs.declared.status.Status.{Status}
@@ -270,3 +270,38 @@ stays_fresh d e r asks is =
     let fresh : after.status ≡ Fresh = was_fresh after is in
     let left = event_leaves d e r (λ h. fresh_starts d e h asks) (ap (λ (x : ProcessState). x.status) (sym same) ∙ fresh) in
     (settled_fresh after fresh ∙ same ∙ left.0, left.1)
+
+-- ---- who runs
+
+-- a reply that starts a process
+abbrev pub Starts : Event → Reply → Type 0
+Starts Start (replies.Done vs) = Unit {0}
+Starts _ _ = ⊥
+
+offer_running : (d : ProcessState) (code : ℕ) (b : Bool) → signal_status d code b ≡ Running → d.status ≡ Running
+offer_running d code true h = h
+offer_running d code false h = cc
+
+event_running : (d : ProcessState) (e : Event) (r : Reply) → (Starts e r → ⊥) → (after_event d e r).status ≡ Running → d.status ≡ Running
+event_running d Start (replies.Done vs) other h = absurd (other tt)
+event_running d Start (replies.Signal x) other h = cc
+event_running d Start replies.MustWait other h = h
+event_running d (Act depth t) (replies.Done vs) other h = h
+event_running d (Act depth t) (replies.Signal x) other h = offer_running d x.id (offered x.id d.stack).taken h
+event_running d (Act depth t) replies.MustWait other h = h
+event_running d (Finish cause) (replies.Done vs) other h = cc
+event_running d (Finish cause) (replies.Signal x) other h = cc
+event_running d (Finish cause) replies.MustWait other h = h
+
+was_running : (d : ProcessState) → (settled d).status ≡ Running → d.status ≡ Running
+was_running d is = by d.status (settled d).status (settled_later d).status is
+  where
+    by : (s t : Status) → Moves s t → t ≡ Running → s ≡ Running
+    by s t moves is = elim moves as (λ _. s ≡ Running) [ inl same ↦ sym same ∙ is | inr ends ↦ ends.0 ]
+
+-- who runs behind a reply has run before it, unless it was just started
+pub ran_before : (d : ProcessState) (e : Event) (r : Reply) → event_of d ≡ Some e → (Starts e r → ⊥) → (absorbed d r).status ≡ Running → d.status ≡ Running
+unfolding absorbed
+ran_before d e r asks other is =
+    let same : after_asked d (event_of d) r ≡ after_event d e r = ap (λ o. after_asked d o r) asks in
+    event_running d e r other (ap (λ (x : ProcessState). x.status) (sym same) ∙ was_running (after_asked d (event_of d) r) is)

@@ -1,7 +1,7 @@
 -- What a step leaves of the templates and of the processes: templates stay, and a process has other frames by its own
 -- start and its own calls alone.
-use Rattle.std.proofs.Common.{◌==◌, ◌+◌, ◌-◌, ◌∙◌, ◌∷◌, ◌≡◌, ◌≢◌, Bool, List, [], ap, arith, false, refl, sym, true, ℕ, zero, suc}
-use Rattle.std.proofs.lemmas.Bool.{and_from, cond_both}
+use Rattle.std.proofs.Common.{◌==◌, ◌-◌, ◌∙◌, ◌∷◌, ◌≡◌, ◌≢◌, Bool, List, [], ap, false, refl, sym, true, ℕ, zero, suc}
+use Rattle.std.proofs.lemmas.Bool.{cond_both}
 use Rattle.std.specs.Prelude.{◌&&◌, None, Option, Some, slice_get, slice_set}
 use Rattle.s38_base.specs.declared.id.ObjNum.{ObjNum}
 use Rattle.s38_code.specs.declared.event.EndCause.{EndCause}
@@ -15,7 +15,7 @@ use Rattle.s38_commits.specs.Unit.{CommitUnit}
 use Rattle.s38_commits.specs.Units.{UnitMap, unit_of}
 use Rattle.s38_commits.specs.declared.change.UnitChange.{UnitChange}
 use Rattle.s38_rules.proofs.Laws.{all_decommitted_keeps, decommitted_keeps, logged_keeps}
-use Rattle.s38_rules.specs.Changes.{Changes, CellsPut, Committed, Decommitted, Ensured, Entered, Framed, Gone, Journaled, Locked, Made, Moved, Named, OnCursor, OnIndex, OnQueue, Profiled, Resized, Stands, Stays, Then, done}
+use Rattle.s38_rules.specs.Changes.{Changes, Committed, Decommitted, Entered, Framed, Then, done}
 use Rattle.s38_rules.specs.Changing.{logged, logged_in}
 use Rattle.s38_rules.specs.Computing.{receiver_at, shift_at}
 use Rattle.s38_rules.specs.Effect.{effect, effect_of, end_at, start_at, started_as}
@@ -24,7 +24,7 @@ use Rattle.s38_rules.specs.Invocations.{restack, restack_at, restacked, with_sta
 use Rattle.s38_rules.specs.Journaling.{journal_for}
 use Rattle.s38_rules.specs.Operands.{delivered}
 use Rattle.s38_rules.specs.Rows.{row}
-use Rattle.s38_rules.specs.State.{State, process_entry, started, started_in, waits}
+use Rattle.s38_rules.specs.State.{State, process_entry, started_in, waits}
 use Rattle.s38_rules.specs.Step.{awake_verdict, by_verdict, by_waiting, step}
 use Rattle.s38_rules.specs.declared.verdict.Verdict.TheVariants.{Permit, Refuse, Wait}
 use Rattle.s38_rules.specs.declared.verdict.Verdict.{Verdict}

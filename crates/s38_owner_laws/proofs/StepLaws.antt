@@ -1,24 +1,22 @@
 -- Step by step the frames of each process stay those of its invocations.
-use Rattle.std.proofs.Common.{◌++◌, ◌+◌, ◌-◌, ◌<◌, ◌==◌, ◌∙◌, ◌∷◌, ◌≡◌, ◌≢◌, ◌≤◌, ◌⊎◌, Bool, List, [], ap, arith, cond, false, inl, inr, length, map, refl, subst, suc, sym, true, zero, ℕ}
+use Rattle.std.proofs.Common.{◌-◌, ◌<◌, ◌∙◌, ◌∷◌, ◌≡◌, List, [], ap, arith, cond, false, inl, inr, length, map, refl, subst, suc, sym, true, zero, ℕ}
 use Rattle.std.proofs.lemmas.Bool.Decides.{nat_tests}
 use Rattle.std.proofs.lemmas.Bool.{cond_both}
-use Rattle.std.proofs.lemmas.List.Elements.{All-cons, All-head, All-tail, All-weaker}
+use Rattle.std.proofs.lemmas.List.Elements.{All-cons, All-head, All-tail}
 use Rattle.std.proofs.lemmas.List.{length-map}
 use Rattle.std.proofs.lemmas.Option.{same_Some}
 use Rattle.std.specs.Option.{option_map}
-use Rattle.std.specs.Prelude.{All, IfSome, None, Option, Some, nat_lt, slice_get}
+use Rattle.std.specs.Prelude.{All, None, Option, Some, is_some, nat_lt, slice_get}
 use Rattle.s38_base.specs.declared.id.ObjNum.{ObjNum}
 use Rattle.s38_base.specs.declared.op.Op.TheVariants.{Callx, Xctl}
 use Rattle.s38_base.specs.declared.op.Op.{Op}
 use Rattle.s38_code.specs.Operations.{classes, family_of}
 use Rattle.s38_code.specs.declared.class.Class.TheVariants.{PointerSource}
 use Rattle.s38_code.specs.declared.class.Class.{Class}
-use Rattle.s38_code.specs.declared.event.EndCause.{EndCause}
 use Rattle.s38_code.specs.declared.event.Event.TheVariants.{Act, Finish, Start}
 use Rattle.s38_code.specs.declared.event.Event.{Event}
 use Rattle.s38_code.specs.declared.event.Request.{Request}
-use Rattle.s38_code.specs.declared.made.CheckedTemplate.{CheckedTemplate}
-use Rattle.s38_code.specs.declared.made.CreateResult.TheVariants.{Created, Refused}
+use Rattle.s38_code.specs.declared.made.CreateResult.TheVariants.{Created}
 use Rattle.s38_code.specs.declared.made.CreateResult.{CreateResult}
 use Rattle.s38_code.specs.declared.operand.Operand.{Operand}
 use Rattle.s38_code.specs.declared.program.Arg.{Arg}
@@ -30,39 +28,35 @@ use Rattle.s38_code.specs.declared.reply.Reply.{Reply}
 use Rattle.s38_code.specs.declared.reply.Val.TheVariants as vals
 use Rattle.s38_code.specs.declared.reply.Val.{Val}
 use Rattle.s38_journals.specs.Journals as journals
-use Rattle.s38_odt.specs.Suited.{AreSuited, IsSuited}
+use Rattle.s38_odt.specs.Suited.{IsSuited}
 use Rattle.s38_odt.specs.Suits.{all_suit}
-use Rattle.s38_process.specs.Invocations.{Stack, code_in, deepest, depth_of, instruction_of, rows_in}
+use Rattle.s38_process.specs.Invocations.{code_in, deepest, depth_of, rows_in}
 use Rattle.s38_process.specs.Process.{ProcessState, absorbed, event_of, program_in, went_into}
 use Rattle.s38_process.specs.declared.invocation.Invocation.{Invocation}
-use Rattle.s38_process.specs.declared.status.Status.TheVariants.{Fresh}
+use Rattle.s38_process.specs.declared.status.Status.TheVariants.{Fresh, Running}
 use Rattle.s38_requests.specs.Requests.{operand_of, operands_of, request_of}
-use Rattle.s38_rules.proofs.StoreLaws.{stored_beside, stored_holds}
-use Rattle.s38_rules.specs.Changes.{Changes, Framed, done}
+use Rattle.s38_rules.proofs.StoreLaws.{stored_holds}
+use Rattle.s38_rules.specs.Changes.{done}
 use Rattle.s38_rules.specs.Computing.{is_call, receiver_at, shift_at}
 use Rattle.s38_rules.specs.Effect.{effect, effect_of, end_at, start_at, started_as}
-use Rattle.s38_rules.specs.Held.{Held, object}
-use Rattle.s38_rules.specs.Invocations.{frames_used, most_frames, pushed, replaced, restack, restacked, stack_in, stack_of}
+use Rattle.s38_rules.specs.Held.{Held}
+use Rattle.s38_rules.specs.Invocations.{frames_used, most_frames, pushed, replaced, restacked, stack_in, stack_of}
 use Rattle.s38_rules.specs.Operands.{target}
 use Rattle.s38_rules.specs.Parts.{on_journal}
-use Rattle.s38_rules.specs.Programs.{code_of, program_by}
+use Rattle.s38_rules.specs.Programs.{code_of}
 use Rattle.s38_rules.specs.Rows.{row}
-use Rattle.s38_rules.specs.State.{State, process_entry, started, started_in, waits}
-use Rattle.s38_rules.specs.Step.{Stepped, awake_verdict, by_verdict, by_waiting, step}
+use Rattle.s38_rules.specs.State.{State, process_entry, started}
 use Rattle.s38_rules.specs.Storing.{stored}
-use Rattle.s38_rules.specs.Verdict.{refused_by}
 use Rattle.s38_rules.specs.declared.object.Object.{Object}
 use Rattle.s38_rules.specs.declared.process.ProcessEntry.{ProcessEntry}
 use Rattle.s38_rules.specs.declared.process.Started.{Started}
-use Rattle.s38_rules.specs.declared.verdict.Verdict.TheVariants.{Permit, Refuse, Wait}
-use Rattle.s38_rules.specs.declared.verdict.Verdict.{Verdict}
-use Rattle.s38_owner_laws.proofs.CallLaws.{Reaches, call_by, call_reaches, call_values, callx_frames, callx_room, permitted_unrefused, xctl_frames}
-use Rattle.s38_owner_laws.proofs.FrameLaws.{AreKnown, IsCheckedProgram, depth_is, frames_enough, frames_more, frames_next, known_next, used_is}
+use Rattle.s38_owner_laws.proofs.CallLaws.{Reaches}
+use Rattle.s38_owner_laws.proofs.FrameLaws.{AreKnown, IsCheckedProgram, depth_is, frames_enough, frames_more, frames_next, used_is}
 use Rattle.s38_owner_laws.proofs.ObjectLaws.{Follows, all_decommitted_follows, delivered_follows, done_follows, journal_follows, same_follows, then_follows}
 use Rattle.s38_owner_laws.proofs.RowLaws.{OfTemplates, row_quiet}
-use Rattle.s38_owner_laws.proofs.StackLaws.{AsksFor, BringsNone, IsClosed, absorbed_kept, absorbed_values, asks_for, behind_values, into_called, into_transferred, on_in_its_own, starts_fresh, stays_fresh}
-use Rattle.s38_owner_laws.proofs.StateLaws.{Restarts, act_processes, begun, effect_templates, ends, quiet_processes, restacks, same_restarts, starts}
-use Rattle.s38_owner_laws.specs.Beginnings.{AreChecked, IsChecked}
+use Rattle.s38_owner_laws.proofs.StackLaws.{AsksFor, BringsNone, IsClosed, Starts, absorbed_kept, absorbed_values, asks_for, into_called, into_transferred, on_in_its_own, ran_before, starts_fresh, stays_fresh}
+use Rattle.s38_owner_laws.proofs.StateLaws.{begun}
+use Rattle.s38_owner_laws.specs.Beginnings.{IsChecked}
 use Rattle.s38_owner_laws.specs.Owners.{AreFramesOf, IsFrameOf, WasGivenTo, programs_of}
 
 -- ---- what is kept of the machine and of a process
@@ -76,6 +70,8 @@ pub record Stands (s : State) (p : ℕ) (own : CreateResult) (d : ProcessState) 
   pub young : d.status ≡ Fresh → programs_of d.stack ≡ own ∷ []
   pub checked : All IsChecked (programs_of d.stack)
   pub agree : (x : Started) → started s p ≡ Some x → AreFramesOf s.held own x.stack (programs_of d.stack)
+  -- a process that runs has started
+  pub begun : d.status ≡ Running → is_some (started s p) ≡ true
 
 frames_closed : (h : Held) (own : CreateResult) (frames : List ObjNum) → IsClosed (AreFramesOf h own frames)
 frames_closed h own frames program callers are = are.1
@@ -118,6 +114,7 @@ stored_follows before s p e t follows =
 pub stands_still : (s t : State) (p : ℕ) (own : CreateResult) (d : ProcessState) → Follows IsCheckedProgram s.held t.held → started t p ≡ started s p → Stands s p own d → Stands t p own d
 stands_still s t p own d follows same stands = record {
   young = stands.young;
+  begun = λ running. ap is_some same ∙ stands.begun running;
   checked = stands.checked;
   agree = λ x is. frames_next IsCheckedProgram s.held t.held own x.stack (programs_of d.stack) follows (stands.agree x (sym same ∙ is));
 }
@@ -125,10 +122,11 @@ stands_still s t p own d follows same stands = record {
 -- ---- the process that asks, where no values come for an instruction
 
 -- nothing but its own way on
-pub goes_on : (s t : State) (p : ℕ) (own : CreateResult) (d : ProcessState) (e : Event) (r : Reply) → Follows IsCheckedProgram s.held t.held → started t p ≡ started s p → event_of d ≡ Some e
+pub goes_on : (s t : State) (p : ℕ) (own : CreateResult) (d : ProcessState) (e : Event) (r : Reply) → (Starts e r → ⊥) → Follows IsCheckedProgram s.held t.held → started t p ≡ started s p → event_of d ≡ Some e
     → ((P : List CreateResult → Type 0) → IsClosed P → P (programs_of d.stack) → P (programs_of (absorbed d r).stack)) → Stands s p own d → Stands t p own (absorbed d r)
-goes_on s t p own d e r follows same asks keeps stands = record {
+goes_on s t p own d e r other follows same asks keeps stands = record {
   young = young_next d e r own asks stands.young;
+  begun = λ running. ap is_some same ∙ stands.begun (ran_before d e r asks other running);
   checked = keeps (All IsChecked) checked_closed stands.checked;
   agree = λ x is.
       frames_next IsCheckedProgram s.held t.held own x.stack (programs_of (absorbed d r).stack) follows
@@ -137,7 +135,7 @@ goes_on s t p own d e r follows same asks keeps stands = record {
 
 pub signalled : (s : State) (p : ℕ) (own : CreateResult) (d : ProcessState) (e : Event) (r : Reply) → ((vs : List Val) → r ≡ Done vs → ⊥) → event_of d ≡ Some e → Stands s p own d → Stands s p own (absorbed d r)
 signalled s p own d e r none asks stands =
-    goes_on s s p own d e r (same_follows IsCheckedProgram s.held) refl asks (λ P closed h. absorbed_kept P closed d e r asks (brings e r none) h) stands
+    goes_on s s p own d e r (starts_not e r none) (same_follows IsCheckedProgram s.held) refl asks (λ P closed h. absorbed_kept P closed d e r asks (brings e r none) h) stands
   where
     brings : (e : Event) (r : Reply) → ((vs : List Val) → r ≡ Done vs → ⊥) → BringsNone e r
     brings (Act depth t) (Done vs) none = absurd (none vs refl)
@@ -146,17 +144,29 @@ signalled s p own d e r none asks stands =
     brings Start r none = tt
     brings (Finish cause) r none = tt
 
+    starts_not : (e : Event) (r : Reply) → ((vs : List Val) → r ≡ Done vs → ⊥) → Starts e r → ⊥
+    starts_not Start (Done vs) none is = none vs refl
+    starts_not Start (Signal x) none is = is
+    starts_not Start MustWait none is = is
+    starts_not (Act depth t) r none is = is
+    starts_not (Finish cause) r none is = is
+
 begun_stack : (h : Held) (o : Option ProcessEntry) (x : Started) → begun h o ≡ Some x → x.stack ≡ record { 0 = 0 } ∷ []
 begun_stack h None x is = cc
 begun_stack h (Some y) x is = let same : started_as h y.job ≡ x = same_Some (started_as h y.job) x is in sym (ap (λ (z : Started). z.stack) same)
+
+begun_some : (h : Held) (o : Option ProcessEntry) → is_some o ≡ true → is_some (begun h o) ≡ true
+begun_some h None there = cc
+begun_some h (Some x) there = refl
 
 -- the job's own template has the first frame
 first_frame : (h : Held) (own : CreateResult) → AreFramesOf h own (record { 0 = 0 } ∷ []) (own ∷ [])
 first_frame h own = (inl (refl, refl), tt)
 
-pub started_own : (s t : State) (p : ℕ) (own : CreateResult) (d : ProcessState) (vs : List Val) → started t p ≡ begun s.held (process_entry s p) → event_of d ≡ Some Start → Stands s p own d → Stands t p own (absorbed d (Done vs))
-started_own s t p own d vs begins asks stands = record {
+pub started_own : (s t : State) (p : ℕ) (own : CreateResult) (d : ProcessState) (vs : List Val) → is_some (process_entry s p) ≡ true → started t p ≡ begun s.held (process_entry s p) → event_of d ≡ Some Start → Stands s p own d → Stands t p own (absorbed d (Done vs))
+started_own s t p own d vs there begins asks stands = record {
   young = young_next d Start (Done vs) own asks stands.young;
+  begun = λ running. ap is_some begins ∙ begun_some s.held (process_entry s p) there;
   checked = absorbed_kept (All IsChecked) checked_closed d Start (Done vs) asks tt stands.checked;
   agree = λ x is.
       let stack : x.stack ≡ record { 0 = 0 } ∷ [] = begun_stack s.held (process_entry s p) x (sym begins ∙ is) in
@@ -178,7 +188,7 @@ acted s t p own d depth r vs follows same asks other stands =
     let i = for.i in
     let still : programs_of (went_into d.stack vs i i.op (program_in vs)) ≡ programs_of d.stack =
     on_in_its_own d.stack vs i i.op (program_in vs) (ap is_call (sym (asked_op d depth r for)) ∙ other) in
-    goes_on s t p own d (Act depth r) (Done vs) follows same asks
+    goes_on s t p own d (Act depth r) (Done vs) (λ none. none) follows same asks
     (λ P closed h. absorbed_values P closed d depth r vs i asks for.next (subst P (sym still) h)) stands
 
 -- ---- a call has a first operand
@@ -245,6 +255,10 @@ was_stacked : (f : List ObjNum → List ObjNum) (o : Option Started) (x : Starte
 was_stacked f None x is = cc
 was_stacked f (Some y) x is = let same : record y { stack = f y.stack } ≡ x = same_Some (record y { stack = f y.stack }) x is in record { y = y; is = refl; stack = ap (λ (z : Started). z.stack) (sym same) }
 
+restacked_some : (f : List ObjNum → List ObjNum) (o : Option Started) → is_some o ≡ true → is_some (restacked f o) ≡ true
+restacked_some f None there = cc
+restacked_some f (Some x) there = refl
+
 -- behind a call the programs are these
 called_programs : (d : ProcessState) (depth : ℕ) (r : Request) (vs : List Val) (program : Program) (for : AsksFor d depth r) → r.op ≡ Callx → vs ≡ vals.Code program ∷ []
     → programs_of (went_into d.stack vs for.i for.i.op (program_in vs)) ≡ (cond (nat_lt (depth_of d.stack) deepest) (Created program ∷ programs_of d.stack) (programs_of d.stack))
@@ -285,6 +299,7 @@ called s t p own d depth r vs known follows asks reached came op room frames sta
     let frame : ObjNum = record { 0 = target s.held r.operands 1 } in
     record {
       young = young_next d (Act depth r) (Done vs) own asks stands.young;
+      begun = λ running. ap is_some frames ∙ restacked_some (pushed depth frame) (started s p) (stands.begun for.running);
       checked = absorbed_values (All IsChecked) checked_closed d depth r vs for.i asks for.next
           (subst (All IsChecked) (sym programs)
           (cond_both (nat_lt (depth_of d.stack) deepest) (Created reached.program ∷ programs_of d.stack) (programs_of d.stack) (All IsChecked)
@@ -308,6 +323,7 @@ transferred s t p own d depth r vs known follows asks reached came op frames sta
     let callers = map (λ (x : Invocation). x.made) d.stack.callers in
     record {
       young = young_next d (Act depth r) (Done vs) own asks stands.young;
+      begun = λ running. ap is_some frames ∙ restacked_some (replaced depth frame) (started s p) (stands.begun for.running);
       checked = absorbed_values (All IsChecked) checked_closed d depth r vs for.i asks for.next
           (subst (All IsChecked) (sym programs)
           (All-cons IsChecked (Created reached.program) callers (checked_call s.held r.operands known reached) (All-tail IsChecked d.stack.top.made callers stands.checked)));

@@ -1,6 +1,6 @@
 -- Whose programs a process runs: the frames that the machine keeps of it are those of the programs in which it is, so
 -- the owners that act are the owners of these programs.
-use Rattle.std.specs.Prelude.{◌≡◌, ◌<◌, ◌≤◌, ◌⊎◌, ℕ, ◌+◌, List, [], ◌∷◌, ◌++◌, length, map, Option, Some, None, slice_get}
+use Rattle.std.specs.Prelude.{◌≡◌, ◌<◌, ◌≤◌, ◌⊎◌, ℕ, ◌+◌, List, [], ◌∷◌, ◌++◌, length, map, Option, Some, None, is_some, slice_get, true}
 use Rattle.std.specs.Option.{option_map}
 use Rattle.s38_base.specs.declared.id.ObjNum.{ObjNum}
 use Rattle.s38_code.specs.declared.entry.Entry.{Entry}
@@ -10,11 +10,11 @@ use Rattle.s38_code.specs.declared.made.CreateResult.{CreateResult}
 use Rattle.s38_code.specs.declared.made.CreateResult.TheVariants.{Created}
 use Rattle.s38_code.specs.History.{entries_of}
 use Rattle.s38_process.specs.Invocations.{Stack, depth_of}
+use Rattle.s38_process.specs.declared.status.Status.TheVariants.{Running}
 use Rattle.s38_process.specs.Process.{ProcessState, behind}
 use Rattle.s38_rules.specs.declared.object.Object.{Object}
-use Rattle.s38_rules.specs.declared.process.Started.{Started}
 use Rattle.s38_rules.specs.Held.{Held, object}
-use Rattle.s38_rules.specs.Invocations.{in_use}
+use Rattle.s38_rules.specs.Invocations.{in_use, stack_of}
 use Rattle.s38_rules.specs.Programs.{code_of}
 use Rattle.s38_rules.specs.State.{State, started}
 use Rattle.s38_rules.specs.Step.{step}
@@ -52,22 +52,27 @@ pub record Agree (h : Held) (own : CreateResult) (frames : List ObjNum) (s : Sta
 
 -- ---- over a history
 
--- the frames of each process that has started, as far as they are in use at its depth, are those of its invocations
+-- a process that runs has started, and the frames of one that has started, as far as they are in use at its depth, are
+-- those of its invocations
+pub record IsOwned (s : State) (p : ℕ) (own : CreateResult) (d : ProcessState) : Type 0 where
+  pub begun : d.status ≡ Running → is_some (started s p) ≡ true
+  pub agree : is_some (started s p) ≡ true → Agree s.held own (in_use (depth_of d.stack) (stack_of s p)) d.stack
+
 abbrev pub OwnersAgree : List ProcessState → List Entry → State → Type 0
-OwnersAgree processes before s = (k : ℕ) (d : ProcessState) (x : Started) → slice_get processes k ≡ Some d → started s (k + 1) ≡ Some x
-    → let now : Stack = (behind d (entries_of (k + 1) before)).stack in Agree s.held d.stack.top.made (in_use (depth_of now) x.stack) now
+OwnersAgree processes before s = (k : ℕ) (d : ProcessState) → slice_get processes k ≡ Some d → IsOwned s (k + 1) d.stack.top.made (behind d (entries_of (k + 1) before))
 
--- an instruction is asked at the depth of its process
-abbrev pub NamesDepth : ProcessState → Event → Type 0
-NamesDepth d (Act depth request) = depth ≡ depth_of d.stack
-NamesDepth d Start = Unit {0}
-NamesDepth d (Finish cause) = Unit {0}
+-- an instruction is asked at the depth of its process, so the owners that act are those of frames of its invocations
+abbrev pub ActsFor : State → ℕ → CreateResult → Stack → Event → Type 0
+ActsFor s p own stack (Act depth request) = (depth ≡ depth_of stack) × Agree s.held own (in_use depth (stack_of s p)) stack
+ActsFor s p own stack Start = Unit {0}
+ActsFor s p own stack (Finish cause) = Unit {0}
 
-abbrev pub IsAskedAtDepth : List ProcessState → List Entry → Entry → Type 0
-IsAskedAtDepth processes before e = (k : ℕ) (d : ProcessState) → slice_get processes k ≡ Some d → e.process ≡ k + 1 → NamesDepth (behind d (entries_of (k + 1) before)) e.event
+abbrev pub IsActedFor : List ProcessState → List Entry → State → Entry → Type 0
+IsActedFor processes before s e = (k : ℕ) (d : ProcessState) → slice_get processes k ≡ Some d → e.process ≡ k + 1
+    → ActsFor s e.process d.stack.top.made (behind d (entries_of (k + 1) before)).stack e.event
 
 -- so it is in each state on the way
 abbrev pub AllOwnersAgree : List ProcessState → State → List Entry → List Entry → Type 0
 AllOwnersAgree processes s before [] = OwnersAgree processes before s
 AllOwnersAgree processes s before (e ∷ es) =
-    OwnersAgree processes before s × IsAskedAtDepth processes before e × AllOwnersAgree processes (step s e.process e.event).state (before ++ e ∷ []) es
+    OwnersAgree processes before s × IsActedFor processes before s e × AllOwnersAgree processes (step s e.process e.event).state (before ++ e ∷ []) es

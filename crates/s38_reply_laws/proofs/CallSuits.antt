@@ -1,18 +1,17 @@
 -- A program that is called suits the call: each of its parameters gets an argument that holds what it declares.
-use Rattle.std.proofs.Common.{◌++◌, ◌+◌, ◌-◌, ◌<◌, ◌==◌, ◌∙◌, ◌∷◌, ◌≡◌, Bool, List, [], ap, arith, cond, drop, false, length, map, refl, subst, suc, sym, take, true, zero, ℕ}
+use Rattle.std.proofs.Common.{◌+◌, ◌-◌, ◌==◌, ◌∙◌, ◌∷◌, ◌≡◌, Bool, List, [], ap, arith, cond, false, length, refl, subst, suc, sym, take, true, zero, ℕ}
 use Rattle.std.proofs.lemmas.Bool.Decides.{nat_tests}
-use Rattle.std.proofs.lemmas.Bool.{and_parts, cond_both}
+use Rattle.std.proofs.lemmas.Bool.{and_parts}
 use Rattle.std.proofs.lemmas.List.Sums.{sum_by-cons}
 use Rattle.std.proofs.lemmas.Option.{same_Some, slice_get-map}
 use Rattle.std.specs.List.{list_all}
 use Rattle.std.specs.Option.{option_map}
-use Rattle.std.specs.Prelude.{◌&&◌, None, Option, Some, count_by, slice_get, unwrap_or}
-use Rattle.s38_base.specs.Scalar.{is_pointer_attr, length_of, same_attr}
+use Rattle.std.specs.Prelude.{None, Option, Some, slice_get, unwrap_or}
+use Rattle.s38_base.specs.Scalar.{same_attr}
 use Rattle.s38_base.specs.declared.attr.Attr.TheVariants as attrs
 use Rattle.s38_base.specs.declared.attr.Attr.{Attr}
 use Rattle.s38_code.specs.declared.class.Class.TheVariants.{Argument}
 use Rattle.s38_code.specs.declared.class.Class.{Class}
-use Rattle.s38_code.specs.declared.operand.Operand.TheVariants as operands
 use Rattle.s38_code.specs.declared.operand.Operand.{Operand}
 use Rattle.s38_code.specs.declared.program.Arg.TheVariants as args
 use Rattle.s38_code.specs.declared.program.Arg.{Arg}
@@ -21,7 +20,6 @@ use Rattle.s38_code.specs.declared.program.Form.{Form}
 use Rattle.s38_code.specs.declared.program.Program.{Program}
 use Rattle.s38_code.specs.declared.program.Row.{Row}
 use Rattle.s38_code.specs.declared.reply.Val.{Val}
-use Rattle.s38_local.specs.Law.Shape.{OfBytes, OfPointer}
 use Rattle.s38_local.specs.Law.{AreHeld, Holds, Shape, shape_at, shape_for, shapes_of}
 use Rattle.s38_local.specs.Variables.{form_in, place_of, value_of_item}
 use Rattle.s38_odt.specs.Formed.{AreFormed, IsForm}

@@ -1,8 +1,7 @@
 -- What each instruction gives fills the receiver that its class asks for, where that is a variable: as many bytes as it
 -- has, or a pointer. One lemma for each family.
-use Rattle.std.proofs.Common.{◌*◌, ◌++◌, ◌+◌, ◌-◌, ◌/◌, ◌==◌, ◌∷◌, ◌≡◌, ◌≤◌, ◌⊎◌, ◌∙◌, Bool, List, [], ap, arith, cond, drop, false, inl, inr, length, length-append, map, min, refl, subst, sym, take, true, ℕ}
-use Rattle.std.proofs.lemmas.Bool.Decides.{nat_tests}
-use Rattle.std.proofs.lemmas.Bool.{and_parts, cond_both, or_left}
+use Rattle.std.proofs.Common.{◌*◌, ◌++◌, ◌+◌, ◌-◌, ◌/◌, ◌==◌, ◌∷◌, ◌≡◌, ◌⊎◌, ◌∙◌, Bool, List, ap, arith, cond, drop, false, inl, inr, length, length-append, map, min, refl, sym, take, true, ℕ}
+use Rattle.std.proofs.lemmas.Bool.{cond_both, or_left}
 use Rattle.std.proofs.lemmas.List.{length-drop, length-replicate, length-take}
 use Rattle.std.proofs.lemmas.List.FromFn.{length-map-range_with_len}
 use Rattle.std.specs.Option.{option_map}
@@ -35,15 +34,12 @@ use Rattle.s38_code.specs.declared.program.Program.{Program}
 use Rattle.s38_code.specs.declared.reply.Val.TheVariants as vals
 use Rattle.s38_code.specs.declared.reply.Val.{Val}
 use Rattle.s38_compute.specs.Compute.{from_hex, pointer_moved, pointing, string_given, where_long}
-use Rattle.s38_compute.specs.Computed.{as_branch, as_bytes, as_number, as_pointer, bytes_given, computed, computes_number, computes_string, copies_left, copies_right, is_branch, is_copy, moves_pointer, number_given, pointer_given, shift_of, test_given, value_in, written_over}
+use Rattle.s38_compute.specs.Computed.{as_branch, as_bytes, as_number, as_pointer, bytes_given, computed, computes_number, computes_string, is_branch, is_copy, moves_pointer, number_given, pointer_given, test_given, value_in, written_over}
 use Rattle.s38_compute.specs.Readings.{Readings}
 use Rattle.s38_compute.specs.declared.given.Given.{Given}
-use Rattle.s38_memory.specs.Tagged.{bytes_in, is_within}
-use Rattle.s38_memory.specs.declared.cell.Cell.{Cell}
-use Rattle.s38_rules.specs.Cells.{bytes_there}
-use Rattle.s38_rules.specs.Computing.{computing, computing_gives, held_in, is_call, of_operands, receiver_attr, shift_at}
+use Rattle.s38_rules.specs.Computing.{computing, computing_gives, held_in, is_call, of_operands, receiver_attr}
 use Rattle.s38_rules.specs.Contexts.{contexts_row, matctx_bytes}
-use Rattle.s38_rules.specs.Creation.{creation_gives, new_pointer}
+use Rattle.s38_rules.specs.Creation.{creation_gives}
 use Rattle.s38_rules.specs.DataSpaces.{data_spaces_row, retdsen_bytes}
 use Rattle.s38_rules.specs.Grants.{grants_row, matau_bytes, matauobj_bytes, testau_bytes}
 use Rattle.s38_rules.specs.Held.{Held}
@@ -51,17 +47,15 @@ use Rattle.s38_rules.specs.Indexes.{fndinxen_bytes, indexes_row}
 use Rattle.s38_rules.specs.Instruction.{Instruction}
 use Rattle.s38_rules.specs.Journals.{journals_row, retjent_bytes}
 use Rattle.s38_rules.specs.Locking.{locks_row, matobjlk_bytes}
-use Rattle.s38_rules.specs.Operands.{fitted, is_in_space, place, pointer_at, rights_at, room_at, room_of}
-use Rattle.s38_rules.specs.Parts.{cells_at}
+use Rattle.s38_rules.specs.Operands.{fitted, is_in_space, place, room_at, room_of}
 use Rattle.s38_rules.specs.Profiles.{profiles_row}
 use Rattle.s38_rules.specs.Programs.{call_gives, program_at, programs_row}
 use Rattle.s38_rules.specs.Queues.{deq_bytes, queues_row}
-use Rattle.s38_rules.specs.Resolving.{pointer_to, resolved, resolving_row, rslvsp_gives, setspfp_gives}
+use Rattle.s38_rules.specs.Resolving.{resolving_row, rslvsp_gives, setspfp_gives}
 use Rattle.s38_rules.specs.Rows.{row_in}
 use Rattle.s38_rules.specs.Spaces.{cpybwp_gives, setdp_gives, setsppfp_gives, spaces_row}
 use Rattle.s38_rules.specs.State.{State}
 use Rattle.s38_rules.specs.declared.creating.Creating.{Creating}
-use Rattle.s38_rules.specs.declared.need.Located.{Located}
 
 -- ---- what the first operand gets
 

@@ -1,17 +1,14 @@
 -- Over a history replies suit, and so processes stay lawful.
-use Rattle.std.proofs.Common.{◌++◌, ◌+◌, ◌-◌, ◌==◌, ◌∙◌, ◌∷◌, ◌≡◌, ◌⊎◌, Bool, List, [], ap, append_assoc, arith, drop, false, inl, inr, length, refl, subst, suc, sym, true, zero, ℕ}
+use Rattle.std.proofs.Common.{◌++◌, ◌+◌, ◌==◌, ◌∙◌, ◌∷◌, ◌≡◌, Bool, List, [], ap, append_assoc, arith, drop, false, inl, inr, length, refl, subst, sym, true, ℕ}
 use Rattle.std.proofs.lemmas.Bool.Decides.{nat_tests}
 use Rattle.std.proofs.lemmas.Bool.{and_parts}
-use Rattle.std.proofs.lemmas.List.Elements.{All-head, All-tail}
-use Rattle.std.specs.List.{list_all}
-use Rattle.std.specs.Prelude.{All, IfSome, None, Option, Some, not, slice_get}
+use Rattle.std.specs.Prelude.{None, Option, Some, not}
 use Rattle.s38_base.specs.Exceptions as exceptions
 use Rattle.s38_base.specs.declared.op.Op.TheVariants.{Callx, Xctl}
 use Rattle.s38_base.specs.declared.op.Op.{Op}
 use Rattle.s38_code.specs.History.{entries_of}
 use Rattle.s38_code.specs.Operations.{arguments, classes, family_of}
 use Rattle.s38_code.specs.declared.class.Class.TheVariants.{PointerSource}
-use Rattle.s38_code.specs.declared.class.Class.{Class}
 use Rattle.s38_code.specs.declared.entry.Entry.{Entry}
 use Rattle.s38_code.specs.declared.event.Event.TheVariants.{Act, Finish, Start}
 use Rattle.s38_code.specs.declared.event.Event.{Event}
@@ -21,10 +18,7 @@ use Rattle.s38_code.specs.declared.operand.Operand.{Operand}
 use Rattle.s38_code.specs.declared.program.Arg.{Arg}
 use Rattle.s38_code.specs.declared.program.Instruction.{Instruction}
 use Rattle.s38_code.specs.declared.program.Program.{Program}
-use Rattle.s38_code.specs.declared.program.Row.{Row}
-use Rattle.s38_code.specs.declared.reply.Reply.TheVariants.{Done, MustWait, Signal}
-use Rattle.s38_code.specs.declared.reply.Reply.{Reply}
-use Rattle.s38_code.specs.declared.reply.Val.TheVariants as vals
+use Rattle.s38_code.specs.declared.reply.Reply.TheVariants.{Done}
 use Rattle.s38_code.specs.declared.reply.Val.{Val}
 use Rattle.s38_local.specs.Law.{shapes_of}
 use Rattle.s38_odt.specs.Suited.{AreSuited, IsSuited}
@@ -32,26 +26,25 @@ use Rattle.s38_odt.specs.Suits.{all_suit, suits}
 use Rattle.s38_process.proofs.Alone.{fresh_settled}
 use Rattle.s38_process.proofs.LawfulLaws.{absorbed_lawful, begun_lawful}
 use Rattle.s38_process.proofs.LawfulLawsOfCalls.{invocation_well}
-use Rattle.s38_process.specs.Invocations.{Stack, argument_places, arguments_in, code_in, instruction_of, rows_in}
+use Rattle.s38_process.specs.Invocations.{Stack, arguments_in, code_in, instruction_of, rows_in}
 use Rattle.s38_process.specs.Lawful.{IsLawful, StandsWell, SuitsBy, SuitsCall, SuitsHere, SuitsInto, SuitsReply}
-use Rattle.s38_process.specs.Process.{ProcessState, absorbed, behind, event_of, program_in}
+use Rattle.s38_process.specs.Process.{ProcessState, behind, event_of, program_in}
 use Rattle.s38_requests.specs.Requests.{operands_of, request_of}
 use Rattle.s38_rules.proofs.RuleLaws.{fails_none, first_none, not_false}
 use Rattle.s38_rules.proofs.VerdictLaws.{rule_met}
 use Rattle.s38_rules.specs.Changes.{done}
 use Rattle.s38_rules.specs.Computing.{is_call, shift_at}
 use Rattle.s38_rules.specs.Effect.{effect, effect_of}
-use Rattle.s38_rules.specs.Held.{Held, object}
+use Rattle.s38_rules.specs.Held.{Held}
 use Rattle.s38_rules.specs.Legal.{IsEntry, Leads}
 use Rattle.s38_rules.specs.Operands.{target}
 use Rattle.s38_rules.specs.Programs.{are_arguments, argument_rule, callx_fails, frame_rule, parameters_in, parameters_of, program_at, programs_row, xctl_fails}
 use Rattle.s38_rules.specs.Rows.{row, row_in}
 use Rattle.s38_rules.specs.State.{State, waits}
 use Rattle.s38_rules.specs.Step.{awake_verdict, by_verdict, by_waiting, step}
-use Rattle.s38_rules.specs.Verdict.{refused_by}
 use Rattle.s38_rules.specs.declared.verdict.Verdict.TheVariants.{Permit, Refuse, Wait}
 use Rattle.s38_rules.specs.declared.verdict.Verdict.{Verdict}
-use Rattle.s38_owner_laws.proofs.CallLaws.{Reaches, call_by, call_reaches, call_values, permitted_unrefused, reached_program}
+use Rattle.s38_owner_laws.proofs.CallLaws.{call_by, call_reaches, call_values, permitted_unrefused, reached_program}
 use Rattle.s38_owner_laws.proofs.HistoryLaws.{AllStand, all_next, begin_all, behind_other, behind_own, entry_asked}
 use Rattle.s38_owner_laws.proofs.StackLaws.{AsksFor, asks_for}
 use Rattle.s38_owner_laws.proofs.StepLaws.{AreKept, Stands, asked_begins, asked_op, suited_at}
@@ -232,12 +225,11 @@ suits_on : (processes : List ProcessState) (s : State) (before history : List En
     → AreAsked processes (before ++ history) → AllSuit processes before history
 suits_on processes s before [] end all lawful leads asked = lawful
 suits_on processes s before (e ∷ es) end all lawful leads asked =
-    let suits = entry_suits processes before es e s all lawful leads.0 asked in
-    (
+    let suits = entry_suits processes before es e s all lawful leads.0 asked in (
       lawful,
       suits,
       suits_on processes (step s e.process e.event).state (before ++ e ∷ []) es end (all_next processes before es e s all leads.0 asked) (lawful_next processes before e lawful suits) leads.1
-      (subst (AreAsked processes) (sym (append_assoc before (e ∷ []) es)) asked),
+          (subst (AreAsked processes) (sym (append_assoc before (e ∷ []) es)) asked),
     )
 
 fresh_lawful : (d : ProcessState) → IsFresh d → IsLawful d

@@ -1,5 +1,5 @@
 -- A value that comes back suits the variable that gets it.
-use Rattle.std.proofs.Common.{◌++◌, ◌+◌, ◌-◌, ◌==◌, ◌∙◌, ◌∷◌, ◌≡◌, ◌⊎◌, Bool, List, [], ap, arith, cond, drop, false, inl, inr, length, length-append, refl, subst, sym, take, true, ℕ}
+use Rattle.std.proofs.Common.{◌-◌, ◌∙◌, ◌∷◌, ◌≡◌, ◌⊎◌, Bool, List, [], ap, arith, cond, drop, false, inl, inr, length, length-append, refl, subst, sym, take, true, ℕ}
 use Rattle.std.proofs.lemmas.Bool.Decides.{nat_tests}
 use Rattle.std.proofs.lemmas.Bool.{and_parts}
 use Rattle.std.proofs.lemmas.List.{length-drop, length-take}
@@ -14,7 +14,7 @@ use Rattle.s38_base.specs.declared.op.Op.TheVariants.{Callx, Cmpblab, Cmpnvb, Cm
 use Rattle.s38_base.specs.declared.op.Op.{Op}
 use Rattle.s38_base.specs.declared.pointer.Pointer.{Pointer}
 use Rattle.s38_code.specs.Operations.{classes, operand_rule}
-use Rattle.s38_code.specs.declared.class.Class.TheVariants.{Argument, BytesReceiver, CellsReceiver, NumberReceiver, PointerReceiver}
+use Rattle.s38_code.specs.declared.class.Class.TheVariants.{BytesReceiver, CellsReceiver, NumberReceiver, PointerReceiver}
 use Rattle.s38_code.specs.declared.class.Class.{Class}
 use Rattle.s38_code.specs.declared.operand.Operand.TheVariants as operands
 use Rattle.s38_code.specs.declared.operand.Operand.{Operand}
@@ -22,28 +22,26 @@ use Rattle.s38_code.specs.declared.program.Arg.TheVariants as args
 use Rattle.s38_code.specs.declared.program.Arg.{Arg}
 use Rattle.s38_code.specs.declared.program.Form.TheVariants as forms
 use Rattle.s38_code.specs.declared.program.Form.{Form}
-use Rattle.s38_code.specs.declared.program.Instruction.{Instruction}
 use Rattle.s38_code.specs.declared.program.Row.{Row}
 use Rattle.s38_code.specs.declared.reply.Val.TheVariants as vals
 use Rattle.s38_code.specs.declared.reply.Val.{Val}
 use Rattle.s38_code.specs.declared.rule.OperandRule.TheVariants.{ShortBinary}
 use Rattle.s38_code.specs.declared.rule.OperandRule.{OperandRule}
 use Rattle.s38_compute.specs.Computed.{copies_left, copies_right, is_copy}
-use Rattle.s38_local.specs.Law.Shape.{OfBytes, OfNeither, OfPointer}
+use Rattle.s38_local.specs.Law.Shape.{OfBytes, OfPointer}
 use Rattle.s38_local.specs.Law.{AreHeld, Holds, Shape, shape_at, shape_for, shape_of, shapes_of}
 use Rattle.s38_local.specs.Variables.{form_in, is_based, place_of, value_of_item, value_pointer}
-use Rattle.s38_odt.specs.OperandRules.{attr_length, is_short_binary, keeps_rule}
-use Rattle.s38_odt.specs.Suited.{IsSuited}
-use Rattle.s38_odt.specs.Suits.{all_suit, are_bytes, form_attr, form_suits, has_cells, is_number, is_pointer, item_attr, item_suits, row_attr, suits}
+use Rattle.s38_odt.specs.OperandRules.{is_short_binary, keeps_rule}
+use Rattle.s38_odt.specs.Suits.{all_suit, are_bytes, form_attr, form_suits, has_cells, is_number, is_pointer, item_attr, item_suits, suits}
 use Rattle.s38_process.specs.Lawful.{Either, SuitValues, SuitsPlace}
-use Rattle.s38_process.specs.Replies.{merged, merged_bytes, takes_value}
+use Rattle.s38_process.specs.Replies.{merged, takes_value}
 use Rattle.s38_process.proofs.LawfulLawsOfLists.{shape_here}
 use Rattle.s38_requests.specs.Requests.{is_receiver, item_by, operand_of, operands_of}
-use Rattle.s38_rules.specs.Computing.{is_call, receiver_at}
+use Rattle.s38_rules.specs.Computing.{receiver_at}
 use Rattle.s38_rules.specs.Operands.{delivered, place}
 use Rattle.s38_rules.specs.State.{State}
 use Rattle.s38_strings.specs.Copies.{copied_left, copied_right}
-use Rattle.s38_reply_laws.proofs.GiveLaws.{Fills, IsLocal, IsLong, IsSorted, asks_two, first_gets_bytes, first_gets_number, first_gets_pointer, goes_back}
+use Rattle.s38_reply_laws.proofs.GiveLaws.{Fills, IsLocal, asks_two, first_gets_bytes, first_gets_number, first_gets_pointer, goes_back}
 
 -- ---- no value, and no receiver
 
