@@ -6,6 +6,7 @@ use Rattle.s38_base.specs.Ids.{same_id}
 use Rattle.s38_object_laws.proofs.EventLaws.{first_well, installed_well}
 use Rattle.s38_objects.specs.Lawful.{number_of}
 use Rattle.s38_openings.specs.Opening.{HoldsTable, IsNumbered, IsOpening}
+use Rattle.s38_owner_laws.specs.Beginnings.{HoldsChecked}
 use Rattle.s38_rules.specs.Opening.{held_first, held_installed, installed, opening}
 
 -- a number below the first of numbers that rise
@@ -21,6 +22,7 @@ unfolding opening same_id
 first_opening = record {
   well = (first_well [] []).objects;
   tables = All-from_recursion HoldsTable opening (tt, (tt, (tt, (tt, (tt, tt)))));
+  programs = All-from_recursion HoldsChecked opening (λ p h. cc, (λ p h. cc, (λ p h. cc, (λ p h. cc, (λ p h. cc, tt)))));
   lawful = record {
     rising = rise_first 1 2 (3 ∷ 4 ∷ 5 ∷ []) (omega arith) (rise_first 2 3 (4 ∷ 5 ∷ []) (omega arith) (rise_first 3 4 (5 ∷ []) (omega arith) (rise_first 4 5 [] (omega arith) (one_rises 5))));
     given = All-from_recursion (λ o. number_of o < 6) opening (omega arith, (omega arith, (omega arith, (omega arith, (omega arith, tt)))));
@@ -38,6 +40,7 @@ unfolding installed same_id
 installed_opening = record {
   well = (installed_well [] []).objects;
   tables = All-from_recursion HoldsTable installed (tt, (tt, tt));
+  programs = All-from_recursion HoldsChecked installed (λ p h. cc, (λ p h. cc, tt));
   lawful = record {
     rising = rise_first 1 2 [] (omega arith) (one_rises 2);
     given = All-from_recursion (λ o. number_of o < 3) installed (omega arith, (omega arith, tt));

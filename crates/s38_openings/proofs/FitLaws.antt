@@ -13,14 +13,19 @@ use Rattle.s38_commitment_laws.specs.Right.{IsData, IsEntryOf, IsTable}
 use Rattle.s38_dataspaces.specs.Entries.{Entry}
 use Rattle.s38_dataspaces.specs.Table.{are_fields, entry_len}
 use Rattle.s38_dataspaces.specs.Values.{have_values}
-use Rattle.s38_image.specs.Bodies.{data_in}
+use Rattle.s38_image.specs.Bodies.{data_in, program_part, unsequenced}
 use Rattle.s38_image.specs.DataSpaces.{DataParts, data_space, is_sequence, slot}
 use Rattle.s38_image.specs.Fitting.{FitsBody, rows_codec}
 use Rattle.s38_image.specs.Headers.{are_rising, has_rights, object, rights, row}
+use Rattle.s38_code.specs.declared.program.Program.{Program}
+use Rattle.s38_image.specs.Programs.{IsCreated}
 use Rattle.s38_image.specs.Scalars.{attr}
+use Rattle.s38_odt.specs.Suited.{AreSuited}
+use Rattle.s38_owner_laws.proofs.CreateLaws.{program_checked}
 use Rattle.s38_rules.specs.Held.{kind_of}
 use Rattle.s38_rules.specs.Parts.{data_of}
 use Rattle.s38_rules.specs.PrivateRows.{AreRows, IsAbove}
+use Rattle.s38_rules.specs.Programs.{code_of}
 use Rattle.s38_rules.specs.declared.data_body.DataBody.{DataBody}
 use Rattle.s38_rules.specs.declared.object.Body.{Body}
 use Rattle.s38_rules.specs.declared.object.Body.TheVariants as bodies
@@ -96,3 +101,16 @@ data_fits d sequence h = by (d.space.spare == 0) h
 pub table_fits : (k : Kind) (tags : List ℕ) (b : Body) (sequence : ℕ) → kind_of b ≡ k → FitsBody k tags (record { body = b; sequence = sequence }) → IsData (data_of b)
 table_fits k tags (bodies.DataSpace d) sequence kind h = data_fits d sequence (subst (λ (v : Kind). FitsBody v tags (record { body = bodies.DataSpace d; sequence = sequence })) (sym kind) h)
 table_fits k tags _ sequence kind h = tt
+
+-- a program that is kept was created of its template
+program_fits : (p : Program) (sequence : ℕ) → FitsCase IsCreated (unsequenced program_part sequence (bodies.Program p)) → IsCreated p
+program_fits p zero fits = fits
+program_fits p (suc n) fits = absurd fits
+
+pub programs_fit : (k : Kind) (tags : List ℕ) (b : Body) (sequence : ℕ) → kind_of b ≡ k → FitsBody k tags (record { body = b; sequence = sequence })
+    → (program : Program) → code_of b ≡ Some program → AreSuited program.rows program.code
+programs_fit k tags (bodies.Program p) sequence kind h program is =
+    let made = program_fits p sequence (subst (λ (v : Kind). FitsBody v tags (record { body = bodies.Program p; sequence = sequence })) (sym kind) h) in
+    let same : p ≡ program = cc in
+    subst (λ (x : Program). AreSuited x.rows x.code) same (program_checked p.template p made.created)
+programs_fit k tags _ sequence kind h program is = cc

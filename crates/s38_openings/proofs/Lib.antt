@@ -8,3 +8,4 @@ mod HeadLaws
 pub mod RestartLaws
 mod CeilingLaws
 pub mod CloseLaws
+pub mod OrderLaws

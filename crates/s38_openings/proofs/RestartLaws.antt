@@ -28,16 +28,18 @@ use Rattle.s38_image.specs.declared.stored.Stored.{Stored}
 use Rattle.s38_image_printing.proofs.KindLaws.{read_printable}
 use Rattle.s38_journals.specs.Journals.{JournalList}
 use Rattle.s38_object_laws.specs.Well.{IsWell}
-use Rattle.s38_openings.proofs.FitLaws.{rows_fit, table_fits}
+use Rattle.s38_openings.proofs.FitLaws.{programs_fit, rows_fit, table_fits}
 use Rattle.s38_openings.proofs.HeadLaws.{SameHead, lawful_same}
 use Rattle.s38_openings.proofs.RedoLaws.{redone_table}
 use Rattle.s38_openings.proofs.StoredLaws.{IsKept, all_kept, fine_leading, fine_parts, groups_given}
 use Rattle.s38_openings.specs.Opening.{HoldsTable, IsNumbered, IsOpening}
+use Rattle.s38_owner_laws.specs.Beginnings.{HoldsChecked}
 use Rattle.s38_restart.specs.Parts.{AreParts}
 use Rattle.s38_restart.specs.Restarted.{data_followed, followed, imaged, restarted, table_behind}
 use Rattle.s38_rules.specs.Held.{Held, kind_of}
 use Rattle.s38_rules.specs.Journaling.{journal_behind}
 use Rattle.s38_rules.specs.Parts.{journal_at, data_of, data_part, over_body}
+use Rattle.s38_rules.specs.Programs.{code_of}
 use Rattle.s38_rules.specs.Storable.{HasShortText}
 use Rattle.s38_rules.specs.declared.object.Body.{Body}
 use Rattle.s38_rules.specs.declared.object.Body.TheVariants as bodies
@@ -50,14 +52,15 @@ record StaysSo (old new : Body) : Type 0 where
   pub kind : kind_of new ≡ kind_of old
   pub text : HasShortText old → HasShortText new
   pub table : IsData (data_of old) → IsData (data_of new)
+  pub code : code_of new ≡ code_of old
 
 behind_table : (number image : ℕ) (journal : Option JournalList) (t : DataTable) → IsTable t → IsTable (table_behind number image journal t)
 behind_table number image None t is = is
 behind_table number image (Some journal) t is = redone_table number image journal.entries t is
 
 body_stays : (h : Held) (number image : ℕ) (b : Body) → StaysSo b (over_body data_part (data_followed h number image) b)
-body_stays h number image (bodies.DataSpace d) = record { kind = refl; text = λ t. t; table = λ is. behind_table number image (option_map (journal_at h) (journal_behind h d.port.0)) d.space is }
-body_stays h number image _ = record { kind = refl; text = λ t. t; table = λ is. is }
+body_stays h number image (bodies.DataSpace d) = record { kind = refl; text = λ t. t; table = λ is. behind_table number image (option_map (journal_at h) (journal_behind h d.port.0)) d.space is; code = refl }
+body_stays h number image _ = record { kind = refl; text = λ t. t; table = λ is. is; code = refl }
 
 same_head : (h : Held) (s : Stored) → SameHead (followed h s) (object_in_stored s)
 same_head h s = record { number = refl; id = refl; context = refl }
@@ -66,6 +69,7 @@ same_head h s = record { number = refl; id = refl; context = refl }
 record IsOpened (next : ℕ) (o : Object) : Type 0 where
   pub well : IsWell o
   pub table : HoldsTable o
+  pub programs : HoldsChecked o
   pub number : IsNumbered o
   pub owner : o.owner.0 < next
 
@@ -79,6 +83,8 @@ opened h limit ceiling s small is =
         rows = rows_fit _ s.object.rows is.image.rows;
       };
       table = stays.table (table_fits s.object.id.kind (body_tags s.object.id.kind (image_of s)) s.object.body s.sequence storable.kind is.image.body);
+      programs = λ program code.
+          programs_fit s.object.id.kind (body_tags s.object.id.kind (image_of s)) s.object.body s.sequence storable.kind is.image.body program (sym stays.code ∙ code);
       number = is.number;
       owner = is.owner;
     }
@@ -148,6 +154,7 @@ restarts limit parts small are fault =
     record {
       well = each (λ o is. is.well) os all;
       tables = each (λ o is. is.table) os all;
+      programs = each (λ o is. is.programs) os all;
       lawful = lawful_same (followed h) object_in_stored (same_head h) (ceiling + 1) ceiling ss lawful.lawful;
       numbered = each (λ o is. is.number) os all;
       next = omega arith;

@@ -11,6 +11,7 @@ ghost use Rattle.s38_objects.specs.Lawful.{IsLawful};
 ghost use Rattle.s38_openings.specs.Charges.{total_charge};
 ghost use Rattle.s38_openings.specs.Closing.{CanClose};
 ghost use Rattle.s38_openings.specs.Opening.{IsOpening};
+ghost use Rattle.s38_owner_laws.specs.Beginnings.{AreInOrder};
 ghost use Rattle.s38_restart.specs.Parts.{AreParts};
 ghost use Rattle.s38_restart.specs.Restarted.{restarted};
 ghost use Rattle.s38_rules.specs.Held.{Held};
@@ -56,4 +57,9 @@ pub fn an_opening_is_right()
 pub fn an_end_can_be_closed()
     ensures { (held : Held) (templates : List CheckedTemplate) (jobs : List Job) (history : List Entry) (end : State) → IsOpening held
         → Leads (state_of held templates jobs) [] history end → IsLawful end.held → CanClose end }
+{}
+
+/// The objects of an opening have numbers that were given, and its programs are those that creation makes.
+pub fn an_opening_is_in_order()
+    ensures { (held : Held) → IsOpening held → AreInOrder held }
 {}

@@ -34,7 +34,7 @@ made_is : (deck : Deck) (job : Job) (made : CreateResult) → made_for deck job 
 made_is deck job made h = ap (λ (m : Option CreateResult). fresh (unwrap_or m no_program) job.budget) h
 
 -- each process of the deck ran by its job
-each_ran : (held : Held) (Order : State → List Entry → Type 0) (deck : Deck) (history : List Entry) → IsRunOf held Order deck history → AreRun (processes_of deck) history
+pub each_ran : (held : Held) (Order : State → List Entry → Type 0) (deck : Deck) (history : List Entry) → IsRunOf held Order deck history → AreRun (processes_of deck) history
 each_ran held Order deck history run = record {
   each = λ k d there.
       let at = mapped_at (process_of deck) deck.jobs k d there in

@@ -1,0 +1,9 @@
+pub mod CallLaws
+pub mod CreateLaws
+pub mod FrameLaws
+pub mod HistoryLaws
+pub mod ObjectLaws
+pub mod RowLaws
+pub mod StackLaws
+pub mod StateLaws
+pub mod StepLaws

@@ -1,0 +1,4 @@
+pub mod CallSuits
+pub mod GiveLaws
+pub mod HistoryLaws
+pub mod ValueLaws

@@ -1,0 +1,15 @@
+//! What every history promises to processes.
+ghost use Rattle.s38_code.specs.declared.entry.Entry.{Entry};
+ghost use Rattle.s38_owner_laws.specs.Beginnings.{AreAsked, Begin};
+ghost use Rattle.s38_process.specs.Process.{ProcessState};
+ghost use Rattle.s38_reply_laws.specs.Replies.{AllSuit};
+ghost use Rattle.s38_rules.specs.Legal.{Leads};
+ghost use Rattle.s38_rules.specs.State.{State};
+ghost use Rattle.std.specs.Prelude.{List, []};
+
+/// Each reply of the machine suits what its process asked: a value that comes is such as the variable holds that gets it,
+/// and a program that is called has parameters as the arguments. So each process is lawful at each moment of a history.
+pub fn replies_suit()
+    ensures histories { (processes : List ProcessState) (first : State) (history : List Entry) (end : State) → Begin processes first → Leads first [] history end
+        → AreAsked processes history → AllSuit processes [] history }
+{}
