@@ -5,3 +5,10 @@ mod RowLaws
 mod LiveLaws
 mod FollowLaws
 mod LaterLaws
+mod FitLaws
+mod WordLaws
+mod HeadLaws
+mod PlaceLaws
+mod SeenLaws
+mod OrderLaws
+mod StepLaws
