@@ -69,6 +69,7 @@ first_opening = record {
   fit = record {
     placed = All-from_recursion (IsPlaced held_first) opening (first_placed machine_context refl refl, (first_placed officer refl refl, (first_placed general_context refl refl, (first_placed plain_user refl refl, (general_placed locked_queue refl refl refl, tt)))));
     machine = refl;
+    below = omega arith;
   };
   ceiling = omega arith;
 }
@@ -87,6 +88,6 @@ installed_opening = record {
   next = omega arith;
   owned = All-from_recursion (λ o. o.owner.0 < 3) installed (omega arith, (omega arith, tt));
   placed = All-from_recursion (λ o. o.context.0 < 3) installed (omega arith, (omega arith, tt));
-  fit = record { placed = All-from_recursion (IsPlaced held_installed) installed (installed_placed machine_context refl refl, (installed_placed officer refl refl, tt)); machine = refl };
+  fit = record { placed = All-from_recursion (IsPlaced held_installed) installed (installed_placed machine_context refl refl, (installed_placed officer refl refl, tt)); machine = refl; below = omega arith };
   ceiling = omega arith;
 }

@@ -1,8 +1,8 @@
 -- The objects of a store without a fault fit one another: each has an owner who is there, and stands in a context or in none.
 use Rattle.std.proofs.Common.{◌≡◌, ℕ, ◌+◌, ◌<◌, ◌==◌, ◌&&◌, ◌||◌, Bool, true, false, cond, not, List, [], ◌∷◌, map, refl, sym, ap, subst, ◌∙◌, arith}
 use Rattle.std.proofs.lemmas.Bool.Decides.{nat_tests}
-use Rattle.std.specs.Prelude.{All, Option, Some, None, filter_map, is_some}
-use Rattle.std.specs.List.{AllByRecursion, list_any}
+use Rattle.std.specs.Prelude.{Option, Some, None, filter_map, is_some}
+use Rattle.std.specs.List.{AllByRecursion}
 use Rattle.std.specs.Option.{option_and_then}
 use Rattle.s38_base.specs.Ids.{kind_code, same_kind}
 use Rattle.s38_base.specs.Limits.{machine_context}
@@ -10,12 +10,12 @@ use Rattle.s38_base.specs.declared.id.Kind.TheVariants as kinds
 use Rattle.s38_base.specs.declared.id.Kind.{Kind}
 use Rattle.s38_base.specs.declared.id.ObjNum.{ObjNum}
 use Rattle.s38_groups.proofs.LawfulLaws.{IsWhole}
-use Rattle.s38_image.specs.Faults.{Group, group, header, header_at, is_bad_header, is_kind, is_no_context, is_number, is_on_disk, is_other_kind, is_outside, is_twice, sound}
+use Rattle.s38_image.specs.Faults.{Group, group, header, header_at, is_kind, is_number, is_on_disk, is_other_kind, is_outside, sound}
 use Rattle.s38_image.specs.Images.{object_of}
 use Rattle.s38_image.specs.declared.header.Header.{Header}
 use Rattle.s38_image.specs.declared.stored.Stored.{Stored}
 use Rattle.s38_openings.proofs.StoredLaws.{IsGiven, at_most, object_made, or_left, or_right, owner_there, read_by}
-use Rattle.s38_openings.specs.Fitting.{FitTogether, IsPlaced, IsUser, is_context_or_gone}
+use Rattle.s38_openings.specs.Fitting.{IsPlaced, IsUser, is_context_or_gone}
 use Rattle.s38_restart.specs.Restarted.{followed}
 use Rattle.s38_rules.specs.Contexts.{is_at_home}
 use Rattle.s38_rules.specs.Creation.{is_of_kind}

@@ -163,6 +163,7 @@ fit_together limit parts small whole given one =
     record {
       placed = All-from_recursion (IsPlaced held) held.objects placed;
       machine = machine_there held placed (is_there_said _ _ (there 1) (header_there gs limit ceiling 1 gs whole one));
+      below = omega arith;
     }
 
 -- ---- the whole store

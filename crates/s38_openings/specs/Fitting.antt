@@ -1,6 +1,6 @@
 -- When the objects of a machine fit one another: each has an owner that is a user who is there, and stands in a context, or
--- in none.
-use Rattle.std.specs.Prelude.{◌≡◌, ◌<◌, ℕ, Bool, true, All, IsTrue, Option, Some, None}
+-- in none; and no number above the ceiling was given.
+use Rattle.std.specs.Prelude.{◌≡◌, ◌+◌, ◌<◌, ◌≤◌, ℕ, Bool, true, All, IsTrue, Option, Some, None}
 use Rattle.s38_base.specs.Ids.{same_kind}
 use Rattle.s38_base.specs.Limits.{machine_context}
 use Rattle.s38_base.specs.declared.id.Kind.TheVariants as kinds
@@ -31,3 +31,5 @@ pub record FitTogether (h : Held) : Type 0 where
   pub placed : All (IsPlaced h) h.objects
   -- the machine context is there
   pub machine : IsTrue (is_of_kind kinds.Context (object h machine_context))
+  -- no number above the ceiling was given
+  pub below : h.next ≤ h.ceiling + 1

@@ -3,9 +3,9 @@ use Rattle.std.proofs.Common.{◌+◌, ◌++◌, ◌<◌, ◌≤◌, ◌==◌, �
 use Rattle.std.proofs.lemmas.Bool.Decides.{nat_tests}
 use Rattle.std.proofs.lemmas.List.Elements.{All-cons, All-nil}
 use Rattle.std.specs.Option.{option_map}
-use Rattle.std.specs.Prelude.{All, None, Option, Some, is_some}
+use Rattle.std.specs.Prelude.{All, None, Option, Some, is_some, nat_lt}
 use Rattle.s38_base.specs.Ids.{same_kind}
-use Rattle.s38_base.specs.Limits.{machine_context}
+use Rattle.s38_base.specs.Limits.{ceiling_step, machine_context}
 use Rattle.s38_base.specs.declared.id.Kind.TheVariants as kinds
 use Rattle.s38_base.specs.declared.id.Kind.{Kind}
 use Rattle.s38_base.specs.declared.id.ObjNum.{ObjNum}
@@ -84,6 +84,7 @@ pub record Fits (U : ℕ → Type 0) (h : Held) : Type 0 where
   pub rise : Rise h.next h.objects
   pub unused : object h 0 ≡ None
   pub next : 1 ≤ h.next
+  pub below : h.next ≤ h.ceiling + 1
   pub told : AreTold h
   pub each : (n : ℕ) (o : Object) → object h n ≡ Some o → IsPlaced h o
   pub machine : is_of_kind kinds.Context (object h machine_context) ≡ true
@@ -95,6 +96,7 @@ other_users U V h there fits = record {
   rise = fits.rise;
   unused = fits.unused;
   next = fits.next;
+  below = fits.below;
   told = fits.told;
   each = fits.each;
   machine = fits.machine;
@@ -151,6 +153,7 @@ module _ (U : ℕ → Type 0) (h : Held) (n : ℕ) (f : Object → Object) (x : 
     rise = rise_changed h.next n f h.objects keeps fits.rise;
     unused = unused_by (n == 0) refl;
     next = fits.next;
+    below = fits.below;
     told = told;
     each = each;
     machine = kinds_same kinds.Context machine_context ∙ fits.machine;
@@ -236,6 +239,7 @@ module _ (U : ℕ → Type 0) (h : Held) (o : Object) (number : o.number.0 ≡ h
     rise = subst (λ (n : ℕ). Rise (n + 1) (h.objects ++ o ∷ [])) number (rise_last o h.objects (subst (λ (n : ℕ). Rise n h.objects) (sym number) fits.rise));
     unused = unused_by (h.next == 0) refl;
     next = omega (arith, fits.next);
+    below = raised (nat_lt h.ceiling h.next) refl;
     told = told;
     each = each;
     machine = kept kinds.Context machine_context fits.machine;
@@ -244,6 +248,14 @@ module _ (U : ℕ → Type 0) (h : Held) (o : Object) (number : o.number.0 ≡ h
     where
       new : Held
       new = with_object h o
+
+      -- the ceiling rises before a number above it is given
+      raised : (b : Bool) → nat_lt h.ceiling h.next ≡ b → h.next + 1 ≤ cond b (h.ceiling + ceiling_step) h.ceiling + 1
+      raised true less = omega (arith, fits.below)
+      raised false more = under h.ceiling h.next more
+        where
+          under : (ceiling next : ℕ) → nat_lt ceiling next ≡ false → next + 1 ≤ ceiling + 1
+          under ceiling next off = grind (arith, nat_tests)
 
       none_there : object h h.next ≡ None
       none_there = object_above h.next h.next h.objects (rise_given h.next h.objects fits.rise) (omega arith)
@@ -327,6 +339,7 @@ module _ (U : ℕ → Type 0) (h : Held) (n : ℕ) where
     rise = rise_without h.next n h.objects fits.rise;
     unused = gone_or 0 fits.unused;
     next = fits.next;
+    below = fits.below;
     told = told;
     each = each;
     machine = ap (is_of_kind kinds.Context) (elsewhere machine_context (off machine_context machine)) ∙ fits.machine;

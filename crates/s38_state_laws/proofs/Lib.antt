@@ -3,12 +3,12 @@ mod OwnerLaws
 mod StandLaws
 mod RowLaws
 mod LiveLaws
-mod FollowLaws
-mod LaterLaws
+pub mod FollowLaws
+pub mod LaterLaws
 mod FitLaws
 mod WordLaws
 mod HeadLaws
 mod PlaceLaws
 mod SeenLaws
 mod OrderLaws
-mod StepLaws
+pub mod StepLaws

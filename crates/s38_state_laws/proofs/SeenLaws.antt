@@ -148,6 +148,7 @@ seen U h lawful numbered fit users = record {
   told = λ n m x y at to away there. told_in (is_there h) h.objects lawful.apart n m x y at to away there;
   each = λ n o at. found_all (IsPlaced h) h.objects n o fit.placed at;
   machine = fit.machine;
+  below = fit.below;
   users = users;
 }
   where
@@ -176,7 +177,7 @@ unseen U h fits = (
     apart = apart_by (is_there h) h.next h.objects fits.rise (λ x y at to less there. fits.told x.number.0 y.number.0 x y at to (λ same. low x.number.0 y.number.0 less same) there);
   },
   each_found IsNumbered h.next h.objects fits.rise (λ o at. numbered o o.number.0 at),
-  record { placed = each_found (IsPlaced h) h.next h.objects fits.rise (λ o at. fits.each o.number.0 o at); machine = fits.machine },
+  record { placed = each_found (IsPlaced h) h.next h.objects fits.rise (λ o at. fits.each o.number.0 o at); machine = fits.machine; below = fits.below },
 )
   where
     low : (a b : ℕ) → a < b → a ≡ b → ⊥
