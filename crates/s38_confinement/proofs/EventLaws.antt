@@ -1,12 +1,10 @@
 -- A step opens no way, and does not use the right.
-use Rattle.std.proofs.Common.{◌≡◌, ◌≢◌, Bool, List, cond, false, refl, true, ℕ}
+use Rattle.std.proofs.Common.{◌≡◌, ◌≢◌, Bool, List, false, refl, true, ℕ}
 use Rattle.std.proofs.lemmas.List.Elements.{All-nil}
-use Rattle.std.specs.Prelude.{None, Option, Some}
-use Rattle.s38_base.specs.declared.exception.Exception.{Exception}
+use Rattle.std.specs.Prelude.{None, Some}
 use Rattle.s38_code.specs.declared.entry.Entry.{Entry}
 use Rattle.s38_code.specs.declared.event.Event.TheVariants.{Act, Finish, Start}
 use Rattle.s38_code.specs.declared.event.Event.{Event}
-use Rattle.s38_code.specs.declared.event.Request.{Request}
 use Rattle.s38_journals.specs.Journals as journals
 use Rattle.s38_rules.specs.Held.{Held}
 use Rattle.s38_rules.specs.Effect.{effect_of, end_at, start_at}

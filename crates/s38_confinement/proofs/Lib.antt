@@ -4,6 +4,6 @@ mod NeedLaws
 mod PlainLaws
 mod PointerLaws
 pub mod ProcessLaws
-mod RightLaws
+pub mod RightLaws
 mod StandingLaws
 pub mod StepLaws

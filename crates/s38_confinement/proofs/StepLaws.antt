@@ -14,7 +14,7 @@ use Rattle.s38_confinement.proofs.EffectLaws.{harmless_closed}
 use Rattle.s38_confinement.proofs.EventLaws.{step_kept}
 use Rattle.s38_confinement.proofs.ProcessLaws.{asks, goes_on}
 use Rattle.s38_confinement.proofs.StandingLaws.{IsShut, nat_same}
-use Rattle.s38_confinement.specs.Confined.{AllWithin, AreRun, BeginsClosed, Exercises, NeverUsed, StaysClosed}
+use Rattle.s38_confinement.specs.Confined.{AllWithin, AreRun, BeginsClosed, Exercises, IsClosedBehind, NeverUsed, StaysClosed}
 use Rattle.s38_confinement.specs.NoWay.{IsHarmless, NoWay, NoWayIn}
 use Rattle.s38_confinement.specs.OfPointers.{OfEvent, OfReply}
 
@@ -101,3 +101,9 @@ pub closed_history : (processes : List ProcessState) (first : State) (history : 
     → Leads first [] history end → AllWithin users first history → AreRun processes history → NeverUsed first history o r × StaysClosed processes history end users o r
 closed_history processes first history end users o r begins leads within run =
     stays_closed users o r begins.number processes first [] history end begins.count (record { way = begins.objects; rows = begins.rows }) begins.variables leads within run
+
+-- over what comes behind some entries
+pub closed_later : (processes : List ProcessState) (before : List Entry) (s : State) (after : List Entry) (end : State) (users : List ℕ) (o r : ℕ) → IsClosedBehind processes before s users o r
+    → Leads s before after end → AllWithin users s after → AreRun processes (before ++ after) → NeverUsed s after o r × StaysClosed processes (before ++ after) end users o r
+closed_later processes before s after end users o r closed leads within run =
+    stays_closed users o r closed.number processes s before after end closed.count (record { way = closed.objects; rows = closed.rows }) closed.variables leads within run

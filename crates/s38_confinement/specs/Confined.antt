@@ -92,6 +92,17 @@ pub record BeginsClosed (processes : List ProcessState) (first : State) (users :
   pub rows : AreRows (rows_in (object first.held o))
   pub variables : (k : ℕ) (d : ProcessState) → slice_get processes k ≡ Some d → NoWayIn o r d
 
+-- behind these entries no way is open, among the objects of the state and in the variables of every process
+pub record IsClosedBehind (processes : List ProcessState) (before : List Entry) (s : State) (users : List ℕ) (o r : ℕ) : Type 0 where
+  -- the processes are those of the machine
+  pub count : length processes ≡ length s.processes
+  -- 0 is the number of no object
+  pub number : o ≢ 0
+  pub objects : NoWay s.held users o r
+  -- the object's private rows rise by user
+  pub rows : AreRows (rows_in (object s.held o))
+  pub variables : (k : ℕ) (d : ProcessState) → slice_get processes k ≡ Some d → NoWayIn o r (behind d (entries_of (k + 1) before))
+
 -- nor is there a way behind it, among the objects and in the variables of every process
 pub record StaysClosed (processes : List ProcessState) (history : List Entry) (end : State) (users : List ℕ) (o r : ℕ) : Type 0 where
   pub objects : NoWay end.held users o r

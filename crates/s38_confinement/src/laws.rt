@@ -4,7 +4,7 @@ ghost use Rattle.s38_code.specs.declared.entry.Entry.{Entry};
 ghost use Rattle.s38_code.specs.declared.event.EndCause.{EndCause};
 ghost use Rattle.s38_code.specs.declared.event.Event.TheVariants.{Finish, Start};
 ghost use Rattle.s38_code.specs.declared.event.Request.{Request};
-ghost use Rattle.s38_confinement.specs.Confined.{AllWithin, AreRun, BeginsClosed, NeverUsed, StaysClosed};
+ghost use Rattle.s38_confinement.specs.Confined.{AllWithin, AreRun, BeginsClosed, IsClosedBehind, NeverUsed, StaysClosed};
 ghost use Rattle.s38_confinement.specs.OfPointers.{IsClosed, OfObjects, OfOperand};
 ghost use Rattle.s38_confinement.specs.Plain.{IsPlain, Passes, asks_plainly};
 ghost use Rattle.s38_process.specs.Process.{ProcessState};
@@ -12,7 +12,7 @@ ghost use Rattle.s38_rules.specs.Effect.{effect, effect_of};
 ghost use Rattle.s38_rules.specs.Legal.{Leads};
 ghost use Rattle.s38_rules.specs.Rows.{row};
 ghost use Rattle.s38_rules.specs.State.{State};
-ghost use Rattle.std.specs.Prelude.{◌≡◌, ℕ, All, Bool, List, [], true};
+ghost use Rattle.std.specs.Prelude.{◌≡◌, ◌++◌, ℕ, All, Bool, List, [], true};
 
 /// A history of the one-thread machine, made by processes from where no way to a right on an object was open for some
 /// users, and in which these users alone act: none of its entries uses the right, and no way is open at its end.
@@ -20,6 +20,14 @@ pub fn no_way_opens()
     ensures confined { (processes : List ProcessState) (first : State) (history : List Entry) (end : State) (users : List ℕ) (o : ℕ) (r : ℕ)
         → BeginsClosed processes first users o r → Leads first [] history end → AllWithin users first history → AreRun processes history
         → NeverUsed first history o r × StaysClosed processes history end users o r }
+{}
+
+/// The same from any moment on: where no way is open behind some entries, and these users alone act from there on, none
+/// of the later entries uses the right, and no way is open at the end.
+pub fn no_way_opens_later()
+    ensures { (processes : List ProcessState) (before : List Entry) (s : State) (after : List Entry) (end : State) (users : List ℕ) (o : ℕ) (r : ℕ)
+        → IsClosedBehind processes before s users o r → Leads s before after end → AllWithin users s after → AreRun processes (before ++ after)
+        → NeverUsed s after o r × StaysClosed processes (before ++ after) end users o r }
 {}
 
 /// The effect of an instruction whose change is plain and which makes no pointer, and that of a start or an end: no

@@ -3,4 +3,4 @@
 
 mod laws;
 
-pub use laws::{effects_are_plain, no_way_opens};
+pub use laws::{effects_are_plain, no_way_opens, no_way_opens_later};

@@ -1,13 +1,18 @@
 -- The objects with which a machine begins that was not stored before are openings.
-use Rattle.std.proofs.Common.{◌≡◌, ℕ, zero, suc, ◌+◌, ◌<◌, List, [], ◌∷◌, refl, arith}
+use Rattle.std.proofs.Common.{◌≡◌, ℕ, zero, suc, ◌+◌, ◌<◌, true, false, List, [], ◌∷◌, refl, subst, sym, arith}
+use Rattle.std.specs.Prelude.{Some}
 use Rattle.std.proofs.lemmas.List.Elements.{All-from_recursion}
 use Rattle.std.specs.List.Sorted.{IsStrictlyIncreasing}
 use Rattle.s38_base.specs.Ids.{same_id}
 use Rattle.s38_object_laws.proofs.EventLaws.{first_well, installed_well}
 use Rattle.s38_objects.specs.Lawful.{number_of}
+use Rattle.s38_openings.specs.Fitting.{IsPlaced, IsUser, is_context_or_gone}
 use Rattle.s38_openings.specs.Opening.{HoldsTable, IsNumbered, IsOpening}
 use Rattle.s38_owner_laws.specs.Beginnings.{HoldsChecked}
-use Rattle.s38_rules.specs.Opening.{held_first, held_installed, installed, opening}
+use Rattle.s38_rules.specs.Contexts.{is_at_home}
+use Rattle.s38_rules.specs.declared.object.Object.{Object}
+use Rattle.s38_rules.specs.Held.{object}
+use Rattle.s38_rules.specs.Opening.{general_context, held_first, held_installed, installed, locked_queue, machine_context, officer, opening, plain_user}
 
 -- a number below the first of numbers that rise
 rise_first : (x y : ℕ) (ys : List ℕ) → x < y → IsStrictlyIncreasing (y ∷ ys) → IsStrictlyIncreasing (x ∷ y ∷ ys)
@@ -16,6 +21,37 @@ rise_first x y ys low rest (suc k) h = let next : suc k + 1 ≡ suc (k + 1) = om
 
 one_rises : (x : ℕ) → IsStrictlyIncreasing (x ∷ [])
 one_rises x k h = absurd (omega (arith, h))
+
+-- the objects of the security officer in the machine context, and in that for everybody
+first_placed : (o : Object) → o.owner.0 ≡ 2 → o.context.0 ≡ 1 → IsPlaced held_first o
+unfolding opening
+first_placed o owner context = record {
+  owner = subst (λ (n : ℕ). IsUser held_first n) (sym owner) refl;
+  context = subst (λ (n : ℕ). is_context_or_gone (object held_first n) ≡ true) (sym context) refl;
+  given = subst (λ (n : ℕ). n < 6) (sym context) (omega arith);
+  home = λ at. context;
+}
+
+general_placed : (o : Object) → o.owner.0 ≡ 2 → o.context.0 ≡ 3 → is_at_home (Some o) ≡ false → IsPlaced held_first o
+unfolding opening
+general_placed o owner context away = record {
+  owner = subst (λ (n : ℕ). IsUser held_first n) (sym owner) refl;
+  context = subst (λ (n : ℕ). is_context_or_gone (object held_first n) ≡ true) (sym context) refl;
+  given = subst (λ (n : ℕ). n < 6) (sym context) (omega arith);
+  home = λ at. absurd (true_false at away);
+}
+  where
+    true_false : is_at_home (Some o) ≡ true → is_at_home (Some o) ≡ false → ⊥
+    true_false h g = cc
+
+installed_placed : (o : Object) → o.owner.0 ≡ 2 → o.context.0 ≡ 1 → IsPlaced held_installed o
+unfolding installed
+installed_placed o owner context = record {
+  owner = subst (λ (n : ℕ). IsUser held_installed n) (sym owner) refl;
+  context = subst (λ (n : ℕ). is_context_or_gone (object held_installed n) ≡ true) (sym context) refl;
+  given = subst (λ (n : ℕ). n < 3) (sym context) (omega arith);
+  home = λ at. context;
+}
 
 pub first_opening : IsOpening held_first
 unfolding opening same_id
@@ -32,6 +68,11 @@ first_opening = record {
   next = omega arith;
   owned = All-from_recursion (λ o. o.owner.0 < 6) opening (omega arith, (omega arith, (omega arith, (omega arith, (omega arith, tt)))));
   placed = All-from_recursion (λ o. o.context.0 < 6) opening (omega arith, (omega arith, (omega arith, (omega arith, (omega arith, tt)))));
+  fit = record {
+    placed = All-from_recursion (IsPlaced held_first) opening (first_placed machine_context refl refl, (first_placed officer refl refl, (first_placed general_context refl refl, (first_placed plain_user refl refl, (general_placed locked_queue refl refl refl, tt)))));
+    machine = refl;
+    below = omega arith;
+  };
   ceiling = omega arith;
 }
 
@@ -50,5 +91,6 @@ installed_opening = record {
   next = omega arith;
   owned = All-from_recursion (λ o. o.owner.0 < 3) installed (omega arith, (omega arith, tt));
   placed = All-from_recursion (λ o. o.context.0 < 3) installed (omega arith, (omega arith, tt));
+  fit = record { placed = All-from_recursion (IsPlaced held_installed) installed (installed_placed machine_context refl refl, (installed_placed officer refl refl, tt)); machine = refl; below = omega arith };
   ceiling = omega arith;
 }

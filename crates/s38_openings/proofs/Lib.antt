@@ -4,6 +4,7 @@ pub mod ChargeLaws
 mod RedoLaws
 mod FitLaws
 mod StoredLaws
+mod PlacedLaws
 mod HeadLaws
 pub mod RestartLaws
 mod CeilingLaws

@@ -12,7 +12,7 @@ use Rattle.s38_codecs.specs.Formats.{u32, u64}
 use Rattle.s38_commitment_laws.specs.Right.{IsData, IsTable}
 use Rattle.s38_dataspaces.specs.Table.{DataTable}
 use Rattle.s38_groups.proofs.CeilingLaws.{ceiling_codec, ceiling_is}
-use Rattle.s38_groups.proofs.LawfulLaws.{all_whole, are_lawful}
+use Rattle.s38_groups.proofs.LawfulLaws.{IsWhole, all_whole, are_lawful}
 use Rattle.s38_groups.proofs.RunLaws.{groups_rise, in_order}
 use Rattle.s38_groups.specs.Groups.{groups, parts_of}
 use Rattle.s38_groups.specs.Readings.{object_in_stored}
@@ -30,8 +30,10 @@ use Rattle.s38_journals.specs.Journals.{JournalList}
 use Rattle.s38_object_laws.specs.Well.{IsWell}
 use Rattle.s38_openings.proofs.FitLaws.{programs_fit, rows_fit, table_fits}
 use Rattle.s38_openings.proofs.HeadLaws.{SameHead, lawful_same}
+use Rattle.s38_openings.proofs.PlacedLaws.{all_placed, header_there, is_there_said, machine_there, said}
 use Rattle.s38_openings.proofs.RedoLaws.{redone_table}
-use Rattle.s38_openings.proofs.StoredLaws.{IsKept, all_kept, fine_leading, fine_parts, groups_given}
+use Rattle.s38_openings.proofs.StoredLaws.{IsGiven, IsKept, all_kept, fine_leading, fine_parts, groups_given, one_kept}
+use Rattle.s38_openings.specs.Fitting.{FitTogether, IsPlaced}
 use Rattle.s38_openings.specs.Opening.{HoldsTable, IsNumbered, IsOpening}
 use Rattle.s38_owner_laws.specs.Beginnings.{HoldsChecked}
 use Rattle.s38_restart.specs.Parts.{AreParts}
@@ -136,6 +138,40 @@ none_of : (limit : ℕ) (parts : List Change) → first_fault limit parts ≡ No
 unfolding store_fault
 none_of limit parts none = none_by (groups parts) limit (ceiling_in (parts_of ceiling_key parts)) none
 
+on_disk_one : (gs : List Group) (limit ceiling : ℕ) → first_under gs limit ceiling ≡ None → is_on_disk gs 1 ≡ true
+on_disk_one gs limit ceiling h = by (is_on_disk gs 1) h
+  where
+    by : (a : Bool) → cond (not a) (Some (1, 0)) (cond (not (is_on_disk gs 2)) (Some (2, 0)) (first_of gs limit ceiling gs)) ≡ None → a ≡ true
+    by true h = refl
+    by false h = absurd cc
+
+has_one : (gs : List Group) (limit : ℕ) (ceiling : Option ℕ) → first_by gs limit ceiling ≡ None → is_on_disk gs 1 ≡ true
+has_one gs limit None h = absurd cc
+has_one gs limit (Some n) h = on_disk_one gs limit n h
+
+one_there : (limit : ℕ) (parts : List Change) → first_fault limit parts ≡ None → is_on_disk (groups parts) 1 ≡ true
+unfolding store_fault
+one_there limit parts none = has_one (groups parts) limit (ceiling_in (parts_of ceiling_key parts)) none
+
+-- ---- objects that fit one another
+
+fit_together : (limit : ℕ) (parts : List Change) → limit ≤ 16777216 → AllByRecursion (IsWhole (groups parts) limit (ceiling_of parts)) (groups parts) → AllByRecursion IsGiven (groups parts) → is_on_disk (groups parts) 1 ≡ true
+    → FitTogether (restarted limit parts)
+fit_together limit parts small whole given one =
+    let gs = groups parts in
+    let ceiling = ceiling_of parts in
+    let h = imaged (stored_in limit parts) in
+    let held = restarted limit parts in
+    let kind : (g : Group) (w : IsWhole gs limit ceiling g) → IsGiven g → kind_of (followed h w.stored).body ≡ (followed h w.stored).id.kind =
+    λ g w is. (opened h limit ceiling w.stored small (one_kept gs limit ceiling whole g w is)).well.storable.kind in
+    let there = said gs limit ceiling h kind gs whole given in
+    let placed = all_placed gs limit ceiling h held refl kind there gs whole given in
+    record {
+      placed = All-from_recursion (IsPlaced held) held.objects placed;
+      machine = machine_there held placed (is_there_said _ _ (there 1) (header_there gs limit ceiling 1 gs whole one));
+      below = omega arith;
+    }
+
 -- ---- the whole store
 
 pub restarts : (limit : ℕ) (parts : List Change) → limit ≤ 16777216 → AreParts parts → first_fault limit parts ≡ None → IsOpening (restarted limit parts)
@@ -160,5 +196,6 @@ restarts limit parts small are fault =
       next = omega arith;
       owned = each (λ o is. is.owner) os all;
       placed = All-from_recursion (λ o. o.context.0 < ceiling + 1) os (placed_same h (ceiling + 1) ss (recursion_from_All (λ o. o.context.0 < ceiling + 1) (map object_in_stored ss) lawful.placed));
+      fit = fit_together limit parts small (all_whole gs limit ceiling gs none) (groups_given parts are.fine are.objects) (one_there limit parts fault);
       ceiling = subst (λ (n : ℕ). n ≤ last_number + ceiling_step) (sym at) (low_ceiling parts found.at are.fine found.is);
     }

@@ -83,7 +83,7 @@ groups_given parts fine have = given_groups parts fine parts have
 -- ---- an object is made of its header
 
 -- an object is what a header, rows and a body make
-record IsMade (n : ℕ) (h : Header) (s : Stored) : Type 0 where
+pub record IsMade (n : ℕ) (h : Header) (s : Stored) : Type 0 where
   pub rows : List PrivateRow
   pub image : BodyImage
   pub is : s ≡ made n h rows image
@@ -104,7 +104,7 @@ limited_by : (b : Bool) (g h : Header) → cond b (ok_header g) (Err 0) ≡ ok_h
 limited_by true g h e = cc
 limited_by false g h e = absurd cc
 
-object_made : (limit n : ℕ) (parts : List Change) (k : Header) (s : Stored) → header_in n (leading rows_part parts) ≡ Some k → object_of limit n parts ≡ Ok s → IsMade n k s
+pub object_made : (limit n : ℕ) (parts : List Change) (k : Header) (s : Stored) → header_in n (leading rows_part parts) ≡ Some k → object_of limit n parts ≡ Ok s → IsMade n k s
 unfolding object_of
 object_made limit n parts k s head read =
     let later = after_leading rows_part parts in
@@ -118,11 +118,11 @@ object_made limit n parts k s head read =
 
 -- ---- the objects of a store
 
-or_left : (a b : Bool) → (a || b) ≡ false → a ≡ false
+pub or_left : (a b : Bool) → (a || b) ≡ false → a ≡ false
 or_left true b h = absurd (cc)
 or_left false b h = refl
 
-or_right : (a b : Bool) → (a || b) ≡ false → b ≡ false
+pub or_right : (a b : Bool) → (a || b) ≡ false → b ≡ false
 or_right true b h = absurd (cc)
 or_right false b h = h
 
@@ -130,7 +130,7 @@ true_of : (b : Bool) → not b ≡ false → b ≡ true
 true_of true h = refl
 true_of false h = absurd (cc)
 
-at_most : (a b : ℕ) → nat_lt a b ≡ false → b < a + 1
+pub at_most : (a b : ℕ) → nat_lt a b ≡ false → b < a + 1
 at_most a b h = grind (arith, nat_tests)
 
 -- an object of a store with this ceiling of numbers
@@ -143,7 +143,7 @@ module _ (all : List Group) (limit ceiling : ℕ) where
   low_number : (n : ℕ) (h : Header) → is_bad_header all ceiling n h ≡ false → n < ceiling + 1
   low_number n h good = at_most ceiling n (or_left (nat_lt ceiling n) _ (or_left (nat_lt ceiling n || not (is_kind kinds.Profile (header all h.owner.0))) _ good))
 
-  owner_there : (n : ℕ) (h : Header) → is_bad_header all ceiling n h ≡ false → is_kind kinds.Profile (header all h.owner.0) ≡ true
+  pub owner_there : (n : ℕ) (h : Header) → is_bad_header all ceiling n h ≡ false → is_kind kinds.Profile (header all h.owner.0) ≡ true
   owner_there n h good = true_of _ (or_right (nat_lt ceiling n) _ (or_left (nat_lt ceiling n || not (is_kind kinds.Profile (header all h.owner.0))) _ good))
 
   -- a number with a header is at most the ceiling
@@ -157,12 +157,12 @@ module _ (all : List Group) (limit ceiling : ℕ) where
         | false ↦ λ own q. rest q
       ] refl there
 
-  read_by : (n : ℕ) (g : Group) (o : Option Header) (r : Result Stored ℕ) (s : Stored) → sound_by all limit ceiling g o r ≡ Some s → r ≡ Ok s
+  pub read_by : (n : ℕ) (g : Group) (o : Option Header) (r : Result Stored ℕ) (s : Stored) → sound_by all limit ceiling g o r ≡ Some s → r ≡ Ok s
   read_by n g None r s e = absurd cc
   read_by n g (Some h) (Err part) s e = absurd cc
   read_by n g (Some h) (Ok t) s e = ap ok_stored (unless_some (is_bad_header all ceiling g.number h) t s e).1
 
-  one_kept : AllByRecursion (IsWhole all limit ceiling) all → (g : Group) (w : IsWhole all limit ceiling g) → IsGiven g → IsKept limit ceiling w.stored
+  pub one_kept : AllByRecursion (IsWhole all limit ceiling) all → (g : Group) (w : IsWhole all limit ceiling g) → IsGiven g → IsKept limit ceiling w.stored
   one_kept ws g w given =
       let read : object_of limit g.number g.parts ≡ Ok w.stored = read_by g.number g (header_at g) (object_of limit g.number g.parts) w.stored w.sound_is in
       let exact = object_exact limit g.number g.parts w.stored given.fine read in

@@ -1,3 +1,4 @@
+pub mod Fitting
 pub mod Opening
 pub mod Charges
 pub mod Closing

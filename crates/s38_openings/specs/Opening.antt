@@ -4,6 +4,7 @@ use Rattle.s38_base.specs.Limits.{ceiling_step, last_number}
 use Rattle.s38_commitment_laws.specs.Right.{IsData}
 use Rattle.s38_object_laws.specs.Well.{IsWell}
 use Rattle.s38_objects.specs.Lawful.{IsLawful, number_of}
+use Rattle.s38_openings.specs.Fitting.{FitTogether}
 use Rattle.s38_owner_laws.specs.Beginnings.{HoldsChecked}
 use Rattle.s38_rules.specs.Held.{Held}
 use Rattle.s38_rules.specs.Parts.{data_of}
@@ -32,5 +33,7 @@ pub record IsOpening (h : Held) : Type 0 where
   -- each object says an owner and a context whose numbers were given, or no context
   pub owned : All (λ o. o.owner.0 < h.next) h.objects
   pub placed : All (λ o. o.context.0 < h.next) h.objects
+  -- each object has an owner who is there, and stands in a context or in none
+  pub fit : FitTogether h
   -- a store can keep the ceiling of numbers
   pub ceiling : h.ceiling ≤ last_number + ceiling_step

@@ -1,0 +1,14 @@
+mod TableLaws
+mod OwnerLaws
+mod StandLaws
+mod RowLaws
+mod LiveLaws
+pub mod FollowLaws
+pub mod LaterLaws
+mod FitLaws
+mod WordLaws
+mod HeadLaws
+mod PlaceLaws
+mod SeenLaws
+mod OrderLaws
+pub mod StepLaws

@@ -1,0 +1,47 @@
+//! Laws about every state of a run.
+ghost use Rattle.std.specs.Prelude.{◌≡◌, ◌<◌, ℕ, List, [], length};
+ghost use Rattle.s38_code.specs.declared.deck.Job.{Job};
+ghost use Rattle.s38_code.specs.declared.entry.Entry.{Entry};
+ghost use Rattle.s38_code.specs.declared.event.Event.{Event};
+ghost use Rattle.s38_code.specs.declared.made.CheckedTemplate.{CheckedTemplate};
+ghost use Rattle.s38_commits.specs.Units.{IsRising};
+ghost use Rattle.s38_confinement.specs.Confined.{AreRun};
+ghost use Rattle.s38_object_laws.specs.Well.{AreWell};
+ghost use Rattle.s38_process.specs.Process.{ProcessState};
+ghost use Rattle.s38_openings.specs.Opening.{IsOpening};
+ghost use Rattle.s38_rules.specs.Held.{Held};
+ghost use Rattle.s38_rules.specs.Legal.{Leads};
+ghost use Rattle.s38_rules.specs.Opening.{state_of};
+ghost use Rattle.s38_rules.specs.State.{State};
+ghost use Rattle.s38_rules.specs.Step.{step};
+ghost use Rattle.s38_state_laws.specs.Later.{IsConfinedFromAny};
+ghost use Rattle.s38_state_laws.specs.Order.{AllInOrder, AreInOrder};
+ghost use Rattle.s38_state_laws.specs.Live.{AllLive, AreRunByJobs, ComesFrom, IsLive};
+
+/// Nothing is left behind a process: in every state of a run whoever holds a lock or a unit of changes has started and
+/// has not ended, and whoever waits has not ended. It is so at the beginning, and each step keeps it whose event comes
+/// from a process that may ask it, as in a run by jobs.
+pub fn nothing_is_left_behind()
+    ensures begins { (held : Held) (templates : List CheckedTemplate) (jobs : List Job) → IsLive (state_of held templates jobs) }
+    ensures steps { (s : State) (p : ℕ) (e : Event) → IsLive s → IsRising s.units → 0 < p → ComesFrom s.processes p e → IsLive (step s p e).state }
+    ensures histories { (held : Held) (templates : List CheckedTemplate) (jobs : List Job) (history : List Entry) (end : State) → AreRunByJobs jobs history
+        → Leads (state_of held templates jobs) [] history end → AllLive (state_of held templates jobs) history × IsLive end }
+{}
+
+/// In every state of a run from an opening the objects are in order: numbers rise and were given, no two objects of a
+/// context that is there have one identification, each object has an owner who is a user that is there, and stands in a
+/// context or in none. The user of each process that has started and has not ended is there, and no two locks of
+/// different processes on one object are incompatible. Each step keeps it.
+pub fn objects_stay_in_order()
+    ensures begins { (held : Held) (templates : List CheckedTemplate) (jobs : List Job) → IsOpening held → AreInOrder (state_of held templates jobs) }
+    ensures steps { (s : State) (p : ℕ) (e : Event) → AreWell s → AreInOrder s → AreInOrder (step s p e).state }
+    ensures histories { (held : Held) (templates : List CheckedTemplate) (jobs : List Job) (history : List Entry) (end : State) → IsOpening held
+        → Leads (state_of held templates jobs) [] history end → AllInOrder (state_of held templates jobs) history × AreInOrder end }
+{}
+
+/// Confinement from any moment of a run on: wherever its history is parted, if users have no way to a right on an object
+/// there, and they alone act from there on, none of the later entries uses the right, and they have no way at the end.
+pub fn no_way_opens_from_any_moment()
+    ensures { (processes : List ProcessState) (first : State) (history : List Entry) (end : State) → AreWell first → length processes ≡ length first.processes
+        → Leads first [] history end → AreRun processes history → IsConfinedFromAny processes first history end }
+{}
