@@ -14,4 +14,5 @@ def built():
     """The status of a build by the script ./s38, which shows how where there is no program yet; 0 where another is named."""
     if NAMED:
         return 0
-    return subprocess.run([TOP / "s38", "/dev/null", "check"], stdin=subprocess.DEVNULL, stdout=subprocess.DEVNULL, timeout=7200).returncode
+    build = subprocess.run([TOP / "s38", "/dev/null", "check"], stdin=subprocess.DEVNULL, stdout=subprocess.DEVNULL, timeout=7200)
+    return build.returncode
