@@ -10,28 +10,33 @@ use std::alloc::Global;
 use std::test::Fail;
 
 /// Makes the two data spaces, with an entry in each.
-const MAKE: &str = "PROGRAM MAKE;DCL C PTR;DCL S PTR;DCL P PTR;DCL D PTR;DCL E PTR;DCL B PTR;DCL K PTR;DCL L PTR
+const MAKE: &str =
+    "PROGRAM MAKE;DCL C PTR;DCL S PTR;DCL P PTR;DCL D PTR;DCL E PTR;DCL B PTR;DCL K PTR;DCL L PTR
 CRTCTX C,CONTEXT/00/SHOP,NONE;CRTJS S,C,JSPACE/00/S,NONE;ENSOBJ S;CRTJP P,C,JPORT/00/P,NONE,S;ENSOBJ P
 CRTDS D,C,DATASPACE/00/D,NONE,CHAR:3;CRTDS E,C,DATASPACE/00/E,NONE,CHAR:3;JRNLOBJ D,P;JRNLOBJ E,P
 CRTCB B,C,CBLOCK/00/B,NONE,P;CRTCR K,C,CURSOR/00/K,NONE,D,B;CRTCR L,C,CURSOR/00/L,NONE,E,B
 INSDSEN K,'OLD';INSDSEN L,'OLD';COMMIT B;RTX;END;STAGE;JOB A USER QSECOFR RUN MAKE;";
 
 /// Changes both entries in one unit.
-const CHANGE: &str = "PROGRAM CHANGE;DCL C PTR;DCL B PTR;DCL K PTR;DCL L PTR;RSLVSP C,*MACHINE,CONTEXT/00/SHOP,NONE
+const CHANGE: &str =
+    "PROGRAM CHANGE;DCL C PTR;DCL B PTR;DCL K PTR;DCL L PTR;RSLVSP C,*MACHINE,CONTEXT/00/SHOP,NONE
 RSLVSP B,C,CBLOCK/00/B,NONE;RSLVSP K,C,CURSOR/00/K,NONE;RSLVSP L,C,CURSOR/00/L,NONE;SETCR K,FIRST,0;UPDSEN K,'NEW'
 SETCR L,FIRST,0;UPDSEN L,'NEW';COMMIT B;RTX;END;STAGE;JOB A USER QSECOFR RUN CHANGE;";
 
 /// Reads both entries.
-const READ: &str = "PROGRAM READ;DCL C PTR;DCL K PTR;DCL L PTR;DCL V CHAR:3;RSLVSP C,*MACHINE,CONTEXT/00/SHOP,NONE
+const READ: &str =
+    "PROGRAM READ;DCL C PTR;DCL K PTR;DCL L PTR;DCL V CHAR:3;RSLVSP C,*MACHINE,CONTEXT/00/SHOP,NONE
 RSLVSP K,C,CURSOR/00/K,NONE;RSLVSP L,C,CURSOR/00/L,NONE;SETCR K,FIRST,0;RETDSEN V,K;SETCR L,FIRST,0;RETDSEN V,L;RTX;END
 STAGE;JOB A USER QSECOFR RUN READ;";
 
 /// What is written of that where both are old.
-const READ_OLD: &str = "JOB 1 A USER QSECOFR;1 START OK;2 RSLVSP OK S3/00;3 RSLVSP OK S9/00;4 RSLVSP OK S10/00;5 SETCR OK
+const READ_OLD: &str =
+    "JOB 1 A USER QSECOFR;1 START OK;2 RSLVSP OK S3/00;3 RSLVSP OK S9/00;4 RSLVSP OK S10/00;5 SETCR OK
 6 RETDSEN OK D6D3C4;7 SETCR OK;8 RETDSEN OK D6D3C4;9 FINISH RETURN;DONE 9;";
 
 /// And where both are new.
-const READ_NEW: &str = "JOB 1 A USER QSECOFR;1 START OK;2 RSLVSP OK S3/00;3 RSLVSP OK S9/00;4 RSLVSP OK S10/00;5 SETCR OK
+const READ_NEW: &str =
+    "JOB 1 A USER QSECOFR;1 START OK;2 RSLVSP OK S3/00;3 RSLVSP OK S9/00;4 RSLVSP OK S10/00;5 SETCR OK
 6 RETDSEN OK D5C5E6;7 SETCR OK;8 RETDSEN OK D5C5E6;9 FINISH RETURN;DONE 9;";
 
 /// What unsynced blocks are after a crash: as before, as written, and full of the letter that raises the gate.
@@ -96,11 +101,11 @@ fn outcome(
 
 /// The disk after a call that is served.
 fn served(alloc: Global, disk: MemDisk, words: &[&str], deck: &str) -> Result<MemDisk, Fail> {
-    let outcome = outcome(alloc, disk, words, deck, NONE)?;
-    if outcome.status != 0 {
+    let made = outcome(alloc, disk, words, deck, NONE)?;
+    if made.status != 0 {
         Err(Failed)?;
     }
-    Ok(outcome.disk)
+    Ok(made.disk)
 }
 
 /// The blocks of a disk that hold anything, each with its place.
@@ -127,11 +132,7 @@ fn two_entries(alloc: Global) -> Result<Vec<(u32, Block)>, Fail> {
 }
 
 /// A disk of these blocks, of which a call fails, counted from behind the calls that it takes to write them.
-fn with_blocks(
-    alloc: Global,
-    blocks: &[(u32, Block)],
-    call: Option<u64>,
-) -> Result<MemDisk, Fail> {
+fn with_blocks(alloc: Global, blocks: &[(u32, Block)], call: Option<u64>) -> Result<MemDisk, Fail> {
     let mut failing = Vec::new(alloc);
     if let Some(call) = call {
         failing.push(call.saturating_add(blocks.len() as u64).saturating_add(1))?;
@@ -162,9 +163,9 @@ fn are_new(alloc: Global, disk: MemDisk, moment: u64, fill: u8) -> Result<Option
         return Ok(None);
     }
     let read = outcome(alloc, listed.disk, &["serial"], READ, NONE)?;
-    if read.text == bytes_of(alloc, READ_OLD)? {
+    if read.text.as_slice() == bytes_of(alloc, READ_OLD)?.as_slice() {
         Ok(Some(false))
-    } else if read.text == bytes_of(alloc, READ_NEW)? {
+    } else if read.text.as_slice() == bytes_of(alloc, READ_NEW)?.as_slice() {
         Ok(Some(true))
     } else {
         Ok(None)
@@ -191,21 +192,27 @@ fn a_crash_leaves_both_changes_or_none(rt: HostRuntime) -> Result<(), Fail> {
     Ok(())
 }
 
-/// Whether a text is a part of a log from its begin on, and then the line of a disk that failed.
+/// Whether a text is a begin of a log, and then the line of a disk that failed.
 fn tells_fault(alloc: Global, text: &[u8], log: &[u8]) -> Result<bool, Fail> {
     let line = bytes_of(alloc, "DISK FAULT;")?;
-    match text.strip_suffix(line.as_slice()) {
-        Some(front) => Ok(log.starts_with(front)),
+    match text.len().checked_sub(line.len()) {
+        Some(at) => Ok(log.starts_with(&text[..at]) && &text[at..] == line.as_slice()),
         None => Ok(false),
     }
 }
 
 /// Whether a run of which a call fails tells it, and a crash then leaves both changes or none; none where no call fails.
-fn is_told(alloc: Global, blocks: &[(u32, Block)], call: u64, log: &[u8]) -> Result<Option<bool>, Fail> {
+fn is_told(
+    alloc: Global,
+    blocks: &[(u32, Block)],
+    call: u64,
+    log: &[u8],
+) -> Result<Option<bool>, Fail> {
     for &fill in FILLS {
         let failing = Failing {
             call: Some(call),
-            ..NONE
+            takes: &[],
+            puts: &[],
         };
         let run = changed(alloc, blocks, failing)?;
         if run.status == 0 {
