@@ -12,8 +12,8 @@ from .log import LISTED
 from .program import PROGRAM
 
 SECONDS = 60
-# Whether a run puts before its end, as ENSOBJ and COMMIT ask for it. As long as it does not, it has one put at most, and a
-# number that it gave to what a crash took away was told to nobody, and may be given again.
+# Whether a run puts before its end, as ENSOBJ, COMMIT and a new ceiling ask for it. As long as it does not, it has one put at
+# most, and a number that it gave to what is not kept may be given again, also where the text of a run that failed told it.
 IN_THE_MIDST = False
 BLOCK, FIRST_HOME = stores.BLOCK, stores.FIRST_HOME
 GATE, UP = 1, 0x4F
@@ -66,11 +66,11 @@ class State:
     def numbers(self):
         return [int(number) for number, _ in LISTED.findall(self.listing)]
 
-    def fault(self, path):
-        """What is odd about a store that has its parts, or nothing."""
-        text = call(path, ["serial"], PROBE)
-        if max(given_in(text), default=0) <= self.given:
-            return f"a number is given again, of 1 to {self.given}: {text!r}"
+    def fault(self, path, told=""):
+        """What is odd about a store that has its parts, or nothing, where a text was told of the run."""
+        text, given = call(path, ["serial"], PROBE), max([self.given, *(given_in(told) if IN_THE_MIDST else ())])
+        if max(given_in(text), default=0) <= given:
+            return f"a number is given again, of 1 to {given}: {text!r}"
         if text != self.probe or parts_of(path) != self.probed:
             return f"a run over it leaves something else than over such a store: {text!r}"
         return None
