@@ -88,7 +88,8 @@ fn outcome(
     let report = plain_top(alloc, words, &mut source, disk, &mut sink);
     let text = sink.written().to_vec(alloc)?;
     let status = report.status;
-    match report.disk {
+    let disk = report.disk;
+    match disk {
         None => Err(Failed)?,
         Some(disk) => Ok(Outcome {
             status,
@@ -242,7 +243,8 @@ fn a_call_that_fails_leaves_both_changes_or_none(rt: HostRuntime) -> Result<(), 
             None => return Ok(()),
         }
     }
-    Err(Failed)?
+    Err(Failed)?;
+    Ok(())
 }
 
 /// The takes and the puts of the run that fail, its status, and whether both entries are new then.
