@@ -74,7 +74,7 @@ const NONE: Failing<'static> = Failing {
 };
 
 /// What the words and a deck come to over a disk.
-fn outcome(
+fn came_of(
     alloc: Global,
     disk: MemDisk,
     words: &[&str],
@@ -102,7 +102,7 @@ fn outcome(
 
 /// The disk after a call that is served.
 fn served(alloc: Global, disk: MemDisk, words: &[&str], deck: &str) -> Result<MemDisk, Fail> {
-    let made = outcome(alloc, disk, words, deck, NONE)?;
+    let made = came_of(alloc, disk, words, deck, NONE)?;
     if made.status != 0 {
         Err(Failed)?;
     }
@@ -151,7 +151,7 @@ fn with_blocks(alloc: Global, blocks: &[(u32, Block)], call: Option<u64>) -> Res
 /// What the run of the unit comes to over a store of these blocks.
 fn changed(alloc: Global, blocks: &[(u32, Block)], failing: Failing<'_>) -> Result<Outcome, Fail> {
     let disk = with_blocks(alloc, blocks, failing.call)?;
-    outcome(alloc, disk, &["serial"], CHANGE, failing)
+    came_of(alloc, disk, &["serial"], CHANGE, failing)
 }
 
 /// Whether both entries are new after a crash; none where the store is not listed, or they are neither old nor new.
@@ -159,11 +159,11 @@ fn are_new(alloc: Global, disk: MemDisk, moment: u64, fill: u8) -> Result<Option
     if moment > disk.moment() {
         Err(Failed)?;
     }
-    let listed = outcome(alloc, disk.crash(alloc, moment, fill), &["list"], "", NONE)?;
+    let listed = came_of(alloc, disk.crash(alloc, moment, fill), &["list"], "", NONE)?;
     if listed.status != 0 {
         return Ok(None);
     }
-    let read = outcome(alloc, listed.disk, &["serial"], READ, NONE)?;
+    let read = came_of(alloc, listed.disk, &["serial"], READ, NONE)?;
     if read.text.as_slice() == bytes_of(alloc, READ_OLD)?.as_slice() {
         Ok(Some(false))
     } else if read.text.as_slice() == bytes_of(alloc, READ_NEW)?.as_slice() {
