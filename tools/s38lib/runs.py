@@ -136,9 +136,10 @@ class Run:
         return self.settled[-1]
 
     def raised(self):
-        """The store behind whose gate a log is to be done, where the run has one."""
-        ups = [place for place, store in enumerate(self.settled) if store[GATE * BLOCK] == UP]
-        return self.settled[ups[0]] if ups else None
+        """The store behind whose gate the log of the first put is to be done, and the numbers that were given then; nothing
+        where the run has no put."""
+        ups = [store for store in self.settled if store[GATE * BLOCK] == UP]
+        return (ups[0], self.states[1][1].given) if self.puts else None
 
 
 def calls_of(path, words, deck, room):
