@@ -190,8 +190,9 @@ def runs_of(name, room, deck, words):
     again.find_states(path, first.states[-1][1].given)
     runs = [first, again]
     if again.raised():
-        redone = run_of(f"{name}, its log done again", room, again.raised(), ["list"], b"")
-        redone.find_states(path, again.states[1][1].given)
+        raised, given = again.raised()
+        redone = run_of(f"{name}, its log done again", room, raised, ["list"], b"")
+        redone.find_states(path, given)
         runs.append(redone)
     return runs
 
