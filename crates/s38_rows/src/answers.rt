@@ -10,7 +10,7 @@ use std::alloc::Global;
 const BLOCKS: u32 = 4_096;
 
 /// The bytes of a deck or a text.
-fn bytes_of(alloc: Global, lines: &str) -> Result<Vec<u8>, NoMemory> {
+pub fn bytes_of(alloc: Global, lines: &str) -> Result<Vec<u8>, NoMemory> {
     let mut bytes = Vec::new(alloc);
     for byte in lines.bytes() {
         bytes.push(if byte == b';' { b'\n' } else { byte })?;

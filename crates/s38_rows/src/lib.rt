@@ -13,3 +13,5 @@ mod demo;
 mod faults;
 #[cfg(test)]
 mod listed;
+#[cfg(test)]
+mod stopped;
