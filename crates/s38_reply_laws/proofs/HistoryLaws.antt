@@ -18,7 +18,7 @@ use Rattle.s38_code.specs.declared.operand.Operand.{Operand}
 use Rattle.s38_code.specs.declared.program.Arg.{Arg}
 use Rattle.s38_code.specs.declared.program.Instruction.{Instruction}
 use Rattle.s38_code.specs.declared.program.Program.{Program}
-use Rattle.s38_code.specs.declared.reply.Reply.TheVariants.{Done}
+use Rattle.s38_code.specs.declared.reply.Reply.TheVariants.{Done, MustWait, Signal}
 use Rattle.s38_code.specs.declared.reply.Val.{Val}
 use Rattle.s38_local.specs.Law.{shapes_of}
 use Rattle.s38_odt.specs.Suited.{AreSuited, IsSuited}
@@ -44,7 +44,16 @@ use Rattle.s38_rules.specs.State.{State, waits}
 use Rattle.s38_rules.specs.Step.{awake_verdict, by_verdict, by_waiting, step}
 use Rattle.s38_rules.specs.declared.verdict.Verdict.TheVariants.{Permit, Refuse, Wait}
 use Rattle.s38_rules.specs.declared.verdict.Verdict.{Verdict}
-use Rattle.s38_owner_laws.proofs.CallLaws.{call_by, call_reaches, call_values, permitted_unrefused, reached_program}
+use Rattle.s38_rules.specs.declared.process.Started.{Started}
+use Rattle.s38_rules.specs.Invocations.{frames_used, most_frames, stack_in, stack_of}
+use Rattle.s38_rules.specs.State.{started}
+use Rattle.s38_process.specs.Invocations.{deepest, depth_of}
+use Rattle.s38_base.specs.declared.exception.Exception.{Exception}
+use Rattle.s38_owner_laws.proofs.FrameLaws.{depth_is, frames_enough, used_is}
+use Rattle.s38_owner_laws.specs.Owners.{programs_of}
+use Rattle.std.proofs.Common.{◌<◌}
+use Rattle.std.specs.Prelude.{is_some}
+use Rattle.s38_owner_laws.proofs.CallLaws.{call_by, call_reaches, call_values, callx_room, permitted_unrefused, reached_program}
 use Rattle.s38_owner_laws.proofs.HistoryLaws.{AllStand, all_next, begin_all, behind_other, behind_own, entry_asked}
 use Rattle.s38_owner_laws.proofs.StackLaws.{AsksFor, asks_for}
 use Rattle.s38_owner_laws.proofs.StepLaws.{AreKept, Stands, asked_begins, asked_op, suited_at}
@@ -52,7 +61,7 @@ use Rattle.s38_owner_laws.specs.Beginnings.{AreAsked, Begin, IsFresh}
 use Rattle.s38_reply_laws.proofs.CallSuits.{arguments_pass}
 use Rattle.s38_reply_laws.proofs.GiveLaws.{row_fills}
 use Rattle.s38_reply_laws.proofs.ValueLaws.{given_suits, nothing_suits}
-use Rattle.s38_reply_laws.specs.Replies.{AllSuit, AreLawful, IsSuitedBy}
+use Rattle.s38_reply_laws.specs.Replies.{AllSuit, AreLawful, GoesInto, IsSuitedBy}
 
 -- ---- what comes of an instruction suits here
 
@@ -202,6 +211,60 @@ step_suits s p own d e kept stands lawful asks = by (waits s p)
     by true = tt
     by false = verdict_suits s p own d e (awake_verdict s p e) kept stands lawful asks refl
 
+-- ---- calls go into their programs
+
+nothing_started : (o : Option Started) → o ≡ None → is_some o ≡ true → ⊥
+nothing_started None none h = cc
+nothing_started (Some x) none h = cc
+
+-- a frame is left, so one more invocation may be
+room_left : (s : State) (p : ℕ) (own : CreateResult) (d : ProcessState) (depth : ℕ) (r : Request) → Stands s p own d → AsksFor d depth r → frames_used depth (stack_of s p) < most_frames → depth_of d.stack < deepest
+room_left s p own d depth r stands for room = by (started s p) refl room
+  where
+    by : (o : Option Started) → started s p ≡ o → frames_used depth (stack_in o) < most_frames → depth_of d.stack < deepest
+    by None none room = absurd (nothing_started (started s p) none (stands.begun for.running))
+    by (Some x) is room =
+        let enough = frames_enough s.held own x.stack (programs_of d.stack) (stands.agree x is) in
+        let used : frames_used depth x.stack ≡ depth = used_is x.stack depth (omega (arith, for.deep, depth_is d.stack, enough)) in
+        omega (arith, used, room, for.deep)
+
+act_into : (s : State) (p : ℕ) (own : CreateResult) (d : ProcessState) (depth : ℕ) (r : Request) → AreKept s → Stands s p own d → event_of d ≡ Some (Act depth r) → awake_verdict s p (Act depth r) ≡ Permit
+    → GoesInto d (Act depth r) (Done (effect_of s p (Act depth r)).values)
+act_into s p own d depth r kept stands asks may call =
+    let for = asks_for d depth r asks in
+    let unrefused = permitted_unrefused s p depth r may in
+    let some = asked_begins d depth r for stands.checked call in
+    let reached = call_reaches s p depth r some.first some.more call some.is unrefused in
+    (reached.program, (ap program_in (call_values s p depth r call reached), λ op. room_left s p own d depth r stands for (callx_room s p depth r op unrefused)))
+
+waits_into : (d : ProcessState) (e : Event) → GoesInto d e MustWait
+waits_into d Start = tt
+waits_into d (Act depth r) = tt
+waits_into d (Finish cause) = tt
+
+signal_into : (d : ProcessState) (e : Event) (x : Exception) → GoesInto d e (Signal x)
+signal_into d Start x = tt
+signal_into d (Act depth r) x = tt
+signal_into d (Finish cause) x = tt
+
+permit_into : (s : State) (p : ℕ) (own : CreateResult) (d : ProcessState) (e : Event) → AreKept s → Stands s p own d → event_of d ≡ Some e → awake_verdict s p e ≡ Permit → GoesInto d e (Done (effect_of s p e).values)
+permit_into s p own d Start kept stands asks may = tt
+permit_into s p own d (Act depth r) kept stands asks may = act_into s p own d depth r kept stands asks may
+permit_into s p own d (Finish cause) kept stands asks may = tt
+
+verdict_into : (s : State) (p : ℕ) (own : CreateResult) (d : ProcessState) (e : Event) (v : Verdict) → AreKept s → Stands s p own d → event_of d ≡ Some e → awake_verdict s p e ≡ v → GoesInto d e (by_verdict s p e v).reply
+verdict_into s p own d e Permit kept stands asks is = permit_into s p own d e kept stands asks is
+verdict_into s p own d e Wait kept stands asks is = waits_into d e
+verdict_into s p own d e (Refuse x) kept stands asks is = signal_into d e x
+
+step_into : (s : State) (p : ℕ) (own : CreateResult) (d : ProcessState) (e : Event) → AreKept s → Stands s p own d → event_of d ≡ Some e → GoesInto d e (step s p e).reply
+unfolding step
+step_into s p own d e kept stands asks = by (waits s p)
+  where
+    by : (b : Bool) → GoesInto d e (by_waiting b s p e).reply
+    by true = waits_into d e
+    by false = verdict_into s p own d e (awake_verdict s p e) kept stands asks refl
+
 -- ---- a history
 
 entry_suits : (processes : List ProcessState) (before es : List Entry) (e : Entry) (s : State) → AllStand processes before s → AreLawful processes before → IsEntry s before e
@@ -210,7 +273,10 @@ entry_suits processes before es e s all lawful entry asked k d there own =
     let now = behind d (entries_of (k + 1) before) in
     let asks = entry_asked processes before es e k d asked there own in
     let stands = subst (λ q. Stands s q d.stack.top.made now) (sym own) (all.each k d there) in
-    subst (SuitsReply now) entry.reply (step_suits s e.process d.stack.top.made now e.event all.kept stands (lawful k d there) asks)
+    record {
+      suits = subst (SuitsReply now) entry.reply (step_suits s e.process d.stack.top.made now e.event all.kept stands (lawful k d there) asks);
+      into = subst (GoesInto now e.event) entry.reply (step_into s e.process d.stack.top.made now e.event all.kept stands asks);
+    }
 
 lawful_next : (processes : List ProcessState) (before : List Entry) (e : Entry) → AreLawful processes before → IsSuitedBy processes before e → AreLawful processes (before ++ e ∷ [])
 lawful_next processes before e lawful suits k d there = by (e.process == k + 1) refl
@@ -218,7 +284,7 @@ lawful_next processes before e lawful suits k d there = by (e.process == k + 1) 
     by : (b : Bool) → (e.process == k + 1) ≡ b → IsLawful (behind d (entries_of (k + 1) (before ++ e ∷ [])))
     by true is =
         let own : e.process ≡ k + 1 = grind (arith, nat_tests) in
-        subst IsLawful (sym (behind_own before e k d own)) (absorbed_lawful (behind d (entries_of (k + 1) before)) e.reply (lawful k d there) (suits k d there own))
+        subst IsLawful (sym (behind_own before e k d own)) (absorbed_lawful (behind d (entries_of (k + 1) before)) e.reply (lawful k d there) (suits k d there own).suits)
     by false off = subst IsLawful (sym (behind_other before e k d off)) (lawful k d there)
 
 suits_on : (processes : List ProcessState) (s : State) (before history : List Entry) (end : State) → AllStand processes before s → AreLawful processes before → Leads s before history end

@@ -8,7 +8,8 @@ ghost use Rattle.s38_rules.specs.State.{State};
 ghost use Rattle.std.specs.Prelude.{List, []};
 
 /// Each reply of the machine suits what its process asked: a value that comes is such as the variable holds that gets it,
-/// and a program that is called has parameters as the arguments. So each process is lawful at each moment of a history.
+/// and a call that takes effect brings a program, whose parameters are as the arguments. So each process is lawful at each
+/// moment of a history.
 pub fn replies_suit()
     ensures histories { (processes : List ProcessState) (first : State) (history : List Entry) (end : State) → Begin processes first → Leads first [] history end
         → AreAsked processes history → AllSuit processes [] history }

@@ -1,6 +1,6 @@
 pub mod DeckLaws
+mod OwnerLaws
 pub mod TopLaws
 mod StoreLaws
 mod ConfinedLaws
-mod OwnerLaws
 pub mod SafeLaws
