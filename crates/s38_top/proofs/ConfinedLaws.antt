@@ -2,7 +2,7 @@
 use Rattle.std.proofs.Common.{◌≡◌, ◌≢◌, ℕ, ◌+◌, List, [], ◌∷◌, length, map, refl, sym, ◌∙◌, ap, subst, arith, zero, suc}
 use Rattle.std.proofs.lemmas.Bool.{cond_both}
 use Rattle.std.proofs.lemmas.List.{length-map}
-use Rattle.std.proofs.lemmas.List.Elements.{All-cons, All-head, All-nil, All-tail}
+use Rattle.std.proofs.lemmas.List.Elements.{All-head, All-tail}
 use Rattle.std.proofs.lemmas.Option.{same_Some}
 use Rattle.std.specs.Prelude.{All, Option, Some, slice_get}
 use Rattle.std.specs.Option.{unwrap_or}
@@ -15,7 +15,6 @@ use Rattle.s38_process.specs.Process.{ProcessState, RanFrom, fresh}
 use Rattle.s38_rules.specs.declared.object.Object.{Object}
 use Rattle.s38_rules.specs.Headers.{rows_in}
 use Rattle.s38_rules.specs.Held.{Held, has_number, object_in}
-use Rattle.s38_rules.specs.Opening.{general_context, installed, locked_queue, machine_context, officer, officer_rows, opening, plain_user}
 use Rattle.s38_rules.specs.PrivateRows.{AreRows}
 use Rattle.s38_rules.specs.State.{State}
 use Rattle.s38_confinement.specs.Confined.{AreRun, BeginsClosed}
@@ -47,7 +46,7 @@ begins_closed deck o r k d there =
     let at = mapped_at (process_of deck) deck.jobs k d there in
     subst (λ (x : ProcessState). NoWayIn o r x) at.2 (begins (IsHarmless o r) (unwrap_or (made_for deck at.0) no_program) at.0.budget)
 
-as_many : (held : Held) (deck : Deck) → length (processes_of deck) ≡ length (opened held deck).processes
+pub as_many : (held : Held) (deck : Deck) → length (processes_of deck) ≡ length (opened held deck).processes
 as_many held deck = length-map deck.jobs (process_of deck) ∙ sym (length-map deck.jobs _)
 
 -- ---- the openings
@@ -57,27 +56,6 @@ rows_kept [] n all = tt
 rows_kept (x ∷ os) n all =
     cond_both (has_number n x) (Some x) (object_in os n) (λ y. AreRows (rows_in y))
     (λ yes. All-head (λ x. AreRows x.rows) x os all) (λ no. rows_kept os n (All-tail (λ x. AreRows x.rows) x os all))
-
-officer_in_order : AreRows officer_rows
-officer_in_order = (λ e. omega (arith, e), tt, tt)
-
-owned_in_order : (x : Object) (os : List Object) → x.rows ≡ officer_rows → All (λ x. AreRows x.rows) os → All (λ x. AreRows x.rows) (x ∷ os)
-owned_in_order x os own rest = All-cons (λ x. AreRows x.rows) x os (subst AreRows (sym own) officer_in_order) rest
-
-pub opening_in_order : All (λ x. AreRows x.rows) opening
-unfolding opening
-opening_in_order =
-    owned_in_order machine_context (officer ∷ general_context ∷ plain_user ∷ locked_queue ∷ []) refl
-    (owned_in_order officer (general_context ∷ plain_user ∷ locked_queue ∷ []) refl
-    (owned_in_order general_context (plain_user ∷ locked_queue ∷ []) refl
-    (owned_in_order plain_user (locked_queue ∷ []) refl
-    (owned_in_order locked_queue [] refl (All-nil (λ x. AreRows x.rows))))))
-
-pub installed_in_order : All (λ x. AreRows x.rows) installed
-unfolding installed
-installed_in_order =
-    owned_in_order machine_context (officer ∷ []) refl
-    (owned_in_order officer [] refl (All-nil (λ x. AreRows x.rows)))
 
 begins_shut : (held : Held) (deck : Deck) (users : List ℕ) (o r : ℕ) → All (λ x. AreRows x.rows) held.objects → o ≢ 0 → NoWay held users o r → BeginsClosed (processes_of deck) (opened held deck) users o r
 begins_shut held deck users o r in_order some none = record {

@@ -1,5 +1,6 @@
 pub mod DeckLaws
 mod OwnerLaws
+mod KeepLaws
 pub mod TopLaws
 mod StoreLaws
 mod ConfinedLaws

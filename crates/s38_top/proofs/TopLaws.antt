@@ -13,7 +13,6 @@ use Rattle.s38_rules.specs.Legal.{IsSound, Leads, Run, begun, no_moment}
 use Rattle.s38_rules.proofs.Laws.{marked_still}
 use Rattle.s38_rules.specs.Held.{Held}
 use Rattle.s38_rules.specs.Opening.{held_installed, state_of}
-use Rattle.s38_rules.specs.PrivateRows.{AreRows}
 use Rattle.s38_run.specs.Whole.{AllRan}
 use Rattle.std.specs.Io.KnownBytes.{Appends, Keeps}
 use Rattle.s38_base.specs.Faults.{Rose}
@@ -23,10 +22,7 @@ use Rattle.s38_io.specs.Source.{ReadsAll}
 use Rattle.s38_io.specs.Sink.{AppendsFront}
 use Rattle.s38_demo.specs.GeneratedDeck.{deck_of, generated}
 use Rattle.s38_demo.proofs.SpelledLaws.{generated_is_spelled}
-use Rattle.s38_openings.specs.Opening.{IsOpening}
-use Rattle.s38_object_laws.proofs.EventLaws.{history_well, installed_well}
-use Rattle.s38_openings.proofs.BeginLaws.{run_right, run_well}
-use Rattle.s38_run.proofs.ProgressLaws.{begins_going, history_awake, history_going}
+use Rattle.s38_openings.proofs.FirstLaws.{installed_opening}
 use Rattle.s38_stores.specs.Refusals.{IsBad, IsTaken}
 use Rattle.s38_stores.specs.declared.fault.BadStore.{BadStore}
 use Rattle.s38_template.specs.Grammar.{Spells}
@@ -48,8 +44,7 @@ use Rattle.s38_command.specs.declared.turns.Turns.TheVariants.{Serial}
 use Rattle.s38_top.specs.Begun.{IsStarted, IsWholeOf, held_of}
 use Rattle.s38_top.specs.Crash.{IsSafe}
 use Rattle.s38_top.specs.Decks.{AreMarks, IsRunOf, IsUnstored, checked_of, made_for, opened, order_of}
-use Rattle.s38_commitment_laws.proofs.StepLaws.{history_right, installed_right}
-use Rattle.s38_top.proofs.ConfinedLaws.{installed_in_order, run_confined}
+use Rattle.s38_top.proofs.KeepLaws.{run_keeps}
 use Rattle.s38_top.specs.Ends.{IsDecided, IsReadFrom, ReadsFrom}
 use Rattle.s38_top.specs.Outcome.{CameToRun, Ends, FromStore, FromText, HasBadStore, HasDeck, Holds, IsAnswered, IsChecked, IsComplete, IsDemonstrated, IsGood, IsGoodDeck, IsGoodFor, IsGoodStore, IsInstalled, IsListed, IsServedBy, OfStore, OfText, RanGenerated, ReadOut, ReadsDeck, Serves, Takes, Tells, checked_text, faulted, history_of, marks_of, most, status_of, text_of}
 use Rattle.s38_top.specs.Outside.{Outside, Unread, outside}
@@ -331,10 +326,6 @@ finished_of (Some ys) new xs text e h small = h.rest ∙ ap Some (nothing_left y
 read_out : (old new : Outside) (deck : Deck) → HasDeck old new deck → ReadOut old new
 read_out old new deck taken xs e = finished_of old.left new.left xs taken.text e taken.read taken.is.small
 
--- the rows of an opening are in order
-rows_in_order : (held : Held) → IsOpening held → All (λ x. AreRows x.rows) held.objects
-rows_in_order held opening k d h = (opening.well k d h).rows
-
 serves_by : (asked : Option Command) (old new : Outside) (o : Outcome) (history : List Entry) → Holds asked old new o → Appends old.written new.written (text_of o) → status_of o ≡ 0 → history ≡ history_of o
     → Serves (asked) old new history
 serves_by asked old new BadWords history holds told s h = absurd (omega arith)
@@ -354,11 +345,7 @@ serves_by asked old new (Ran turns whole Kept) history holds told s h =
       deck = whole.deck;
       taken = taken_is;
       ran = came.ran;
-      confined = run_confined came.ran.held _ whole.deck whole.history.items (rows_in_order came.ran.held came.ran.opening) came.ran.run;
-      right = (run_right came.ran.held (checked_of whole.deck) whole.deck.jobs whole.history.items came.ran.run.state came.ran.opening came.ran.run.legal).0;
-      well = (run_well came.ran.held (checked_of whole.deck) whole.deck.jobs whole.history.items came.ran.run.state came.ran.opening came.ran.run.legal).0;
-      going = history_going (opened came.ran.held whole.deck) whole.history.items (begins_going came.ran.held (checked_of whole.deck) whole.deck.jobs);
-      awake = history_awake (opened came.ran.held whole.deck) [] whole.history.items came.ran.run.state came.ran.run.legal;
+      laws = run_keeps came.ran.held _ whole.deck whole.history.items came.ran.opening came.ran.run;
       kept = came.ends;
       told = told;
       finished = read_out old new whole.deck taken_is;
@@ -383,11 +370,7 @@ serves_by asked old new (Demonstrated size whole) history holds told s h =
     subst (λ (es : List Entry). IsDemonstrated size old new es) (sym h) (record {
       deck = whole.deck;
       ran = ran;
-      confined = run_confined held_installed _ whole.deck whole.history.items installed_in_order ran.run;
-      right = (history_right (opened held_installed whole.deck) [] whole.history.items ran.run.state (installed_right (checked_of whole.deck) whole.deck.jobs) ran.run.legal).0;
-      well = (history_well (opened held_installed whole.deck) [] whole.history.items ran.run.state (installed_well (checked_of whole.deck) whole.deck.jobs) ran.run.legal).0;
-      going = history_going (opened held_installed whole.deck) whole.history.items (begins_going held_installed (checked_of whole.deck) whole.deck.jobs);
-      awake = history_awake (opened held_installed whole.deck) [] whole.history.items ran.run.state ran.run.legal;
+      laws = run_keeps held_installed _ whole.deck whole.history.items installed_opening ran.run;
       told = told;
       unread = made.0;
       untouched = holds.comes.1.1.1.1;

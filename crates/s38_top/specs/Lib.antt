@@ -4,5 +4,6 @@ pub mod Crash
 pub mod Outside
 pub mod Runs
 pub mod Lines
+pub mod Laws
 pub mod Outcome
 pub mod Ends

@@ -10,7 +10,6 @@ use Rattle.s38_io.specs.Sink.{AppendsFront}
 use Rattle.s38_code.specs.declared.deck.Deck.{Deck}
 use Rattle.s38_code.specs.declared.entry.Entry.{Entry}
 use Rattle.s38_code.specs.declared.made.CheckedTemplate.{CheckedTemplate}
-use Rattle.s38_commitment_laws.specs.Right.{AllRight}
 use Rattle.s38_demo.specs.GeneratedDeck.{deck_of}
 use Rattle.s38_demo.specs.Total.{demo_text}
 use Rattle.s38_joblog.specs.Check.{check_text}
@@ -20,8 +19,6 @@ use Rattle.s38_rules.specs.Held.{Held}
 use Rattle.s38_rules.specs.Opening.{held_installed}
 use Rattle.s38_stores.specs.Refusals.{IsBad, IsTaken}
 use Rattle.s38_stores.specs.Stores.{IsCleaned, Keeps, Leaves, Restarts, installed_store}
-use Rattle.s38_object_laws.specs.Well.{AllWell}
-use Rattle.s38_run.specs.Progress.{AllGoing, AreAwake}
 use Rattle.s38_stores.specs.declared.fault.BadStore.{BadStore}
 use Rattle.s38_stores.specs.declared.fault.StoreRefusal.{StoreRefusal}
 use Rattle.s38_stores.specs.declared.fault.StoreRefusal.TheVariants as refusals
@@ -39,7 +36,8 @@ use Rattle.s38_command.specs.declared.turns.Turns.{Turns}
 use Rattle.s38_command.specs.declared.turns.Turns.TheVariants.{Serial}
 use Rattle.s38_command.specs.Commands.{reads_deck}
 use Rattle.s38_top.specs.Crash.{IsSafe}
-use Rattle.s38_top.specs.Decks.{AreMarks, IsConfined, IsRunOf, checked_of, opened, order_of}
+use Rattle.s38_top.specs.Decks.{AreMarks, IsRunOf, checked_of, order_of}
+use Rattle.s38_top.specs.Laws.{KeepsLaws}
 use Rattle.s38_top.specs.Lines.{bad_store_line, disk_fault_line, full_line, line}
 use Rattle.s38_top.specs.Outside.{Outside, Unread, Untouched}
 use Rattle.s38_top.specs.Runs.{EndsWith, RanOver, kept_of}
@@ -261,19 +259,13 @@ pub record Ends (asked : Option Command) (old new : Outside) (status : ℕ) (his
 abbrev pub ReadOut : Outside → Outside → Type 0
 ReadOut old new = (bytes : List ℕ) → old.left ≡ Some bytes → new.left ≡ Some []
 
--- a deck was spelled, the history is that of its whole runs over the store and opens no way to a right, what it left is
+-- a deck was spelled, the history is that of its whole runs over the store and keeps the laws of runs, what it left is
 -- kept, its text was written, and the input was read to its end
 pub record IsComplete (turns : Turns) (old new : Outside) (history : List Entry) : Type 0 where
   pub deck : Deck
   pub taken : HasDeck old new deck
   pub ran : RanOver turns old.disk deck history
-  pub confined : IsConfined ran.held deck history ran.run.state
-  -- in each state on the way the units of changes are right
-  pub right : AllRight (opened ran.held deck) history
-  -- a store can keep each object, none is ready only where all have ended, and who waits asks for nothing before an effect
-  pub well : AllWell (opened ran.held deck) history
-  pub going : AllGoing (opened ran.held deck) history
-  pub awake : AreAwake [] history
+  pub laws : KeepsLaws ran.held deck history ran.run.state
   pub kept : Leaves old.disk new.disk (λ f g. Keeps new.disk.size g (kept_of ran.run.state))
   pub told : Appends old.written new.written (run_text deck history Kept)
   pub finished : ReadOut old new
@@ -288,17 +280,12 @@ pub record IsChecked (old new : Outside) (history : List Entry) : Type 0 where
   pub still : history ≡ []
   pub untouched : Untouched old new
 
--- the generated deck was run so, the history opens no way to a right, the text of the demonstration was written, and
--- the input was not read
+-- the generated deck was run so, the history keeps the laws of runs, the text of the demonstration was written, and the
+-- input was not read
 pub record IsDemonstrated (size : ℕ) (old new : Outside) (history : List Entry) : Type 0 where
   pub deck : Deck
   pub ran : RanGenerated size deck history
-  pub confined : IsConfined held_installed deck history ran.run.state
-  pub right : AllRight (opened held_installed deck) history
-  -- a store can keep each object, none is ready only where all have ended, and who waits asks for nothing before an effect
-  pub well : AllWell (opened held_installed deck) history
-  pub going : AllGoing (opened held_installed deck) history
-  pub awake : AreAwake [] history
+  pub laws : KeepsLaws held_installed deck history ran.run.state
   pub told : Appends old.written new.written (demo_text size history)
   pub unread : Unread old new
   pub untouched : Untouched old new

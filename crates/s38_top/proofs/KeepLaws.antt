@@ -1,0 +1,47 @@
+-- A whole run from an opening keeps the laws of runs.
+use Rattle.std.proofs.Common.{◌≡◌, ◌+◌, ℕ, All, List, []}
+use Rattle.std.specs.Prelude.{Some, slice_get}
+use Rattle.s38_code.specs.declared.deck.Deck.{Deck}
+use Rattle.s38_code.specs.declared.deck.Job.{Job}
+use Rattle.s38_code.specs.declared.entry.Entry.{Entry}
+use Rattle.s38_code.specs.History.{entries_of}
+use Rattle.s38_openings.proofs.BeginLaws.{opening_well, run_right, run_well}
+use Rattle.s38_openings.specs.Opening.{IsOpening}
+use Rattle.s38_rules.specs.Held.{Held}
+use Rattle.s38_rules.specs.PrivateRows.{AreRows}
+use Rattle.s38_rules.specs.State.{State}
+use Rattle.s38_run.proofs.ProgressLaws.{begins_going, history_awake, history_going}
+use Rattle.s38_state_laws.proofs.FollowLaws.{run_live}
+use Rattle.s38_state_laws.proofs.LaterLaws.{confined_later}
+use Rattle.s38_state_laws.proofs.StepLaws.{run_in_order}
+use Rattle.s38_state_laws.specs.Live.{AreRunByJobs}
+use Rattle.s38_top.proofs.ConfinedLaws.{as_many, each_ran, run_confined}
+use Rattle.s38_top.proofs.OwnerLaws.{run_owned, run_suits}
+use Rattle.s38_top.specs.Decks.{IsRunOf, checked_of, opened, processes_of}
+use Rattle.s38_top.specs.Laws.{KeepsLaws}
+
+-- the private rows of an opening are in order
+rows_in_order : (held : Held) → IsOpening held → All (λ x. AreRows x.rows) held.objects
+rows_in_order held opening k d h = (opening.well k d h).rows
+
+-- each job has the entries of a process, from its start on
+run_by_jobs : (held : Held) (Order : State → List Entry → Type 0) (deck : Deck) (history : List Entry) → IsRunOf held Order deck history → AreRunByJobs deck.jobs history
+run_by_jobs held Order deck history run = record {
+  each = λ k job there. let one = run.each k job there in record { made = one.made; ran = one.ran.by_program };
+}
+
+pub run_keeps : (held : Held) (Order : State → List Entry → Type 0) (deck : Deck) (history : List Entry) → IsOpening held → (run : IsRunOf held Order deck history) → KeepsLaws held deck history run.state
+run_keeps held Order deck history opening run = record {
+  confined = run_confined held Order deck history (rows_in_order held opening) run;
+  later =
+      confined_later (processes_of deck) (opened held deck) history run.state (opening_well held (checked_of deck) deck.jobs opening) (as_many held deck) run.legal
+      (each_ran held Order deck history run);
+  owned = run_owned held Order deck history opening run;
+  suited = run_suits held Order deck history opening run;
+  live = (run_live held (checked_of deck) deck.jobs history run.state (run_by_jobs held Order deck history run) run.legal).0;
+  well = (run_well held (checked_of deck) deck.jobs history run.state opening run.legal).0;
+  ordered = (run_in_order held (checked_of deck) deck.jobs history run.state opening run.legal).0;
+  right = (run_right held (checked_of deck) deck.jobs history run.state opening run.legal).0;
+  going = history_going (opened held deck) history (begins_going held (checked_of deck) deck.jobs);
+  awake = history_awake (opened held deck) [] history run.state run.legal;
+}
