@@ -28,10 +28,11 @@ pub fn nothing_is_left_behind()
         → Leads (state_of held templates jobs) [] history end → AllLive (state_of held templates jobs) history × IsLive end }
 {}
 
-/// In every state of a run from an opening the objects are in order: numbers rise and were given, no two objects of a
-/// context that is there have one identification, each object has an owner who is a user that is there, and stands in a
-/// context or in none. The user of each process that has started and has not ended is there, and no two locks of
-/// different processes on one object are incompatible. Each step keeps it.
+/// In every state of a run from an opening the objects are in order: numbers rise and were given, none above the ceiling;
+/// no two objects of a context that is there have one identification; each object has an owner who is a user that is
+/// there, and stands in a context or in none; queues and indexes keep to their limits. The user of each process that has
+/// started and has not ended is there, and no two locks of different processes on one object are incompatible. Each step
+/// keeps it.
 pub fn objects_stay_in_order()
     ensures begins { (held : Held) (templates : List CheckedTemplate) (jobs : List Job) → IsOpening held → AreInOrder (state_of held templates jobs) }
     ensures steps { (s : State) (p : ℕ) (e : Event) → AreWell s → AreInOrder s → AreInOrder (step s p e).state }
