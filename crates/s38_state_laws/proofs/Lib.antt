@@ -13,3 +13,4 @@ mod SeenLaws
 mod BodyLaws
 mod OrderLaws
 pub mod StepLaws
+pub mod EndLaws

@@ -16,7 +16,7 @@ ghost use Rattle.s38_rules.specs.State.{State};
 ghost use Rattle.s38_rules.specs.Step.{step};
 ghost use Rattle.s38_state_laws.specs.Later.{IsConfinedFromAny};
 ghost use Rattle.s38_state_laws.specs.Order.{AllInOrder, AreInOrder};
-ghost use Rattle.s38_state_laws.specs.Live.{AllLive, AreRunByJobs, ComesFrom, IsLive};
+ghost use Rattle.s38_state_laws.specs.Live.{AllLive, AreRunByJobs, AreWholeRuns, ComesFrom, HasNothingLeft, IsLive};
 
 /// Nothing is left behind a process: in every state of a run whoever holds a lock or a unit of changes has started and
 /// has not ended, and whoever waits has not ended. It is so at the beginning, and each step keeps it whose event comes
@@ -26,6 +26,13 @@ pub fn nothing_is_left_behind()
     ensures steps { (s : State) (p : ℕ) (e : Event) → IsLive s → IsRising s.units → 0 < p → ComesFrom s.processes p e → IsLive (step s p e).state }
     ensures histories { (held : Held) (templates : List CheckedTemplate) (jobs : List Job) (history : List Entry) (end : State) → AreRunByJobs jobs history
         → Leads (state_of held templates jobs) [] history end → AllLive (state_of held templates jobs) history × IsLive end }
+{}
+
+/// The whole runs of all jobs leave nothing: every process has ended, nothing is locked, no unit of changes is open, and
+/// nobody waits.
+pub fn whole_runs_leave_nothing()
+    ensures { (held : Held) (templates : List CheckedTemplate) (jobs : List Job) (history : List Entry) (end : State) → IsOpening held
+        → AreWholeRuns jobs history → Leads (state_of held templates jobs) [] history end → HasNothingLeft end }
 {}
 
 /// In every state of a run from an opening the objects are in order: numbers rise and were given, none above the ceiling;
