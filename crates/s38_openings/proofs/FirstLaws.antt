@@ -1,11 +1,12 @@
 -- The objects with which a machine begins that was not stored before are openings.
 use Rattle.std.proofs.Common.{◌≡◌, ℕ, zero, suc, ◌+◌, ◌<◌, true, false, List, [], ◌∷◌, refl, subst, sym, arith}
 use Rattle.std.specs.Prelude.{Some}
-use Rattle.std.proofs.lemmas.List.Elements.{All-from_recursion}
+use Rattle.std.proofs.lemmas.List.Elements.{All-from_recursion, All-nil}
 use Rattle.std.specs.List.Sorted.{IsStrictlyIncreasing}
 use Rattle.s38_base.specs.Ids.{same_id}
 use Rattle.s38_object_laws.proofs.EventLaws.{first_well, installed_well}
 use Rattle.s38_objects.specs.Lawful.{number_of}
+use Rattle.s38_openings.specs.Bodies.{HoldsBody, IsMessageOf}
 use Rattle.s38_openings.specs.Fitting.{IsPlaced, IsUser, is_context_or_gone}
 use Rattle.s38_openings.specs.Opening.{HoldsTable, IsNumbered, IsOpening}
 use Rattle.s38_owner_laws.specs.Beginnings.{HoldsChecked}
@@ -59,6 +60,7 @@ first_opening = record {
   well = (first_well [] []).objects;
   tables = All-from_recursion HoldsTable opening (tt, (tt, (tt, (tt, (tt, tt)))));
   programs = All-from_recursion HoldsChecked opening (λ p h. cc, (λ p h. cc, (λ p h. cc, (λ p h. cc, (λ p h. cc, tt)))));
+  bodies = All-from_recursion HoldsBody opening (tt, (tt, (tt, (tt, (record { key = omega arith; some = omega arith; most = omega arith; messages = All-nil (IsMessageOf 0 8) }, tt)))));
   lawful = record {
     rising = rise_first 1 2 (3 ∷ 4 ∷ 5 ∷ []) (omega arith) (rise_first 2 3 (4 ∷ 5 ∷ []) (omega arith) (rise_first 3 4 (5 ∷ []) (omega arith) (rise_first 4 5 [] (omega arith) (one_rises 5))));
     given = All-from_recursion (λ o. number_of o < 6) opening (omega arith, (omega arith, (omega arith, (omega arith, (omega arith, tt)))));
@@ -82,6 +84,7 @@ installed_opening = record {
   well = (installed_well [] []).objects;
   tables = All-from_recursion HoldsTable installed (tt, (tt, tt));
   programs = All-from_recursion HoldsChecked installed (λ p h. cc, (λ p h. cc, tt));
+  bodies = All-from_recursion HoldsBody installed (tt, (tt, tt));
   lawful = record {
     rising = rise_first 1 2 [] (omega arith) (one_rises 2);
     given = All-from_recursion (λ o. number_of o < 3) installed (omega arith, (omega arith, tt));

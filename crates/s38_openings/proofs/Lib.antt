@@ -3,6 +3,7 @@ pub mod FirstLaws
 pub mod ChargeLaws
 mod RedoLaws
 mod FitLaws
+mod BodyLaws
 mod StoredLaws
 mod PlacedLaws
 mod HeadLaws

@@ -28,11 +28,13 @@ use Rattle.s38_image.specs.declared.stored.Stored.{Stored}
 use Rattle.s38_image_printing.proofs.KindLaws.{read_printable}
 use Rattle.s38_journals.specs.Journals.{JournalList}
 use Rattle.s38_object_laws.specs.Well.{IsWell}
+use Rattle.s38_openings.proofs.BodyLaws.{body_fits}
 use Rattle.s38_openings.proofs.FitLaws.{programs_fit, rows_fit, table_fits}
 use Rattle.s38_openings.proofs.HeadLaws.{SameHead, lawful_same}
 use Rattle.s38_openings.proofs.PlacedLaws.{all_placed, header_there, is_there_said, machine_there, said}
 use Rattle.s38_openings.proofs.RedoLaws.{redone_table}
 use Rattle.s38_openings.proofs.StoredLaws.{IsGiven, IsKept, all_kept, fine_leading, fine_parts, groups_given, one_kept}
+use Rattle.s38_openings.specs.Bodies.{HoldsBody, IsBody}
 use Rattle.s38_openings.specs.Fitting.{FitTogether, IsPlaced}
 use Rattle.s38_openings.specs.Opening.{HoldsTable, IsNumbered, IsOpening}
 use Rattle.s38_owner_laws.specs.Beginnings.{HoldsChecked}
@@ -55,14 +57,15 @@ record StaysSo (old new : Body) : Type 0 where
   pub text : HasShortText old → HasShortText new
   pub table : IsData (data_of old) → IsData (data_of new)
   pub code : code_of new ≡ code_of old
+  pub body : IsBody old → IsBody new
 
 behind_table : (number image : ℕ) (journal : Option JournalList) (t : DataTable) → IsTable t → IsTable (table_behind number image journal t)
 behind_table number image None t is = is
 behind_table number image (Some journal) t is = redone_table number image journal.entries t is
 
 body_stays : (h : Held) (number image : ℕ) (b : Body) → StaysSo b (over_body data_part (data_followed h number image) b)
-body_stays h number image (bodies.DataSpace d) = record { kind = refl; text = λ t. t; table = λ is. behind_table number image (option_map (journal_at h) (journal_behind h d.port.0)) d.space is; code = refl }
-body_stays h number image _ = record { kind = refl; text = λ t. t; table = λ is. is; code = refl }
+body_stays h number image (bodies.DataSpace d) = record { kind = refl; text = λ t. t; table = λ is. behind_table number image (option_map (journal_at h) (journal_behind h d.port.0)) d.space is; code = refl; body = λ is. is }
+body_stays h number image _ = record { kind = refl; text = λ t. t; table = λ is. is; code = refl; body = λ is. is }
 
 same_head : (h : Held) (s : Stored) → SameHead (followed h s) (object_in_stored s)
 same_head h s = record { number = refl; id = refl; context = refl }
@@ -72,6 +75,7 @@ record IsOpened (next : ℕ) (o : Object) : Type 0 where
   pub well : IsWell o
   pub table : HoldsTable o
   pub programs : HoldsChecked o
+  pub body : HoldsBody o
   pub number : IsNumbered o
   pub owner : o.owner.0 < next
 
@@ -87,6 +91,7 @@ opened h limit ceiling s small is =
       table = stays.table (table_fits s.object.id.kind (body_tags s.object.id.kind (image_of s)) s.object.body s.sequence storable.kind is.image.body);
       programs = λ program code.
           programs_fit s.object.id.kind (body_tags s.object.id.kind (image_of s)) s.object.body s.sequence storable.kind is.image.body program (sym stays.code ∙ code);
+      body = stays.body (body_fits s.object.id.kind (body_tags s.object.id.kind (image_of s)) s.object.body s.sequence storable.kind is.image.body);
       number = is.number;
       owner = is.owner;
     }
@@ -191,6 +196,7 @@ restarts limit parts small are fault =
       well = each (λ o is. is.well) os all;
       tables = each (λ o is. is.table) os all;
       programs = each (λ o is. is.programs) os all;
+      bodies = each (λ o is. is.body) os all;
       lawful = lawful_same (followed h) object_in_stored (same_head h) (ceiling + 1) ceiling ss lawful.lawful;
       numbered = each (λ o is. is.number) os all;
       next = omega arith;

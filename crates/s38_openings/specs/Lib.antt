@@ -1,3 +1,4 @@
+pub mod Bodies
 pub mod Fitting
 pub mod Opening
 pub mod Charges

@@ -4,6 +4,7 @@ use Rattle.s38_base.specs.Limits.{ceiling_step, last_number}
 use Rattle.s38_commitment_laws.specs.Right.{IsData}
 use Rattle.s38_object_laws.specs.Well.{IsWell}
 use Rattle.s38_objects.specs.Lawful.{IsLawful, number_of}
+use Rattle.s38_openings.specs.Bodies.{HoldsBody}
 use Rattle.s38_openings.specs.Fitting.{FitTogether}
 use Rattle.s38_owner_laws.specs.Beginnings.{HoldsChecked}
 use Rattle.s38_rules.specs.Held.{Held}
@@ -25,6 +26,8 @@ pub record IsOpening (h : Held) : Type 0 where
   pub tables : All HoldsTable h.objects
   -- each program is one that creation makes
   pub programs : All HoldsChecked h.objects
+  -- queues and indexes keep to their limits
+  pub bodies : All HoldsBody h.objects
   -- numbers rise and were given, and names are told apart in each context
   pub lawful : IsLawful h
   -- 0 is the number of no object, and never will be: the next one is above it

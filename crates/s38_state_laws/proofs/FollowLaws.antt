@@ -1,5 +1,5 @@
 -- A run by jobs: each process has come as far as its program asks next, so its events come from where they may.
-use Rattle.std.proofs.Common.{◌+◌, ◌++◌, ◌-◌, ◌<◌, ◌≤◌, ◌==◌, ◌∙◌, ◌∷◌, ◌≡◌, ◌⊎◌, Bool, List, [], ap, arith, cond, false, inl, inr, refl, subst, suc, sym, true, zero, length, ℕ}
+use Rattle.std.proofs.Common.{◌+◌, ◌++◌, ◌-◌, ◌<◌, ◌≤◌, ◌==◌, ◌∙◌, ◌∷◌, ◌≡◌, ◌⊎◌, Bool, List, [], ap, arith, cond, false, inl, inr, not, refl, subst, suc, sym, true, zero, length, ℕ}
 use Rattle.std.proofs.lemmas.Bool.Decides.{nat_tests}
 use Rattle.std.proofs.lemmas.List.{length-map}
 use Rattle.std.proofs.lemmas.List.Elements.{All-nil}
@@ -18,28 +18,29 @@ use Rattle.s38_code.specs.declared.made.CreateResult.{CreateResult}
 use Rattle.s38_code.specs.declared.program.Instruction.{Instruction}
 use Rattle.s38_code.specs.declared.reply.Reply.{Reply}
 use Rattle.s38_commitment_laws.proofs.UnitLaws.{rising_none}
-use Rattle.s38_process.proofs.Alone.{Moves, settled_later}
+use Rattle.s38_process.proofs.Alone.{Moves, settled_later, settled_still}
 use Rattle.s38_process.specs.Exceptions.{offered}
 use Rattle.s38_process.specs.Invocations.{instruction_of}
-use Rattle.s38_process.specs.Process.{ProcessState, RanFrom, absorbed, act_of, acts, after_asked, after_event, asks, begun_by, event_of, fresh, is_return, returns, settled, signal_status}
+use Rattle.s38_process.specs.Process.{ProcessState, RanFrom, absorbed, act_of, acts, after_asked, after_end, after_event, alone_by, asks, begun_by, ends_by_finish, event_of, fresh, is_finish, is_return, returns, settled, signal_status}
 use Rattle.s38_process.specs.declared.status.Status.TheVariants.{Ended, Ending, Fresh, Running}
 use Rattle.s38_process.specs.declared.status.Status.{Status}
 use Rattle.s38_rules.proofs.RoomLaws.{end_permitted}
-use Rattle.s38_rules.proofs.Laws.{step_keeps}
+use Rattle.s38_rules.proofs.Laws.{all_decommitted_keeps, step_keeps}
 use Rattle.s38_rules.proofs.StoreLaws.{stored_beside}
-use Rattle.s38_rules.specs.Effect.{effect_of, start_at}
+use Rattle.s38_rules.specs.Effect.{effect_of, end_at, start_at}
 use Rattle.s38_rules.specs.Held.{Held}
 use Rattle.s38_rules.specs.Legal.{Leads}
 use Rattle.s38_rules.specs.Locking.{is_going_in}
 use Rattle.s38_rules.specs.Opening.{process_entries, state_of}
 use Rattle.s38_rules.specs.State.{State, process_entry, waits}
 use Rattle.s38_rules.specs.Step.{awake_verdict, by_verdict, by_waiting, step}
+use Rattle.s38_rules.specs.Units.{all_decommitted}
 use Rattle.s38_rules.specs.declared.process.ProcessEntry.{ProcessEntry}
 use Rattle.s38_rules.specs.declared.verdict.Verdict.TheVariants.{Permit, Refuse, Wait}
 use Rattle.s38_rules.specs.declared.verdict.Verdict.{Verdict}
 use Rattle.s38_state_laws.proofs.LiveLaws.{Lives, is_live, lives_from, step_lives}
 use Rattle.s38_state_laws.proofs.StandLaws.{Spares, effect_stands, set_here, stands_by}
-use Rattle.s38_state_laws.specs.Live.{AllLive, AreRunByJobs, ComesFrom, IsLive, IsOwned, AreHeld, MayWait, is_open_in}
+use Rattle.s38_state_laws.specs.Live.{AllLive, AreHeld, AreRunByJobs, AreWholeRuns, ComesFrom, IsLive, IsOwned, MayWait, is_open_in}
 
 -- ---- what a process asks
 
@@ -134,10 +135,16 @@ module _ (s : State) (p : ℕ) where
       by true = subst (λ (c : Status). stands_by c (process_entry s p) ≡ true) (sym running) going
       by false = refl
 
+  ended_here : (x : Option ProcessEntry) → process_entry s p ≡ x → not (is_open_in (process_entry (end_at s p x) p)) ≡ true
+  ended_here None there = ap (λ o. not (is_open_in o)) there
+  ended_here (Some x) there =
+      ap (λ o. not (is_open_in o)) (set_here (all_decommitted s p s.units).processes (p - 1) x (record x { ended = true }) (ap (λ (l : List ProcessEntry). slice_get l (p - 1)) (all_decommitted_keeps s.units s p) ∙ there))
+
   finish_behind : (d : ProcessState) (cause : EndCause) (v : Verdict) → v ≡ Permit → StandsBehind d (Finish cause) v
-  finish_behind d cause Permit is = refl
+  unfolding effect_of
+  finish_behind d cause Permit is = stored_stands (Finish cause) Ended (ended_here (process_entry s p) refl)
   finish_behind d cause Wait is = cc
-  finish_behind d cause (Refuse x) is = refl
+  finish_behind d cause (Refuse x) is = cc
 
   own_behind : (d : ProcessState) (e : Event) → event_of d ≡ Some e → stands_by d.status (process_entry s p) ≡ true → StandsBehind d e (awake_verdict s p e)
   own_behind d e asks stands = by (asking d e asks)
@@ -182,66 +189,109 @@ other_next s p e j status spared stands = by (waits s p)
 
 -- ---- all processes
 
--- a process of the machine has come so far, and its entries are what it asks from there
-pub record Follows (s : State) (p : ℕ) (es : List Entry) : Type 0 where
+-- a process of the machine has come so far, and its entries are what it asks from there; where its run is whole, they end
+-- with its end, or it has come to that
+pub record Follows (whole : Bool) (s : State) (p : ℕ) (es : List Entry) : Type 0 where
   pub process : ProcessState
   pub stands : stands_by process.status (process_entry s p) ≡ true
   pub runs : RanFrom process (entries_of p es)
+  pub ends : whole ≡ true → (ends_by_finish (entries_of p es) ≡ true) ⊎ (process.status ≡ Ended)
 
-abbrev pub AllFollow : State → List Entry → Type 0
-AllFollow s es = (p : ℕ) → 0 < p → p ≤ length s.processes → Follows s p es
+abbrev pub AllFollow : Bool → State → List Entry → Type 0
+AllFollow whole s es = (p : ℕ) → 0 < p → p ≤ length s.processes → Follows whole s p es
 
 spares_other : (p q : ℕ) (e : Event) → 0 < p → 0 < q → (p == q) ≡ false → Spares p (q - 1) e
 spares_other p q Start one two apart = tt
 spares_other p q (Act depth request) one two apart = tt
 spares_other p q (Finish cause) one two apart = λ same. absurd (grind (arith, nat_tests))
 
-next_follows : (s : State) (e : Entry) (es : List Entry) → 0 < e.process → (step s e.process e.event).enters ≡ true → (step s e.process e.event).reply ≡ e.reply → AllFollow s (e ∷ es)
-    → AllFollow (step s e.process e.event).state es
-next_follows s e es first enters reply all q above within = by (e.process == q) refl was.runs
+-- who asks for its end and is answered has come to it
+ended_next : (s : State) (p : ℕ) (e : Event) (d : ProcessState) (r : Reply) → (step s p e).enters ≡ true → (step s p e).reply ≡ r → event_of d ≡ Some e → is_finish e ≡ true → (absorbed d r).status ≡ Ended
+ended_next s p e d r enters reply asked finish =
+    subst (λ (x : ProcessState). x.status ≡ Ended) (sym (absorbed_by d e r asked)) (rests (after_event d e r) (by e finish (ap (λ x. x.reply) (sym (entered_is s p e enters)) ∙ reply)))
   where
-    was : Follows s q (e ∷ es)
+    rests : (x : ProcessState) → x.status ≡ Ended → (settled x).status ≡ Ended
+    rests x is = ap (λ (y : ProcessState). y.status) (settled_still x (ap (alone_by x) is)) ∙ is
+
+    answered : (cause : EndCause) (v : Verdict) → v ≡ Permit → (by_verdict s p (Finish cause) v).reply ≡ r → (after_end d r).status ≡ Ended
+    answered cause Permit is same = subst (λ (y : Reply). (after_end d y).status ≡ Ended) same refl
+    answered cause Wait is same = cc
+    answered cause (Refuse x) is same = cc
+
+    by : (f : Event) → is_finish f ≡ true → (by_verdict s p f (awake_verdict s p f)).reply ≡ r → (after_event d f r).status ≡ Ended
+    by Start h same = cc
+    by (Act depth request) h same = cc
+    by (Finish cause) h same = answered cause (awake_verdict s p (Finish cause)) (end_permitted s p cause) same
+
+ended_asks : (d : ProcessState) (e : Event) → event_of d ≡ Some e → d.status ≡ Ended → ⊥
+unfolding event_of
+ended_asks d e asked is = none (sym (ap (asks d) is) ∙ asked)
+  where
+    none : None ≡ Some e → ⊥
+    none g = cc
+
+next_follows : (whole : Bool) (s : State) (e : Entry) (es : List Entry) → 0 < e.process → (step s e.process e.event).enters ≡ true → (step s e.process e.event).reply ≡ e.reply → AllFollow whole s (e ∷ es)
+    → AllFollow whole (step s e.process e.event).state es
+next_follows whole s e es first enters reply all q above within = by (e.process == q) refl was.runs was.ends
+  where
+    was : Follows whole s q (e ∷ es)
     was = all q above (subst (λ (n : ℕ). q ≤ n) (step_keeps s e.process e.event) within)
 
     nat_same : (a b : ℕ) → (a == b) ≡ true → a ≡ b
     nat_same a b h = grind (arith, nat_tests)
 
-    by : (b : Bool) → (e.process == q) ≡ b → RanFrom was.process (cond b (e ∷ entries_of q es) (entries_of q es)) → Follows (step s e.process e.event).state q es
-    by true own ran =
+    -- behind its own entry it is nearer to its end, or there
+    nearer : (own : List Entry) → event_of was.process ≡ Some e.event → (ends_by_finish (e ∷ own) ≡ true) ⊎ (was.process.status ≡ Ended)
+        → (ends_by_finish own ≡ true) ⊎ ((absorbed was.process e.reply).status ≡ Ended)
+    nearer own asked (inr ended) = absurd (ended_asks was.process e.event asked ended)
+    nearer [] asked (inl finish) = inr (ended_next s e.process e.event was.process e.reply enters reply asked finish)
+    nearer (f ∷ own) asked (inl finish) = inl finish
+
+    by : (b : Bool) → (e.process == q) ≡ b → RanFrom was.process (cond b (e ∷ entries_of q es) (entries_of q es))
+        → (whole ≡ true → (ends_by_finish (cond b (e ∷ entries_of q es) (entries_of q es)) ≡ true) ⊎ (was.process.status ≡ Ended)) → Follows whole (step s e.process e.event).state q es
+    by true own ran ends =
         let same = nat_same e.process q own in
         record {
           process = absorbed was.process e.reply;
           stands = subst (λ (n : ℕ). stands_by (absorbed was.process e.reply).status (process_entry (step s e.process e.event).state n) ≡ true) same
               (own_next s e.process e.event was.process e.reply enters reply ran.0 (subst (λ (n : ℕ). stands_by was.process.status (process_entry s n) ≡ true) (sym same) was.stands));
           runs = ran.1;
+          ends = λ is. nearer (entries_of q es) ran.0 (ends is);
         }
-    by false other ran = record {
+    by false other ran ends = record {
       process = was.process;
       stands = other_next s e.process e.event (q - 1) was.process.status (spares_other e.process q e.event first above other) was.stands;
       runs = ran;
+      ends = ends;
     }
 
 -- ---- histories
 
-asks_first : (s : State) (e : Entry) (es : List Entry) → 0 < e.process → e.process ≤ length s.processes → AllFollow s (e ∷ es) → ComesFrom s.processes e.process e.event
-asks_first s e es first last all =
+asks_first : (whole : Bool) (s : State) (e : Entry) (es : List Entry) → 0 < e.process → e.process ≤ length s.processes → AllFollow whole s (e ∷ es) → ComesFrom s.processes e.process e.event
+asks_first whole s e es first last all =
     let was = all e.process first last in
     comes_from was.process s e.process e.event first (asked was) was.stands
   where
     itself : (n : ℕ) → (n == n) ≡ true
     itself n = grind (arith, nat_tests)
 
-    asked : (was : Follows s e.process (e ∷ es)) → event_of was.process ≡ Some e.event
+    asked : (was : Follows whole s e.process (e ∷ es)) → event_of was.process ≡ Some e.event
     asked was = (subst (λ (b : Bool). RanFrom was.process (cond b (e ∷ entries_of e.process es) (entries_of e.process es))) (itself e.process) was.runs).0
 
-pub history_live : (s : State) (before history : List Entry) (end : State) → Lives s → AllFollow s history → Leads s before history end → AllLive s history × IsLive end
-history_live s before [] end lives all leads = (is_live s lives, subst IsLive leads (is_live s lives))
-history_live s before (e ∷ es) end lives all leads =
+pub history_live : (whole : Bool) (s : State) (before history : List Entry) (end : State) → Lives s → AllFollow whole s history → Leads s before history end → AllLive s history × IsLive end
+history_live whole s before [] end lives all leads = (is_live s lives, subst IsLive leads (is_live s lives))
+history_live whole s before (e ∷ es) end lives all leads =
     let one = leads.0 in
-    let comes = asks_first s e es one.process.first one.process.last all in
-    let rest = history_live (step s e.process e.event).state (before ++ e ∷ []) es end (step_lives s e.process e.event one.process.first comes lives)
-    (next_follows s e es one.process.first one.entered one.reply all) leads.1 in
+    let comes = asks_first whole s e es one.process.first one.process.last all in
+    let rest = history_live whole (step s e.process e.event).state (before ++ e ∷ []) es end (step_lives s e.process e.event one.process.first comes lives)
+    (next_follows whole s e es one.process.first one.entered one.reply all) leads.1 in
     ((is_live s lives, rest.0), rest.1)
+
+history_follows : (whole : Bool) (s : State) (before history : List Entry) (end : State) → AllFollow whole s history → Leads s before history end → AllFollow whole end []
+history_follows whole s before [] end all leads = subst (λ (t : State). AllFollow whole t []) leads all
+history_follows whole s before (e ∷ es) end all leads =
+    let one = leads.0 in
+    history_follows whole (step s e.process e.event).state (before ++ e ∷ []) es end (next_follows whole s e es one.process.first one.entered one.reply all) leads.1
 
 pub begins_live : (held : Held) (templates : List CheckedTemplate) (jobs : List Job) → IsLive (state_of held templates jobs)
 begins_live held templates jobs = record { locks = All-nil (AreHeld _); units = All-nil (IsOwned _); waiting = All-nil (MayWait _) }
@@ -252,8 +302,9 @@ job_at [] k h = absurd (omega (arith, h))
 job_at (job ∷ jobs) zero h = (job, refl, refl)
 job_at (job ∷ jobs) (suc k) h = job_at jobs k (omega (arith, h))
 
-begins_following : (held : Held) (templates : List CheckedTemplate) (jobs : List Job) (history : List Entry) → AreRunByJobs jobs history → AllFollow (state_of held templates jobs) history
-begins_following held templates jobs history run p above within =
+begins_following : (whole : Bool) (held : Held) (templates : List CheckedTemplate) (jobs : List Job) (history : List Entry) → AreRunByJobs jobs history
+    → (whole ≡ true → (k : ℕ) (job : Job) → slice_get jobs k ≡ Some job → ends_by_finish (entries_of (k + 1) history) ≡ true) → AllFollow whole (state_of held templates jobs) history
+begins_following whole held templates jobs history run ends p above within =
     let count : length (process_entries jobs) ≡ length jobs = length-map jobs _ in
     let at = job_at jobs (p - 1) (omega (arith, above, within, count)) in
     let ran = run.each (p - 1) at.0 at.1 in
@@ -262,10 +313,30 @@ begins_following held templates jobs history run p above within =
       process = fresh ran.made at.0.budget;
       stands = at.2;
       runs = subst (λ (n : ℕ). RanFrom (fresh ran.made at.0.budget) (entries_of n history)) index ran.ran;
+      ends = λ is. inl (subst (λ (n : ℕ). ends_by_finish (entries_of n history) ≡ true) index (ends is (p - 1) at.0 at.1));
     }
 
 pub run_live : (held : Held) (templates : List CheckedTemplate) (jobs : List Job) (history : List Entry) (end : State) → AreRunByJobs jobs history → Leads (state_of held templates jobs) [] history end
     → AllLive (state_of held templates jobs) history × IsLive end
 run_live held templates jobs history end run leads =
-    history_live (state_of held templates jobs) [] history end (lives_from (state_of held templates jobs) (begins_live held templates jobs) rising_none)
-    (begins_following held templates jobs history run) leads
+    history_live false (state_of held templates jobs) [] history end (lives_from (state_of held templates jobs) (begins_live held templates jobs) rising_none)
+    (begins_following false held templates jobs history run (λ is. absurd (never is))) leads
+  where
+    never : false ≡ true → ⊥
+    never g = cc
+
+-- behind whole runs each process has ended
+pub all_ended : (held : Held) (templates : List CheckedTemplate) (jobs : List Job) (history : List Entry) (end : State) → AreWholeRuns jobs history → Leads (state_of held templates jobs) [] history end
+    → (p : ℕ) → 0 < p → p ≤ length end.processes → is_open_in (process_entry end p) ≡ false
+all_ended held templates jobs history end run leads p above within =
+    let all = history_follows true (state_of held templates jobs) [] history end (begins_following true held templates jobs history run.runs (λ is. run.whole)) leads in
+    let last = all p above within in
+    by last.process.status (last.ends refl) last.stands
+  where
+    turned : (b : Bool) → not b ≡ true → b ≡ false
+    turned true h = cc
+    turned false h = refl
+
+    by : (status : Status) → (ends_by_finish [] ≡ true) ⊎ (status ≡ Ended) → stands_by status (process_entry end p) ≡ true → is_open_in (process_entry end p) ≡ false
+    by status (inl h) stands = cc
+    by status (inr is) stands = turned (is_open_in (process_entry end p)) (subst (λ (c : Status). stands_by c (process_entry end p) ≡ true) is stands)

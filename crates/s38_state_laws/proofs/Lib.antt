@@ -10,5 +10,7 @@ mod WordLaws
 mod HeadLaws
 mod PlaceLaws
 mod SeenLaws
+mod BodyLaws
 mod OrderLaws
 pub mod StepLaws
+pub mod EndLaws

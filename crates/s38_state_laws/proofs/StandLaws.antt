@@ -20,12 +20,12 @@ use Rattle.s38_state_laws.specs.Live.{IsAlive, is_open_in}
 
 -- ---- as far as what it asks next wants it
 
--- a fresh process has not ended, and a running one has started too
+-- a fresh process has not ended, a running one has started too, and one that has come to its end has ended
 abbrev pub stands_by : Status → Option ProcessEntry → Bool
 stands_by Fresh x = is_open_in x
 stands_by Running x = is_going_in x
 stands_by (Ending cause) x = true
-stands_by Ended x = true
+stands_by Ended x = not (is_open_in x)
 
 -- ---- other frames make no difference
 
@@ -45,7 +45,7 @@ stands_unstacked : (status : Status) (x : Option ProcessEntry) → stands_by sta
 stands_unstacked Fresh x = open_unstacked x
 stands_unstacked Running x = going_unstacked x
 stands_unstacked (Ending cause) x = refl
-stands_unstacked Ended x = refl
+stands_unstacked Ended x = ap not (open_unstacked x)
 
 -- so each process stands as it stood
 pub kept_stands : (p : ℕ) (xs ys : List ProcessEntry) (status : Status) (k : ℕ) → AreKept p xs ys → stands_by status (slice_get ys k) ≡ stands_by status (slice_get xs k)
@@ -91,7 +91,7 @@ start_stands s p j (Some x) status there was = set_stands s.processes (p - 1) j 
     next Fresh h = h
     next Running h = second (is_some x.started) (not x.ended) h
     next (Ending cause) h = refl
-    next Ended h = refl
+    next Ended h = h
 
 end_stands : (s : State) (p j : ℕ) (o : Option ProcessEntry) (status : Status) → j ≢ p - 1 → stands_by status (slice_get s.processes j) ≡ true
     → stands_by status (slice_get (end_at s p o).processes j) ≡ true

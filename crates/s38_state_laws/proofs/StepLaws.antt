@@ -45,6 +45,7 @@ use Rattle.s38_rules.specs.declared.process.ProcessEntry.{ProcessEntry}
 use Rattle.s38_rules.specs.declared.process.Started.{Started}
 use Rattle.s38_rules.specs.declared.verdict.Verdict.TheVariants.{Permit, Refuse, Wait}
 use Rattle.s38_rules.specs.declared.verdict.Verdict.{Verdict}
+use Rattle.s38_state_laws.proofs.BodyLaws.{Hold, step_hold}
 use Rattle.s38_state_laws.proofs.FitLaws.{Fits, head_fits, other_users}
 use Rattle.s38_state_laws.proofs.HeadLaws.{found_object, same_kinds}
 use Rattle.s38_state_laws.proofs.OrderLaws.{LocksWell, act_locks, end_locks, locks_later, locks_order, stored_later}
@@ -264,20 +265,21 @@ ordered_from s order = record {
   locks = record { rising = order.rising; locks = order.locks };
 }
 
-is_in_order : (s : State) → Ordered s → AreInOrder s
-is_in_order s ordered =
+is_in_order : (s : State) → Ordered s → Hold s.held → AreInOrder s
+is_in_order s ordered bodies =
     let all = unseen (IsUsed s.processes) s.held ordered.fits in
     record {
       lawful = all.0;
       numbered = all.1;
       fit = all.2;
+      bodies = bodies;
       users = by_places (HasUser s.held) s.processes (λ k x at p of going. ordered.fits.users p.user.0 (record { at = k; process = x; started = p; there = at; of = of; going = going; is = refl }));
       rising = ordered.locks.rising;
       locks = ordered.locks.locks;
     }
 
 pub step_in_order : (s : State) (p : ℕ) (e : Event) → AreWell s → AreInOrder s → AreInOrder (step s p e).state
-step_in_order s p e well order = is_in_order (step s p e).state (step_ordered s p e well (ordered_from s order))
+step_in_order s p e well order = is_in_order (step s p e).state (step_ordered s p e well (ordered_from s order)) (step_hold s p e order.bodies)
 
 history_in_order : (s : State) (before history : List Entry) (end : State) → AreWell s → AreInOrder s → Leads s before history end → AllInOrder s history × AreInOrder end
 history_in_order s before [] end well order leads = (order, subst AreInOrder leads order)
@@ -297,6 +299,7 @@ opening_in_order held templates jobs is = record {
   lawful = is.lawful;
   numbered = is.numbered;
   fit = is.fit;
+  bodies = is.bodies;
   users = none_started held jobs;
   rising = ordered_none;
   locks = All-nil (AreLocks held.next);

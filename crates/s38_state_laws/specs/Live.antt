@@ -1,6 +1,6 @@
 -- Nothing is left behind a process: who holds a lock or a unit of changes has started and has not ended, and who waits
 -- has not ended.
-use Rattle.std.specs.Prelude.{◌≡◌, ◌<◌, ℕ, ◌+◌, ◌-◌, Bool, false, not, ◌&&◌, ◌||◌, All, IsTrue, List, [], ◌∷◌, Option, Some, None, is_some, slice_get}
+use Rattle.std.specs.Prelude.{◌≡◌, ◌<◌, ℕ, ◌+◌, ◌-◌, Bool, true, false, not, ◌&&◌, ◌||◌, All, IsTrue, List, [], ◌∷◌, Option, Some, None, is_some, slice_get}
 use Rattle.s38_code.specs.declared.deck.Job.{Job}
 use Rattle.s38_code.specs.declared.entry.Entry.{Entry}
 use Rattle.s38_code.specs.declared.event.Event.{Event}
@@ -9,7 +9,7 @@ use Rattle.s38_code.specs.declared.made.CreateResult.{CreateResult}
 use Rattle.s38_code.specs.History.{entries_of}
 use Rattle.s38_commits.specs.Unit.{CommitUnit}
 use Rattle.s38_locks.specs.Locks.{Lock}
-use Rattle.s38_process.specs.Process.{RanFrom, fresh}
+use Rattle.s38_process.specs.Process.{RanFrom, ends_by_finish, fresh}
 use Rattle.s38_rules.specs.declared.process.ProcessEntry.{ProcessEntry}
 use Rattle.s38_rules.specs.Locking.{is_going_in}
 use Rattle.s38_rules.specs.State.{State, is_early}
@@ -74,3 +74,15 @@ pub record RanFresh (budget : ℕ) (entries : List Entry) : Type 0 where
 -- so each job has its entries
 pub record AreRunByJobs (jobs : List Job) (history : List Entry) : Type 0 where
   pub each : (k : ℕ) (job : Job) → slice_get jobs k ≡ Some job → RanFresh job.budget (entries_of (k + 1) history)
+
+-- each job's entries are the whole run of a process of some program
+pub record AreWholeRuns (jobs : List Job) (history : List Entry) : Type 0 where
+  pub runs : AreRunByJobs jobs history
+  pub whole : (k : ℕ) (job : Job) → slice_get jobs k ≡ Some job → IsTrue (ends_by_finish (entries_of (k + 1) history))
+
+-- every process has ended; nothing is locked, no unit of changes is open, and nobody waits
+pub record HasNothingLeft (s : State) : Type 0 where
+  pub ended : All (λ x. x.ended ≡ true) s.processes
+  pub locks : s.locks ≡ []
+  pub units : s.units ≡ []
+  pub waiting : s.waiting ≡ []

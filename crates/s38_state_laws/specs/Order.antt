@@ -6,6 +6,7 @@ use Rattle.std.specs.Ordering.{nat_cmp}
 use Rattle.s38_code.specs.declared.entry.Entry.{Entry}
 use Rattle.s38_locks.specs.Locks.{IsOrderly, Lock, is_locked}
 use Rattle.s38_objects.specs.Lawful.{IsLawful}
+use Rattle.s38_openings.specs.Bodies.{HoldsBody}
 use Rattle.s38_openings.specs.Fitting.{FitTogether, IsUser}
 use Rattle.s38_openings.specs.Opening.{IsNumbered}
 use Rattle.s38_rules.specs.Held.{Held}
@@ -32,6 +33,8 @@ pub record AreInOrder (s : State) : Type 0 where
   pub numbered : All IsNumbered s.held.objects
   -- each object has an owner who is there, and stands in a context or in none
   pub fit : FitTogether s.held
+  -- queues and indexes keep to their limits
+  pub bodies : All HoldsBody s.held.objects
   pub users : All (HasUser s.held) s.processes
   -- objects with locks rise by number
   pub rising : IsStrictlySortedBy nat_cmp (keys_of s.locks)

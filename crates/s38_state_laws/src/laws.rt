@@ -16,7 +16,7 @@ ghost use Rattle.s38_rules.specs.State.{State};
 ghost use Rattle.s38_rules.specs.Step.{step};
 ghost use Rattle.s38_state_laws.specs.Later.{IsConfinedFromAny};
 ghost use Rattle.s38_state_laws.specs.Order.{AllInOrder, AreInOrder};
-ghost use Rattle.s38_state_laws.specs.Live.{AllLive, AreRunByJobs, ComesFrom, IsLive};
+ghost use Rattle.s38_state_laws.specs.Live.{AllLive, AreRunByJobs, AreWholeRuns, ComesFrom, HasNothingLeft, IsLive};
 
 /// Nothing is left behind a process: in every state of a run whoever holds a lock or a unit of changes has started and
 /// has not ended, and whoever waits has not ended. It is so at the beginning, and each step keeps it whose event comes
@@ -28,10 +28,18 @@ pub fn nothing_is_left_behind()
         → Leads (state_of held templates jobs) [] history end → AllLive (state_of held templates jobs) history × IsLive end }
 {}
 
-/// In every state of a run from an opening the objects are in order: numbers rise and were given, no two objects of a
-/// context that is there have one identification, each object has an owner who is a user that is there, and stands in a
-/// context or in none. The user of each process that has started and has not ended is there, and no two locks of
-/// different processes on one object are incompatible. Each step keeps it.
+/// The whole runs of all jobs leave nothing: every process has ended, nothing is locked, no unit of changes is open, and
+/// nobody waits.
+pub fn whole_runs_leave_nothing()
+    ensures { (held : Held) (templates : List CheckedTemplate) (jobs : List Job) (history : List Entry) (end : State) → IsOpening held
+        → AreWholeRuns jobs history → Leads (state_of held templates jobs) [] history end → HasNothingLeft end }
+{}
+
+/// In every state of a run from an opening the objects are in order: numbers rise and were given, none above the ceiling;
+/// no two objects of a context that is there have one identification; each object has an owner who is a user that is
+/// there, and stands in a context or in none; queues and indexes keep to their limits. The user of each process that has
+/// started and has not ended is there, and no two locks of different processes on one object are incompatible. Each step
+/// keeps it.
 pub fn objects_stay_in_order()
     ensures begins { (held : Held) (templates : List CheckedTemplate) (jobs : List Job) → IsOpening held → AreInOrder (state_of held templates jobs) }
     ensures steps { (s : State) (p : ℕ) (e : Event) → AreWell s → AreInOrder s → AreInOrder (step s p e).state }

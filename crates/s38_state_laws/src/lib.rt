@@ -4,4 +4,7 @@
 
 mod laws;
 
-pub use laws::{no_way_opens_from_any_moment, nothing_is_left_behind, objects_stay_in_order};
+pub use laws::{
+    no_way_opens_from_any_moment, nothing_is_left_behind, objects_stay_in_order,
+    whole_runs_leave_nothing,
+};
