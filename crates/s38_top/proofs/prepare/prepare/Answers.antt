@@ -51,6 +51,9 @@ returns-in-List-clause-decided g c = λ written written' put put'.
     (outside (g.S.Source.left c.args.source.now) (g.S.Source.faults c.args.source.now) written' put' (g.D.Disk.view c.of_list.result.disk))
     Listing c.of_list.result.outcome (c.in-Ok.ensures.command ∙ ap Some c.in-List.is) (Keeps-refl (g.S.Source.left c.args.source.now)) c.of_list.ensures.comes
 
+pub returns-in-Err-clause-decided : goal.returns-in-Err-clause-decided
+returns-in-Err-clause-decided g c = c.in-Err.ensures.cause (g.S.Source.left c.args.source.now) (g.S.Source.faults c.args.source.now) (g.D.Disk.view c.args.disk)
+
 pub returns-in-Err-clause-safe : goal.returns-in-Err-clause-safe
 returns-in-Err-clause-safe g c = safe_none (command_on c.args.threads (map {A = Bor (List ℕ)} {B = List ℕ} (λ w. w.now) c.args.words.now)) (g.D.Disk.view c.args.disk)
 

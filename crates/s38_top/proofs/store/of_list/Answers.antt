@@ -14,4 +14,4 @@ returns-in-Ok-clause-comes g c = (
 )
 
 pub returns-in-Ok-clause-safe : goal.returns-in-Ok-clause-safe
-returns-in-Ok-clause-safe g c = keeps_given (g.D.Disk.view c.args.disk) c.in-Ok.store.vault.disk (g.D.Disk.view c.release.result) c.release.ensures.disk c.in-Ok.ensures.during
+returns-in-Ok-clause-safe g c = keeps_given (g.D.Disk.view c.args.disk) c.in-Ok.field-0.vault.disk (g.D.Disk.view c.release.result) c.release.ensures.disk c.in-Ok.ensures.during
