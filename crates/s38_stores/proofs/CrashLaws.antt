@@ -1,5 +1,5 @@
 -- What a crash leaves while calls go on, one behind another.
-use Rattle.std.proofs.Common.{◌≡◌, ◌⊎◌, ◌↔◌, ℕ, ◌+◌, ◌<◌, ◌≤◌, Bool, true, false, List, [], ◌∷◌, inl, inr, length, length-append, refl, sym, ◌∙◌, ap, subst, arith}
+use Rattle.std.proofs.Common.{◌≡◌, ◌⊎◌, ℕ, ◌<◌, ◌≤◌, true, false, List, [], ◌∷◌, inl, inr, length-append, refl, sym, ◌∙◌, ap, subst, arith}
 use Rattle.std.proofs.lemmas.Bool.Decides.{nat_tests}
 use Rattle.std.specs.Prelude.{nat_le}
 use Rattle.s38_blocks.specs.Coding.{is_label}
@@ -9,7 +9,7 @@ use Rattle.s38_closing.specs.Closing.{content_of}
 use Rattle.s38_disk.proofs.Runs.{adding-nil}
 use Rattle.s38_disk.proofs.Times.{images_same, moments_of}
 use Rattle.s38_disk.specs.Blocks.{IsImage, State}
-use Rattle.s38_disk.specs.Disk.{DiskView, IsAt, Leaves, Past, adding, moment_of}
+use Rattle.s38_disk.specs.Disk.{DiskView, IsAt, Past, adding, moment_of}
 use Rattle.s38_disk.specs.Disk.Past.{Told, Untold}
 use Rattle.s38_disk.specs.Moves.{IsSettled, Moves}
 use Rattle.s38_disk.specs.declared.block.Block.{Block}

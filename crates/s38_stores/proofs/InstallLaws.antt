@@ -1,5 +1,5 @@
 -- The objects of a store that is made can be kept.
-use Rattle.std.proofs.Common.{◌≡◌, ◌≤◌, All, ℕ, subst, sym}
+use Rattle.std.proofs.Common.{◌≡◌, All, subst, sym}
 use Rattle.s38_openings.proofs.FirstLaws.{installed_opening}
 use Rattle.s38_openings.specs.Opening.{IsNumbered}
 use Rattle.s38_rules.specs.Held.{Held}

@@ -1,8 +1,8 @@
 -- Nothing is wrong with a store that restarts.
-use Rattle.std.proofs.Common.{◌≡◌, ◌⊎◌, ◌||◌, ◌==◌, ℕ, zero, suc, ◌<◌, ◌≤◌, Bool, true, false, List, [], ◌∷◌, inl, inr, take, None, Some, ◌+◌, refl, sym, ◌∙◌, ap, arith}
+use Rattle.std.proofs.Common.{◌≡◌, ◌⊎◌, ◌||◌, ◌==◌, ℕ, zero, suc, ◌<◌, Bool, true, false, List, [], ◌∷◌, inl, inr, take, None, Some, ◌+◌, refl, sym, ◌∙◌, ap, arith}
 use Rattle.std.proofs.lemmas.Bool.{true≢false}
 use Rattle.s38_base.specs.Limits.{body_limit}
-use Rattle.s38_blocks.specs.Store.{AreHomes, IsLog, Stands, log_count, log_of, targets}
+use Rattle.s38_blocks.specs.Store.{AreHomes, IsLog, log_count, log_of, targets}
 use Rattle.s38_blocks.specs.declared.layout.Layout.{Layout}
 use Rattle.s38_blocks.specs.declared.layout.Slot.{Slot}
 use Rattle.s38_disk.specs.declared.block.Block.{Block}

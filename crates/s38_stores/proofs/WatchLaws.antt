@@ -1,5 +1,5 @@
 -- A vault that a restart or a closing used: what each image of each moment stands for.
-use Rattle.std.proofs.Common.{◌≡◌, ◌⊎◌, ℕ, ◌<◌, ◌≤◌, List, length, refl, sym, ◌∙◌, ap, subst}
+use Rattle.std.proofs.Common.{◌≡◌, ◌⊎◌, ℕ, ◌<◌, ◌≤◌, length, sym, ◌∙◌, ap, subst}
 use Rattle.std.specs.Prelude.{take}
 use Rattle.std.specs.FinMap.{get}
 use Rattle.s38_blocks.specs.Store.{Stands}

@@ -1,5 +1,5 @@
 -- A vault over the disk of a store that was opened.
-use Rattle.std.specs.Prelude.{◌≡◌, ℕ}
+use Rattle.std.specs.Prelude.{◌≡◌}
 use Rattle.s38_blocks.specs.Store.{Stands}
 use Rattle.s38_disk.specs.Blocks.{State}
 use Rattle.s38_disk.specs.Disk.{DiskView, IsAt}

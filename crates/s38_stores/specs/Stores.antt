@@ -1,5 +1,5 @@
 -- What the blocks of a disk stand for as a store of objects.
-use Rattle.std.specs.Prelude.{◌≡◌, ◌-◌, ◌<◌, ◌≤◌, ℕ, List, [], None}
+use Rattle.std.specs.Prelude.{◌≡◌, ◌-◌, ◌<◌, ◌≤◌, ℕ, [], None}
 use Rattle.std.specs.FinMap.{len}
 use Rattle.s38_base.specs.Limits.{body_limit}
 use Rattle.s38_blocks.specs.Store.{Stands}

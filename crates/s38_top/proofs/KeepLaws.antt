@@ -1,20 +1,18 @@
 -- A whole run from an opening keeps the laws of runs.
-use Rattle.std.proofs.Common.{◌≡◌, ◌+◌, ℕ, All, List, []}
-use Rattle.std.specs.Prelude.{Some, slice_get}
+use Rattle.std.proofs.Common.{All, List, []}
 use Rattle.s38_code.specs.declared.deck.Deck.{Deck}
-use Rattle.s38_code.specs.declared.deck.Job.{Job}
 use Rattle.s38_code.specs.declared.entry.Entry.{Entry}
-use Rattle.s38_code.specs.History.{entries_of}
 use Rattle.s38_openings.proofs.BeginLaws.{opening_well, run_right, run_well}
 use Rattle.s38_openings.specs.Opening.{IsOpening}
 use Rattle.s38_rules.specs.Held.{Held}
 use Rattle.s38_rules.specs.PrivateRows.{AreRows}
 use Rattle.s38_rules.specs.State.{State}
 use Rattle.s38_run.proofs.ProgressLaws.{begins_going, history_awake, history_going}
+use Rattle.s38_state_laws.proofs.EndLaws.{nothing_left}
 use Rattle.s38_state_laws.proofs.FollowLaws.{run_live}
 use Rattle.s38_state_laws.proofs.LaterLaws.{confined_later}
 use Rattle.s38_state_laws.proofs.StepLaws.{run_in_order}
-use Rattle.s38_state_laws.specs.Live.{AreRunByJobs}
+use Rattle.s38_state_laws.specs.Live.{AreRunByJobs, AreWholeRuns}
 use Rattle.s38_top.proofs.ConfinedLaws.{as_many, each_ran, run_confined}
 use Rattle.s38_top.proofs.OwnerLaws.{run_owned, run_suits}
 use Rattle.s38_top.specs.Decks.{IsRunOf, checked_of, opened, processes_of}
@@ -30,6 +28,9 @@ run_by_jobs held Order deck history run = record {
   each = λ k job there. let one = run.each k job there in record { made = one.made; ran = one.ran.by_program };
 }
 
+whole_runs : (held : Held) (Order : State → List Entry → Type 0) (deck : Deck) (history : List Entry) → IsRunOf held Order deck history → AreWholeRuns deck.jobs history
+whole_runs held Order deck history run = record { runs = run_by_jobs held Order deck history run; whole = λ k job there. (run.each k job there).ran.whole }
+
 pub run_keeps : (held : Held) (Order : State → List Entry → Type 0) (deck : Deck) (history : List Entry) → IsOpening held → (run : IsRunOf held Order deck history) → KeepsLaws held deck history run.state
 run_keeps held Order deck history opening run = record {
   confined = run_confined held Order deck history (rows_in_order held opening) run;
@@ -39,6 +40,7 @@ run_keeps held Order deck history opening run = record {
   owned = run_owned held Order deck history opening run;
   suited = run_suits held Order deck history opening run;
   live = (run_live held (checked_of deck) deck.jobs history run.state (run_by_jobs held Order deck history run) run.legal).0;
+  left = nothing_left held (checked_of deck) deck.jobs history run.state opening (whole_runs held Order deck history run) run.legal;
   well = (run_well held (checked_of deck) deck.jobs history run.state opening run.legal).0;
   ordered = (run_in_order held (checked_of deck) deck.jobs history run.state opening run.legal).0;
   right = (run_right held (checked_of deck) deck.jobs history run.state opening run.legal).0;

@@ -1,5 +1,5 @@
 -- What a crash leaves of a store while a call goes on.
-use Rattle.std.proofs.Common.{◌≡◌, ◌⊎◌, ℕ, inl, inr, sym, subst}
+use Rattle.std.proofs.Common.{◌≡◌, inl, inr, sym, subst}
 use Rattle.std.specs.Prelude.{IfErr, IfOk, Option, Result, Some, None, Ok, Err}
 use Rattle.s38_base.specs.declared.fault.NoMemory.{NoMemory as Fault}
 use Rattle.s38_closing.specs.Closing.{closing}

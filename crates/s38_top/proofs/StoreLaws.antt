@@ -1,6 +1,6 @@
 -- From a store that was opened to what a run over it comes to.
-use Rattle.std.proofs.Common.{◌≡◌, ℕ, List, [], length, refl, sym, ◌∙◌, ap, subst}
-use Rattle.std.specs.Prelude.{Err, IfErr, IfOk, Ok, OnOk, Option, Result, Some, None}
+use Rattle.std.proofs.Common.{◌≡◌, ℕ, List, [], refl, sym, subst}
+use Rattle.std.specs.Prelude.{Err, IfErr, IfOk, Ok, OnOk, Option, Result, Some}
 use Rattle.s38_base.specs.Faults.{Rose}
 use Rattle.s38_base.specs.declared.fault.NoMemory.{NoMemory as Fault}
 use Rattle.s38_keeping.specs.declared.fault.KeepFault.{KeepFault}

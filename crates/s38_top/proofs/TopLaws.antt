@@ -14,7 +14,7 @@ use Rattle.s38_rules.proofs.Laws.{marked_still}
 use Rattle.s38_rules.specs.Held.{Held}
 use Rattle.s38_rules.specs.Opening.{held_installed, state_of}
 use Rattle.s38_run.specs.Whole.{AllRan}
-use Rattle.std.specs.Io.KnownBytes.{Appends, Keeps}
+use Rattle.std.specs.Io.KnownBytes.{Appends}
 use Rattle.s38_base.specs.Faults.{Rose}
 use Rattle.s38_base.specs.declared.fault.NoMemory.{NoMemory as Fault}
 use Rattle.s38_disk.specs.Disk.{DiskView}
@@ -23,7 +23,6 @@ use Rattle.s38_io.specs.Sink.{AppendsFront}
 use Rattle.s38_demo.specs.GeneratedDeck.{deck_of, generated}
 use Rattle.s38_demo.proofs.SpelledLaws.{generated_is_spelled}
 use Rattle.s38_openings.proofs.FirstLaws.{installed_opening}
-use Rattle.s38_stores.specs.Refusals.{IsBad, IsTaken}
 use Rattle.s38_stores.specs.declared.fault.BadStore.{BadStore}
 use Rattle.s38_template.specs.Grammar.{Spells}
 use Rattle.s38_template.specs.Reading.{read_of}
@@ -34,7 +33,7 @@ use Rattle.s38_command.specs.declared.command.Command.TheVariants.{Jobs, Check, 
 use Rattle.s38_top.specs.declared.outcome.Outcome.{Outcome}
 use Rattle.s38_top.specs.declared.outcome.Outcome.TheVariants.{BadWords, BadDeck, DeckFault, NoMemory, Ran, Checked, Demonstrated, Installed, Listed, Refused, DiskFault}
 use Rattle.s38_top.specs.declared.outcome.RunEnd.TheVariants.{Kept, Failed, Full}
-use Rattle.s38_command.specs.Commands.{has_deck, reads_deck}
+use Rattle.s38_command.specs.Commands.{reads_deck}
 use Rattle.s38_objects.specs.Lawful.{IsLawful}
 use Rattle.s38_top.specs.declared.outcome.CheckedDeck.{CheckedDeck}
 use Rattle.s38_top.specs.declared.outcome.Whole.{Whole}
@@ -46,7 +45,7 @@ use Rattle.s38_top.specs.Crash.{IsSafe}
 use Rattle.s38_top.specs.Decks.{AreMarks, IsRunOf, IsUnstored, checked_of, made_for, opened, order_of}
 use Rattle.s38_top.proofs.KeepLaws.{run_keeps}
 use Rattle.s38_top.specs.Ends.{IsDecided, IsReadFrom, ReadsFrom}
-use Rattle.s38_top.specs.Outcome.{CameToRun, Ends, FromStore, FromText, HasBadStore, HasDeck, Holds, IsAnswered, IsChecked, IsComplete, IsDemonstrated, IsGood, IsGoodDeck, IsGoodFor, IsGoodStore, IsInstalled, IsListed, IsServedBy, OfStore, OfText, RanGenerated, ReadOut, ReadsDeck, Serves, Takes, Tells, checked_text, faulted, history_of, marks_of, most, status_of, text_of}
+use Rattle.s38_top.specs.Outcome.{CameToRun, Ends, FromText, HasBadStore, HasDeck, Holds, IsAnswered, IsChecked, IsComplete, IsDemonstrated, IsGood, IsGoodDeck, IsGoodFor, IsGoodStore, IsInstalled, IsListed, IsServedBy, OfStore, OfText, RanGenerated, ReadOut, Serves, Takes, Tells, checked_text, faulted, history_of, marks_of, most, status_of, text_of}
 use Rattle.s38_top.specs.Outside.{Outside, Unread, outside}
 
 there_is : {A : Type 0} (xs : List A) (k : ℕ) → k < length xs → (x : A) × (slice_get xs k ≡ Some x)

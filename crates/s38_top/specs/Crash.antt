@@ -14,7 +14,6 @@ use Rattle.s38_pages.specs.Mounts.{layout_of}
 use Rattle.s38_pages.specs.Vaults.{PageStore, page_holds}
 use Rattle.s38_restart.specs.Parts.{all_parts}
 use Rattle.s38_rules.specs.Held.{Held}
-use Rattle.s38_rules.specs.State.{State}
 use Rattle.s38_stores.specs.Crashes.{AtRest, DuringCall, IsBetween, IsNoneOrInstalled, IsPartlyCleaned, KeepsRestarting}
 use Rattle.s38_top.specs.Decks.{IsRunOf, order_of}
 use Rattle.s38_top.specs.Runs.{RanOver, kept_of}

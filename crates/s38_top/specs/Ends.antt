@@ -1,6 +1,6 @@
 -- On the way to an outcome: what is read of a source, what is known before a run, and what a run over an opened store comes
 -- to.
-use Rattle.std.specs.Prelude.{◌≡◌, ℕ, true, List, Option, Some, None, Result, Ok, Err}
+use Rattle.std.specs.Prelude.{◌≡◌, ℕ, List, Option, Some, None, Result, Ok, Err}
 use Rattle.s38_base.specs.Faults.{Rose}
 use Rattle.s38_base.specs.declared.fault.NoMemory.{NoMemory as Fault}
 use Rattle.s38_keeping.specs.declared.fault.KeepFault.{KeepFault}
@@ -18,7 +18,7 @@ use Rattle.s38_stores.specs.Stores.{Restarts}
 use Rattle.s38_template.specs.Grammar.{Spells}
 use Rattle.s38_command.specs.declared.command.Command.{Command}
 use Rattle.s38_top.specs.declared.outcome.Outcome.{Outcome}
-use Rattle.s38_top.specs.declared.outcome.Outcome.TheVariants.{BadWords, BadDeck, DeckFault, NoMemory, Ran, Checked, Demonstrated, Installed, Listed, Refused, DiskFault}
+use Rattle.s38_top.specs.declared.outcome.Outcome.TheVariants.{DeckFault, NoMemory, Ran}
 use Rattle.s38_top.specs.declared.outcome.RunEnd.{RunEnd}
 use Rattle.s38_top.specs.declared.outcome.RunEnd.TheVariants as ends
 use Rattle.s38_top.specs.declared.outcome.Whole.{Whole}

@@ -10,7 +10,7 @@ use Rattle.s38_rules.specs.Held.{Held}
 use Rattle.s38_rules.specs.State.{State}
 use Rattle.s38_run.specs.Progress.{AllGoing, AreAwake}
 use Rattle.s38_state_laws.specs.Later.{IsConfinedFromAny}
-use Rattle.s38_state_laws.specs.Live.{AllLive}
+use Rattle.s38_state_laws.specs.Live.{AllLive, HasNothingLeft}
 use Rattle.s38_state_laws.specs.Order.{AllInOrder}
 use Rattle.s38_top.specs.Decks.{IsConfined, opened, processes_of}
 
@@ -22,8 +22,9 @@ pub record KeepsLaws (held : Held) (deck : Deck) (history : List Entry) (end : S
   pub owned : AllOwnersAgree (processes_of deck) (opened held deck) [] history
   -- each reply suits what was asked
   pub suited : AllSuit (processes_of deck) [] history
-  -- nothing is left behind a process
+  -- nothing is left behind a process, nor at the end
   pub live : AllLive (opened held deck) history
+  pub left : HasNothingLeft end
   -- a store can keep each object, and objects, users and locks are in order
   pub well : AllWell (opened held deck) history
   pub ordered : AllInOrder (opened held deck) history

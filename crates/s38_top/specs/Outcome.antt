@@ -1,5 +1,5 @@
 -- What the program may come to, what it then answers and prints, and what it rests on.
-use Rattle.std.specs.Prelude.{◌≡◌, ◌⊎◌, ◌==◌, if◌then◌else◌, ℕ, true, false, IsTrue, List, [], ◌∷◌, ◌++◌, length, take, Option, Some, None, is_some, Err, codes}
+use Rattle.std.specs.Prelude.{◌≡◌, ◌⊎◌, ◌==◌, if◌then◌else◌, ℕ, true, false, IsTrue, List, [], ◌++◌, length, take, Option, Some, None, is_some, Err, codes}
 use Rattle.std.specs.Io.KnownBytes.{Appends}
 use Rattle.s38_base.specs.Faults.{Rose}
 use Rattle.s38_blocks.specs.Coding.{is_label}

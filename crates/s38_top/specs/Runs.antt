@@ -1,5 +1,5 @@
 -- Runs over the store of a disk, and what they leave on it.
-use Rattle.std.specs.Prelude.{◌≡◌, ℕ, List}
+use Rattle.std.specs.Prelude.{List}
 use Rattle.s38_base.specs.Faults.{Rose}
 use Rattle.s38_closing.specs.Closing.{closing}
 use Rattle.s38_code.specs.declared.deck.Deck.{Deck}

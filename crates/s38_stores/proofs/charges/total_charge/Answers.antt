@@ -1,4 +1,4 @@
-use Rattle.std.proofs.Common.{◌+◌, ◌∙◌, ap, arith, map, rules, sum_by}
+use Rattle.std.proofs.Common.{◌∙◌, ap, arith, map, rules, sum_by}
 use Rattle.std.proofs.lemmas.List.Sums.{sum_by_push}
 use Rattle.std.specs.Map.Iter.{deref}
 use Rattle.s38_objects.proofs.KeptLaws.{all_gone, one_more}

@@ -1,4 +1,3 @@
-use Rattle.std.proofs.Common.{◌≡◌}
 use Rattle.s38_stores.proofs.InstallLaws.{installed_numbers, installed_storable}
 use Rattle.s38_stores.proofs.installing.installing_changes.Goals as goal
 

@@ -1,15 +1,13 @@
-use Rattle.std.proofs.Common.{◌≡◌, ◌∙◌, ap, arith, subst, sym}
+use Rattle.std.proofs.Common.{◌∙◌, ap, arith, subst, sym}
 use Rattle.std.specs.FinMap.{len}
-use Rattle.std.specs.Prelude.{IfErr}
 use Rattle.s38_base.specs.Faults.{Rose}
-use Rattle.s38_closing.specs.Closing.{closing, content_of, parts_of_all}
-use Rattle.s38_keeping.specs.declared.fault.KeepFault.TheVariants as faults
+use Rattle.s38_closing.specs.Closing.{closing, parts_of_all}
 use Rattle.s38_pages.specs.Index.{parts_of}
 use Rattle.s38_pages.specs.Mounts.{layout_of}
 use Rattle.s38_pages.specs.Vaults.{PageStore, page_view}
 use Rattle.s38_disk.specs.Disk.{DiskView}
 use Rattle.s38_vault.specs.Directory.{Keys, new_keys}
-use Rattle.s38_vault.specs.Vaults.{VaultShape, VaultView}
+use Rattle.s38_vault.specs.Vaults.{VaultView}
 use Rattle.s38_stores.proofs.KeepLaws.{err_on, kept_of, of_fault}
 use Rattle.s38_stores.proofs.WatchLaws.{caused, close_during, given_back, held_now, held_then, now_is, seen_from, unmoved}
 use Rattle.s38_stores.specs.Crashes.{IsBetween}

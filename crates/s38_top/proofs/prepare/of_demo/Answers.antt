@@ -1,4 +1,4 @@
-use Rattle.std.proofs.Common.{ℕ, subst, sym, ◌∙◌}
+use Rattle.std.proofs.Common.{ℕ, subst, ◌∙◌}
 use Rattle.s38_rules.specs.Held.{Held}
 use Rattle.s38_run.specs.Pickers.{number_after, number_answer}
 use Rattle.s38_top.specs.Begun.{IsWholeOf}

@@ -1,7 +1,7 @@
 use Rattle.std.proofs.Common.{Bor, List, ℕ, ap, map, refl, ◌∙◌}
 use Rattle.std.proofs.KnownBytes.{Keeps-refl}
 use Rattle.std.specs.Prelude.{Some}
-use Rattle.s38_command.specs.declared.command.Command.TheVariants.{Check, Demo, Install, Jobs, List as Listing}
+use Rattle.s38_command.specs.declared.command.Command.TheVariants.{Check, Install, Jobs, List as Listing}
 use Rattle.s38_command.specs.Commands.{AreTurnsOn, command_on}
 use Rattle.s38_top.specs.Outside.{outside}
 use Rattle.s38_top.proofs.SafeLaws.{safe_none, safe_of, unprepared_safe}
