@@ -5,11 +5,13 @@
 mod locking;
 mod refusal;
 mod service;
+mod streams;
 
 use locking::{Hold, hold_store};
 use refusal::{refusal_of, refuse};
 use s38_io::{StdSink, StdSource};
 use service::{attach, serve_over_file};
+use streams::take_places;
 use std::env::Env;
 use std::process::ExitCode;
 use std::{env, io};
@@ -26,6 +28,8 @@ fn command_line<R: Env + AllocGlobal>(rt: &R) -> io::Result<Vec<String>> {
 }
 
 fn main(rt: HostRuntime) -> ExitCode {
+    // Before any file is opened.
+    let places = take_places(&rt);
     let mut deck = StdSource::new(rt.reader());
     let mut out = StdSink::new(io::writer(&rt));
     let status = match command_line(&rt) {
@@ -49,5 +53,6 @@ fn main(rt: HostRuntime) -> ExitCode {
         }
         Err(fault) => refuse(refusal_of(fault.kind()), &mut out),
     };
+    drop(places);
     ExitCode::from(status)
 }
