@@ -159,7 +159,7 @@ event_well s p (Finish cause) well may = finish_well s p (process_entry s p) wel
 
 -- ---- a step, and a history
 
-verdict_well : (s : State) (p : ℕ) (e : Event) (v : Verdict) → AreWell s → awake_verdict s p e ≡ v → AreWell (by_verdict s p e v).state
+pub verdict_well : (s : State) (p : ℕ) (e : Event) (v : Verdict) → AreWell s → awake_verdict s p e ≡ v → AreWell (by_verdict s p e v).state
 verdict_well s p e Permit well is = record {
   limit = subst (λ (n : ℕ). n ≤ furthest) (sym ((stored_beside s p e (effect_of s p e).state).limit ∙ (effect_beside s p e).limit)) well.limit;
   objects = stored_holds HoldsWell (λ h n so_far. journal_well h n journals.forced so_far) s p e (effect_of s p e).state (event_well s p e well is);
