@@ -1,0 +1,6 @@
+mod PutLaws
+mod MarkLaws
+mod StateLaws
+mod StandLaws
+mod BehindLaws
+mod SettledLaws

@@ -1,0 +1,5 @@
+pub mod Seen
+pub mod Puts
+pub mod Sound
+pub mod Keeping
+pub mod Laws
