@@ -4,7 +4,7 @@ use Rattle.std.proofs.lemmas.Bool.{cond_both}
 use Rattle.std.proofs.lemmas.Bool.Decides.{nat_tests}
 use Rattle.std.proofs.lemmas.List.Elements.{All-nil, recursion_from_All}
 use Rattle.std.specs.List.{AllByRecursion}
-use Rattle.std.specs.Prelude.{None, Some}
+use Rattle.std.specs.Prelude.{None, Some, Option}
 use Rattle.s38_code.specs.declared.deck.Job.{Job}
 use Rattle.s38_code.specs.declared.entry.Entry.{Entry}
 use Rattle.s38_code.specs.declared.made.CheckedTemplate.{CheckedTemplate}
@@ -13,9 +13,10 @@ use Rattle.s38_commitment_laws.specs.Right.{AllRight, IsData, IsRight, IsUnit}
 use Rattle.s38_object_laws.proofs.EventLaws.{history_well}
 use Rattle.s38_object_laws.specs.Well.{AllWell, AreWell}
 use Rattle.s38_openings.specs.Opening.{HoldsTable, IsNumbered, IsOpening}
+use Rattle.s38_owner_laws.specs.Beginnings.{state_over}
+use Rattle.s38_rules.specs.Room.{Room}
 use Rattle.s38_rules.specs.Held.{Held, has_number, object_in}
 use Rattle.s38_rules.specs.Legal.{Leads}
-use Rattle.s38_rules.specs.Opening.{state_of}
 use Rattle.s38_rules.specs.Parts.{data_part, part_in}
 use Rattle.s38_rules.specs.State.{State}
 use Rattle.s38_rules.specs.declared.object.Object.{Object}
@@ -24,12 +25,12 @@ use Rattle.std.specs.List.Sorted.{IsStrictlySortedBy}
 
 -- ---- objects that are well
 
-pub opening_well : (h : Held) (templates : List CheckedTemplate) (jobs : List Job) → IsOpening h → AreWell (state_of h templates jobs)
-opening_well h templates jobs is = record { limit = omega arith; objects = is.well }
+pub opening_well : (room : Option Room) (h : Held) (templates : List CheckedTemplate) (jobs : List Job) → IsOpening h → AreWell (state_over room h templates jobs)
+opening_well room h templates jobs is = record { limit = omega arith; objects = is.well }
 
-pub run_well : (h : Held) (templates : List CheckedTemplate) (jobs : List Job) (history : List Entry) (end : State) → IsOpening h → Leads (state_of h templates jobs) [] history end
-    → AllWell (state_of h templates jobs) history × AreWell end
-run_well h templates jobs history end is leads = history_well (state_of h templates jobs) [] history end (opening_well h templates jobs is) leads
+pub run_well : (room : Option Room) (h : Held) (templates : List CheckedTemplate) (jobs : List Job) (history : List Entry) (end : State) → IsOpening h → Leads (state_over room h templates jobs) [] history end
+    → AllWell (state_over room h templates jobs) history × AreWell end
+run_well room h templates jobs history end is leads = history_well (state_over room h templates jobs) [] history end (opening_well room h templates jobs is) leads
 
 -- ---- units that are right
 
@@ -49,8 +50,8 @@ no_unit_rises : IsRising []
 unfolding IsStrictlySortedBy
 no_unit_rises = tt
 
-pub opening_right : (h : Held) (templates : List CheckedTemplate) (jobs : List Job) → IsOpening h → IsRight (state_of h templates jobs)
-opening_right h templates jobs is = record {
+pub opening_right : (room : Option Room) (h : Held) (templates : List CheckedTemplate) (jobs : List Job) → IsOpening h → IsRight (state_over room h templates jobs)
+opening_right room h templates jobs is = record {
   rising = no_unit_rises;
   apart = λ one other space at first second. cc;
   each = All-nil (IsUnit h);
@@ -59,6 +60,6 @@ opening_right h templates jobs is = record {
   unused = record { none = zero_unused h.objects (recursion_from_All IsNumbered h.objects is.numbered); next = is.next };
 }
 
-pub run_right : (h : Held) (templates : List CheckedTemplate) (jobs : List Job) (history : List Entry) (end : State) → IsOpening h → Leads (state_of h templates jobs) [] history end
-    → AllRight (state_of h templates jobs) history × IsRight end
-run_right h templates jobs history end is leads = history_right (state_of h templates jobs) [] history end (opening_right h templates jobs is) leads
+pub run_right : (room : Option Room) (h : Held) (templates : List CheckedTemplate) (jobs : List Job) (history : List Entry) (end : State) → IsOpening h → Leads (state_over room h templates jobs) [] history end
+    → AllRight (state_over room h templates jobs) history × IsRight end
+run_right room h templates jobs history end is leads = history_right (state_over room h templates jobs) [] history end (opening_right room h templates jobs is) leads

@@ -23,12 +23,13 @@ use Rattle.s38_openings.proofs.CeilingLaws.{history_low}
 use Rattle.s38_openings.specs.Closing.{CanClose}
 use Rattle.s38_openings.specs.Opening.{IsNumbered, IsOpening}
 use Rattle.s38_rules.proofs.ChargeLaws.{AreRising, rising_by}
+use Rattle.s38_owner_laws.specs.Beginnings.{state_over}
+use Rattle.s38_rules.specs.Room.{Room}
 use Rattle.s38_rules.specs.Held.{Held, object, object_in}
 use Rattle.s38_rules.specs.Journaling.{block_port}
 use Rattle.s38_rules.specs.Storable.{IsStorable}
 use Rattle.s38_object_laws.specs.Well.{IsWell}
 use Rattle.s38_rules.specs.Legal.{Leads}
-use Rattle.s38_rules.specs.Opening.{state_of}
 use Rattle.s38_rules.specs.Parts.{data_of, data_part, part_at, part_in}
 use Rattle.s38_rules.specs.State.{State}
 use Rattle.s38_rules.specs.declared.data_body.DataBody.{DataBody}
@@ -102,10 +103,10 @@ all_settle h units lawful each =
 
 -- ---- the end of a run
 
-pub end_closes : (h : Held) (templates : List CheckedTemplate) (jobs : List Job) (history : List Entry) (end : State) → IsOpening h → Leads (state_of h templates jobs) [] history end → IsLawful end.held → CanClose end
-end_closes h templates jobs history end is leads lawful = record {
-  storable = All-weaker IsWell IsStorable (λ o well. well.storable) end.held.objects (run_well h templates jobs history end is leads).1.objects;
-  numbers = all_numbered end.held lawful (run_right h templates jobs history end is leads).1.unused;
-  settles = all_settle end.held end.units lawful (run_right h templates jobs history end is leads).1.each;
-  ceiling = history_low (state_of h templates jobs) [] history end is.ceiling leads;
+pub end_closes : (room : Option Room) (h : Held) (templates : List CheckedTemplate) (jobs : List Job) (history : List Entry) (end : State) → IsOpening h → Leads (state_over room h templates jobs) [] history end → IsLawful end.held → CanClose end
+end_closes room h templates jobs history end is leads lawful = record {
+  storable = All-weaker IsWell IsStorable (λ o well. well.storable) end.held.objects (run_well room h templates jobs history end is leads).1.objects;
+  numbers = all_numbered end.held lawful (run_right room h templates jobs history end is leads).1.unused;
+  settles = all_settle end.held end.units lawful (run_right room h templates jobs history end is leads).1.each;
+  ceiling = history_low (state_over room h templates jobs) [] history end is.ceiling leads;
 }

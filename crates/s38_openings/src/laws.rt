@@ -1,5 +1,5 @@
 //! Laws about openings.
-ghost use Rattle.std.specs.Prelude.{◌≡◌, ◌≤◌, ◌<◌, ◌^◌, ℕ, List, [], None};
+ghost use Rattle.std.specs.Prelude.{◌≡◌, ◌≤◌, ◌<◌, ◌^◌, ℕ, List, [], None, Option};
 ghost use Rattle.s38_base.specs.declared.page.Change.{Change};
 ghost use Rattle.s38_code.specs.declared.deck.Job.{Job};
 ghost use Rattle.s38_code.specs.declared.entry.Entry.{Entry};
@@ -11,13 +11,14 @@ ghost use Rattle.s38_objects.specs.Lawful.{IsLawful};
 ghost use Rattle.s38_openings.specs.Charges.{total_charge};
 ghost use Rattle.s38_openings.specs.Closing.{CanClose};
 ghost use Rattle.s38_openings.specs.Opening.{IsOpening};
-ghost use Rattle.s38_owner_laws.specs.Beginnings.{AreInOrder};
 ghost use Rattle.s38_restart.specs.Parts.{AreParts};
 ghost use Rattle.s38_restart.specs.Restarted.{restarted};
+ghost use Rattle.s38_owner_laws.specs.Beginnings.{AreInOrder, state_over};
+ghost use Rattle.s38_rules.specs.Room.{Room};
 ghost use Rattle.s38_rules.specs.Held.{Held};
 ghost use Rattle.s38_rules.specs.Kept.{CanBeKept};
 ghost use Rattle.s38_rules.specs.Legal.{Leads};
-ghost use Rattle.s38_rules.specs.Opening.{held_first, held_installed, state_of};
+ghost use Rattle.s38_rules.specs.Opening.{held_first, held_installed};
 ghost use Rattle.s38_rules.specs.State.{State};
 
 /// A machine that was not stored before begins with an opening, and so does one that was just installed.
@@ -39,24 +40,24 @@ pub fn what_users_pay_can_be_kept()
 
 /// The objects of an opening are well, and so they are in each state of a run that begins with it.
 pub fn an_opening_is_well()
-    ensures begins { (held : Held) (templates : List CheckedTemplate) (jobs : List Job) → IsOpening held → AreWell (state_of held templates jobs) }
-    ensures histories { (held : Held) (templates : List CheckedTemplate) (jobs : List Job) (history : List Entry) (end : State) → IsOpening held
-        → Leads (state_of held templates jobs) [] history end → AllWell (state_of held templates jobs) history × AreWell end }
+    ensures begins { (room : Option Room) (held : Held) (templates : List CheckedTemplate) (jobs : List Job) → IsOpening held → AreWell (state_over room held templates jobs) }
+    ensures histories { (room : Option Room) (held : Held) (templates : List CheckedTemplate) (jobs : List Job) (history : List Entry) (end : State) → IsOpening held
+        → Leads (state_over room held templates jobs) [] history end → AllWell (state_over room held templates jobs) history × AreWell end }
 {}
 
 /// An opening has no unit of changes, and its data spaces are in order; so units are right in each state of a run that
 /// begins with it.
 pub fn an_opening_is_right()
-    ensures begins { (held : Held) (templates : List CheckedTemplate) (jobs : List Job) → IsOpening held → IsRight (state_of held templates jobs) }
-    ensures histories { (held : Held) (templates : List CheckedTemplate) (jobs : List Job) (history : List Entry) (end : State) → IsOpening held
-        → Leads (state_of held templates jobs) [] history end → AllRight (state_of held templates jobs) history × IsRight end }
+    ensures begins { (room : Option Room) (held : Held) (templates : List CheckedTemplate) (jobs : List Job) → IsOpening held → IsRight (state_over room held templates jobs) }
+    ensures histories { (room : Option Room) (held : Held) (templates : List CheckedTemplate) (jobs : List Job) (history : List Entry) (end : State) → IsOpening held
+        → Leads (state_over room held templates jobs) [] history end → AllRight (state_over room held templates jobs) history × IsRight end }
 {}
 
 /// A store can keep all that a run leaves, if the run began with an opening: each object, with every change that is not
 /// committed taken back, and the ceiling of numbers.
 pub fn an_end_can_be_closed()
-    ensures { (held : Held) (templates : List CheckedTemplate) (jobs : List Job) (history : List Entry) (end : State) → IsOpening held
-        → Leads (state_of held templates jobs) [] history end → IsLawful end.held → CanClose end }
+    ensures { (room : Option Room) (held : Held) (templates : List CheckedTemplate) (jobs : List Job) (history : List Entry) (end : State) → IsOpening held
+        → Leads (state_over room held templates jobs) [] history end → IsLawful end.held → CanClose end }
 {}
 
 /// The objects of an opening have numbers that were given, and its programs are those that creation makes.

@@ -21,13 +21,15 @@ use Rattle.s38_code.specs.declared.reply.Val.{Val}
 use Rattle.s38_process.specs.Invocations.{depth_of}
 use Rattle.s38_process.specs.Process.{ProcessState, RanFrom, absorbed, behind, event_of, fresh}
 use Rattle.s38_rules.proofs.StoreLaws.{stored_beside}
+use Rattle.s38_owner_laws.specs.Beginnings.{AreAsked, AreChecked, AreInOrder, Begin, IsChecked, IsFresh, state_over}
+use Rattle.s38_rules.specs.Room.{Room}
 use Rattle.s38_rules.specs.Changes.{done}
 use Rattle.s38_rules.specs.Computing.{is_call}
 use Rattle.s38_rules.specs.Effect.{effect_of}
 use Rattle.s38_rules.specs.Held.{Held}
 use Rattle.s38_rules.specs.Invocations.{in_use, pushed, replaced, restack, stack_in, stack_of}
 use Rattle.s38_rules.specs.Legal.{IsEntry, IsProcess, Leads}
-use Rattle.s38_rules.specs.Opening.{process_entries, state_of}
+use Rattle.s38_rules.specs.Opening.{process_entries}
 use Rattle.s38_rules.specs.Operands.{target}
 use Rattle.s38_rules.specs.Programs.{program_by}
 use Rattle.s38_rules.specs.State.{State, process_entry, started, started_in, waits}
@@ -44,7 +46,6 @@ use Rattle.s38_owner_laws.proofs.RowLaws.{OfTemplates, row_quiet}
 use Rattle.s38_owner_laws.proofs.StackLaws.{absorbed_kept, asks_for}
 use Rattle.s38_owner_laws.proofs.StateLaws.{act_processes, effect_templates, ends, quiet_processes, restacks, starts, step_others}
 use Rattle.s38_owner_laws.proofs.StepLaws.{AreKept, Stands, acted, asked_begins, called, effect_follows, goes_on, signalled, stands_still, started_own, stored_follows, transferred}
-use Rattle.s38_owner_laws.specs.Beginnings.{AreAsked, AreChecked, AreInOrder, Begin, IsChecked, IsFresh}
 use Rattle.s38_owner_laws.specs.Owners.{ActsFor, Agree, AllOwnersAgree, IsActedFor, OwnersAgree}
 
 -- ---- a step
@@ -304,6 +305,6 @@ unstarted_in [] k = refl
 unstarted_in (job ∷ jobs) zero = refl
 unstarted_in (job ∷ jobs) (suc k) = unstarted_in jobs k
 
-pub opening_begins : (held : Held) (templates : List CheckedTemplate) (jobs : List Job) (processes : List ProcessState) → AreInOrder held → AreChecked templates
-    → ((k : ℕ) (d : ProcessState) → slice_get processes k ≡ Some d → IsFresh d) → Begin processes (state_of held templates jobs)
-opening_begins held templates jobs processes order checked fresh = record { objects = order; templates = checked; unstarted = λ p. unstarted_in jobs (p - 1); fresh = fresh }
+pub opening_begins : (room : Option Room) (held : Held) (templates : List CheckedTemplate) (jobs : List Job) (processes : List ProcessState) → AreInOrder held → AreChecked templates
+    → ((k : ℕ) (d : ProcessState) → slice_get processes k ≡ Some d → IsFresh d) → Begin processes (state_over room held templates jobs)
+opening_begins room held templates jobs processes order checked fresh = record { objects = order; templates = checked; unstarted = λ p. unstarted_in jobs (p - 1); fresh = fresh }

@@ -1,5 +1,6 @@
 -- From where runs begin: each object has a number that was given, each program was checked, and no process has started.
-use Rattle.std.specs.Prelude.{◌≡◌, ◌<◌, ◌≤◌, ℕ, ◌+◌, All, List, Some, None, slice_get}
+use Rattle.std.specs.Prelude.{◌≡◌, ◌<◌, ◌≤◌, ℕ, ◌+◌, All, List, Option, Some, None, slice_get}
+use Rattle.s38_code.specs.declared.deck.Job.{Job}
 use Rattle.s38_code.specs.declared.entry.Entry.{Entry}
 use Rattle.s38_code.specs.declared.made.CheckedTemplate.{CheckedTemplate}
 use Rattle.s38_code.specs.declared.made.CreateResult.{CreateResult}
@@ -10,8 +11,14 @@ use Rattle.s38_process.specs.Invocations.{code_in, rows_in}
 use Rattle.s38_process.specs.Process.{ProcessState, RanFrom, fresh}
 use Rattle.s38_rules.specs.declared.object.Object.{Object}
 use Rattle.s38_rules.specs.Held.{Held}
+use Rattle.s38_rules.specs.Opening.{state_of}
 use Rattle.s38_rules.specs.Programs.{code_of}
+use Rattle.s38_rules.specs.Room.{Room}
 use Rattle.s38_rules.specs.State.{State, started}
+
+-- the state in which the jobs of a deck find a machine of these objects; over a store, its room too
+abbrev pub state_over : Option Room → Held → List CheckedTemplate → List Job → State
+state_over room held templates jobs = record (state_of held templates jobs) { room = room }
 
 -- the instructions of a program suit its declarations; a template that was refused has none
 abbrev pub IsChecked : CreateResult → Type 0

@@ -6,21 +6,21 @@ ghost use Rattle.s38_code.specs.declared.program.Program.{Program};
 ghost use Rattle.s38_create.specs.Checked.{made_of};
 ghost use Rattle.s38_create.specs.Created.{created};
 ghost use Rattle.s38_odt.specs.Suited.{AreSuited};
-ghost use Rattle.s38_owner_laws.specs.Beginnings.{AreAsked, AreChecked, AreInOrder, Begin, IsChecked, IsFresh};
 ghost use Rattle.s38_owner_laws.specs.Owners.{AllOwnersAgree};
 ghost use Rattle.s38_process.specs.Process.{ProcessState};
+ghost use Rattle.s38_owner_laws.specs.Beginnings.{AreAsked, AreChecked, AreInOrder, Begin, IsChecked, IsFresh, state_over};
+ghost use Rattle.s38_rules.specs.Room.{Room};
 ghost use Rattle.s38_rules.specs.Held.{Held};
 ghost use Rattle.s38_rules.specs.Legal.{Leads};
-ghost use Rattle.s38_rules.specs.Opening.{state_of};
 ghost use Rattle.s38_rules.specs.State.{State};
-ghost use Rattle.std.specs.Prelude.{◌≡◌, ℕ, List, [], Ok, Some, slice_get};
+ghost use Rattle.std.specs.Prelude.{◌≡◌, ℕ, List, [], Ok, Some, slice_get, Option};
 
 /// The owners that act in a process are those of the programs in which it is: at each moment of a history the frames that
 /// count are as many as its invocations, the oldest first, and each is 0 or the number of the object whose program the
 /// invocation runs. Each instruction is asked at the depth of its process, so exactly these frames count for it.
 pub fn the_right_owner_acts()
-    ensures begins { (held : Held) (templates : List CheckedTemplate) (jobs : List Job) (processes : List ProcessState) → AreInOrder held → AreChecked templates
-        → ((k : ℕ) (d : ProcessState) → slice_get processes k ≡ Some d → IsFresh d) → Begin processes (state_of held templates jobs) }
+    ensures begins { (room : Option Room) (held : Held) (templates : List CheckedTemplate) (jobs : List Job) (processes : List ProcessState) → AreInOrder held → AreChecked templates
+        → ((k : ℕ) (d : ProcessState) → slice_get processes k ≡ Some d → IsFresh d) → Begin processes (state_over room held templates jobs) }
     ensures histories { (processes : List ProcessState) (first : State) (history : List Entry) (end : State) → Begin processes first → Leads first [] history end
         → AreAsked processes history → AllOwnersAgree processes first [] history }
 {}

@@ -10,10 +10,11 @@ use Rattle.s38_commits.specs.Units.{UnitMap}
 use Rattle.s38_locks.specs.Locks.{Lock, is_locked}
 use Rattle.s38_locks.specs.Table.{Table}
 use Rattle.s38_openings.specs.Opening.{IsOpening}
+use Rattle.s38_owner_laws.specs.Beginnings.{state_over}
+use Rattle.s38_rules.specs.Room.{Room}
 use Rattle.s38_rules.specs.Held.{Held}
 use Rattle.s38_rules.specs.Legal.{Leads}
 use Rattle.s38_rules.specs.Locking.{is_going_in}
-use Rattle.s38_rules.specs.Opening.{state_of}
 use Rattle.s38_rules.specs.State.{State}
 use Rattle.s38_rules.specs.declared.process.ProcessEntry.{ProcessEntry}
 use Rattle.s38_state_laws.proofs.FollowLaws.{all_ended, run_live}
@@ -73,22 +74,22 @@ each_ended (x ∷ xs) none = All-cons (λ y. y.ended ≡ true) x xs (turned x.en
     turned false h = cc
 
 -- behind whole runs no place has one that has not ended
-none_open : (held : Held) (templates : List CheckedTemplate) (jobs : List Job) (history : List Entry) (end : State) → AreWholeRuns jobs history → Leads (state_of held templates jobs) [] history end → NoneOpen end.processes
-none_open held templates jobs history end run leads k = by (slice_get end.processes k) refl
+none_open : (room : Option Room) (held : Held) (templates : List CheckedTemplate) (jobs : List Job) (history : List Entry) (end : State) → AreWholeRuns jobs history → Leads (state_over room held templates jobs) [] history end → NoneOpen end.processes
+none_open room held templates jobs history end run leads k = by (slice_get end.processes k) refl
   where
     by : (x : Option ProcessEntry) → slice_get end.processes k ≡ x → is_open_in x ≡ false
     by None at = refl
     by (Some x) at =
         let within = slice_get_within end.processes k x at in
         let place : k + 1 - 1 ≡ k = omega arith in
-        subst (λ o. is_open_in o ≡ false) (ap (slice_get end.processes) place ∙ at) (all_ended held templates jobs history end run leads (k + 1) (omega arith) (omega (arith, within)))
+        subst (λ o. is_open_in o ≡ false) (ap (slice_get end.processes) place ∙ at) (all_ended room held templates jobs history end run leads (k + 1) (omega arith) (omega (arith, within)))
 
-pub nothing_left : (held : Held) (templates : List CheckedTemplate) (jobs : List Job) (history : List Entry) (end : State) → IsOpening held → AreWholeRuns jobs history → Leads (state_of held templates jobs) [] history end
+pub nothing_left : (room : Option Room) (held : Held) (templates : List CheckedTemplate) (jobs : List Job) (history : List Entry) (end : State) → IsOpening held → AreWholeRuns jobs history → Leads (state_over room held templates jobs) [] history end
     → HasNothingLeft end
-nothing_left held templates jobs history end is run leads =
-    let live = (run_live held templates jobs history end run.runs leads).1 in
-    let order = (run_in_order held templates jobs history end is leads).1 in
-    let none = none_open held templates jobs history end run leads in
+nothing_left room held templates jobs history end is run leads =
+    let live = (run_live room held templates jobs history end run.runs leads).1 in
+    let order = (run_in_order room held templates jobs history end is leads).1 in
+    let none = none_open room held templates jobs history end run leads in
     record {
       ended = each_ended end.processes none;
       locks = none_locked end.held.next end.processes end.locks none live.locks order.locks;

@@ -27,11 +27,13 @@ use Rattle.s38_process.specs.declared.status.Status.{Status}
 use Rattle.s38_rules.proofs.RoomLaws.{end_permitted}
 use Rattle.s38_rules.proofs.Laws.{all_decommitted_keeps, step_keeps}
 use Rattle.s38_rules.proofs.StoreLaws.{stored_beside}
+use Rattle.s38_owner_laws.specs.Beginnings.{state_over}
+use Rattle.s38_rules.specs.Room.{Room}
 use Rattle.s38_rules.specs.Effect.{effect_of, end_at, start_at}
 use Rattle.s38_rules.specs.Held.{Held}
 use Rattle.s38_rules.specs.Legal.{Leads}
 use Rattle.s38_rules.specs.Locking.{is_going_in}
-use Rattle.s38_rules.specs.Opening.{process_entries, state_of}
+use Rattle.s38_rules.specs.Opening.{process_entries}
 use Rattle.s38_rules.specs.State.{State, process_entry, waits}
 use Rattle.s38_rules.specs.Step.{awake_verdict, by_verdict, by_waiting, step}
 use Rattle.s38_rules.specs.Units.{all_decommitted}
@@ -293,8 +295,8 @@ history_follows whole s before (e ∷ es) end all leads =
     let one = leads.0 in
     history_follows whole (step s e.process e.event).state (before ++ e ∷ []) es end (next_follows whole s e es one.process.first one.entered one.reply all) leads.1
 
-pub begins_live : (held : Held) (templates : List CheckedTemplate) (jobs : List Job) → IsLive (state_of held templates jobs)
-begins_live held templates jobs = record { locks = All-nil (AreHeld _); units = All-nil (IsOwned _); waiting = All-nil (MayWait _) }
+pub begins_live : (room : Option Room) (held : Held) (templates : List CheckedTemplate) (jobs : List Job) → IsLive (state_over room held templates jobs)
+begins_live room held templates jobs = record { locks = All-nil (AreHeld _); units = All-nil (IsOwned _); waiting = All-nil (MayWait _) }
 
 -- a job at each place, whose process has not ended
 job_at : (jobs : List Job) (k : ℕ) → k < length jobs → (job : Job) × (slice_get jobs k ≡ Some job) × (is_open_in (slice_get (process_entries jobs) k) ≡ true)
@@ -302,9 +304,9 @@ job_at [] k h = absurd (omega (arith, h))
 job_at (job ∷ jobs) zero h = (job, refl, refl)
 job_at (job ∷ jobs) (suc k) h = job_at jobs k (omega (arith, h))
 
-begins_following : (whole : Bool) (held : Held) (templates : List CheckedTemplate) (jobs : List Job) (history : List Entry) → AreRunByJobs jobs history
-    → (whole ≡ true → (k : ℕ) (job : Job) → slice_get jobs k ≡ Some job → ends_by_finish (entries_of (k + 1) history) ≡ true) → AllFollow whole (state_of held templates jobs) history
-begins_following whole held templates jobs history run ends p above within =
+begins_following : (whole : Bool) (room : Option Room) (held : Held) (templates : List CheckedTemplate) (jobs : List Job) (history : List Entry) → AreRunByJobs jobs history
+    → (whole ≡ true → (k : ℕ) (job : Job) → slice_get jobs k ≡ Some job → ends_by_finish (entries_of (k + 1) history) ≡ true) → AllFollow whole (state_over room held templates jobs) history
+begins_following whole room held templates jobs history run ends p above within =
     let count : length (process_entries jobs) ≡ length jobs = length-map jobs _ in
     let at = job_at jobs (p - 1) (omega (arith, above, within, count)) in
     let ran = run.each (p - 1) at.0 at.1 in
@@ -316,20 +318,20 @@ begins_following whole held templates jobs history run ends p above within =
       ends = λ is. inl (subst (λ (n : ℕ). ends_by_finish (entries_of n history) ≡ true) index (ends is (p - 1) at.0 at.1));
     }
 
-pub run_live : (held : Held) (templates : List CheckedTemplate) (jobs : List Job) (history : List Entry) (end : State) → AreRunByJobs jobs history → Leads (state_of held templates jobs) [] history end
-    → AllLive (state_of held templates jobs) history × IsLive end
-run_live held templates jobs history end run leads =
-    history_live false (state_of held templates jobs) [] history end (lives_from (state_of held templates jobs) (begins_live held templates jobs) rising_none)
-    (begins_following false held templates jobs history run (λ is. absurd (never is))) leads
+pub run_live : (room : Option Room) (held : Held) (templates : List CheckedTemplate) (jobs : List Job) (history : List Entry) (end : State) → AreRunByJobs jobs history → Leads (state_over room held templates jobs) [] history end
+    → AllLive (state_over room held templates jobs) history × IsLive end
+run_live room held templates jobs history end run leads =
+    history_live false (state_over room held templates jobs) [] history end (lives_from (state_over room held templates jobs) (begins_live room held templates jobs) rising_none)
+    (begins_following false room held templates jobs history run (λ is. absurd (never is))) leads
   where
     never : false ≡ true → ⊥
     never g = cc
 
 -- behind whole runs each process has ended
-pub all_ended : (held : Held) (templates : List CheckedTemplate) (jobs : List Job) (history : List Entry) (end : State) → AreWholeRuns jobs history → Leads (state_of held templates jobs) [] history end
+pub all_ended : (room : Option Room) (held : Held) (templates : List CheckedTemplate) (jobs : List Job) (history : List Entry) (end : State) → AreWholeRuns jobs history → Leads (state_over room held templates jobs) [] history end
     → (p : ℕ) → 0 < p → p ≤ length end.processes → is_open_in (process_entry end p) ≡ false
-all_ended held templates jobs history end run leads p above within =
-    let all = history_follows true (state_of held templates jobs) [] history end (begins_following true held templates jobs history run.runs (λ is. run.whole)) leads in
+all_ended room held templates jobs history end run leads p above within =
+    let all = history_follows true (state_over room held templates jobs) [] history end (begins_following true room held templates jobs history run.runs (λ is. run.whole)) leads in
     let last = all p above within in
     by last.process.status (last.ends refl) last.stands
   where

@@ -27,13 +27,15 @@ use Rattle.s38_rules.proofs.RoomLaws.{permitted_by_rules}
 use Rattle.s38_rules.proofs.RuleLaws.{first_none}
 use Rattle.s38_rules.proofs.StoreLaws.{stored_beside}
 use Rattle.s38_rules.proofs.VerdictLaws.{permitted_none}
+use Rattle.s38_owner_laws.specs.Beginnings.{state_over}
+use Rattle.s38_rules.specs.Room.{Room}
 use Rattle.s38_rules.specs.Creation.{is_of_kind}
 use Rattle.s38_rules.specs.Effect.{effect_of, end_at, in_machine, start_at, started_as}
 use Rattle.s38_rules.specs.Held.{Held, found_in, is_in_context, is_there, number_found, number_in, object}
 use Rattle.s38_rules.specs.Instruction.{AreKept, unstacked}
 use Rattle.s38_rules.specs.Invocations.{restacked}
 use Rattle.s38_rules.specs.Legal.{Leads}
-use Rattle.s38_rules.specs.Opening.{process_entries, state_of}
+use Rattle.s38_rules.specs.Opening.{process_entries}
 use Rattle.s38_rules.specs.Rows.{row}
 use Rattle.s38_rules.specs.State.{State, is_early, process_entry, waits}
 use Rattle.s38_rules.specs.Step.{awake_verdict, by_verdict, by_waiting, step}
@@ -294,8 +296,8 @@ none_started held (job ∷ jobs) = All-cons (HasUser held) _ (process_entries jo
     none : (p : Started) → None ≡ Some p → ⊥
     none p g = cc
 
-pub opening_in_order : (held : Held) (templates : List CheckedTemplate) (jobs : List Job) → IsOpening held → AreInOrder (state_of held templates jobs)
-opening_in_order held templates jobs is = record {
+pub opening_in_order : (room : Option Room) (held : Held) (templates : List CheckedTemplate) (jobs : List Job) → IsOpening held → AreInOrder (state_over room held templates jobs)
+opening_in_order room held templates jobs is = record {
   lawful = is.lawful;
   numbered = is.numbered;
   fit = is.fit;
@@ -305,7 +307,7 @@ opening_in_order held templates jobs is = record {
   locks = All-nil (AreLocks held.next);
 }
 
-pub run_in_order : (held : Held) (templates : List CheckedTemplate) (jobs : List Job) (history : List Entry) (end : State) → IsOpening held → Leads (state_of held templates jobs) [] history end
-    → AllInOrder (state_of held templates jobs) history × AreInOrder end
-run_in_order held templates jobs history end is leads =
-    history_in_order (state_of held templates jobs) [] history end (opening_well held templates jobs is) (opening_in_order held templates jobs is) leads
+pub run_in_order : (room : Option Room) (held : Held) (templates : List CheckedTemplate) (jobs : List Job) (history : List Entry) (end : State) → IsOpening held → Leads (state_over room held templates jobs) [] history end
+    → AllInOrder (state_over room held templates jobs) history × AreInOrder end
+run_in_order room held templates jobs history end is leads =
+    history_in_order (state_over room held templates jobs) [] history end (opening_well room held templates jobs is) (opening_in_order room held templates jobs is) leads

@@ -1,5 +1,5 @@
 //! Laws about every state of a run.
-ghost use Rattle.std.specs.Prelude.{◌≡◌, ◌<◌, ℕ, List, [], length};
+ghost use Rattle.std.specs.Prelude.{◌≡◌, ◌<◌, ℕ, List, [], length, Option};
 ghost use Rattle.s38_code.specs.declared.deck.Job.{Job};
 ghost use Rattle.s38_code.specs.declared.entry.Entry.{Entry};
 ghost use Rattle.s38_code.specs.declared.event.Event.{Event};
@@ -9,9 +9,10 @@ ghost use Rattle.s38_confinement.specs.Confined.{AreRun};
 ghost use Rattle.s38_object_laws.specs.Well.{AreWell};
 ghost use Rattle.s38_process.specs.Process.{ProcessState};
 ghost use Rattle.s38_openings.specs.Opening.{IsOpening};
+ghost use Rattle.s38_owner_laws.specs.Beginnings.{state_over};
+ghost use Rattle.s38_rules.specs.Room.{Room};
 ghost use Rattle.s38_rules.specs.Held.{Held};
 ghost use Rattle.s38_rules.specs.Legal.{Leads};
-ghost use Rattle.s38_rules.specs.Opening.{state_of};
 ghost use Rattle.s38_rules.specs.State.{State};
 ghost use Rattle.s38_rules.specs.Step.{step};
 ghost use Rattle.s38_state_laws.specs.Later.{IsConfinedFromAny};
@@ -22,17 +23,17 @@ ghost use Rattle.s38_state_laws.specs.Live.{AllLive, AreRunByJobs, AreWholeRuns,
 /// has not ended, and whoever waits has not ended. It is so at the beginning, and each step keeps it whose event comes
 /// from a process that may ask it, as in a run by jobs.
 pub fn nothing_is_left_behind()
-    ensures begins { (held : Held) (templates : List CheckedTemplate) (jobs : List Job) → IsLive (state_of held templates jobs) }
+    ensures begins { (room : Option Room) (held : Held) (templates : List CheckedTemplate) (jobs : List Job) → IsLive (state_over room held templates jobs) }
     ensures steps { (s : State) (p : ℕ) (e : Event) → IsLive s → IsRising s.units → 0 < p → ComesFrom s.processes p e → IsLive (step s p e).state }
-    ensures histories { (held : Held) (templates : List CheckedTemplate) (jobs : List Job) (history : List Entry) (end : State) → AreRunByJobs jobs history
-        → Leads (state_of held templates jobs) [] history end → AllLive (state_of held templates jobs) history × IsLive end }
+    ensures histories { (room : Option Room) (held : Held) (templates : List CheckedTemplate) (jobs : List Job) (history : List Entry) (end : State) → AreRunByJobs jobs history
+        → Leads (state_over room held templates jobs) [] history end → AllLive (state_over room held templates jobs) history × IsLive end }
 {}
 
 /// The whole runs of all jobs leave nothing: every process has ended, nothing is locked, no unit of changes is open, and
 /// nobody waits.
 pub fn whole_runs_leave_nothing()
-    ensures { (held : Held) (templates : List CheckedTemplate) (jobs : List Job) (history : List Entry) (end : State) → IsOpening held
-        → AreWholeRuns jobs history → Leads (state_of held templates jobs) [] history end → HasNothingLeft end }
+    ensures { (room : Option Room) (held : Held) (templates : List CheckedTemplate) (jobs : List Job) (history : List Entry) (end : State) → IsOpening held
+        → AreWholeRuns jobs history → Leads (state_over room held templates jobs) [] history end → HasNothingLeft end }
 {}
 
 /// In every state of a run from an opening the objects are in order: numbers rise and were given, none above the ceiling;
@@ -41,10 +42,10 @@ pub fn whole_runs_leave_nothing()
 /// started and has not ended is there, and no two locks of different processes on one object are incompatible. Each step
 /// keeps it.
 pub fn objects_stay_in_order()
-    ensures begins { (held : Held) (templates : List CheckedTemplate) (jobs : List Job) → IsOpening held → AreInOrder (state_of held templates jobs) }
+    ensures begins { (room : Option Room) (held : Held) (templates : List CheckedTemplate) (jobs : List Job) → IsOpening held → AreInOrder (state_over room held templates jobs) }
     ensures steps { (s : State) (p : ℕ) (e : Event) → AreWell s → AreInOrder s → AreInOrder (step s p e).state }
-    ensures histories { (held : Held) (templates : List CheckedTemplate) (jobs : List Job) (history : List Entry) (end : State) → IsOpening held
-        → Leads (state_of held templates jobs) [] history end → AllInOrder (state_of held templates jobs) history × AreInOrder end }
+    ensures histories { (room : Option Room) (held : Held) (templates : List CheckedTemplate) (jobs : List Job) (history : List Entry) (end : State) → IsOpening held
+        → Leads (state_over room held templates jobs) [] history end → AllInOrder (state_over room held templates jobs) history × AreInOrder end }
 {}
 
 /// Confinement from any moment of a run on: wherever its history is parted, if users have no way to a right on an object
