@@ -57,6 +57,11 @@ pub record Ended {M : Type 0} (good : M → Type 0) (all : M → List Item) (see
 
 -- ---- the seat of the table
 
+-- a machine stands in the one slot
+abbrev pub IsOneFull : {M : Type 0} → List (Option M) → Type 0
+IsOneFull (Some m ∷ []) = Unit {0}
+IsOneFull _ = ⊥
+
 -- a table of the turn: two words and one slot
 abbrev pub IsSized : TableId → Type 0
 IsSized z = (z.words ≡ 2) × (z.slots ≡ 1)

@@ -1,5 +1,5 @@
-ghost use Rattle.std.specs.Prelude.{◌≡◌, ◌++◌, ◌∷◌, [], ℕ, List, IfOk, IfSome, None, Some, true};
-ghost use Rattle.s38_turn.specs.Calls.{Called, Ended, IsIdle, IsLike, IsSized, IsTold};
+ghost use Rattle.std.specs.Prelude.{◌≡◌, ◌++◌, ◌∷◌, [], ℕ, List, IfErr, IfOk, IfSome, None, Some, true};
+ghost use Rattle.s38_turn.specs.Calls.{Called, Ended, IsIdle, IsLike, IsOneFull, IsSized, IsTold};
 ghost use Rattle.s38_turn.specs.Items.{Begins, entries_in, items, items_by, items_of};
 ghost use Rattle.s38_turn.specs.Lists.{HasAll, empty_lists, has, list_of};
 ghost use Rattle.s38_turn.specs.Seats.{IsSeatOf, gathered, only_process, without_process};
@@ -41,13 +41,30 @@ impl<M: Stepper> Model for Turn<M> {
     ghost invariant = { λ t. IsSized t.table.shared.table_id };
 }
 
-/// The one slot of a table.
-fn slot_of<M: Drop>(alloc: Global, machine: M) -> Result<Vec<Option<M>>, NoMemory>
-    ensures { IfOk result (λ slots. slots.items ≡ Some machine ∷ []) }
+/// The one slot of a table. Where memory is refused, the machine comes back.
+fn slot_of<M: Drop>(alloc: Global, machine: M) -> Result<Vec<Option<M>>, (M, NoMemory)>
+    ensures ok { IfOk result (λ slots. slots.items ≡ Some machine ∷ []) }
+    ensures back { IfErr result (λ refused. refused.0 ≡ machine) }
 {
-    let mut slots = Vec::with_capacity(alloc, 1)?;
-    slots.push(Some(machine))?;
-    Ok(slots)
+    match Vec::with_capacity(alloc, 1) {
+        Err(_) => Err((machine, NoMemory)),
+        Ok(mut slots) => {
+            slots.push_reserved(Some(machine));
+            Ok(slots)
+        }
+    }
+}
+
+/// The machine of the one slot that no table took.
+fn left_in<M: Drop>(slots: Vec<Option<M>>) -> M
+    requires { IsOneFull slots.items }
+    ensures { slots.items ≡ Some result ∷ [] }
+{
+    let mut slots = slots;
+    match slots.pop() {
+        Some(Some(machine)) => machine,
+        _ => unreachable!(),
+    }
 }
 
 /// The machine of a table that no thread shares any more.
@@ -68,8 +85,12 @@ fn taken_back<M: Stepper + Drop>(table: TurnTable<M>, seat: TableSeat<M>) -> M
 
 impl<M: Stepper + Drop> Turn<M> {
     /// Shares a machine that has no history yet. The seat has the processes from 1 on, each with an empty list. Where memory
-    /// is refused, the machine is dropped.
-    pub fn new(alloc: Global, machine: M, processes: u32) -> Result<(Turn<M>, Seat<M>), NoMemory>
+    /// is refused, the machine comes back.
+    pub fn new(
+        alloc: Global,
+        machine: M,
+        processes: u32,
+    ) -> Result<(Turn<M>, Seat<M>), (M, NoMemory)>
         requires sound { M.is_sound machine }
         requires empty { M.history machine ≡ [] }
         requires going { M.stopped machine ≡ None }
@@ -78,15 +99,18 @@ impl<M: Stepper + Drop> Turn<M> {
         ensures seat { IfOk result (λ t. IsSeatOf t.0 t.1) }
         ensures seen { IfOk result (λ t. t.1.seen ≡ []) }
         ensures lists { IfOk result (λ t. t.1.lists ≡ empty_lists processes) }
+        ensures back { IfErr result (λ refused. refused.0 ≡ machine) }
     {
         let about = Begun {
             machine: Snapshot::of(&machine),
             processes,
         };
-        let slots = slot_of(alloc, machine)?;
-        match Table::new(alloc, &[0, 0], slots, &about) {
-            Ok((table, inner)) => Ok((Turn { table }, Seat { inner })),
-            Err(_) => Err(NoMemory),
+        match slot_of(alloc, machine) {
+            Err(refused) => Err(refused),
+            Ok(slots) => match Table::new(alloc, &[0, 0], slots, &about) {
+                Ok((table, inner)) => Ok((Turn { table }, Seat { inner })),
+                Err(refused) => Err((left_in(refused.slots), NoMemory)),
+            },
         }
     }
 

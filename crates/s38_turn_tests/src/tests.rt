@@ -7,7 +7,10 @@ use std::test::Fail;
 #[test]
 fn threads_share_a_machine(rt: HostRuntime) -> Result<(), Fail> {
     for processes in [1, 2, 8] {
-        let (turn, seat) = Turn::new(rt.alloc(), Counter::new(rt.alloc()), processes)?;
+        let (turn, seat) = match Turn::new(rt.alloc(), Counter::new(rt.alloc()), processes) {
+            Ok(begun) => begun,
+            Err((_, fault)) => return Err(Fail::from(fault)),
+        };
         let seat = run(&rt, &turn, seat, processes)?;
         let machine = turn.close(seat);
         for process in 1..=processes {

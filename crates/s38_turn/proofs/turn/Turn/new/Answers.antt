@@ -16,6 +16,6 @@ new-requires g c =
     let all = items_of S.history S.stopped in
     let good = IsLike S.is_sound S.origin v in
     let none_yet : items (S.history v) (S.stopped v) ≡ [] = (λ k. items ((ap S.history e ∙ c.requires.empty) k) ((ap S.stopped e ∙ c.requires.going) k)) in
-    let slots : c.in_ok-slots.slots.items ≡ Some v ∷ [] = c.in_ok-slots.ensures ∙ ap (λ m. Some m ∷ []) (sym e) in
+    let slots : c.in-Ok.slots.items ≡ Some v ∷ [] = c.in-Ok.ensures.ok ∙ ap (λ m. Some m ∷ []) (sym e) in
     subst (λ (xs : List (Option g.row.M.Denot)). IsKept v people good all (opening (0 ∷ 0 ∷ []) xs (first_view v people))) (sym slots)
     (starts g.row.M.Denot v people good all (subst S.is_sound (sym e) c.requires.sound, refl) none_yet)
