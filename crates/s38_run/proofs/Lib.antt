@@ -6,5 +6,5 @@ pub mod ReadyLaws
 pub mod Running
 pub mod Stepping
 pub mod TurnLaws
-mod Turned
+pub mod StillLaws
 mod WaitLaws

@@ -22,10 +22,11 @@ use Rattle.s38_process.specs.Process.{ProcessState, absorbed, behind, ends_by_fi
 use Rattle.s38_run.specs.declared.job_state.JobState.{JobState}
 use Rattle.s38_run.specs.declared.outcome.Outcome.{Outcome}
 use Rattle.s38_run.specs.declared.outcome.Outcome.TheVariants.{Finished, Waits, Refused, Changed}
-use Rattle.s38_run.specs.Running.{EachStands, IsBetween, OthersStay, Stands, TookTurn, WentOn, doing, left_in_all, left_of, outcome_of, ready_behind, state_behind, turns_left}
+use Rattle.s38_run.specs.Running.{BrokeOff, CameOff, CameToHalt, EachStands, IsAsBefore, IsBetween, OthersStay, Stands, TookTurn, WasAnswered, WasStopped, WentOn, doing, left_in_all, left_of, outcome_of, ready_behind, state_behind, turns_left}
+use Rattle.s38_run.specs.Whole.{AllByProgram}
 use Rattle.s38_run.proofs.Asking.{behind_more, ends_asking, ends_more, ran_more}
 use Rattle.s38_run.proofs.ReadyLaws.{OtherReady, filter_fewer, listed_ready, none_listed, outline, ready_few, same_ended, same_list, waiting_list, waiting_ready, with_waiting}
-use Rattle.s38_run.proofs.Running.{entries_other, entries_own, fewer_events, fewer_ready, first_after, history_more, left_set, origin_after, turn_falls, turn_waits}
+use Rattle.s38_run.proofs.Running.{entries_other, entries_own, fewer_events, fewer_ready, history_more, left_set, origin_after, turn_falls, turn_waits}
 use Rattle.s38_run.proofs.Stepping.{GoesTo, MovesBy, goes}
 
 -- ---- who is ready behind a turn
@@ -256,9 +257,10 @@ is_listed made jobs m all was place p between listed = listed_ready m.state plac
 
 pub processes_count : (made : List CreateResult) (jobs : List Job) (m : Run) (all : List JobState) (was : List ℕ) → IsBetween made jobs m all was → length m.state.processes ≡ length jobs
 processes_count made jobs m all was between =
-    between.sound.kept ∙ ap (λ (s : State). length s.processes) between.begun ∙ length-map jobs _
+    between.sound.kept ∙ ap (λ (s : State). length s.processes) between.opened ∙ length-map jobs _
 
-module _ (made : List CreateResult) (jobs : List Job) (m : Run) (all : List JobState) (was : List ℕ) (place p : ℕ) (job : Job) (one : CreateResult) (state : JobState) (e : Event) (turn : AtTurn made jobs m all was place p job one state e) where
+module _ (made : List CreateResult) (jobs : List Job) (m : Run) (all : List JobState) (was : List ℕ) (place p : ℕ) (job : Job) (one : CreateResult) (state : JobState) (e : Event) (mark : ℕ) (later : m.moment ≤ mark)
+    (turn : AtTurn made jobs m all was place p job one state e) where
   listed : (ready m.state p ≡ true) × IsProcess m.state p
   listed = is_listed made jobs m all was place p turn.between turn.listed
 
@@ -310,11 +312,11 @@ module _ (made : List CreateResult) (jobs : List Job) (m : Run) (all : List JobS
         (set_elsewhere all (p - 1) k s (state_then m p job one state e) ne s_at))
   ]
 
-  each_then : EachStands made jobs (after m m.moment p e) (slice_set all (p - 1) (state_then m p job one state e))
+  each_then : EachStands made jobs (after m mark p e) (slice_set all (p - 1) (state_then m p job one state e))
   unfolding after
   each_then = record {
     each = λ k x j o s x_at j_at o_at s_at.
-        subst (λ es. Stands o j.budget x.ended (entries_of (k + 1) es) s) (sym (history_more m p e to.entered)) (stands_then k x j o s x_at j_at o_at s_at);
+        subst (λ es. Stands o j.budget x.ended (entries_of (k + 1) es) s) (sym (history_more m mark p e to.entered)) (stands_then k x j o s x_at j_at o_at s_at);
   }
 
   list_then : ready_behind (step m.state p e).state p (anyone m.state.waiting) (outcome_of e (step m.state p e).reply) was ≡ ready_list (step m.state p e).state
@@ -323,13 +325,12 @@ module _ (made : List CreateResult) (jobs : List Job) (m : Run) (all : List JobS
   count_then : length (step m.state p e).state.processes ≡ length jobs
   count_then = to.stay.count ∙ processes_count made jobs m all was turn.between
 
-  between_then : IsBetween made jobs (after m m.moment p e) (slice_set all (p - 1) (state_then m p job one state e))
+  between_then : IsBetween made jobs (after m mark p e) (slice_set all (p - 1) (state_then m p job one state e))
       (ready_behind (step m.state p e).state p (anyone m.state.waiting) (outcome_of e (step m.state p e).reply) was)
   unfolding after
   between_then = record {
-    sound = sound_after m m.moment p e turn.between.sound (record { first = listed.1.first; last = omega (arith, listed.1.last, turn.between.sound.kept) }) (omega arith);
-    begun = turn.between.begun;
-    still = turn.between.still;
+    sound = sound_after m mark p e turn.between.sound (record { first = listed.1.first; last = omega (arith, listed.1.last, turn.between.sound.kept) }) later;
+    opened = turn.between.opened;
     count_made = turn.between.count_made;
     count_states = simp length-set turn.between.count_states;
     ready = list_then;
@@ -337,14 +338,13 @@ module _ (made : List CreateResult) (jobs : List Job) (m : Run) (all : List JobS
     each = each_then;
   }
 
-  went_then : WentOn made jobs m all was place (after m m.moment p e) (slice_set all (p - 1) (state_then m p job one state e))
+  went_then : WentOn made jobs m all was place (after m mark p e) (slice_set all (p - 1) (state_then m p job one state e))
       (ready_behind (step m.state p e).state p (anyone m.state.waiting) (outcome_of e (step m.state p e).reply) was)
   went_then = record {
     between = between_then;
-    origin = origin_after m p e;
-    first = first_after m p e;
+    origin = origin_after m mark p e;
     entry = entry_then m p e;
-    added = history_more m p e to.entered;
+    added = history_more m mark p e to.entered;
     by = turn.listed;
     fewer = turns_fall one jobs all (p - 1) job state (step m.state p e).state p (anyone m.state.waiting) e (step m.state p e).reply was place turn.job_at turn.state_at turn.asks
         (λ f. (to.ended f).1) turn.listed (omega (arith, ap (λ (qs : List ℕ). length qs) list_then, ready_few (step m.state p e).state, count_then));
@@ -357,23 +357,31 @@ pub went_on : (made : List CreateResult) (jobs : List Job) (m : Run) (all : List
 unfolding after
 went_on made jobs m all was place p job one state o m' state' all' now between listed job_at one_at state_at took all_is now_is =
     let e = took.turned.event in
-    let went = went_then made jobs m all was place p job one state e (record { between = between; listed = listed; job_at = job_at; one_at = one_at; state_at = state_at; asks = took.turned.asks }) in
+    let went = went_then made jobs m all was place p job one state e m'.moment took.turned.later (record { between = between; listed = listed; job_at = job_at; one_at = one_at; state_at = state_at; asks = took.turned.asks }) in
     let state_is : state' ≡ state_then m p job one state e =
     took.state ∙ ap (λ x. state_behind x took.process) took.turned.outcome ∙ ap (state_behind (outcome_of e (step m.state p e).reply)) took.turned.process in
     let list_is : now ≡ ready_behind (step m.state p e).state p (anyone m.state.waiting) (outcome_of e (step m.state p e).reply) was =
     now_is ∙ ap (λ (n : Run). ready_behind n.state p (anyone m.state.waiting) o was) took.turned.machine
     ∙ ap (λ x. ready_behind (step m.state p e).state p (anyone m.state.waiting) x was) took.turned.outcome in
     subst (λ (n : Run). WentOn made jobs m all was place n all' now) (sym took.turned.machine)
-    (subst (λ (xs : List JobState). WentOn made jobs m all was place (after m m.moment p e) xs now) (sym (all_is ∙ ap (slice_set all (p - 1)) state_is))
-    (subst (λ (qs : List ℕ). WentOn made jobs m all was place (after m m.moment p e) (slice_set all (p - 1) (state_then m p job one state e)) qs) (sym list_is) went))
+    (subst (λ (xs : List JobState). WentOn made jobs m all was place (after m m'.moment p e) xs now) (sym (all_is ∙ ap (slice_set all (p - 1)) state_is))
+    (subst (λ (qs : List ℕ). WentOn made jobs m all was place (after m m'.moment p e) (slice_set all (p - 1) (state_then m p job one state e)) qs) (sym list_is) went))
+
+-- a process that is listed has not ended, and stands where its entries have brought it
+stands_open : (made : List CreateResult) (jobs : List Job) (m : Run) (all : List JobState) (was : List ℕ) (place p : ℕ) (job : Job) (one : CreateResult) (state : JobState) → IsBetween made jobs m all was
+    → slice_get was place ≡ Some p → slice_get jobs (p - 1) ≡ Some job → slice_get made (p - 1) ≡ Some one → slice_get all (p - 1) ≡ Some state
+    → (behind (fresh one job.budget) (entries_of p m.history) ≡ doing one job.budget state) × ((doing one job.budget state).status ≢ Ended)
+stands_open made jobs m all was place p job one state between at job_at one_at state_at =
+    let is = is_listed made jobs m all was place p between at in
+    let old = there_is m.state.processes (p - 1) (omega (arith, is.1.first, is.1.last)) in
+    let index : p - 1 + 1 ≡ p = omega (arith, is.1.first) in
+    when_false old.0.ended _ _ (ready_open m.state p old.0 old.1 is.0)
+    (subst (λ i. Stands one job.budget old.0.ended (entries_of i m.history) state) index (between.each.each (p - 1) old.0 job one state old.1 job_at one_at state_at)).is
 
 -- what a turn is allowed on
 pub going : (made : List CreateResult) (jobs : List Job) (m : Run) (all : List JobState) (was : List ℕ) (place p : ℕ) (job : Job) (one : CreateResult) (state : JobState) → IsBetween made jobs m all was
     → slice_get was place ≡ Some p → slice_get jobs (p - 1) ≡ Some job → slice_get made (p - 1) ≡ Some one → slice_get all (p - 1) ≡ Some state → (doing one job.budget state).status ≢ Ended
-going made jobs m all was place p job one state between at job_at one_at state_at =
-    let is = is_listed made jobs m all was place p between at in
-    let old = there_is m.state.processes (p - 1) (omega (arith, is.1.first, is.1.last)) in
-    (when_false old.0.ended _ _ (ready_open m.state p old.0 old.1 is.0) (between.each.each (p - 1) old.0 job one state old.1 job_at one_at state_at).is).1
+going made jobs m all was place p job one state between at job_at one_at state_at = (stands_open made jobs m all was place p job one state between at job_at one_at state_at).1
 
 -- the machine has as many processes as before
 pub took_count : (made : List CreateResult) (jobs : List Job) (m : Run) (all : List JobState) (was : List ℕ) (place p : ℕ) (job : Job) (one : CreateResult) (state : JobState) (o : Outcome) (m' : Run) (state' : JobState)
@@ -382,7 +390,7 @@ pub took_count : (made : List CreateResult) (jobs : List Job) (m : Run) (all : L
 unfolding after
 took_count made jobs m all was place p job one state o m' state' between listed job_at one_at state_at took =
     ap (λ (n : Run). length n.state.processes) took.turned.machine
-    ∙ count_then made jobs m all was place p job one state took.turned.event (record { between = between; listed = listed; job_at = job_at; one_at = one_at; state_at = state_at; asks = took.turned.asks })
+    ∙ count_then made jobs m all was place p job one state took.turned.event m'.moment took.turned.later (record { between = between; listed = listed; job_at = job_at; one_at = one_at; state_at = state_at; asks = took.turned.asks })
 
 -- who is listed is the process of a job
 pub within_jobs : (made : List CreateResult) (jobs : List Job) (m : Run) (all : List JobState) (was : List ℕ) (place p : ℕ) → IsBetween made jobs m all was → slice_get was place ≡ Some p → (0 < p) × (p - 1 < length jobs)
@@ -401,3 +409,64 @@ pub went_listed : {T E : Type 0} (r : Result T E) (made : List CreateResult) (jo
 went_listed r made jobs m all was place p job one state o m' state' waited now between listed job_at one_at state_at took waits now_is =
     on_ok _ _ r (λ is. went_on made jobs m all was place p job one state o m' state' (slice_set all (p - 1) state') now between listed job_at one_at state_at took refl
     (is ∙ ap (λ b. ready_behind m'.state p b o was) waits)) now_is
+
+-- ---- a turn that was broken off
+
+-- the entries of each job are by its program
+pub all_by_program : (made : List CreateResult) (jobs : List Job) (m : Run) (all : List JobState) (was : List ℕ) → IsBetween made jobs m all was → AllByProgram made jobs m.history
+all_by_program made jobs m all was between = record {
+  each = λ k job one job_at one_at.
+      let within = slice_get_within jobs k job job_at in
+      let x = there_is m.state.processes k (omega (arith, processes_count made jobs m all was between, within)) in
+      let state = there_is all k (omega (arith, between.count_states, within)) in
+      (between.each.each k x.0 job one state.0 x.1 job_at one_at state.1).by_program;
+}
+
+-- it went on, but for who is ready
+pub off_went : (made : List CreateResult) (jobs : List Job) (m : Run) (all : List JobState) (was : List ℕ) (place : ℕ) (m' : Run) (all' : List JobState) (now : List ℕ) → WentOn made jobs m all was place m' all' now → CameOff made jobs m was place m'
+off_went made jobs m all was place m' all' now went = record {
+  origin = went.origin;
+  by_program = all_by_program made jobs m' all' now went.between;
+  history = inr (record { entry = went.entry; added = went.added; by = went.by });
+}
+
+-- nothing was entered
+off_before : (made : List CreateResult) (jobs : List Job) (m : Run) (all : List JobState) (was : List ℕ) (place : ℕ) (m' : Run) → IsBetween made jobs m all was → IsAsBefore m m' → CameOff made jobs m was place m'
+off_before made jobs m all was place m' between same = record {
+  origin = same.origin;
+  by_program = subst (AllByProgram made jobs) (sym same.history) (all_by_program made jobs m all was between);
+  history = inl same.history;
+}
+
+-- what the process asks was answered
+off_answered : (made : List CreateResult) (jobs : List Job) (m : Run) (all : List JobState) (was : List ℕ) (place p : ℕ) (job : Job) (one : CreateResult) (state : JobState) (m' : Run) → IsBetween made jobs m all was
+    → slice_get was place ≡ Some p → slice_get jobs (p - 1) ≡ Some job → slice_get made (p - 1) ≡ Some one → slice_get all (p - 1) ≡ Some state → WasAnswered p m (doing one job.budget state) m' → CameOff made jobs m was place m'
+off_answered made jobs m all was place p job one state m' between listed job_at one_at state_at answered =
+    let went = went_then made jobs m all was place p job one state answered.event m'.moment answered.later
+    (record { between = between; listed = listed; job_at = job_at; one_at = one_at; state_at = state_at; asks = answered.asks }) in
+    subst (CameOff made jobs m was place) (sym answered.machine) (off_went made jobs m all was place _ _ _ went)
+
+pub came_off : (made : List CreateResult) (jobs : List Job) (m : Run) (all : List JobState) (was : List ℕ) (place p : ℕ) (job : Job) (one : CreateResult) (state : JobState) (m' : Run) → IsBetween made jobs m all was
+    → slice_get was place ≡ Some p → slice_get jobs (p - 1) ≡ Some job → slice_get made (p - 1) ≡ Some one → slice_get all (p - 1) ≡ Some state → BrokeOff p m (doing one job.budget state) m' → CameOff made jobs m was place m'
+came_off made jobs m all was place p job one state m' between listed job_at one_at state_at broke = elim broke as (λ _. CameOff made jobs m was place m') [
+  | inl same ↦ off_before made jobs m all was place m' between same
+  | inr answered ↦ off_answered made jobs m all was place p job one state m' between listed job_at one_at state_at answered
+]
+
+-- the machine stopped
+pub came_to_halt : (made : List CreateResult) (jobs : List Job) (m : Run) (all : List JobState) (was : List ℕ) (place p : ℕ) (job : Job) (one : CreateResult) (state : JobState) (m' : Run) (call : Option (ℕ × Event))
+    → IsBetween made jobs m all was → slice_get was place ≡ Some p → slice_get jobs (p - 1) ≡ Some job → slice_get made (p - 1) ≡ Some one → slice_get all (p - 1) ≡ Some state
+    → WasStopped p m (doing one job.budget state) m' call → CameToHalt made jobs m was place m' call
+came_to_halt made jobs m all was place p job one state m' call between listed job_at one_at state_at stopped = record {
+  same = stopped.same;
+  process = p;
+  event = stopped.event;
+  call = stopped.call;
+  by = listed;
+  asks = λ j o j_at o_at.
+      let same_job : job ≡ j = some_same (slice_get jobs (p - 1)) job j job_at j_at in
+      let same_one : one ≡ o = some_same (slice_get made (p - 1)) one o one_at o_at in
+      subst (λ (y : Job). event_of (behind (fresh o y.budget) (entries_of p m.history)) ≡ Some stopped.event) same_job
+      (subst (λ (y : CreateResult). event_of (behind (fresh y job.budget) (entries_of p m.history)) ≡ Some stopped.event) same_one
+      (ap event_of (stands_open made jobs m all was place p job one state between listed job_at one_at state_at).0 ∙ stopped.asks));
+}

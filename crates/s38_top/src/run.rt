@@ -14,7 +14,7 @@ use s38_code::{Checked, Deck};
 use s38_command::Turns;
 use s38_machine::Machine;
 use s38_objects::Objects;
-use s38_run::{NumberPicker, Picker, serial};
+use s38_run::{NumberPicker, Picker, RunEnd, serial};
 use s38_workers::{NoGate, run_machine};
 use std::alloc::Global;
 use std::sync::Wait;
@@ -49,14 +49,17 @@ fn run_serial<P: Picker>(alloc: Global, started: Started, picker: &mut P) -> Res
         made,
         machine,
     } = started;
-    let machine = serial(
+    let (machine, end) = serial(
         alloc,
         machine,
         deck.jobs.as_slice(),
         made.as_slice(),
         picker,
-    )?;
-    Ok(whole_of(deck, machine))
+    );
+    match end {
+        RunEnd::Complete => Ok(whole_of(deck, machine)),
+        _ => Err(NoMemory),
+    }
 }
 
 /// Runs the jobs that a machine has begun on one thread; the picker begins at this number.
