@@ -223,9 +223,9 @@ ran_off answer after x first made jobs m all list y place m' comes at off = reco
   origin = off.origin ∙ comes.origin;
   picked = elim off.history as (λ _. Picked (picks_of answer after (length m'.history) x) m'.origin m'.history) [
     | inl same ↦ subst (λ (s : State). Picked (picks_of answer after (length m'.history) x) s m'.history) (sym off.origin)
-      (subst (λ (es : List Entry). Picked (picks_of answer after (length es) x) m.origin es) (sym same) comes.picked)
+        (subst (λ (es : List Entry). Picked (picks_of answer after (length es) x) m.origin es) (sym same) comes.picked)
     | inr more ↦ picked_added answer after x m m' more.entry comes.between.sound comes.picked
-      (next_chosen answer after x m list y place more.entry.process comes.between.ready comes.picker at more.by) off.origin more.added
+        (next_chosen answer after x m list y place more.entry.process comes.between.ready comes.picker at more.by) off.origin more.added
   ];
   by_program = off.by_program;
 }
