@@ -1,4 +1,5 @@
 pub mod Asking
+mod EndLaws
 pub mod HistoryLaws
 pub mod JobLaws
 pub mod ProgressLaws

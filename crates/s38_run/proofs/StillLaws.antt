@@ -5,7 +5,7 @@ use Rattle.s38_code.specs.declared.event.Event.{Event}
 use Rattle.s38_rules.specs.Legal.{IsSound, Run, after, begun}
 use Rattle.s38_rules.specs.State.{State}
 use Rattle.s38_rules.proofs.Laws.{sound_begun}
-use Rattle.s38_run.specs.Still.{IsStill, beginning}
+use Rattle.s38_run.specs.Still.{Beginning, IsStill, beginning}
 
 -- a step, or none
 pub record IsStepOrNone (m n : Run) : Type 0 where
@@ -30,3 +30,7 @@ still_yet m n s still sound = record { sound = sound; moment = s.moment ∙ (sti
 -- a machine that has just begun
 pub still_begun : (m : Run) (s : State) → m ≡ begun m.first s → IsStill m
 still_begun m s is = record { sound = subst IsSound (sym is) (sound_begun m.first s); moment = ap (λ (k : Run). k.moment) is }
+
+-- it stays at its first moment
+pub still_from : (m n : Run) → IsStill n → beginning n ≡ beginning m → (n.first ≡ m.first) × (n.moment ≡ m.first)
+still_from m n still same = let first : n.first ≡ m.first = ap (λ (b : Beginning). b.first) same in (first, still.moment ∙ first)
