@@ -1,30 +1,35 @@
 -- The beginning of a run and its end.
-use Rattle.std.proofs.Common.{◌≡◌, ◌≢◌, ℕ, zero, suc, ◌+◌, ◌-◌, ◌%◌, ◌<◌, ◌==◌, ◌&&◌, not, Bool, true, false, List, [], ◌∷◌, ◌++◌, length, refl, sym, ◌∙◌, ap, subst, arith}
+use Rattle.std.proofs.Common.{◌≡◌, ◌≢◌, ℕ, zero, suc, ◌+◌, ◌-◌, ◌%◌, ◌<◌, ◌≤◌, ◌==◌, ◌&&◌, not, Bool, true, false, List, [], ◌∷◌, ◌++◌, length, inl, inr, refl, sym, ◌∙◌, ap, subst, arith}
 use Rattle.std.proofs.lemmas.List.{length-map}
 use Rattle.std.proofs.lemmas.Bool.Decides.{nat_tests}
 use Rattle.std.proofs.lemmas.Option.{same_Some, slice_get_within}
-use Rattle.std.specs.Prelude.{Some, nat_lt, slice_get}
+use Rattle.std.specs.Prelude.{Option, Some, nat_lt, slice_get}
 use Rattle.std.specs.List.{list_any}
 use Rattle.s38_code.specs.declared.deck.Job.{Job}
 use Rattle.s38_code.specs.declared.entry.Entry.{Entry}
+use Rattle.s38_code.specs.declared.event.Event.{Event}
 use Rattle.s38_code.specs.declared.made.CheckedTemplate.{CheckedTemplate}
 use Rattle.s38_code.specs.declared.made.CreateResult.{CreateResult}
+use Rattle.s38_code.specs.History.{entries_of}
+use Rattle.s38_machine.specs.Stored.{stored_state_of}
 use Rattle.s38_rules.specs.declared.process.ProcessEntry.{ProcessEntry}
 use Rattle.s38_rules.specs.Held.{Held}
 use Rattle.s38_rules.specs.State.{State, is_early, ready, ready_in, runs_before, process_entry, waits, ready_list}
-use Rattle.s38_rules.specs.Legal.{Leads, Run, begun}
+use Rattle.s38_rules.specs.Legal.{IsProcess, IsSound, Leads, Run, begun}
+use Rattle.s38_rules.specs.Room.{Room}
 use Rattle.s38_rules.specs.Opening as opening
 use Rattle.s38_rules.specs.Step.{step}
 use Rattle.s38_process.specs.declared.status.Status.TheVariants.{Fresh, Ended}
+use Rattle.s38_process.specs.Process.{behind, event_of, fresh}
 use Rattle.s38_rules.proofs.Laws.{sound_begun}
 use Rattle.s38_run.specs.declared.job_state.JobState.{JobState}
 use Rattle.s38_run.specs.declared.job_state.JobState.TheVariants.{Unbegun}
 use Rattle.s38_run.specs.Picked.{Picked, chosen}
 use Rattle.s38_run.specs.Pickers.{behind_picks, picks_of}
-use Rattle.s38_run.specs.Running.{IsBetween, Stands, WentOn, unbegun}
-use Rattle.s38_run.specs.Whole.{AllRan}
+use Rattle.s38_run.specs.Running.{CameOff, CameToHalt, HasHalted, IsBetween, IsOver, RanSoFar, Stands, WentOn, unbegun}
+use Rattle.s38_run.specs.Whole.{AllByProgram, AllRan, IsBegun, opened_for}
 use Rattle.s38_run.proofs.ReadyLaws.{any_some, none_listed}
-use Rattle.s38_run.proofs.TurnLaws.{processes_count, there_is, when_true}
+use Rattle.s38_run.proofs.TurnLaws.{all_by_program, processes_count, there_is, when_true}
 
 -- ---- where none is ready, all have ended
 
@@ -88,18 +93,37 @@ fresh_stands one budget ended state still is =
     going : Fresh ≢ Ended
     going g = cc
 
-pub between_begun : (moment : ℕ) (held : Held) (templates : List CheckedTemplate) (made : List CreateResult) (jobs : List Job) → length made ≡ length jobs
-    → IsBetween made jobs (begun moment (opening.state_of held templates jobs)) (unbegun jobs) (ready_list (opening.state_of held templates jobs))
-between_begun moment held templates made jobs count = record {
-  sound = sound_begun moment (opening.state_of held templates jobs);
-  begun = refl;
-  still = refl;
+-- a run that has no entry is where it began
+first_state : (jobs : List Job) (m : Run) → IsBegun jobs m → m.state ≡ opened_for m.origin jobs
+first_state jobs m begun = sym (subst (λ (es : List Entry). Leads m.origin [] es m.state) begun.empty begun.sound.legal) ∙ begun.opened
+
+pub between_begun : (made : List CreateResult) (jobs : List Job) (m : Run) (all : List JobState) (list : List ℕ) → length made ≡ length jobs → IsBegun jobs m → all ≡ unbegun jobs → list ≡ ready_list m.state → IsBetween made jobs m all list
+between_begun made jobs m all list count begun unbegun_yet listed = record {
+  sound = begun.sound;
+  opened = begun.opened;
   count_made = count;
-  count_states = length-map jobs _;
-  ready = refl;
-  awake = λ h. refl;
-  each = record { each = λ k x job one state x_at job_at one_at state_at. fresh_stands one job.budget x.ended state (fresh_open jobs k x x_at) (unbegun_at jobs k state state_at) };
+  count_states = ap (λ (xs : List JobState). length xs) unbegun_yet ∙ length-map jobs _;
+  ready = listed;
+  awake = λ h. ap (λ (s : State). s.waiting) (first_state jobs m begun);
+  each = record {
+    each = λ k x job one state x_at job_at one_at state_at.
+        let there : slice_get (opening.process_entries jobs) k ≡ Some x = ap (λ (s : State). slice_get s.processes k) (sym (first_state jobs m begun)) ∙ x_at in
+        let unbegun_there : slice_get (unbegun jobs) k ≡ Some state = ap (λ (xs : List JobState). slice_get xs k) (sym unbegun_yet) ∙ state_at in
+        subst (λ (es : List Entry). Stands one job.budget x.ended (entries_of (k + 1) es) state) (sym begun.empty)
+        (fresh_stands one job.budget x.ended state (fresh_open jobs k x there) (unbegun_at jobs k state unbegun_there));
+  };
 }
+
+-- a machine that has just begun, with or without a store
+pub is_begun : (room : Option Room) (held : Held) (templates : List CheckedTemplate) (jobs : List Job) (m : Run) → m ≡ begun m.first (stored_state_of room held templates jobs) → IsBegun jobs m
+is_begun room held templates jobs m is =
+    subst (IsBegun jobs) (sym is) (record { sound = sound_begun m.first (stored_state_of room held templates jobs); opened = refl; empty = refl })
+
+-- the processes of a run are those of its jobs
+pub process_begun : (jobs : List Job) (m : Run) → IsBegun jobs m → (p : ℕ) → 0 < p → p ≤ length jobs → IsProcess m.origin p
+process_begun jobs m begun p pos le =
+    let count : length m.origin.processes ≡ length jobs = ap (λ (s : State). length s.processes) begun.opened ∙ length-map jobs _ in
+    record { first = pos; last = omega (arith, le, count) }
 
 -- ---- the end
 
@@ -131,42 +155,100 @@ behind_one_more after x (y ∷ es) e = behind_one_more after (after x) es e
 
 -- ---- between two turns of a whole run
 
+-- where nothing has come yet
+nothing_by_program : (made : List CreateResult) (jobs : List Job) (history : List Entry) → history ≡ [] → AllByProgram made jobs history
+nothing_by_program made jobs history none = subst (AllByProgram made jobs) (sym none) (record { each = λ k job one job_at one_at. tt })
+
+nothing_picked : {S : Type 0} (answer : S → ℕ) (after : S → S) (x : S) (s : State) (history : List Entry) → history ≡ [] → Picked (picks_of answer after (length history) x) s history
+nothing_picked answer after x s history none = subst (λ (es : List Entry). Picked (picks_of answer after (length es) x) s es) (sym none) tt
+
+pub none_yet : {S : Type 0} (answer : S → ℕ) (after : S → S) (x : S) (made : List CreateResult) (jobs : List Job) (m : Run) → IsBegun jobs m → RanSoFar answer after x made jobs m m
+none_yet answer after x made jobs m begun = record {
+  origin = refl;
+  picked = nothing_picked answer after x m.origin m.history begun.empty;
+  by_program = nothing_by_program made jobs m.history begun.empty;
+}
+
 -- the jobs have come so far, by the picks from x up to y
-pub record ComesOn {S : Type 0} (answer : S → ℕ) (after : S → S) (x : S) (moment : ℕ) (held : Held) (templates : List CheckedTemplate) (made : List CreateResult) (jobs : List Job) (m : Run) (all : List JobState) (list : List ℕ) (y : S) : Type 0 where
+pub record ComesOn {S : Type 0} (answer : S → ℕ) (after : S → S) (x : S) (first : Run) (made : List CreateResult) (jobs : List Job) (m : Run) (all : List JobState) (list : List ℕ) (y : S) : Type 0 where
   pub between : IsBetween made jobs m all list
-  pub origin : m.origin ≡ opening.state_of held templates jobs
-  pub first : m.first ≡ moment
+  pub origin : m.origin ≡ first.origin
   pub picked : Picked (picks_of answer after (length m.history) x) m.origin m.history
   pub picker : y ≡ behind_picks after (length m.history) x
 
-pub comes_begun : {S : Type 0} (answer : S → ℕ) (after : S → S) (x : S) (moment : ℕ) (held : Held) (templates : List CheckedTemplate) (made : List CreateResult) (jobs : List Job) (m : Run) (all : List JobState) (list : List ℕ) → length made ≡ length jobs
-    → m ≡ begun moment (opening.state_of held templates jobs) → all ≡ unbegun jobs → list ≡ ready_list m.state → ComesOn answer after x moment held templates made jobs m all list x
-comes_begun answer after x moment held templates made jobs m all list count is unbegun_yet listed =
-    let first : list ≡ ready_list (opening.state_of held templates jobs) = listed ∙ ap (λ (n : Run). ready_list n.state) is in
-    subst (λ (n : Run). ComesOn answer after x moment held templates made jobs n all list x) (sym is)
-    (subst (λ (ys : List JobState). ComesOn answer after x moment held templates made jobs (begun moment (opening.state_of held templates jobs)) ys list x) (sym unbegun_yet)
-    (subst (λ (qs : List ℕ). ComesOn answer after x moment held templates made jobs (begun moment (opening.state_of held templates jobs)) (unbegun jobs) qs x) (sym first)
-    (record { between = between_begun moment held templates made jobs count; origin = refl; first = refl; picked = tt; picker = refl })))
+pub comes_begun : {S : Type 0} (answer : S → ℕ) (after : S → S) (x : S) (made : List CreateResult) (jobs : List Job) (m : Run) (all : List JobState) (list : List ℕ) → IsBegun jobs m → IsBetween made jobs m all list
+    → ComesOn answer after x m made jobs m all list x
+comes_begun answer after x made jobs m all list begun between = record {
+  between = between;
+  origin = refl;
+  picked = nothing_picked answer after x m.origin m.history begun.empty;
+  picker = subst (λ (es : List Entry). x ≡ behind_picks after (length es) x) (sym begun.empty) refl;
+}
 
-pub comes_on : {S : Type 0} (answer : S → ℕ) (after : S → S) (x : S) (moment : ℕ) (held : Held) (templates : List CheckedTemplate) (made : List CreateResult) (jobs : List Job) (m : Run) (all : List JobState) (list : List ℕ) (y : S) (place : ℕ) (m' : Run)
-    (all' : List JobState) (list' : List ℕ) → ComesOn answer after x moment held templates made jobs m all list y → place ≡ answer y % length list → WentOn made jobs m all list place m' all' list'
-    → ComesOn answer after x moment held templates made jobs m' all' list' (after y)
-comes_on answer after x moment held templates made jobs m all list y place m' all' list' comes at went =
-    let listed = comes.between.ready in
-    let pick : answer y ≡ answer (behind_picks after (length m.history) x) = ap answer comes.picker in
-    let by : chosen m.state (answer (behind_picks after (length m.history) x)) ≡ Some went.entry.process =
-    subst (λ n. chosen m.state n ≡ Some went.entry.process) pick
-    (subst (λ (qs : List ℕ). slice_get qs (answer y % length qs) ≡ Some went.entry.process) listed
-    (subst (λ i. slice_get list i ≡ Some went.entry.process) at went.by)) in
-    let more = picked_more answer after x m.origin [] m.history m.state went.entry comes.between.sound.legal comes.picked by in
+-- who is at the place of the next pick is the one that it chooses
+next_chosen : {S : Type 0} (answer : S → ℕ) (after : S → S) (x : S) (m : Run) (list : List ℕ) (y : S) (place p : ℕ) → list ≡ ready_list m.state → y ≡ behind_picks after (length m.history) x → place ≡ answer y % length list
+    → slice_get list place ≡ Some p → chosen m.state (answer (behind_picks after (length m.history) x)) ≡ Some p
+next_chosen answer after x m list y place p listed picker at by =
+    subst (λ n. chosen m.state n ≡ Some p) (ap answer picker)
+    (subst (λ (qs : List ℕ). slice_get qs (answer y % length qs) ≡ Some p) listed
+    (subst (λ i. slice_get list i ≡ Some p) at by))
+
+-- one entry more
+picked_added : {S : Type 0} (answer : S → ℕ) (after : S → S) (x : S) (m m' : Run) (e : Entry) → IsSound m → Picked (picks_of answer after (length m.history) x) m.origin m.history
+    → chosen m.state (answer (behind_picks after (length m.history) x)) ≡ Some e.process → m'.origin ≡ m.origin → m'.history ≡ m.history ++ e ∷ [] → Picked (picks_of answer after (length m'.history) x) m'.origin m'.history
+picked_added answer after x m m' e sound picked by origin added =
+    subst (λ (s : State). Picked (picks_of answer after (length m'.history) x) s m'.history) (sym origin)
+    (subst (λ (es : List Entry). Picked (picks_of answer after (length es) x) m.origin es) (sym added) (picked_more answer after x m.origin [] m.history m.state e sound.legal picked by))
+
+pub comes_on : {S : Type 0} (answer : S → ℕ) (after : S → S) (x : S) (first : Run) (made : List CreateResult) (jobs : List Job) (m : Run) (all : List JobState) (list : List ℕ) (y : S) (place : ℕ) (m' : Run)
+    (all' : List JobState) (list' : List ℕ) → ComesOn answer after x first made jobs m all list y → place ≡ answer y % length list → WentOn made jobs m all list place m' all' list'
+    → ComesOn answer after x first made jobs m' all' list' (after y)
+comes_on answer after x first made jobs m all list y place m' all' list' comes at went =
+    let by = next_chosen answer after x m list y place went.entry.process comes.between.ready comes.picker at went.by in
     record {
       between = went.between;
       origin = went.origin ∙ comes.origin;
-      first = went.first ∙ comes.first;
-      picked = subst (λ (s : State). Picked (picks_of answer after (length m'.history) x) s m'.history) (sym went.origin)
-          (subst (λ (es : List Entry). Picked (picks_of answer after (length es) x) m.origin es) (sym went.added) more);
+      picked = picked_added answer after x m m' went.entry comes.between.sound comes.picked by went.origin went.added;
       picker = ap after comes.picker ∙ sym (behind_one_more after x m.history went.entry) ∙ ap (λ (es : List Entry). behind_picks after (length es) x) (sym went.added);
     }
+
+pub ran_so_far : {S : Type 0} (answer : S → ℕ) (after : S → S) (x : S) (first : Run) (made : List CreateResult) (jobs : List Job) (m : Run) (all : List JobState) (list : List ℕ) (y : S) → ComesOn answer after x first made jobs m all list y
+    → RanSoFar answer after x made jobs first m
+ran_so_far answer after x first made jobs m all list y comes = record { origin = comes.origin; picked = comes.picked; by_program = all_by_program made jobs m all list comes.between }
+
+-- the last turn was broken off
+pub ran_off : {S : Type 0} (answer : S → ℕ) (after : S → S) (x : S) (first : Run) (made : List CreateResult) (jobs : List Job) (m : Run) (all : List JobState) (list : List ℕ) (y : S) (place : ℕ) (m' : Run)
+    → ComesOn answer after x first made jobs m all list y → place ≡ answer y % length list → CameOff made jobs m list place m' → RanSoFar answer after x made jobs first m'
+ran_off answer after x first made jobs m all list y place m' comes at off = record {
+  origin = off.origin ∙ comes.origin;
+  picked = elim off.history as (λ _. Picked (picks_of answer after (length m'.history) x) m'.origin m'.history) [
+    | inl same ↦ subst (λ (s : State). Picked (picks_of answer after (length m'.history) x) s m'.history) (sym off.origin)
+        (subst (λ (es : List Entry). Picked (picks_of answer after (length es) x) m.origin es) (sym same) comes.picked)
+    | inr more ↦ picked_added answer after x m m' more.entry comes.between.sound comes.picked
+        (next_chosen answer after x m list y place more.entry.process comes.between.ready comes.picker at more.by) off.origin more.added
+  ];
+  by_program = off.by_program;
+}
+
+-- each job is over
+pub is_over : {S : Type 0} (answer : S → ℕ) (after : S → S) (x : S) (first : Run) (made : List CreateResult) (jobs : List Job) (m : Run) (all : List JobState) (list : List ℕ) (y : S) → ComesOn answer after x first made jobs m all list y
+    → list ≡ [] → IsOver after x y made jobs m
+is_over answer after x first made jobs m all list y comes none = record { sound = comes.between.sound; picker = comes.picker; ran = between_none made jobs m all list comes.between none }
+
+-- the machine stopped at the last turn
+pub has_halted : {S : Type 0} (answer : S → ℕ) (after : S → S) (x : S) (first : Run) (made : List CreateResult) (jobs : List Job) (m : Run) (all : List JobState) (list : List ℕ) (y : S) (place : ℕ) (m' : Run) (call : Option (ℕ × Event))
+    → ComesOn answer after x first made jobs m all list y → place ≡ answer y % length list → CameToHalt made jobs m list place m' call → HasHalted answer after x made jobs m' call
+has_halted answer after x first made jobs m all list y place m' call comes at halt = record {
+  process = halt.process;
+  event = halt.event;
+  is = halt.call;
+  state = m.state;
+  led = subst (λ (s : State). Leads s [] m'.history m.state) (sym halt.same.origin) (subst (λ (es : List Entry). Leads m.origin [] es m.state) (sym halt.same.history) comes.between.sound.legal);
+  picked = subst (λ (es : List Entry). chosen m.state (answer (behind_picks after (length es) x)) ≡ Some halt.process) (sym halt.same.history)
+      (next_chosen answer after x m list y place halt.process comes.between.ready comes.picker at halt.by);
+  asks = λ job one job_at one_at.
+      subst (λ (es : List Entry). event_of (behind (fresh one job.budget) (entries_of halt.process es)) ≡ Some halt.event) (sym halt.same.history) (halt.asks job one job_at one_at);
+}
 
 -- a list is empty where its length is told to be none
 pub told_empty : (xs : List ℕ) (n : ℕ) (b : Bool) → b ≡ (n == 0) → n ≡ length xs → b ≡ true → xs ≡ []

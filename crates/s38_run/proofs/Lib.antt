@@ -1,4 +1,5 @@
 pub mod Asking
+mod EndLaws
 pub mod HistoryLaws
 pub mod JobLaws
 pub mod ProgressLaws
@@ -6,5 +7,5 @@ pub mod ReadyLaws
 pub mod Running
 pub mod Stepping
 pub mod TurnLaws
-mod Turned
+pub mod StillLaws
 mod WaitLaws

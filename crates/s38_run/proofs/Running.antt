@@ -38,21 +38,13 @@ pub entries_own : (q : ℕ) (h : List Entry) (e : Entry) → e.process ≡ q →
 entries_own q h e n = filter-append (is_of q) h (e ∷ []) ∙ ap (λ es. entries_of q h ++ es) (own_entry q e n)
 
 -- where the answer is entered, the history has one entry more
-pub history_more : (m : Run) (p : ℕ) (e : Event) → (step m.state p e).enters ≡ true → (after m m.moment p e).history ≡ m.history ++ entry_after m.history p e (step m.state p e).reply ∷ []
+pub history_more : (m : Run) (mark p : ℕ) (e : Event) → (step m.state p e).enters ≡ true → (after m mark p e).history ≡ m.history ++ entry_after m.history p e (step m.state p e).reply ∷ []
 unfolding after
-history_more m p e h = rw h refl
+history_more m mark p e h = rw h refl
 
-pub state_after : (m : Run) (p : ℕ) (e : Event) → (after m m.moment p e).state ≡ (step m.state p e).state
+pub origin_after : (m : Run) (mark p : ℕ) (e : Event) → (after m mark p e).origin ≡ m.origin
 unfolding after
-state_after m p e = refl
-
-pub first_after : (m : Run) (p : ℕ) (e : Event) → (after m m.moment p e).first ≡ m.first
-unfolding after
-first_after m p e = refl
-
-pub origin_after : (m : Run) (p : ℕ) (e : Event) → (after m m.moment p e).origin ≡ m.origin
-unfolding after
-origin_after m p e = refl
+origin_after m mark p e = refl
 
 -- ---- how many events are left
 

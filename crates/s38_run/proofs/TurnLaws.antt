@@ -2,7 +2,7 @@
 use Rattle.std.proofs.Common.{◌≡◌, ◌≢◌, ℕ, zero, suc, ◌+◌, ◌-◌, ◌<◌, ◌≤◌, ◌==◌, ◌⊎◌, Bool, true, false, not, ◌&&◌, List, [], ◌∷◌, ◌++◌, length, get_or, inl, inr, refl, sym, ◌∙◌, ap, subst, arith, length-set, get_or-set_other, get_or-set_same}
 use Rattle.std.proofs.lemmas.List.{length-map}
 use Rattle.std.proofs.lemmas.Bool.Decides.{nat_tests}
-use Rattle.std.proofs.lemmas.Option.{get_or_from_slice_get, same_Some, slice_get_within, slice_get-get_or}
+use Rattle.std.proofs.lemmas.Option.{get_or_from_slice_get, same_Some, slice_get_read, slice_get_within, slice_get-get_or}
 use Rattle.std.specs.Prelude.{MatchBool, OnOk, Option, Some, Result, Ok, Err, filter, slice_get, slice_set}
 use Rattle.s38_code.specs.declared.deck.Job.{Job}
 use Rattle.s38_code.specs.declared.entry.Entry.{Entry}
@@ -22,10 +22,11 @@ use Rattle.s38_process.specs.Process.{ProcessState, absorbed, behind, ends_by_fi
 use Rattle.s38_run.specs.declared.job_state.JobState.{JobState}
 use Rattle.s38_run.specs.declared.outcome.Outcome.{Outcome}
 use Rattle.s38_run.specs.declared.outcome.Outcome.TheVariants.{Finished, Waits, Refused, Changed}
-use Rattle.s38_run.specs.Running.{EachStands, IsBetween, OthersStay, Stands, TookTurn, WentOn, doing, left_in_all, left_of, outcome_of, ready_behind, state_behind, turns_left}
+use Rattle.s38_run.specs.Running.{BrokeOff, CameOff, CameToHalt, EachStands, IsAsBefore, IsBetween, OthersStay, Stands, TookTurn, WasAnswered, WasStopped, WentOn, doing, left_in_all, left_of, outcome_of, ready_behind, state_behind, turns_left}
+use Rattle.s38_run.specs.Whole.{AllByProgram}
 use Rattle.s38_run.proofs.Asking.{behind_more, ends_asking, ends_more, ran_more}
 use Rattle.s38_run.proofs.ReadyLaws.{OtherReady, filter_fewer, listed_ready, none_listed, outline, ready_few, same_ended, same_list, waiting_list, waiting_ready, with_waiting}
-use Rattle.s38_run.proofs.Running.{entries_other, entries_own, fewer_events, fewer_ready, first_after, history_more, left_set, origin_after, turn_falls, turn_waits}
+use Rattle.s38_run.proofs.Running.{entries_other, entries_own, fewer_events, fewer_ready, history_more, left_set, origin_after, turn_falls, turn_waits}
 use Rattle.s38_run.proofs.Stepping.{GoesTo, MovesBy, goes}
 
 -- ---- who is ready behind a turn
@@ -234,13 +235,17 @@ ready_open s p x at r = first_false x.ended (is_early s.processes x.job.stage) (
     first_false true early waiting h = cc
     first_false false early waiting h = refl
 
--- the turn of a job, whose process asks this
-pub record AtTurn (made : List CreateResult) (jobs : List Job) (m : Run) (all : List JobState) (was : List ℕ) (place p : ℕ) (job : Job) (one : CreateResult) (state : JobState) (e : Event) : Type 0 where
+-- the turn of a job: its process is at a place of those that are ready
+pub record AtJob (made : List CreateResult) (jobs : List Job) (m : Run) (all : List JobState) (was : List ℕ) (place p : ℕ) (job : Job) (one : CreateResult) (state : JobState) : Type 0 where
   pub between : IsBetween made jobs m all was
   pub listed : slice_get was place ≡ Some p
   pub job_at : slice_get jobs (p - 1) ≡ Some job
   pub one_at : slice_get made (p - 1) ≡ Some one
   pub state_at : slice_get all (p - 1) ≡ Some state
+
+-- and it asks this
+pub record AtTurn (made : List CreateResult) (jobs : List Job) (m : Run) (all : List JobState) (was : List ℕ) (place p : ℕ) (job : Job) (one : CreateResult) (state : JobState) (e : Event) : Type 0 where
+  pub at : AtJob made jobs m all was place p job one state
   pub asks : event_of (doing one job.budget state) ≡ Some e
 
 -- where the job stands behind it
@@ -256,11 +261,12 @@ is_listed made jobs m all was place p between listed = listed_ready m.state plac
 
 pub processes_count : (made : List CreateResult) (jobs : List Job) (m : Run) (all : List JobState) (was : List ℕ) → IsBetween made jobs m all was → length m.state.processes ≡ length jobs
 processes_count made jobs m all was between =
-    between.sound.kept ∙ ap (λ (s : State). length s.processes) between.begun ∙ length-map jobs _
+    between.sound.kept ∙ ap (λ (s : State). length s.processes) between.opened ∙ length-map jobs _
 
-module _ (made : List CreateResult) (jobs : List Job) (m : Run) (all : List JobState) (was : List ℕ) (place p : ℕ) (job : Job) (one : CreateResult) (state : JobState) (e : Event) (turn : AtTurn made jobs m all was place p job one state e) where
+module _ (made : List CreateResult) (jobs : List Job) (m : Run) (all : List JobState) (was : List ℕ) (place p : ℕ) (job : Job) (one : CreateResult) (state : JobState) (e : Event) (mark : ℕ) (later : m.moment ≤ mark)
+    (turn : AtTurn made jobs m all was place p job one state e) where
   listed : (ready m.state p ≡ true) × IsProcess m.state p
-  listed = is_listed made jobs m all was place p turn.between turn.listed
+  listed = is_listed made jobs m all was place p turn.at.between turn.at.listed
 
   within : p - 1 < length m.state.processes
   within = omega (arith, listed.1.first, listed.1.last)
@@ -280,7 +286,7 @@ module _ (made : List CreateResult) (jobs : List Job) (m : Run) (all : List JobS
   own_stood : Stands one job.budget old.0.ended (entries_of p m.history) state
   own_stood =
       subst (λ i. Stands one job.budget old.0.ended (entries_of i m.history) state) index
-      (turn.between.each.each (p - 1) old.0 job one state old.1 turn.job_at turn.one_at turn.state_at)
+      (turn.at.between.each.each (p - 1) old.0 job one state old.1 turn.at.job_at turn.at.one_at turn.at.state_at)
 
   own_stands : (x : ProcessEntry) → slice_get (step m.state p e).state.processes (p - 1) ≡ Some x → Stands one job.budget x.ended (entries_of p (m.history ++ entry_then m p e ∷ [])) (state_then m p job one state e)
   own_stands x x_at =
@@ -294,11 +300,11 @@ module _ (made : List CreateResult) (jobs : List Job) (m : Run) (all : List JobS
   stands_then k x j o s x_at j_at o_at s_at = elim (same_or_not k (p - 1)) as (λ _. Stands o j.budget x.ended (entries_of (k + 1) (m.history ++ entry_then m p e ∷ [])) s) [
     | inl is ↦
         let number : k + 1 ≡ p = omega (arith, is, index) in
-        let same_job : job ≡ j = some_same (slice_get jobs k) job j (ap (slice_get jobs) is ∙ turn.job_at) j_at in
-        let same_one : one ≡ o = some_same (slice_get made k) one o (ap (slice_get made) is ∙ turn.one_at) o_at in
+        let same_job : job ≡ j = some_same (slice_get jobs k) job j (ap (slice_get jobs) is ∙ turn.at.job_at) j_at in
+        let same_one : one ≡ o = some_same (slice_get made k) one o (ap (slice_get made) is ∙ turn.at.one_at) o_at in
         let same_state : state_then m p job one state e ≡ s =
         some_same (slice_get (slice_set all (p - 1) (state_then m p job one state e)) k) (state_then m p job one state e) s
-        (ap (slice_get (slice_set all (p - 1) (state_then m p job one state e))) is ∙ set_there all (p - 1) state (state_then m p job one state e) turn.state_at) s_at in
+        (ap (slice_get (slice_set all (p - 1) (state_then m p job one state e))) is ∙ set_there all (p - 1) state (state_then m p job one state e) turn.at.state_at) s_at in
         let here = own_stands x (ap (slice_get (step m.state p e).state.processes) (sym is) ∙ x_at) in
         subst (λ i. Stands o j.budget x.ended (entries_of i (m.history ++ entry_then m p e ∷ [])) s) (sym number)
         (subst (λ (y : JobState). Stands o j.budget x.ended (entries_of p (m.history ++ entry_then m p e ∷ [])) y) same_state
@@ -306,83 +312,47 @@ module _ (made : List CreateResult) (jobs : List Job) (m : Run) (all : List JobS
         (subst (λ (y : Job). Stands one y.budget x.ended (entries_of p (m.history ++ entry_then m p e ∷ [])) (state_then m p job one state e)) same_job here)))
     | inr ne ↦
         subst (λ es. Stands o j.budget x.ended es s) (sym (entries_other (k + 1) m.history (entry_then m p e) (λ g. ne (omega (arith, g)))))
-        (turn.between.each.each k x j o s (same_place m.state.processes (step m.state p e).state.processes (p - 1) k x to.stay ne x_at) j_at o_at
+        (turn.at.between.each.each k x j o s (same_place m.state.processes (step m.state p e).state.processes (p - 1) k x to.stay ne x_at) j_at o_at
         (set_elsewhere all (p - 1) k s (state_then m p job one state e) ne s_at))
   ]
 
-  each_then : EachStands made jobs (after m m.moment p e) (slice_set all (p - 1) (state_then m p job one state e))
+  each_then : EachStands made jobs (after m mark p e) (slice_set all (p - 1) (state_then m p job one state e))
   unfolding after
   each_then = record {
     each = λ k x j o s x_at j_at o_at s_at.
-        subst (λ es. Stands o j.budget x.ended (entries_of (k + 1) es) s) (sym (history_more m p e to.entered)) (stands_then k x j o s x_at j_at o_at s_at);
+        subst (λ es. Stands o j.budget x.ended (entries_of (k + 1) es) s) (sym (history_more m mark p e to.entered)) (stands_then k x j o s x_at j_at o_at s_at);
   }
 
   list_then : ready_behind (step m.state p e).state p (anyone m.state.waiting) (outcome_of e (step m.state p e).reply) was ≡ ready_list (step m.state p e).state
-  list_then = ready_on m.state p e was turn.between.ready to
+  list_then = ready_on m.state p e was turn.at.between.ready to
 
   count_then : length (step m.state p e).state.processes ≡ length jobs
-  count_then = to.stay.count ∙ processes_count made jobs m all was turn.between
+  count_then = to.stay.count ∙ processes_count made jobs m all was turn.at.between
 
-  between_then : IsBetween made jobs (after m m.moment p e) (slice_set all (p - 1) (state_then m p job one state e))
+  between_then : IsBetween made jobs (after m mark p e) (slice_set all (p - 1) (state_then m p job one state e))
       (ready_behind (step m.state p e).state p (anyone m.state.waiting) (outcome_of e (step m.state p e).reply) was)
   unfolding after
   between_then = record {
-    sound = sound_after m m.moment p e turn.between.sound (record { first = listed.1.first; last = omega (arith, listed.1.last, turn.between.sound.kept) }) (omega arith);
-    begun = turn.between.begun;
-    still = turn.between.still;
-    count_made = turn.between.count_made;
-    count_states = simp length-set turn.between.count_states;
+    sound = sound_after m mark p e turn.at.between.sound (record { first = listed.1.first; last = omega (arith, listed.1.last, turn.at.between.sound.kept) }) later;
+    opened = turn.at.between.opened;
+    count_made = turn.at.between.count_made;
+    count_states = simp length-set turn.at.between.count_states;
     ready = list_then;
-    awake = awake_on m.state (step m.state p e).state p (step m.state p e).reply to.moves turn.between.awake;
+    awake = awake_on m.state (step m.state p e).state p (step m.state p e).reply to.moves turn.at.between.awake;
     each = each_then;
   }
 
-  went_then : WentOn made jobs m all was place (after m m.moment p e) (slice_set all (p - 1) (state_then m p job one state e))
+  went_then : WentOn made jobs m all was place (after m mark p e) (slice_set all (p - 1) (state_then m p job one state e))
       (ready_behind (step m.state p e).state p (anyone m.state.waiting) (outcome_of e (step m.state p e).reply) was)
   went_then = record {
     between = between_then;
-    origin = origin_after m p e;
-    first = first_after m p e;
+    origin = origin_after m mark p e;
     entry = entry_then m p e;
-    added = history_more m p e to.entered;
-    by = turn.listed;
-    fewer = turns_fall one jobs all (p - 1) job state (step m.state p e).state p (anyone m.state.waiting) e (step m.state p e).reply was place turn.job_at turn.state_at turn.asks
-        (λ f. (to.ended f).1) turn.listed (omega (arith, ap (λ (qs : List ℕ). length qs) list_then, ready_few (step m.state p e).state, count_then));
+    added = history_more m mark p e to.entered;
+    by = turn.at.listed;
+    fewer = turns_fall one jobs all (p - 1) job state (step m.state p e).state p (anyone m.state.waiting) e (step m.state p e).reply was place turn.at.job_at turn.at.state_at turn.asks
+        (λ f. (to.ended f).1) turn.at.listed (omega (arith, ap (λ (qs : List ℕ). length qs) list_then, ready_few (step m.state p e).state, count_then));
   }
-
--- a job took its turn, so all went on
-pub went_on : (made : List CreateResult) (jobs : List Job) (m : Run) (all : List JobState) (was : List ℕ) (place p : ℕ) (job : Job) (one : CreateResult) (state : JobState) (o : Outcome) (m' : Run) (state' : JobState)
-    (all' : List JobState) (now : List ℕ) → IsBetween made jobs m all was → slice_get was place ≡ Some p → slice_get jobs (p - 1) ≡ Some job → slice_get made (p - 1) ≡ Some one → slice_get all (p - 1) ≡ Some state
-    → TookTurn p one job.budget m state o m' state' → all' ≡ slice_set all (p - 1) state' → now ≡ ready_behind m'.state p (anyone m.state.waiting) o was → WentOn made jobs m all was place m' all' now
-unfolding after
-went_on made jobs m all was place p job one state o m' state' all' now between listed job_at one_at state_at took all_is now_is =
-    let e = took.turned.event in
-    let went = went_then made jobs m all was place p job one state e (record { between = between; listed = listed; job_at = job_at; one_at = one_at; state_at = state_at; asks = took.turned.asks }) in
-    let state_is : state' ≡ state_then m p job one state e =
-    took.state ∙ ap (λ x. state_behind x took.process) took.turned.outcome ∙ ap (state_behind (outcome_of e (step m.state p e).reply)) took.turned.process in
-    let list_is : now ≡ ready_behind (step m.state p e).state p (anyone m.state.waiting) (outcome_of e (step m.state p e).reply) was =
-    now_is ∙ ap (λ (n : Run). ready_behind n.state p (anyone m.state.waiting) o was) took.turned.machine
-    ∙ ap (λ x. ready_behind (step m.state p e).state p (anyone m.state.waiting) x was) took.turned.outcome in
-    subst (λ (n : Run). WentOn made jobs m all was place n all' now) (sym took.turned.machine)
-    (subst (λ (xs : List JobState). WentOn made jobs m all was place (after m m.moment p e) xs now) (sym (all_is ∙ ap (slice_set all (p - 1)) state_is))
-    (subst (λ (qs : List ℕ). WentOn made jobs m all was place (after m m.moment p e) (slice_set all (p - 1) (state_then m p job one state e)) qs) (sym list_is) went))
-
--- what a turn is allowed on
-pub going : (made : List CreateResult) (jobs : List Job) (m : Run) (all : List JobState) (was : List ℕ) (place p : ℕ) (job : Job) (one : CreateResult) (state : JobState) → IsBetween made jobs m all was
-    → slice_get was place ≡ Some p → slice_get jobs (p - 1) ≡ Some job → slice_get made (p - 1) ≡ Some one → slice_get all (p - 1) ≡ Some state → (doing one job.budget state).status ≢ Ended
-going made jobs m all was place p job one state between at job_at one_at state_at =
-    let is = is_listed made jobs m all was place p between at in
-    let old = there_is m.state.processes (p - 1) (omega (arith, is.1.first, is.1.last)) in
-    (when_false old.0.ended _ _ (ready_open m.state p old.0 old.1 is.0) (between.each.each (p - 1) old.0 job one state old.1 job_at one_at state_at).is).1
-
--- the machine has as many processes as before
-pub took_count : (made : List CreateResult) (jobs : List Job) (m : Run) (all : List JobState) (was : List ℕ) (place p : ℕ) (job : Job) (one : CreateResult) (state : JobState) (o : Outcome) (m' : Run) (state' : JobState)
-    → IsBetween made jobs m all was → slice_get was place ≡ Some p → slice_get jobs (p - 1) ≡ Some job → slice_get made (p - 1) ≡ Some one → slice_get all (p - 1) ≡ Some state
-    → TookTurn p one job.budget m state o m' state' → length m'.state.processes ≡ length jobs
-unfolding after
-took_count made jobs m all was place p job one state o m' state' between listed job_at one_at state_at took =
-    ap (λ (n : Run). length n.state.processes) took.turned.machine
-    ∙ count_then made jobs m all was place p job one state took.turned.event (record { between = between; listed = listed; job_at = job_at; one_at = one_at; state_at = state_at; asks = took.turned.asks })
 
 -- who is listed is the process of a job
 pub within_jobs : (made : List CreateResult) (jobs : List Job) (m : Run) (all : List JobState) (was : List ℕ) (place p : ℕ) → IsBetween made jobs m all was → slice_get was place ≡ Some p → (0 < p) × (p - 1 < length jobs)
@@ -390,14 +360,135 @@ within_jobs made jobs m all was place p between listed =
     let is = is_listed made jobs m all was place p between listed in
     (is.1.first, omega (arith, is.1.first, is.1.last, processes_count made jobs m all was between))
 
+-- who is read there is listed
+pub read_listed : (was : List ℕ) (place p : ℕ) → place < length was → p ≡ get_or was place p → slice_get was place ≡ Some p
+read_listed was place p within read = slice_get_read was (length was) place p refl within read
+
+pub at_job : (made : List CreateResult) (jobs : List Job) (m : Run) (all : List JobState) (was : List ℕ) (place p : ℕ) (job : Job) (one : CreateResult) (state : JobState) → IsBetween made jobs m all was → place < length was
+    → p ≡ get_or was place p → job ≡ get_or jobs (p - 1) job → one ≡ get_or made (p - 1) one → state ≡ get_or all (p - 1) state → AtJob made jobs m all was place p job one state
+at_job made jobs m all was place p job one state between within p_read job_read one_read state_read =
+    let listed = read_listed was place p within p_read in
+    let inside = (within_jobs made jobs m all was place p between listed).1 in
+    record {
+      between = between;
+      listed = listed;
+      job_at = slice_get_read jobs (length jobs) (p - 1) job refl inside job_read;
+      one_at = slice_get_read made (length made) (p - 1) one refl (omega (arith, inside, between.count_made)) one_read;
+      state_at = slice_get_read all (length all) (p - 1) state refl (omega (arith, inside, between.count_states)) state_read;
+    }
+
+-- the entries of each job are by its program
+pub all_by_program : (made : List CreateResult) (jobs : List Job) (m : Run) (all : List JobState) (was : List ℕ) → IsBetween made jobs m all was → AllByProgram made jobs m.history
+all_by_program made jobs m all was between = record {
+  each = λ k job one job_at one_at.
+      let within = slice_get_within jobs k job job_at in
+      let x = there_is m.state.processes k (omega (arith, processes_count made jobs m all was between, within)) in
+      let state = there_is all k (omega (arith, between.count_states, within)) in
+      (between.each.each k x.0 job one state.0 x.1 job_at one_at state.1).by_program;
+}
+
 on_ok : {T E : Type 0} (P Q : Type 0) (r : Result T E) → (P → Q) → OnOk r P → OnOk r Q
 on_ok P Q (Ok x) f h = f h
 on_ok P Q (Err e) f h = tt
 
--- where who is ready was listed anew
-pub went_listed : {T E : Type 0} (r : Result T E) (made : List CreateResult) (jobs : List Job) (m : Run) (all : List JobState) (was : List ℕ) (place p : ℕ) (job : Job) (one : CreateResult) (state : JobState) (o : Outcome) (m' : Run)
-    (state' : JobState) (waited : Bool) (now : List ℕ) → IsBetween made jobs m all was → slice_get was place ≡ Some p → slice_get jobs (p - 1) ≡ Some job → slice_get made (p - 1) ≡ Some one → slice_get all (p - 1) ≡ Some state
-    → TookTurn p one job.budget m state o m' state' → waited ≡ anyone m.state.waiting → OnOk r (now ≡ ready_behind m'.state p waited o was) → OnOk r (WentOn made jobs m all was place m' (slice_set all (p - 1) state') now)
-went_listed r made jobs m all was place p job one state o m' state' waited now between listed job_at one_at state_at took waits now_is =
-    on_ok _ _ r (λ is. went_on made jobs m all was place p job one state o m' state' (slice_set all (p - 1) state') now between listed job_at one_at state_at took refl
-    (is ∙ ap (λ b. ready_behind m'.state p b o was) waits)) now_is
+module _ {made : List CreateResult} {jobs : List Job} {m : Run} {all : List JobState} {was : List ℕ} {place p : ℕ} {job : Job} {one : CreateResult} {state : JobState} (at : AtJob made jobs m all was place p job one state) where
+  at_turn : (e : Event) → event_of (doing one job.budget state) ≡ Some e → AtTurn made jobs m all was place p job one state e
+  at_turn e asks = record { at = at; asks = asks }
+
+  -- a process that is listed has not ended, and stands where its entries have brought it
+  stands_open : (behind (fresh one job.budget) (entries_of p m.history) ≡ doing one job.budget state) × ((doing one job.budget state).status ≢ Ended)
+  stands_open =
+      let is = is_listed made jobs m all was place p at.between at.listed in
+      let old = there_is m.state.processes (p - 1) (omega (arith, is.1.first, is.1.last)) in
+      let index : p - 1 + 1 ≡ p = omega (arith, is.1.first) in
+      when_false old.0.ended _ _ (ready_open m.state p old.0 old.1 is.0)
+      (subst (λ i. Stands one job.budget old.0.ended (entries_of i m.history) state) index (at.between.each.each (p - 1) old.0 job one state old.1 at.job_at at.one_at at.state_at)).is
+
+  -- what a turn is allowed on
+  pub going : (doing one job.budget state).status ≢ Ended
+  going = stands_open.1
+
+  pub may_ask : IsProcess m.origin p
+  may_ask =
+      let is = (is_listed made jobs m all was place p at.between at.listed).1 in
+      record { first = is.first; last = omega (arith, is.last, at.between.sound.kept) }
+
+  -- a job took its turn, so all went on
+  went_on : (o : Outcome) (m' : Run) (state' : JobState) (now : List ℕ) → TookTurn p one job.budget m state o m' state' → now ≡ ready_behind m'.state p (anyone m.state.waiting) o was
+      → WentOn made jobs m all was place m' (slice_set all (p - 1) state') now
+  unfolding after
+  went_on o m' state' now took now_is =
+      let e = took.turned.event in
+      let went = went_then made jobs m all was place p job one state e m'.moment took.turned.later (at_turn e took.turned.asks) in
+      let state_is : state' ≡ state_then m p job one state e =
+      took.state ∙ ap (λ x. state_behind x took.process) took.turned.outcome ∙ ap (state_behind (outcome_of e (step m.state p e).reply)) took.turned.process in
+      let list_is : now ≡ ready_behind (step m.state p e).state p (anyone m.state.waiting) (outcome_of e (step m.state p e).reply) was =
+      now_is ∙ ap (λ (n : Run). ready_behind n.state p (anyone m.state.waiting) o was) took.turned.machine
+      ∙ ap (λ x. ready_behind (step m.state p e).state p (anyone m.state.waiting) x was) took.turned.outcome in
+      subst (λ (n : Run). WentOn made jobs m all was place n (slice_set all (p - 1) state') now) (sym took.turned.machine)
+      (subst (λ (xs : List JobState). WentOn made jobs m all was place (after m m'.moment p e) xs now) (sym (ap (slice_set all (p - 1)) state_is))
+      (subst (λ (qs : List ℕ). WentOn made jobs m all was place (after m m'.moment p e) (slice_set all (p - 1) (state_then m p job one state e)) qs) (sym list_is) went))
+
+  -- the machine has as many processes as before
+  pub took_count : (o : Outcome) (m' : Run) (state' : JobState) → TookTurn p one job.budget m state o m' state' → length m'.state.processes ≡ length jobs
+  unfolding after
+  took_count o m' state' took =
+      ap (λ (n : Run). length n.state.processes) took.turned.machine
+      ∙ count_then made jobs m all was place p job one state took.turned.event m'.moment took.turned.later (at_turn took.turned.event took.turned.asks)
+
+  -- where who is ready was listed anew
+  pub went_listed : {T E : Type 0} (r : Result T E) (o : Outcome) (m' : Run) (state' : JobState) (waited : Bool) (now : List ℕ) → TookTurn p one job.budget m state o m' state' → waited ≡ anyone m.state.waiting
+      → OnOk r (now ≡ ready_behind m'.state p waited o was) → OnOk r (WentOn made jobs m all was place m' (slice_set all (p - 1) state') now)
+  went_listed r o m' state' waited now took waits now_is =
+      on_ok _ _ r (λ is. went_on o m' state' now took (is ∙ ap (λ b. ready_behind m'.state p b o was) waits)) now_is
+
+  -- ---- a turn that was broken off
+
+  -- nothing was entered
+  off_before : (m' : Run) → IsAsBefore m m' → CameOff made jobs m was place m'
+  off_before m' same = record {
+    origin = same.origin;
+    by_program = subst (AllByProgram made jobs) (sym same.history) (all_by_program made jobs m all was at.between);
+    history = inl same.history;
+  }
+
+  -- it went on, but for who is ready
+  off_went : (m' : Run) (all' : List JobState) (now : List ℕ) → WentOn made jobs m all was place m' all' now → CameOff made jobs m was place m'
+  off_went m' all' now went = record {
+    origin = went.origin;
+    by_program = all_by_program made jobs m' all' now went.between;
+    history = inr (record { entry = went.entry; added = went.added; by = went.by });
+  }
+
+  -- what the process asks was answered
+  off_answered : (m' : Run) → WasAnswered p m (doing one job.budget state) m' → CameOff made jobs m was place m'
+  off_answered m' answered =
+      subst (CameOff made jobs m was place) (sym answered.machine)
+      (off_went _ _ _ (went_then made jobs m all was place p job one state answered.event m'.moment answered.later (at_turn answered.event answered.asks)))
+
+  pub came_off : (m' : Run) → BrokeOff p m (doing one job.budget state) m' → CameOff made jobs m was place m'
+  came_off m' broke = elim broke as (λ _. CameOff made jobs m was place m') [
+    | inl same ↦ off_before m' same
+    | inr answered ↦ off_answered m' answered
+  ]
+
+  -- who is ready then could not be listed
+  pub came_off_behind : (o : Outcome) (m' : Run) (state' : JobState) → TookTurn p one job.budget m state o m' state' → CameOff made jobs m was place m'
+  came_off_behind o m' state' took =
+      off_went m' (slice_set all (p - 1) state') (ready_behind m'.state p (anyone m.state.waiting) o was) (went_on o m' state' (ready_behind m'.state p (anyone m.state.waiting) o was) took refl)
+
+  -- the machine stopped
+  pub came_to_halt : (m' : Run) (call : Option (ℕ × Event)) → WasStopped p m (doing one job.budget state) m' call → CameToHalt made jobs m was place m' call
+  came_to_halt m' call stopped = record {
+    same = stopped.same;
+    process = p;
+    event = stopped.event;
+    call = stopped.call;
+    by = at.listed;
+    asks = λ j o j_at o_at.
+        let same_job : job ≡ j = some_same (slice_get jobs (p - 1)) job j at.job_at j_at in
+        let same_one : one ≡ o = some_same (slice_get made (p - 1)) one o at.one_at o_at in
+        subst (λ (y : Job). event_of (behind (fresh o y.budget) (entries_of p m.history)) ≡ Some stopped.event) same_job
+        (subst (λ (y : CreateResult). event_of (behind (fresh y job.budget) (entries_of p m.history)) ≡ Some stopped.event) same_one
+        (ap event_of stands_open.0 ∙ stopped.asks));
+  }

@@ -1,5 +1,7 @@
+pub mod Ends
 pub mod Picked
 pub mod Pickers
 pub mod Progress
 pub mod Running
+pub mod Still
 pub mod Whole

@@ -1,5 +1,5 @@
 -- How far the jobs have come, while they are run.
-use Rattle.std.specs.Prelude.{◌≡◌, ◌≢◌, ℕ, ◌+◌, ◌-◌, ◌*◌, ◌<◌, ◌==◌, Bool, true, not, MatchBool, List, [], ◌∷◌, ◌++◌, filter, length, map, slice_get, slice_index_or, Some, Result, Ok, if◌then◌else◌}
+use Rattle.std.specs.Prelude.{◌≡◌, ◌≢◌, ℕ, ◌+◌, ◌-◌, ◌*◌, ◌<◌, ◌≤◌, ◌==◌, ◌⊎◌, Bool, true, not, MatchBool, List, [], ◌∷◌, ◌++◌, filter, length, map, slice_get, slice_index_or, Option, Some, if◌then◌else◌}
 use Rattle.s38_code.specs.declared.deck.Job.{Job}
 use Rattle.s38_code.specs.declared.entry.Entry.{Entry}
 use Rattle.s38_code.specs.declared.event.Event.{Event}
@@ -7,7 +7,6 @@ use Rattle.s38_code.specs.declared.event.Event.TheVariants.{Start, Act, Finish}
 use Rattle.s38_code.specs.declared.made.CreateResult.{CreateResult}
 use Rattle.s38_code.specs.declared.reply.Reply.{Reply}
 use Rattle.s38_code.specs.declared.reply.Reply.TheVariants.{Done, Signal, MustWait}
-use Rattle.s38_code.specs.declared.step.StepFault.{StepFault}
 use Rattle.s38_code.specs.History.{entries_of}
 use Rattle.s38_rules.specs.declared.process.ProcessEntry.{ProcessEntry}
 use Rattle.s38_process.specs.declared.status.Status.{Status}
@@ -16,7 +15,9 @@ use Rattle.s38_rules.specs.State.{State, ready_list}
 use Rattle.s38_rules.specs.Step.{step}
 use Rattle.s38_rules.specs.Legal.{Run, IsSound, after}
 use Rattle.s38_process.specs.Process.{ProcessState, RanFrom, absorbed, behind, ends_by_finish, event_of, fresh}
-use Rattle.s38_rules.specs.Opening.{state_of}
+use Rattle.s38_run.specs.Picked.{Picked}
+use Rattle.s38_run.specs.Pickers.{behind_picks, picks_of}
+use Rattle.s38_run.specs.Whole.{AllByProgram, AllRan, WasHalted, opened_for}
 use Rattle.s38_run.specs.declared.job_state.JobState.{JobState}
 use Rattle.s38_run.specs.declared.job_state.JobState.TheVariants as states
 use Rattle.s38_run.specs.declared.outcome.Outcome.{Outcome}
@@ -57,22 +58,37 @@ outcome_of Start reply = outcome_by reply
 outcome_of (Act depth request) reply = outcome_by reply
 outcome_of (Finish cause) reply = outcomes.Finished
 
--- a process asked one event of a machine, whose steps are given, was answered, and went on by the reply
-pub record HasAsked (Steps : Event → Result Reply StepFault → Type 0) (d : ProcessState) (o : Outcome) (d' : ProcessState) : Type 0 where
-  pub event : Event
-  pub asks : event_of d ≡ Some event
-  pub reply : Reply
-  pub steps : Steps event (Ok reply)
-  pub process : d' ≡ absorbed d reply
-  pub outcome : o ≡ outcome_of event reply
-
 -- one event was asked, and answered
 pub record Turned (number : ℕ) (m : Run) (d : ProcessState) (o : Outcome) (m' : Run) (d' : ProcessState) : Type 0 where
   pub event : Event
   pub asks : event_of d ≡ Some event
-  pub machine : m' ≡ after m m.moment number event
+  pub machine : m' ≡ after m m'.moment number event
+  pub later : m.moment ≤ m'.moment
   pub process : d' ≡ absorbed d (step m.state number event).reply
   pub outcome : o ≡ outcome_of event (step m.state number event).reply
+
+-- nothing was entered
+pub record IsAsBefore (m m' : Run) : Type 0 where
+  pub origin : m'.origin ≡ m.origin
+  pub history : m'.history ≡ m.history
+
+-- what a process asks was answered
+pub record WasAnswered (number : ℕ) (m : Run) (d : ProcessState) (m' : Run) : Type 0 where
+  pub event : Event
+  pub asks : event_of d ≡ Some event
+  pub machine : m' ≡ after m m'.moment number event
+  pub later : m.moment ≤ m'.moment
+
+-- a turn was broken off, before its answer or behind it
+abbrev pub BrokeOff : ℕ → Run → ProcessState → Run → Type 0
+BrokeOff number m d m' = IsAsBefore m m' ⊎ WasAnswered number m d m'
+
+-- what a process asks was answered Stopped
+pub record WasStopped (number : ℕ) (m : Run) (d : ProcessState) (m' : Run) (call : Option (ℕ × Event)) : Type 0 where
+  pub event : Event
+  pub asks : event_of d ≡ Some event
+  pub call : call ≡ Some (number, event)
+  pub same : IsAsBefore m m'
 
 -- the process of a job; it is fresh before its first turn
 abbrev pub doing : CreateResult → ℕ → JobState → ProcessState
@@ -125,9 +141,7 @@ pub record EachStands (made : List CreateResult) (jobs : List Job) (m : Run) (st
 -- between two turns
 pub record IsBetween (made : List CreateResult) (jobs : List Job) (m : Run) (states : List JobState) (list : List ℕ) : Type 0 where
   pub sound : IsSound m
-  pub begun : m.origin ≡ state_of m.origin.held m.origin.templates jobs
-  -- without a store the moment is that of the start
-  pub still : m.moment ≡ m.first
+  pub opened : m.origin ≡ opened_for m.origin jobs
   pub count_made : length made ≡ length jobs
   pub count_states : length states ≡ length jobs
   pub ready : list ≡ ready_list m.state
@@ -153,8 +167,47 @@ turns_left jobs all ready = left_in_all jobs all * (length jobs + 1) + length re
 pub record WentOn (made : List CreateResult) (jobs : List Job) (m : Run) (all : List JobState) (ready : List ℕ) (place : ℕ) (m' : Run) (all' : List JobState) (ready' : List ℕ) : Type 0 where
   pub between : IsBetween made jobs m' all' ready'
   pub origin : m'.origin ≡ m.origin
-  pub first : m'.first ≡ m.first
   pub entry : Entry
   pub added : m'.history ≡ m.history ++ entry ∷ []
   pub by : slice_get ready place ≡ Some entry.process
   pub fewer : turns_left jobs all' ready' < turns_left jobs all ready
+
+-- an entry was added, by the process at a place of those that were ready
+pub record HasAdded (m : Run) (ready : List ℕ) (place : ℕ) (m' : Run) : Type 0 where
+  pub entry : Entry
+  pub added : m'.history ≡ m.history ++ entry ∷ []
+  pub by : slice_get ready place ≡ Some entry.process
+
+-- the turn of the process at a place of those that were ready was broken off
+pub record CameOff (made : List CreateResult) (jobs : List Job) (m : Run) (ready : List ℕ) (place : ℕ) (m' : Run) : Type 0 where
+  pub origin : m'.origin ≡ m.origin
+  pub by_program : AllByProgram made jobs m'.history
+  pub history : (m'.history ≡ m.history) ⊎ HasAdded m ready place m'
+
+-- the machine stopped at the turn of the process at a place of those that were ready
+pub record CameToHalt (made : List CreateResult) (jobs : List Job) (m : Run) (ready : List ℕ) (place : ℕ) (m' : Run) (call : Option (ℕ × Event)) : Type 0 where
+  pub same : IsAsBefore m m'
+  pub process : ℕ
+  pub event : Event
+  pub call : call ≡ Some (process, event)
+  pub by : slice_get ready place ≡ Some process
+  pub asks : (job : Job) (one : CreateResult) → slice_get jobs (process - 1) ≡ Some job → slice_get made (process - 1) ≡ Some one
+      → event_of (behind (fresh one job.budget) (entries_of process m.history)) ≡ Some event
+
+-- ---- whole runs
+
+-- the jobs were run from the first machine up to another, by the picks from x on
+pub record RanSoFar {S : Type 0} (answer : S → ℕ) (after : S → S) (x : S) (made : List CreateResult) (jobs : List Job) (m m' : Run) : Type 0 where
+  pub origin : m'.origin ≡ m.origin
+  pub picked : Picked (picks_of answer after (length m'.history) x) m'.origin m'.history
+  pub by_program : AllByProgram made jobs m'.history
+
+-- and each is over, behind the picks up to y
+pub record IsOver {S : Type 0} (after : S → S) (x y : S) (made : List CreateResult) (jobs : List Job) (m : Run) : Type 0 where
+  pub sound : IsSound m
+  pub picker : y ≡ behind_picks after (length m.history) x
+  pub ran : AllRan made jobs m.history
+
+-- or the machine has stopped, at the turn that the next pick from x on chooses
+abbrev pub HasHalted : {S : Type 0} → (S → ℕ) → (S → S) → S → List CreateResult → List Job → Run → Option (ℕ × Event) → Type 0
+HasHalted answer after x made jobs m call = WasHalted made jobs (answer (behind_picks after (length m.history) x)) m call

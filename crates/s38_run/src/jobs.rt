@@ -1,18 +1,20 @@
-ghost use Rattle.std.specs.Prelude.{◌≡◌, ◌-◌, ◌<◌, ◌^◌, ◌==◌, not, IfOk, OnOk, filter, length, vec_len};
-ghost use Rattle.s38_rules.specs.Legal.{IsSound, begun};
-ghost use Rattle.s38_rules.specs.Opening.{state_of};
+ghost use Rattle.std.specs.Prelude.{◌≡◌, ◌-◌, ◌<◌, ◌^◌, ◌==◌, not, IsErrOf, OnErr, OnOk, filter, length, vec_len};
+ghost use Rattle.s38_code.specs.declared.step.StepFault.{StepFault};
+ghost use Rattle.s38_rules.specs.Legal.{IsSound};
 ghost use Rattle.s38_run.specs.Picked.{Picked};
 ghost use Rattle.s38_run.specs.Pickers.{behind_picks, picks_of};
-ghost use Rattle.s38_run.specs.Running.{IsBetween, WentOn, ready_behind};
-ghost use Rattle.s38_run.specs.Whole.{AllRan};
+ghost use Rattle.s38_run.specs.Running.{CameOff, CameToHalt, HasHalted, IsBetween, IsOver, RanSoFar, WentOn, ready_behind};
+ghost use Rattle.s38_run.specs.Whole.{AllByProgram, AllRan, IsBegun, WasHalted};
+ghost use Rattle.s38_run.specs.declared.run_end.RunEnd.{RunEnd};
 
 use crate::job_state::{JobState, unbegun};
 use crate::outcome::Outcome;
 use crate::picker::Picker;
+use crate::run_end::{RunEnd, end_of};
+use crate::run_machine::RunMachine;
 use crate::turn::take_turn;
 use s38_base::NoMemory;
-use s38_code::{CreateResult, Job};
-use s38_machine::Machine;
+use s38_code::{CreateResult, Job, StepFault};
 use std::alloc::Global;
 
 /// Takes out of those that are ready a process that waits.
@@ -23,15 +25,17 @@ fn leave(ready: &mut Vec<u32>, process: u32)
 }
 
 /// Who is ready behind a turn of a process. The machine is asked only where others may be ready now.
-fn update(
-    machine: &Machine,
+fn update<M: RunMachine>(
+    machine: &M,
     ready: &mut Vec<u32>,
     process: u32,
     waited: bool,
     outcome: Outcome,
 ) -> Result<(), NoMemory>
-    requires few { length machine.now.state.processes < 2 ^ 32 - 1 }
-    ensures { OnOk result (ready.new.items ≡ ready_behind machine.now.state process waited outcome ready.old.items) }
+    requires sound { M.is_sound machine.now }
+    requires going { M.is_going machine.now }
+    requires few { length (M.run machine.now).state.processes < 2 ^ 32 - 1 }
+    ensures { OnOk result (ready.new.items ≡ ready_behind (M.run machine.now).state process waited outcome ready.old.items) }
 {
     match outcome {
         Outcome::Finished => machine.ready_list(ready),
@@ -51,19 +55,26 @@ fn update(
 }
 
 /// The process at a place of those that are ready takes a turn.
-fn go_on(
+fn go_on<M: RunMachine>(
     alloc: Global,
-    machine: &mut Machine,
+    machine: &mut M,
     states: &mut Vec<JobState>,
     ready: &mut Vec<u32>,
     jobs: &[Job],
     made: &[CreateResult],
     place: usize,
-) -> Result<(), NoMemory>
-    requires between { IsBetween made.now jobs.now machine.old states.old.items ready.old.items }
+) -> Result<(), StepFault>
+    requires sound { M.is_sound machine.old }
+    requires going { M.is_going machine.old }
+    requires between { IsBetween made.now jobs.now (M.run machine.old) states.old.items ready.old.items }
     requires few { length jobs.now < 2 ^ 32 - 1 }
     requires place { place < vec_len ready.old }
-    ensures { OnOk result (WentOn made.now jobs.now machine.old states.old.items ready.old.items place machine.new states.new.items ready.new.items) }
+    ensures sound { M.is_sound machine.new }
+    ensures origin { M.origin machine.new ≡ M.origin machine.old }
+    ensures going { OnOk result (M.is_going machine.new) }
+    ensures went { OnOk result (WentOn made.now jobs.now (M.run machine.old) states.old.items ready.old.items place (M.run machine.new) states.new.items ready.new.items) }
+    ensures came_off { OnErr result (CameOff made.now jobs.now (M.run machine.old) ready.old.items place (M.run machine.new)) }
+    ensures stopped { IsErrOf result StepFault.Stopped → CameToHalt made.now jobs.now (M.run machine.old) ready.old.items place (M.run machine.new) (M.stopped machine.new) }
 {
     let number = ready[place];
     let at = number as usize - 1;
@@ -76,47 +87,106 @@ fn go_on(
         &made[at],
         number,
     )?;
-    update(machine, ready, number, waited, outcome)
+    match update(machine, ready, number, waited, outcome) {
+        Err(_) => Err(StepFault::NoMemory),
+        Ok(()) => Ok(()),
+    }
 }
 
-/// Runs the jobs, each by what creation made of its template, at its place, until each has ended. Each pick says which
-/// of the ready processes, in order of number, does its next event: the one at the place of the pick modulo their
-/// count.
-pub fn serial<P: Picker>(
+/// The jobs take turns, from the first on, until each has ended.
+fn take_turns<M: RunMachine, P: Picker>(
     alloc: Global,
-    machine: Machine,
+    machine: &mut M,
+    states: &mut Vec<JobState>,
+    ready: &mut Vec<u32>,
     jobs: &[Job],
     made: &[CreateResult],
     picker: &mut P,
-) -> Result<Machine, NoMemory>
-    requires begun { machine ≡ begun machine.first (state_of machine.state.held machine.state.templates jobs.now) }
-    requires made { length made.now ≡ length jobs.now }
+) -> Result<(), StepFault>
+    requires sound { M.is_sound machine.old }
+    requires going { M.is_going machine.old }
+    requires begun { IsBegun jobs.now (M.run machine.old) }
+    requires between { IsBetween made.now jobs.now (M.run machine.old) states.old.items ready.old.items }
     requires few { length jobs.now < 2 ^ 32 - 1 }
-    ensures sound { IfOk result IsSound }
-    ensures origin { IfOk result (λ m. m.origin ≡ state_of machine.state.held machine.state.templates jobs.now) }
-    ensures still { IfOk result (λ m. (m.first ≡ machine.first) × (m.moment ≡ machine.first)) }
-    ensures picked { IfOk result (λ m. Picked (picks_of P.answer P.after (length m.history) picker.old) m.origin m.history) }
-    ensures picker { IfOk result (λ m. picker.new ≡ behind_picks P.after (length m.history) picker.old) }
-    ensures ran { IfOk result (λ m. AllRan made.now jobs.now m.history) }
+    ensures sound { M.is_sound machine.new }
+    ensures origin { M.origin machine.new ≡ M.origin machine.old }
+    ensures going { OnOk result (M.is_going machine.new) }
+    ensures so_far { RanSoFar P.answer P.after picker.old made.now jobs.now (M.run machine.old) (M.run machine.new) }
+    ensures over { OnOk result (IsOver P.after picker.old picker.new made.now jobs.now (M.run machine.new)) }
+    ensures stopped { IsErrOf result StepFault.Stopped → HasHalted P.answer P.after picker.old made.now jobs.now (M.run machine.new) (M.stopped machine.new) }
 {
-    let mut machine = machine;
-    let mut states = unbegun(alloc, jobs)?;
-    let mut ready = Vec::new(alloc);
-    machine.ready_list(&mut ready)?;
     while !ready.is_empty() {
         let place = picker.pick() as usize % ready.len();
-        match go_on(
-            alloc,
-            &mut machine,
-            &mut states,
-            &mut ready,
-            jobs,
-            made,
-            place,
-        ) {
+        match go_on(alloc, machine, states, ready, jobs, made, place) {
             Ok(()) => {}
             Err(fault) => return Err(fault),
         }
     }
-    Ok(machine)
+    Ok(())
+}
+
+/// Runs the jobs on a machine that has begun.
+fn run_on<M: RunMachine, P: Picker>(
+    alloc: Global,
+    machine: &mut M,
+    jobs: &[Job],
+    made: &[CreateResult],
+    picker: &mut P,
+) -> Result<(), StepFault>
+    requires sound { M.is_sound machine.old }
+    requires going { M.is_going machine.old }
+    requires begun { IsBegun jobs.now (M.run machine.old) }
+    requires made { length made.now ≡ length jobs.now }
+    requires few { length jobs.now < 2 ^ 32 - 1 }
+    ensures sound { M.is_sound machine.new }
+    ensures origin { M.origin machine.new ≡ M.origin machine.old }
+    ensures going { OnOk result (M.is_going machine.new) }
+    ensures so_far { RanSoFar P.answer P.after picker.old made.now jobs.now (M.run machine.old) (M.run machine.new) }
+    ensures over { OnOk result (IsOver P.after picker.old picker.new made.now jobs.now (M.run machine.new)) }
+    ensures stopped { IsErrOf result StepFault.Stopped → HasHalted P.answer P.after picker.old made.now jobs.now (M.run machine.new) (M.stopped machine.new) }
+{
+    let mut ready = Vec::new(alloc);
+    match machine.ready_list(&mut ready) {
+        Err(_) => return Err(StepFault::NoMemory),
+        Ok(()) => {}
+    }
+    match unbegun(alloc, jobs) {
+        Err(_) => Err(StepFault::NoMemory),
+        Ok(mut states) => take_turns(alloc, machine, &mut states, &mut ready, jobs, made, picker),
+    }
+}
+
+/// Runs the jobs, each by what creation made of its template, at its place, until each has ended, or the machine has
+/// stopped, or memory is refused. Each pick says which of the ready processes, in order of number, does its next event: the
+/// one at the place of the pick modulo their count. The machine comes back at each end.
+pub fn serial<M: RunMachine + Drop, P: Picker>(
+    alloc: Global,
+    machine: M,
+    jobs: &[Job],
+    made: &[CreateResult],
+    picker: &mut P,
+) -> (M, RunEnd)
+    requires sound { M.is_sound machine }
+    requires going { M.is_going machine }
+    requires begun { IsBegun jobs.now (M.run machine) }
+    requires made { length made.now ≡ length jobs.now }
+    requires few { length jobs.now < 2 ^ 32 - 1 }
+    ensures sound { M.is_sound result.0 }
+    ensures origin { M.origin result.0 ≡ M.origin machine }
+    ensures begun { (M.run result.0).origin ≡ (M.run machine).origin }
+    ensures picked { Picked (picks_of P.answer P.after (length (M.run result.0).history) picker.old) (M.run result.0).origin (M.run result.0).history }
+    ensures by_program { AllByProgram made.now jobs.now (M.run result.0).history }
+
+    // Each process has ended.
+    ensures going { result.1 ≡ RunEnd.Complete → M.is_going result.0 }
+    ensures run { result.1 ≡ RunEnd.Complete → IsSound (M.run result.0) }
+    ensures picker { result.1 ≡ RunEnd.Complete → picker.new ≡ behind_picks P.after (length (M.run result.0).history) picker.old }
+    ensures ran { result.1 ≡ RunEnd.Complete → AllRan made.now jobs.now (M.run result.0).history }
+
+    // The machine has stopped, at the turn that the next pick chooses.
+    ensures stopped { result.1 ≡ RunEnd.Stopped → WasHalted made.now jobs.now (P.answer (behind_picks P.after (length (M.run result.0).history) picker.old)) (M.run result.0) (M.stopped result.0) }
+{
+    let mut machine = machine;
+    let run = run_on(alloc, &mut machine, jobs, made, picker);
+    (machine, end_of(run))
 }

@@ -1,42 +1,44 @@
-ghost use Rattle.std.specs.Prelude.{◌≡◌, ◌≢◌, IfOk, Some, is_some, true};
+ghost use Rattle.std.specs.Prelude.{◌≡◌, ◌≢◌, IfOk, IsErrOf, OnErr, OnOk, Some, is_some, true};
 ghost use Rattle.s38_code.specs.declared.event.Event.{Event};
 ghost use Rattle.s38_code.specs.declared.reply.Reply.{Reply};
+ghost use Rattle.s38_code.specs.declared.step.StepFault.{StepFault};
 ghost use Rattle.s38_code.specs.Asking.{reply_by};
-ghost use Rattle.s38_code.specs.History.{entries_of};
 ghost use Rattle.s38_process.specs.Process.{absorbed, event_of, is_finish};
 ghost use Rattle.s38_process.specs.declared.status.Status.{Status};
-ghost use Rattle.s38_rules.specs.Legal.{IsSound, IsProcess};
-ghost use Rattle.s38_run.specs.Running.{HasAsked, TookTurn, Turned, WentInPlace, doing, outcome_of};
+ghost use Rattle.s38_rules.specs.Legal.{IsProcess};
+ghost use Rattle.s38_run.specs.Running.{BrokeOff, TookTurn, Turned, WasStopped, WentInPlace, doing, outcome_of};
 ghost use Rattle.s38_run.specs.declared.job_state.JobState.{JobState};
 
 use crate::job_state::{JobState, begin};
 use crate::outcome::{Outcome, is_finish, outcome_of};
+use crate::run_machine::RunMachine;
 use s38_base::NoMemory;
-use s38_code::{Asked, CreateResult, Job, Reply, StepFault, Stepper};
-use s38_machine::Machine;
+use s38_code::{Asked, CreateResult, Job, Reply, StepFault};
 use s38_process::{Next, Process};
 use std::alloc::Global;
 
 /// A process goes on by a reply; `ends` says whether it asked for its end.
 #[inline(always)]
-fn absorb(process: &mut Process, reply: &Reply, ends: bool) -> Result<Outcome, StepFault>
+fn absorb(process: &mut Process, reply: &Reply, ends: bool) -> Result<Outcome, NoMemory>
     ensures { IfOk result (λ outcome. (process.new ≡ absorbed process.old reply.now) × ((event : Event) → ends ≡ is_finish event → outcome ≡ outcome_of event reply.now)) }
 {
     match process.absorb(reply) {
-        Err(_) => Err(StepFault::NoMemory),
+        Err(fault) => Err(fault),
         Ok(()) => Ok(outcome_of(ends, reply)),
     }
 }
 
 /// A process goes on by the reply to what it has just asked.
-fn absorb_asked<S: Stepper>(
-    machine: &S,
+fn absorb_asked<M: RunMachine>(
+    machine: &M,
     process: &mut Process,
     asked: Asked,
     ends: bool,
-) -> Result<Outcome, StepFault>
-    requires { is_some (reply_by asked (S.history machine.now)) ≡ true }
-    ensures { IfOk result (λ outcome. (reply : Reply) → reply_by asked (S.history machine.now) ≡ Some reply
+) -> Result<Outcome, NoMemory>
+    requires sound { M.is_sound machine.now }
+    requires going { M.is_going machine.now }
+    requires replied { is_some (reply_by asked (M.run machine.now).history) ≡ true }
+    ensures { IfOk result (λ outcome. (reply : Reply) → reply_by asked (M.run machine.now).history ≡ Some reply
         → (process.new ≡ absorbed process.old reply) × ((event : Event) → ends ≡ is_finish event → outcome ≡ outcome_of event reply)) }
 {
     match asked {
@@ -48,18 +50,23 @@ fn absorb_asked<S: Stepper>(
     }
 }
 
-/// One event of a process that has not ended is asked of a machine, and answered. Where the machine makes no answer, the
-/// process stands as it stood.
+/// One event of a process that has not ended is asked of a machine, and answered.
 #[tactic(auto, using(crate::proofs::Asking::none_asked))]
-pub fn turn<S: Stepper>(
-    machine: &mut S,
+fn turn<M: RunMachine>(
+    machine: &mut M,
     process: &mut Process,
     number: u32,
 ) -> Result<Outcome, StepFault>
-    requires sound { S.is_sound machine.old }
-    requires may { (event : Event) → event_of process.old ≡ Some event → S.may_ask (S.origin machine.old) number event (entries_of number (S.history machine.old)) }
-    requires going { process.old.status ≢ Status.Ended }
-    ensures { IfOk result (λ outcome. HasAsked (λ event answer. S.steps machine.old number event answer machine.new) process.old outcome process.new) }
+    requires sound { M.is_sound machine.old }
+    requires going { M.is_going machine.old }
+    requires may { IsProcess (M.run machine.old).origin number }
+    requires open { process.old.status ≢ Status.Ended }
+    ensures sound { M.is_sound machine.new }
+    ensures origin { M.origin machine.new ≡ M.origin machine.old }
+    ensures going { OnOk result (M.is_going machine.new) }
+    ensures turned { IfOk result (λ outcome. Turned number (M.run machine.old) process.old outcome (M.run machine.new) process.new) }
+    ensures broke { OnErr result (BrokeOff number (M.run machine.old) process.old (M.run machine.new)) }
+    ensures stopped { IsErrOf result StepFault.Stopped → WasStopped number (M.run machine.old) process.old (M.run machine.new) (M.stopped machine.new) }
 {
     match process.next() {
         Err(_) => Err(StepFault::NoMemory),
@@ -68,67 +75,67 @@ pub fn turn<S: Stepper>(
             let ends = is_finish(&event);
             match machine.ask(number, event) {
                 Err(fault) => Err(fault),
-                Ok(asked) => absorb_asked(machine, process, asked, ends),
+                Ok(asked) => match absorb_asked(machine, process, asked, ends) {
+                    Err(_) => Err(StepFault::NoMemory),
+                    Ok(outcome) => Ok(outcome),
+                },
             }
         }
     }
 }
 
-/// The same of the machine of a run, in which a want of memory is the only fault.
-#[tactic(auto, using(crate::proofs::Turned::turned))]
-fn machine_turn(
-    machine: &mut Machine,
-    process: &mut Process,
-    number: u32,
-) -> Result<Outcome, NoMemory>
-    requires sound { IsSound machine.old }
-    requires may { IsProcess machine.old.origin number }
-    requires going { process.old.status ≢ Status.Ended }
-    ensures { IfOk result (λ outcome. Turned number machine.old process.old outcome machine.new process.new) }
-{
-    match turn(machine, process, number) {
-        Ok(outcome) => Ok(outcome),
-        Err(_) => Err(NoMemory),
-    }
-}
-
 /// The process of a job that has begun takes a turn where it stands.
-fn running_turn(
-    machine: &mut Machine,
+fn running_turn<M: RunMachine>(
+    machine: &mut M,
     state: &mut JobState,
     job: &Job,
     made: &CreateResult,
     number: u32,
-) -> Result<Outcome, NoMemory>
-    requires sound { IsSound machine.old }
-    requires may { IsProcess machine.old.origin number }
+) -> Result<Outcome, StepFault>
+    requires sound { M.is_sound machine.old }
+    requires going { M.is_going machine.old }
+    requires may { IsProcess (M.run machine.old).origin number }
     requires running { state.old ≡ JobState.Running (doing made.now job.now.budget state.old) }
-    requires going { (doing made.now job.now.budget state.old).status ≢ Status.Ended }
-    ensures { IfOk result (λ outcome. WentInPlace number machine.old (doing made.now job.now.budget state.old) outcome machine.new state.new) }
+    requires open { (doing made.now job.now.budget state.old).status ≢ Status.Ended }
+    ensures sound { M.is_sound machine.new }
+    ensures origin { M.origin machine.new ≡ M.origin machine.old }
+    ensures going { OnOk result (M.is_going machine.new) }
+    ensures went { IfOk result (λ outcome. WentInPlace number (M.run machine.old) (doing made.now job.now.budget state.old) outcome (M.run machine.new) state.new) }
+    ensures broke { OnErr result (BrokeOff number (M.run machine.old) (doing made.now job.now.budget state.old) (M.run machine.new)) }
+    ensures stopped { IsErrOf result StepFault.Stopped → WasStopped number (M.run machine.old) (doing made.now job.now.budget state.old) (M.run machine.new) (M.stopped machine.new) }
 {
     let _ = job;
     let _ = made;
     match state {
-        JobState::Running(process) => machine_turn(machine, process, number),
+        JobState::Running(process) => turn(machine, process, number),
         _ => unreachable!(),
     }
 }
 
 /// A job that is not over takes a turn. Its process begins at its first turn, and is dropped at its end.
-pub fn take_turn(
+pub fn take_turn<M: RunMachine>(
     alloc: Global,
-    machine: &mut Machine,
+    machine: &mut M,
     state: &mut JobState,
     job: &Job,
     made: &CreateResult,
     number: u32,
-) -> Result<Outcome, NoMemory>
-    requires sound { IsSound machine.old }
-    requires may { IsProcess machine.old.origin number }
-    requires going { (doing made.now job.now.budget state.old).status ≢ Status.Ended }
-    ensures { IfOk result (λ outcome. TookTurn number made.now job.now.budget machine.old state.old outcome machine.new state.new) }
+) -> Result<Outcome, StepFault>
+    requires sound { M.is_sound machine.old }
+    requires going { M.is_going machine.old }
+    requires may { IsProcess (M.run machine.old).origin number }
+    requires open { (doing made.now job.now.budget state.old).status ≢ Status.Ended }
+    ensures sound { M.is_sound machine.new }
+    ensures origin { M.origin machine.new ≡ M.origin machine.old }
+    ensures going { OnOk result (M.is_going machine.new) }
+    ensures took { IfOk result (λ outcome. TookTurn number made.now job.now.budget (M.run machine.old) state.old outcome (M.run machine.new) state.new) }
+    ensures broke { OnErr result (BrokeOff number (M.run machine.old) (doing made.now job.now.budget state.old) (M.run machine.new)) }
+    ensures stopped { IsErrOf result StepFault.Stopped → WasStopped number (M.run machine.old) (doing made.now job.now.budget state.old) (M.run machine.new) (M.stopped machine.new) }
 {
-    begin(alloc, state, job, made)?;
+    match begin(alloc, state, job, made) {
+        Err(_) => return Err(StepFault::NoMemory),
+        Ok(()) => {}
+    }
     let outcome = running_turn(machine, state, job, made, number)?;
     match outcome {
         Outcome::Finished => *state = JobState::Over,

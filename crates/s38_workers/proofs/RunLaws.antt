@@ -10,12 +10,12 @@ use Rattle.s38_code.specs.declared.step.StepFault.TheVariants.{Stopped}
 use Rattle.s38_code.specs.History.{entries_of}
 use Rattle.s38_process.specs.declared.status.Status.TheVariants.{Fresh, Ended}
 use Rattle.s38_process.specs.Process.{ProcessState, RanFrom, absorbed, behind, ends_by_finish, fresh}
-use Rattle.s38_run.specs.Whole.{AllRan}
+use Rattle.s38_run.specs.Whole.{AllByProgram, AllRan}
 use Rattle.s38_run.proofs.Asking.{asks_open, ends_asking}
 use Rattle.s38_run.proofs.TurnLaws.{there_is}
 use Rattle.s38_workers.specs.declared.runner.Runner.{Runner}
 use Rattle.s38_workers.specs.Going.{IsSoFar, Stands}
-use Rattle.s38_workers.specs.Runs.{AllByProgram, HasFailed, IsOver}
+use Rattle.s38_workers.specs.Runs.{HasFailed, IsOver}
 
 -- a process that has ended ended by asking for its end
 ends : (d : ProcessState) (es : List Entry) → d.status ≢ Ended → RanFrom d es → (behind d es).status ≡ Ended → ends_by_finish es ≡ true

@@ -1,6 +1,5 @@
 -- A step leaves a machine without a store at the moment of its start.
-use Rattle.std.proofs.Common.{◌≡◌, ℕ, ◌<◌, ◌≤◌, true, List, length, refl, sym, ap, ◌∙◌, subst, arith}
-use Rattle.std.proofs.lemmas.List.{length-map}
+use Rattle.std.proofs.Common.{◌≡◌, ℕ, true, List, refl, sym, ap, ◌∙◌}
 use Rattle.std.specs.Prelude.{Option, Some, None, Result, Ok, Err, IfOk, IfSome, IsErrOf, is_some}
 use Rattle.std.specs.Option.{option_map}
 use Rattle.s38_code.specs.declared.asked.Asked.{Asked}
@@ -9,17 +8,12 @@ use Rattle.s38_code.specs.declared.event.Event.{Event}
 use Rattle.s38_code.specs.declared.reply.Reply.{Reply}
 use Rattle.s38_code.specs.declared.step.StepFault.{StepFault}
 use Rattle.s38_code.specs.declared.step.StepFault.TheVariants.{Stopped, NoMemory}
-use Rattle.s38_code.specs.declared.deck.Job.{Job}
-use Rattle.s38_code.specs.declared.made.CheckedTemplate.{CheckedTemplate}
 use Rattle.s38_code.specs.Asking.{answer_by, reply_by}
 use Rattle.s38_code.specs.History.{first_stop}
 use Rattle.s38_machine.specs.Still.{IsStillStep}
-use Rattle.s38_rules.specs.Held.{Held}
-use Rattle.s38_rules.specs.Legal.{IsProcess, IsSound, Run, after, begun}
-use Rattle.s38_rules.specs.Opening.{state_of}
-use Rattle.s38_rules.specs.State.{State}
-use Rattle.s38_rules.proofs.Laws.{sound_begun}
-use Rattle.s38_workers.specs.Still.{IsStill, TakesStillStep, beginning}
+use Rattle.s38_rules.specs.Legal.{IsSound, Run, after}
+use Rattle.s38_run.specs.Still.{IsStill, beginning}
+use Rattle.s38_workers.specs.Still.{TakesStillStep}
 
 first_after : (m : Run) (mark p : ℕ) (e : Event) → (after m mark p e).first ≡ m.first
 unfolding after
@@ -69,13 +63,3 @@ takes m n p e r never h = some_more (answer_by r n.history) (λ answer. IsStillS
 
 pub never : (p : ℕ) (e : Event) → None ≡ first_stop None p e → ⊥
 never p e h = cc
-
--- ---- a machine that has just begun
-
-pub still_begun : (m : Run) (s : State) → m ≡ begun m.first s → IsStill m
-still_begun m s is = record { sound = subst IsSound (sym is) (sound_begun m.first s); moment = ap (λ (k : Run). k.moment) is }
-
-pub process_begun : (m : Run) (held : Held) (templates : List CheckedTemplate) (jobs : List Job) → m ≡ begun m.first (state_of held templates jobs) → (p : ℕ) → 0 < p → p ≤ length jobs → IsProcess m.origin p
-process_begun m held templates jobs is p pos le =
-    let count : length m.origin.processes ≡ length jobs = ap (λ (k : Run). length k.origin.processes) is ∙ length-map jobs _ in
-    record { first = pos; last = omega (arith, le, count) }

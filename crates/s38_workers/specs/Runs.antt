@@ -1,11 +1,8 @@
 -- Whole runs on threads.
 use Rattle.std.specs.Prelude.{◌≡◌, ℕ, ◌+◌, ◌<◌, ◌≤◌, true, List, [], Some, length, slice_get, slice_index_or, take}
 use Rattle.s38_code.specs.declared.deck.Job.{Job}
-use Rattle.s38_code.specs.declared.entry.Entry.{Entry}
 use Rattle.s38_code.specs.declared.made.CreateResult.{CreateResult}
 use Rattle.s38_code.specs.declared.step.StepFault.{StepFault}
-use Rattle.s38_code.specs.History.{entries_of}
-use Rattle.s38_process.specs.Process.{RanFrom, fresh}
 use Rattle.s38_turn.specs.declared.view.ProcessList.{ProcessList}
 use Rattle.s38_turn.specs.Items.{entries_in}
 use Rattle.s38_turn.specs.Lists.{has, list_of}
@@ -13,10 +10,6 @@ use Rattle.s38_turn.specs.Seats.{IsSeatOf, SeatView, TurnView}
 use Rattle.s38_workers.specs.Going.{IsFurther, IsRunning, Stands}
 use Rattle.s38_workers.specs.declared.runner.Progress.TheVariants.{Over, Failed}
 use Rattle.s38_workers.specs.declared.runner.Runner.{Runner}
-
--- the entries of each job's process are by its program
-pub record AllByProgram (made : List CreateResult) (jobs : List Job) (history : List Entry) : Type 0 where
-  pub each : (k : ℕ) (job : Job) (one : CreateResult) → slice_get jobs k ≡ Some job → slice_get made k ≡ Some one → RanFrom (fresh one job.budget) (entries_of (k + 1) history)
 
 -- ---- passes
 

@@ -1,22 +1,22 @@
 ghost use Rattle.std.specs.Prelude.{◌≡◌, ◌-◌, ◌<◌, ◌^◌, [], IfOk, None, length};
-ghost use Rattle.s38_run.specs.Whole.{AllRan};
+ghost use Rattle.s38_run.specs.Whole.{AllByProgram, AllRan};
+ghost use Rattle.s38_run.specs.declared.run_end.RunEnd.{RunEnd};
 ghost use Rattle.s38_workers.specs.Asking.{AllMayAsk, WasStopped};
-ghost use Rattle.s38_workers.specs.Runs.{AllByProgram};
-ghost use Rattle.s38_workers.specs.declared.run_end.RunEnd.{RunEnd};
 
 use crate::gate::Gate;
 use crate::passes::passes_of;
-use crate::run_end::RunEnd;
 use crate::seats::{all_seated, closed};
 use s38_base::NoMemory;
 use s38_code::{CreateResult, Job, Stepper};
+use s38_run::RunEnd;
 use s38_turn::Turn;
 use std::alloc::Global;
 use std::sync::Wait;
 use std::thread::Threads;
 
-/// Runs the jobs on so many workers, each by what creation made of its template, at its place, until each has ended or
-/// the machine has stopped. The processes share the machine by a turn. Where memory is refused, the machine is dropped.
+/// Runs the jobs on so many workers, each by what creation made of its template, at its place, until each has ended, or
+/// the machine has stopped, or memory is refused. The processes share the machine by a turn. The machine comes back at each
+/// end; it is dropped only where memory is refused before the first event.
 pub fn run_jobs<M: Stepper + Drop + Send, R: Threads + Wait + Sync, G: Gate + Sync>(
     rt: &R,
     alloc: Global,
@@ -50,6 +50,6 @@ pub fn run_jobs<M: Stepper + Drop + Send, R: Threads + Wait + Sync, G: Gate + Sy
         jobs,
         made,
         &mut runners,
-    )?;
+    );
     Ok((closed(turn, seat, jobs, made, runners), end))
 }

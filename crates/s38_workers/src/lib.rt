@@ -7,11 +7,9 @@ mod hearer;
 mod jobs;
 mod machine;
 mod passes;
-mod run_end;
 mod runner;
 mod seats;
 
 pub use gate::{Gate, NoGate};
 pub use jobs::run_jobs;
 pub use machine::run_machine;
-pub use run_end::RunEnd;

@@ -5,10 +5,10 @@ ghost use Rattle.s38_run.specs.Whole.{AllRan};
 
 use crate::gate::Gate;
 use crate::jobs::run_jobs;
-use crate::run_end::RunEnd;
 use s38_base::NoMemory;
 use s38_code::{Asked, CreateResult, Event, Job, Reply, StepFault, Stepper};
 use s38_machine::Machine;
+use s38_run::RunEnd;
 use std::alloc::Global;
 use std::sync::Wait;
 use std::thread::Threads;
@@ -21,8 +21,9 @@ pub(crate) struct StillMachine {
 
 impl Stepper for StillMachine {
     ghost use Rattle.std.specs.Prelude.{None};
-    ghost use Rattle.s38_workers.specs.Still.{Beginning, IsStill, TakesStillStep, beginning};
     ghost use Rattle.s38_rules.specs.Legal.{IsProcess};
+    ghost use Rattle.s38_run.specs.Still.{Beginning, IsStill, beginning};
+    ghost use Rattle.s38_workers.specs.Still.{TakesStillStep};
 
     ghost Origin = { Beginning };
 
@@ -75,6 +76,7 @@ pub fn run_machine<R: Threads + Wait + Sync, G: Gate + Sync>(
     match run_jobs(rt, alloc, still, jobs, made, workers, gate) {
         Err(fault) => Err(fault),
         Ok((_, RunEnd::Stopped)) => unreachable!(),
+        Ok((_, RunEnd::NoMemory)) => Err(NoMemory),
         Ok((still, RunEnd::Complete)) => Ok(still.machine),
     }
 }

@@ -1,17 +1,16 @@
 //! Passes over the jobs, cut for the workers.
-ghost use Rattle.std.specs.Prelude.{◌≡◌, ◌<◌, All, IfSome, Ok, Some, length, true};
+ghost use Rattle.std.specs.Prelude.{◌≡◌, ◌<◌, All, IfSome, Some, length, true};
 ghost use Rattle.s38_code.specs.declared.step.StepFault.{StepFault};
+ghost use Rattle.s38_run.specs.declared.run_end.RunEnd.{RunEnd};
 ghost use Rattle.s38_workers.specs.Asking.{AllMayAsk, WasStopped};
 ghost use Rattle.s38_workers.specs.Going.{IsFurther, IsRunning};
 ghost use Rattle.s38_workers.specs.Runs.{AreFurther, HasFailed, IsOver};
-ghost use Rattle.s38_workers.specs.declared.run_end.RunEnd.{RunEnd};
 
 use crate::gate::Gate;
 use crate::going::go_in_stage;
-use crate::run_end::RunEnd;
 use crate::runner::{Progress, Runner};
-use s38_base::NoMemory;
 use s38_code::{CreateResult, Job, StepFault, Stepper};
+use s38_run::RunEnd;
 use s38_turn::Turn;
 use std::alloc::Global;
 use std::sync::Wait;
@@ -89,16 +88,16 @@ fn all_over<M>(runners: &[Runner<M>]) -> bool
 }
 
 /// How the run ends, if it ends here.
-fn ended<M>(runners: &[Runner<M>]) -> Option<Result<RunEnd, NoMemory>>
-    ensures complete { result ≡ Some (Ok RunEnd.Complete) → All IsOver runners.now }
-    ensures stopped { result ≡ Some (Ok RunEnd.Stopped) → HasFailed StepFault.Stopped runners.now }
+fn ended<M>(runners: &[Runner<M>]) -> Option<RunEnd>
+    ensures complete { result ≡ Some RunEnd.Complete → All IsOver runners.now }
+    ensures stopped { result ≡ Some RunEnd.Stopped → HasFailed StepFault.Stopped runners.now }
 {
     match fault_of(runners) {
-        Some(StepFault::Stopped) => Some(Ok(RunEnd::Stopped)),
-        Some(StepFault::NoMemory) => Some(Err(NoMemory)),
+        Some(StepFault::Stopped) => Some(RunEnd::Stopped),
+        Some(StepFault::NoMemory) => Some(RunEnd::NoMemory),
         None => {
             if all_over(runners) {
-                Some(Ok(RunEnd::Complete))
+                Some(RunEnd::Complete)
             } else {
                 None
             }
@@ -116,15 +115,15 @@ fn passes<M: Stepper + Drop + Send, R: Threads + Wait + Sync, G: Gate + Sync>(
     jobs: &[Job],
     made: &[CreateResult],
     runners: &mut [Runner<M>],
-) -> Result<RunEnd, NoMemory>
+) -> RunEnd
     requires workers { 0 < workers }
     requires running { All (IsRunning (WasStopped M.is_sound M.origin M.steps turn.now.machine) turn.now made.now jobs.now) runners.old }
     requires may { AllMayAsk M.may_ask (M.origin turn.now.machine) turn.now.processes }
     requires jobs { length jobs.now ≡ turn.now.processes }
     requires made { length made.now ≡ turn.now.processes }
     ensures further { AreFurther (WasStopped M.is_sound M.origin M.steps turn.now.machine) turn.now made.now jobs.now runners.old runners.new }
-    ensures complete { result ≡ Ok RunEnd.Complete → All IsOver runners.new }
-    ensures stopped { result ≡ Ok RunEnd.Stopped → HasFailed StepFault.Stopped runners.new }
+    ensures complete { result ≡ RunEnd.Complete → All IsOver runners.new }
+    ensures stopped { result ≡ RunEnd.Stopped → HasFailed StepFault.Stopped runners.new }
 {
     for _ in rt.forever() {
         pass(rt, alloc, turn, gate, workers, jobs, made, runners);
@@ -146,7 +145,7 @@ pub fn passes_of<M: Stepper + Drop + Send, R: Threads + Wait + Sync, G: Gate + S
     jobs: &[Job],
     made: &[CreateResult],
     runners: &mut Vec<Runner<M>>,
-) -> Result<RunEnd, NoMemory>
+) -> RunEnd
     requires workers { 0 < workers }
     requires running { All (IsRunning (WasStopped M.is_sound M.origin M.steps turn.now.machine) turn.now made.now jobs.now) runners.old.items }
     requires may { AllMayAsk M.may_ask (M.origin turn.now.machine) turn.now.processes }
@@ -154,8 +153,8 @@ pub fn passes_of<M: Stepper + Drop + Send, R: Threads + Wait + Sync, G: Gate + S
     requires made { length made.now ≡ turn.now.processes }
     ensures count { length runners.new.items ≡ length runners.old.items }
     ensures further { AreFurther (WasStopped M.is_sound M.origin M.steps turn.now.machine) turn.now made.now jobs.now runners.old.items runners.new.items }
-    ensures complete { result ≡ Ok RunEnd.Complete → All IsOver runners.new.items }
-    ensures stopped { result ≡ Ok RunEnd.Stopped → HasFailed StepFault.Stopped runners.new.items }
+    ensures complete { result ≡ RunEnd.Complete → All IsOver runners.new.items }
+    ensures stopped { result ≡ RunEnd.Stopped → HasFailed StepFault.Stopped runners.new.items }
 {
     passes(
         rt,

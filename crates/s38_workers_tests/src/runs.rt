@@ -1,8 +1,9 @@
 use crate::given::{ended, jobs_of};
 use s38_base::Seq;
 use s38_machine::{Machine, general_opening};
+use s38_run::RunEnd;
 use s38_turn_tests::Counter;
-use s38_workers::{NoGate, RunEnd, run_jobs, run_machine};
+use s38_workers::{NoGate, run_jobs, run_machine};
 use std::test::Fail;
 
 /// How many workers there are.

@@ -1,23 +1,18 @@
-use Rattle.std.proofs.Common.{◌≡◌, ◌%◌, length, sym, ◌∙◌, ap, subst, arith}
-use Rattle.s38_run.proofs.JobLaws.{ComesOn, between_none, comes_begun, comes_on, told_empty}
+use Rattle.std.proofs.Common.{sym, ◌∙◌}
+use Rattle.s38_run.proofs.EndLaws.{of_complete, of_stopped}
 use Rattle.s38_run.proofs.jobs.serial.Goals as goal
 
-pub loop-alloc-init : goal.loop-alloc-init
-loop-alloc-init g c =
-    comes_begun g.P.Picker.answer g.P.Picker.after c.args.picker.now c.args.machine.first c.args.machine.state.held c.args.machine.state.templates c.args.made.now c.args.jobs.now c.args.machine c.in_ok-states.states.items c.ready_list.new.into.items
-    c.requires.made c.requires.begun c.in_ok-states.ensures c.in_ok-ready_list.ensures
+pub returns-clause-going : goal.returns-clause-going
+returns-clause-going g c e = of_complete c.run_on-run.result _ (sym c.end_of.ensures ∙ e) c.run_on-run.ensures.going
 
-pub loop-alloc-preserved : goal.loop-alloc-preserved
-loop-alloc-preserved g c =
-    let count : c.len.result ≡ length c.loop-alloc.ready.items = omega arith in
-    subst (λ y. ComesOn g.P.Picker.answer g.P.Picker.after c.args.picker.now c.args.machine.first c.args.machine.state.held c.args.machine.state.templates c.args.made.now c.args.jobs.now c.go_on.new.machine c.go_on.new.states.items c.go_on.new.ready.items y)
-    (sym c.pick.ensures.after)
-    (comes_on g.P.Picker.answer g.P.Picker.after c.args.picker.now c.args.machine.first c.args.machine.state.held c.args.machine.state.templates c.args.made.now c.args.jobs.now c.loop-alloc.machine c.loop-alloc.states.items c.loop-alloc.ready.items c.loop-alloc.picker
-    (c.pick.result % c.len.result) c.go_on.new.machine c.go_on.new.states.items c.go_on.new.ready.items c.loop-alloc.invariant
-    (ap (λ n. n % c.len.result) c.pick.ensures.answer ∙ ap (λ k. g.P.Picker.answer c.loop-alloc.picker % k) count)
-    c.in-Ok.ensures)
+pub returns-clause-run : goal.returns-clause-run
+returns-clause-run g c e = (of_complete c.run_on-run.result _ (sym c.end_of.ensures ∙ e) c.run_on-run.ensures.over).sound
+
+pub returns-clause-picker : goal.returns-clause-picker
+returns-clause-picker g c e = (of_complete c.run_on-run.result _ (sym c.end_of.ensures ∙ e) c.run_on-run.ensures.over).picker
 
 pub returns-clause-ran : goal.returns-clause-ran
-returns-clause-ran g c =
-    between_none c.args.made.now c.args.jobs.now c.loop-alloc.machine c.loop-alloc.states.items c.loop-alloc.ready.items c.loop-alloc.invariant.between
-    (told_empty c.loop-alloc.ready.items _ c.is_empty.result c.is_empty.ensures (omega arith) c.loop-alloc-test.false)
+returns-clause-ran g c e = (of_complete c.run_on-run.result _ (sym c.end_of.ensures ∙ e) c.run_on-run.ensures.over).ran
+
+pub returns-clause-stopped : goal.returns-clause-stopped
+returns-clause-stopped g c e = c.run_on-run.ensures.stopped (of_stopped c.run_on-run.result (sym c.end_of.ensures ∙ e))

@@ -1,9 +1,23 @@
+use Rattle.std.proofs.Common.{ap, ◌∙◌}
+use Rattle.std.specs.Prelude.{None}
+use Rattle.s38_rules.specs.Legal.{Run}
+use Rattle.s38_rules.specs.Opening.{state_of}
+use Rattle.s38_run.proofs.JobLaws.{is_begun}
+use Rattle.s38_run.proofs.StillLaws.{still_begun, still_from}
 use Rattle.s38_top.proofs.TopLaws.{as_many_made, begins_run, few_begun, whole_of_run}
+use Rattle.s38_top.specs.Begun.{held_of}
 use Rattle.s38_top.specs.Decks.{turns_by}
 use Rattle.s38_top.proofs.run.run_serial.Goals as goal
 
+pub serial-requires-clause-sound : goal.serial-requires-clause-sound
+serial-requires-clause-sound g c =
+    still_begun c.args.started.machine (state_of (held_of c.args.started) c.args.started.machine.state.templates c.as_slice.result.now)
+    (begins_run c.args.started c.as_slice.result.now c.requires c.as_slice.ensures.items)
+
 pub serial-requires-clause-begun : goal.serial-requires-clause-begun
-serial-requires-clause-begun g c = begins_run c.args.started c.as_slice.result.now c.requires c.as_slice.ensures.items
+serial-requires-clause-begun g c =
+    is_begun None (held_of c.args.started) c.args.started.machine.state.templates c.as_slice.result.now c.args.started.machine
+    (begins_run c.args.started c.as_slice.result.now c.requires c.as_slice.ensures.items)
 
 pub serial-requires-clause-made : goal.serial-requires-clause-made
 serial-requires-clause-made g c = as_many_made c.args.started c.as_slice.result.now c.as_slice-2.result.now c.requires c.as_slice.ensures.items c.as_slice-2.ensures.value
@@ -11,9 +25,11 @@ serial-requires-clause-made g c = as_many_made c.args.started c.as_slice.result.
 pub serial-requires-clause-few : goal.serial-requires-clause-few
 serial-requires-clause-few g c = few_begun c.args.started c.as_slice.result.now c.requires c.as_slice.ensures.items
 
-pub returns : goal.returns
-returns g c =
-    whole_of_run c.args.started (turns_by g.P.Picker.answer g.P.Picker.after c.args.picker.now) c.in_ok-machine.machine c.whole_of.result c.as_slice.result.now c.as_slice-2.result.now
+pub returns-in-Complete : goal.returns-in-Complete
+returns-in-Complete g c =
+    let begins = begins_run c.args.started c.as_slice.result.now c.requires c.as_slice.ensures.items in
+    let e = c.serial.ensures in
+    whole_of_run c.args.started (turns_by g.P.Picker.answer g.P.Picker.after c.args.picker.now) c.serial.result.0 c.whole_of.result c.as_slice.result.now c.as_slice-2.result.now
     c.requires c.as_slice.ensures.items c.as_slice-2.ensures.value
-    c.in_ok-machine.ensures.sound c.in_ok-machine.ensures.origin c.in_ok-machine.ensures.still c.in_ok-machine.ensures.picked c.in_ok-machine.ensures.ran
+    (e.run c.in-Complete.is) (e.begun ∙ ap (λ (r : Run). r.origin) begins) (still_from c.args.started.machine c.serial.result.0 e.sound e.origin) e.picked (e.ran c.in-Complete.is)
     c.whole_of.ensures.deck c.whole_of.ensures.history c.whole_of.ensures.marks c.whole_of.ensures.state c.whole_of.ensures.lawful

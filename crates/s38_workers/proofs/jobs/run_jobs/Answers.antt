@@ -1,5 +1,4 @@
 use Rattle.std.proofs.Common.{◌∙◌, sym, ap, subst}
-use Rattle.std.specs.Prelude.{Ok}
 use Rattle.s38_turn.specs.Lists.{empty_lists}
 use Rattle.s38_workers.specs.Asking.{WasStopped}
 use Rattle.s38_workers.specs.Runs.{AreLeft}
@@ -16,17 +15,17 @@ all_seated-requires-clause-left g c =
 pub returns-clause-by_program : goal.returns-clause-by_program
 returns-clause-by_program g c =
     let S = g.M.Stepper in
-    all_by_program (WasStopped S.is_sound S.origin S.steps c.in_ok-turn.turn.machine) c.args.made.now c.args.jobs.now c.passes_of.new.runners.items (S.history c.closed.result) (c.in_ok-end.ensures.count ∙ c.in_ok-runners.ensures.count) c.closed.ensures.stands
+    all_by_program (WasStopped S.is_sound S.origin S.steps c.in_ok-turn.turn.machine) c.args.made.now c.args.jobs.now c.passes_of-end.new.runners.items (S.history c.closed.result) (c.passes_of-end.ensures.count ∙ c.in_ok-runners.ensures.count) c.closed.ensures.stands
 
 pub returns-clause-complete : goal.returns-clause-complete
 returns-clause-complete g c e =
     let S = g.M.Stepper in
-    all_ran (WasStopped S.is_sound S.origin S.steps c.in_ok-turn.turn.machine) c.args.made.now c.args.jobs.now c.passes_of.new.runners.items (S.history c.closed.result) (c.in_ok-end.ensures.count ∙ c.in_ok-runners.ensures.count) c.closed.ensures.stands
-    (c.passes_of.ensures.complete (c.in_ok-end.was ∙ ap (λ x. Ok x) e))
+    all_ran (WasStopped S.is_sound S.origin S.steps c.in_ok-turn.turn.machine) c.args.made.now c.args.jobs.now c.passes_of-end.new.runners.items (S.history c.closed.result) (c.passes_of-end.ensures.count ∙ c.in_ok-runners.ensures.count) c.closed.ensures.stands
+    (c.passes_of-end.ensures.complete e)
 
 pub returns-clause-stopped : goal.returns-clause-stopped
 returns-clause-stopped g c e =
     let S = g.M.Stepper in
     subst (λ m. WasStopped S.is_sound S.origin S.steps m) c.in_ok-turn.ensures.machine
-    (halted (WasStopped S.is_sound S.origin S.steps c.in_ok-turn.turn.machine) c.args.made.now c.args.jobs.now c.passes_of.new.runners.items (S.history c.closed.result) (c.in_ok-end.ensures.count ∙ c.in_ok-runners.ensures.count) c.closed.ensures.stands
-    c.requires.made (c.passes_of.ensures.stopped (c.in_ok-end.was ∙ ap (λ x. Ok x) e)))
+    (halted (WasStopped S.is_sound S.origin S.steps c.in_ok-turn.turn.machine) c.args.made.now c.args.jobs.now c.passes_of-end.new.runners.items (S.history c.closed.result) (c.passes_of-end.ensures.count ∙ c.in_ok-runners.ensures.count) c.closed.ensures.stands
+    c.requires.made (c.passes_of-end.ensures.stopped e))
