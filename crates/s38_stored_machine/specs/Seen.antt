@@ -4,6 +4,7 @@ use Rattle.std.specs.Option.{option_map}
 use Rattle.s38_code.specs.declared.entry.Entry.{Entry}
 use Rattle.s38_code.specs.declared.event.Event.{Event}
 use Rattle.s38_rules.specs.Legal.{Run}
+use Rattle.s38_rules.specs.State.{State}
 use Rattle.s38_stored_machine.specs.declared.ending.Ending.{Ending}
 use Rattle.s38_stored_machine.specs.declared.ending.Ending.TheVariants.{Going, Stopped, Wanting}
 
@@ -40,3 +41,13 @@ stopped_by Wanting history = None
 -- the call that was answered Stopped
 abbrev pub stopped_of : {V : Type 0} → StoredView V → Option (ℕ × Event)
 stopped_of x = stopped_by x.ending x.machine.history
+
+-- ---- the beginning
+
+-- with what a machine over a vault was started, and its vault then
+pub record StoredBeginning (V : Type 0) : Type 0 where
+  pub state : State
+  pub vault : V
+
+abbrev pub beginning_of : {V : Type 0} → StoredView V → StoredBeginning V
+beginning_of x = record { state = x.machine.origin; vault = x.first }

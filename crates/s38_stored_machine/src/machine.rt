@@ -1,16 +1,18 @@
-ghost use Rattle.std.specs.Prelude.{◌≡◌, ◌≤◌, All, IfErr, IfOk, IsErrOf, OnErr, OnOk, Some};
-ghost use Rattle.s38_code.specs.Asking.{reply_by};
+ghost use Rattle.std.specs.Prelude.{◌≡◌, ◌-◌, ◌<◌, ◌≤◌, ◌==◌, ◌^◌, not, All, IfErr, IfOk, IsErrOf, OnErr, OnOk, Some, length};
+ghost use Rattle.std.specs.Option.{option_copied};
+ghost use Rattle.s38_code.specs.Asking.{last_reply, reply_by};
 ghost use Rattle.s38_code.specs.declared.step.StepFault.{StepFault};
 ghost use Rattle.s38_image_printing.specs.Parts.{CanSettle};
 ghost use Rattle.s38_machine.specs.Stored.{FitsStore, stored_state_of};
 ghost use Rattle.s38_rules.specs.Kept.{CanBeKept};
 ghost use Rattle.s38_rules.specs.Legal.{IsProcess, after, begun};
+ghost use Rattle.s38_rules.specs.State.{ready_list};
 ghost use Rattle.s38_rules.specs.Step.{step};
 ghost use Rattle.s38_rules.specs.Storable.{IsStorable};
 ghost use Rattle.s38_step_parts.specs.Numbers.{numbered};
 ghost use Rattle.s38_step_parts.specs.Stepping.{AreNumbers};
 ghost use Rattle.s38_stored_machine.specs.Keeping.{IsSettled};
-ghost use Rattle.s38_stored_machine.specs.Seen.{run_of, stopped_of};
+ghost use Rattle.s38_stored_machine.specs.Seen.{beginning_of, run_of, stopped_of};
 ghost use Rattle.s38_stored_machine.specs.Sound.{CanBeStored, IsSoundOver};
 ghost use Rattle.s38_stored_machine.specs.declared.ending.Ending.{Ending};
 
@@ -125,8 +127,7 @@ impl<V: Vault> StoredMachine<V> {
         requires going { self.old.ending ≡ Ending.Going }
         requires may { IsProcess self.old.machine.origin process }
         ensures sound { IsSoundOver V.view V.holds V.leaves self.new }
-        ensures first { self.new.first ≡ self.old.first }
-        ensures origin { self.new.machine.origin ≡ self.old.machine.origin }
+        ensures origin { beginning_of self.new ≡ beginning_of self.old }
         ensures moved { OnOk result (run_of self.new ≡ after (run_of self.old) (run_of self.new).moment process event) }
         ensures later { OnOk result ((run_of self.old).moment ≤ (run_of self.new).moment) }
         ensures reply { IfOk result (λ asked. reply_by asked (run_of self.new).history ≡ Some (step (run_of self.old).state process event).reply) }
@@ -141,6 +142,31 @@ impl<V: Vault> StoredMachine<V> {
             Err(_) => Err(StepFault::NoMemory),
             Ok((asked, all)) => self.settle(asked, &all),
         }
+    }
+
+    /// The reply of the last entry of the history.
+    pub fn last_reply(&self) -> Option<&Reply>
+        requires going { self.now.ending ≡ Ending.Going }
+        ensures { option_copied result ≡ last_reply (run_of self.now).history }
+    {
+        self.machine.last_reply()
+    }
+
+    /// Lists the processes that are ready, in order of their numbers.
+    pub fn ready_list(&self, into: &mut Vec<u32>) -> Result<(), NoMemory>
+        requires going { self.now.ending ≡ Ending.Going }
+        requires few { length (run_of self.now).state.processes < 2 ^ 32 - 1 }
+        ensures { OnOk result (into.new.items ≡ ready_list (run_of self.now).state) }
+    {
+        self.machine.ready_list(into)
+    }
+
+    /// Whether some process waits.
+    pub fn somebody_waits(&self) -> bool
+        requires going { self.now.ending ≡ Ending.Going }
+        ensures { result ≡ not (length (run_of self.now).state.waiting == 0) }
+    {
+        self.machine.somebody_waits()
     }
 
     /// Ends the run: what it leaves. Where the machine goes no more, its state says nothing.
