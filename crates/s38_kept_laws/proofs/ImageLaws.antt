@@ -7,22 +7,22 @@ use Rattle.s38_base.specs.declared.id.Kind.TheVariants as kinds
 use Rattle.s38_base.specs.declared.id.Kind.{Kind}
 use Rattle.s38_codecs.proofs.CodecLaws.{both_true}
 use Rattle.s38_base.specs.declared.rights.Special.{Special}
-use Rattle.s38_durable.specs.Durable.{body_behind, followed, last_in, whole}
+use Rattle.s38_durable.specs.Durable.{body_behind, followed, whole}
 use Rattle.s38_image.proofs.HeaderLaws.{at_most}
 use Rattle.s38_image.specs.Bodies.{BodyImage, body_bytes, body_tags}
 use Rattle.s38_image.specs.Fitting.{FitsBody, IsImage}
 use Rattle.s38_image.specs.Headers.{longest_body}
 use Rattle.s38_image.specs.Images.{image_of}
-use Rattle.s38_image.specs.Settled.{settled_body, settled_sequence}
 use Rattle.s38_image.specs.declared.stored.Stored.{Stored}
 use Rattle.s38_rules.specs.Held.{kind_of}
-use Rattle.s38_rules.specs.Journaling.{journal_for}
 use Rattle.s38_rules.specs.Parts.{profile_of}
 use Rattle.s38_rules.specs.State.{State}
 use Rattle.s38_rules.specs.Storable.{IsStorable}
 use Rattle.s38_rules.specs.declared.object.Body.TheVariants as bodies
 use Rattle.s38_rules.specs.declared.object.Body.{Body}
 use Rattle.s38_rules.specs.declared.object.Object.{Object}
+use Rattle.s38_step_parts.proofs.KeptLaws.{user_followed}
+use Rattle.s38_step_parts.specs.Stepping.{HasHeader}
 use Rattle.s38_kept_laws.specs.Kept.{IsFront}
 
 -- ---- users
@@ -39,13 +39,13 @@ no_sequence : (b : Body) (sequence : ℕ) → FitsBody kinds.Profile (body_tags 
 no_sequence b zero fits = refl
 no_sequence b (suc n) fits = absurd fits
 
-user_followed : (s : State) (o : Object) (x : Stored) (b : Body) → o.body ≡ b → is_some (profile_of b) ≡ true → x.sequence ≡ 0 → followed o x ≡ whole s o
-user_followed s o x (bodies.Profile special limit) is user none =
-    let last = last_in s.held (journal_for s.held o.number.0) in
-    let body : body_behind o.body x.object.body ≡ settled_body s.units o.number.0 o.body = ap (λ (c : Body). body_behind c x.object.body) is ∙ sym (ap (settled_body s.units o.number.0) is) in
-    let sequence : x.sequence ≡ settled_sequence last o.body = none ∙ sym (ap (settled_sequence last) is) in
-    λ i. record { object = record o { on_disk = true; body = body i }; sequence = sequence i }
-user_followed s o x _ is user none = absurd cc
+-- the header of an image can be read
+pub image_header : (x : Stored) → IsImage body_limit x → HasHeader x
+image_header x image_is = record {
+  fits = image_is.header;
+  rows = at_most _ _ (both_true (nat_le (length x.object.rows) most_rows) _ image_is.within).0;
+  user = λ is. no_sequence x.object.body x.sequence (subst (λ (k : Kind). FitsBody k (body_tags k (image_of x)) (image_of x)) is image_is.body);
+}
 
 -- ---- others
 
@@ -95,7 +95,7 @@ module _ (s : State) (o : Object) (x : Stored) (front : IsFront o) (storable : I
           rw (one, two) refl
 
   user_image : is_some (profile_of o.body) ≡ true → IsImage body_limit (whole s o) → IsImage body_limit (followed o x)
-  user_image user image_is = subst (IsImage body_limit) (sym (user_followed s o x o.body refl user none)) image_is
+  user_image user image_is = subst (IsImage body_limit) (sym (user_followed s o x user none)) image_is
     where
       profile : (b : Body) → is_some (profile_of b) ≡ true → kind_of b ≡ kinds.Profile
       profile (bodies.Profile special limit) is = refl

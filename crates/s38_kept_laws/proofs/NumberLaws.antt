@@ -14,7 +14,7 @@ use Rattle.s38_rules.specs.Held.{Held, object, object_in}
 use Rattle.s38_rules.specs.State.{State}
 use Rattle.s38_rules.specs.declared.object.Object.{Object}
 use Rattle.s38_step_parts.specs.Stepping.{AreNumbers, IsDue, is_ceiling}
-use Rattle.s38_kept_laws.specs.Kept.{is_numbered, numbered}
+use Rattle.s38_step_parts.specs.Numbers.{is_numbered, numbered}
 
 -- a test that what goes does not pass
 any_numbered : (test : Forced → Bool) → ((one : Forced) → is_numbered one ≡ false → test one ≡ false) → (all : List Forced) → list_any test (numbered all) ≡ list_any test all

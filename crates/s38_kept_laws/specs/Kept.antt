@@ -1,5 +1,5 @@
 -- How what is durable goes with a state at every moment of a run.
-use Rattle.std.specs.Prelude.{◌≡◌, ◌+◌, ◌<◌, ◌≤◌, ℕ, All, Bool, true, List, [], ◌∷◌, None, Some, filter, is_some, length, map, not}
+use Rattle.std.specs.Prelude.{◌≡◌, ◌+◌, ◌<◌, ◌≤◌, ℕ, All, true, List, [], ◌∷◌, None, Some, is_some, length, map}
 use Rattle.std.specs.List.{list_any}
 use Rattle.s38_base.specs.Limits.{body_limit, ceiling_step, last_number}
 use Rattle.s38_code.specs.declared.entry.Entry.{Entry}
@@ -13,7 +13,7 @@ use Rattle.s38_durable.specs.Following.{AreRising, Counts, Follows, number_of}
 use Rattle.s38_image.specs.Fitting.{IsImage, header_codec, rows_codec}
 use Rattle.s38_image.specs.declared.stored.Stored.{Stored}
 use Rattle.s38_image_printing.specs.Parts.{header_with}
-use Rattle.s38_object_laws.specs.Outline.{is_forced, speaks_of}
+use Rattle.s38_object_laws.specs.Outline.{is_forced}
 use Rattle.s38_object_laws.specs.Well.{AreWell}
 use Rattle.s38_rules.specs.Forcing.{Forced, forced, is_whole}
 use Rattle.s38_rules.specs.Held.{Held, kind_of, object}
@@ -84,11 +84,3 @@ abbrev pub HasOperand : Event → Type 0
 HasOperand Start = Unit {0}
 HasOperand (Act depth request) = 1 ≤ length request.operands
 HasOperand (Finish cause) = Unit {0}
-
--- nothing of the number of no object
-abbrev pub is_numbered : Forced → Bool
-is_numbered one = not (speaks_of 0 one)
-
--- what is forced, but for that
-abbrev pub numbered : List Forced → List Forced
-numbered all = filter is_numbered all

@@ -15,7 +15,7 @@ ghost use Rattle.s38_groups.specs.Stores.{first_fault};
 ghost use Rattle.s38_image_printing.specs.Parts.{CanSettle};
 ghost use Rattle.s38_kept_laws.specs.Beginning.{cleaned, durable_in, origin_of};
 ghost use Rattle.s38_kept_laws.specs.Crashes.{IsKeptPrefix, StandsBetween, led};
-ghost use Rattle.s38_kept_laws.specs.Kept.{AllReadable, AreImages, AreReadable, HasOperand, IsKeptOf, numbered};
+ghost use Rattle.s38_kept_laws.specs.Kept.{AllReadable, AreImages, AreReadable, HasOperand, IsKeptOf};
 ghost use Rattle.s38_openings.specs.Opening.{IsOpening};
 ghost use Rattle.s38_restart.specs.Parts.{AreParts, all_parts};
 ghost use Rattle.s38_restart.specs.Restarted.{restarted};
@@ -26,7 +26,8 @@ ghost use Rattle.s38_rules.specs.Room.{Room};
 ghost use Rattle.s38_rules.specs.State.{State};
 ghost use Rattle.s38_rules.specs.Step.{step};
 ghost use Rattle.s38_rules.specs.Storable.{IsStorable};
-ghost use Rattle.s38_step_parts.specs.Stepping.{AreNumbers, IsDue, Precedes};
+ghost use Rattle.s38_step_parts.specs.Numbers.{numbered};
+ghost use Rattle.s38_step_parts.specs.Stepping.{AreNumbers, HaveHeaders, IsDue, Precedes};
 ghost use Rattle.s38_vault.specs.Content.{Content};
 
 use s38_durable::{
@@ -39,6 +40,7 @@ use s38_durable::{
 pub fn a_run_begins_kept()
     ensures stands { (m : Content) → AreParts (all_parts m) → first_fault body_limit (all_parts m) ≡ None → Stands (cleaned m) (durable_in m) }
     ensures images { (m : Content) → AreParts (all_parts m) → first_fault body_limit (all_parts m) ≡ None → AreImages (durable_in m) }
+    ensures headers { (m : Content) → AreParts (all_parts m) → first_fault body_limit (all_parts m) ≡ None → HaveHeaders (durable_in m) }
     ensures begins { (m : Content) (h : Held) (templates : List CheckedTemplate) (jobs : List Job) (room : Option Room) → AreParts (all_parts m) → first_fault body_limit (all_parts m) ≡ None
         → h ≡ restarted body_limit (all_parts m) → IsOpening h → Counts room (durable_in m) → IsKeptOf (origin_of h templates jobs room) (durable_in m) }
 {}
@@ -71,12 +73,12 @@ pub fn what_is_durable_can_be_read()
     what_is_not_forced_stays_durable();
 }
 
-/// What a step forces that takes effect can be put: the content that stands for what was durable, if that can be read again,
-/// precedes the step, and what the step does not force stays durable. A store can keep each object behind it, with every
+/// What a step forces that takes effect can be put: the content that stands for what was durable, if each header of that can be
+/// read again, precedes the step, and what the step does not force stays durable. A store can keep each object behind it, with every
 /// uncommitted change taken back. All that is forced is the number of an object, but that an instruction without operands may
 /// force the number of none; this makes no difference.
 pub fn what_is_forced_can_be_put()
-    ensures precedes { (s : State) (p : ℕ) (e : Event) (values : List Val) (d : Durable) (m : Content) → IsKeptOf s d → (step s p e).reply ≡ Done values → AreImages d → Stands m d
+    ensures precedes { (s : State) (p : ℕ) (e : Event) (values : List Val) (d : Durable) (m : Content) → IsKeptOf s d → (step s p e).reply ≡ Done values → HaveHeaders d → Stands m d
         → Precedes (step s p e).state.held (step s p e).state.units m d (step s p e).state }
     ensures due { (s : State) (p : ℕ) (e : Event) (values : List Val) (d : Durable) → IsKeptOf s d → (step s p e).reply ≡ Done values → IsDue (forced s p e) d (step s p e).state }
     ensures due_numbered { (s : State) (p : ℕ) (e : Event) (values : List Val) (d : Durable) → IsKeptOf s d → (step s p e).reply ≡ Done values → IsDue (numbered (forced s p e)) d (step s p e).state }
@@ -106,6 +108,7 @@ pub fn one_more_entry_is_durable()
 /// one more entry is marked by a later moment, or a call is stopped: of each moment before the puts, of each moment of them,
 /// and of each moment from the mark on.
 pub fn a_crash_leaves_a_prefix()
+    ensures headers { (m : Content) → AreParts (all_parts m) → first_fault body_limit (all_parts m) ≡ None → HaveHeaders (durable_in m) }
     ensures begins { (d : Durable) (s : State) (t : ℕ) (m : Content) → Stands m d → IsKeptPrefix d s [] [] t m }
     ensures earlier { (d : Durable) (s : State) (history : List Entry) (marks : List ℕ) (e : Entry) (now t : ℕ) (m : Content) → length marks ≡ length history
         → (durable d s history).ceiling ≡ (led s history).held.ceiling → t < now → IsKeptPrefix d s history marks t m → IsKeptPrefix d s (history ++ e ∷ []) (marks ++ now ∷ []) t m }

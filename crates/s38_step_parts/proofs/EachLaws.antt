@@ -33,12 +33,12 @@ use Rattle.s38_rules.specs.State.{State}
 use Rattle.s38_rules.specs.declared.object.Object.{Object}
 use Rattle.s38_vault.specs.Content.{AreRising, Content}
 use Rattle.s38_vault.specs.Vaults.{VaultView}
-use Rattle.s38_step_parts.proofs.AfterLaws.{kept_one, parts_behind}
+use Rattle.s38_step_parts.proofs.AfterLaws.{kept_behind_step, kept_one, parts_behind}
 use Rattle.s38_step_parts.proofs.FollowedLaws.{whole_same}
 use Rattle.s38_step_parts.proofs.NumberLaws.{AreAbove, Rise, numbers_are, numbers_rise}
 use Rattle.s38_step_parts.specs.Fronts.{AddsAt}
 use Rattle.s38_step_parts.specs.Numbers.{numbers}
-use Rattle.s38_step_parts.specs.Stepping.{AreNumbers, IsNumber, Precedes, ceiling_changes, is_ceiling, kept_there, object_changes}
+use Rattle.s38_step_parts.specs.Stepping.{AreNumbers, HasHeader, HasHeaderIn, IsNumber, Precedes, ceiling_changes, is_ceiling, kept_there, object_changes}
 
 -- ---- an object that is there
 
@@ -52,7 +52,7 @@ pub there_whole : (all : List Forced) (h : Held) (us : UnitMap) (m : Content) (d
 there_whole all h us m d s o p on forced =
     ap (λ b. parts_in (cond b (Some (kept_after all s (kept d.objects o.number.0) o)) None)) on
     ∙ ap (λ b. parts_of (cond b (whole s o) (kept_behind s o (kept d.objects o.number.0)))) forced
-    ∙ whole_same h us m d s p o
+    ∙ ap (λ (x : Stored). parts_of x) (whole_same h us m d s p o)
 
 -- one that is not
 pub there_followed : (all : List Forced) (s : State) (old : List Stored) (o : Object) → o.on_disk ≡ true → list_any (is_whole o.number.0) all ≡ false
@@ -60,6 +60,22 @@ pub there_followed : (all : List Forced) (s : State) (old : List Stored) (o : Ob
 there_followed all s old o on not =
     ap (λ b. parts_in (cond b (Some (kept_after all s (kept old o.number.0) o)) None)) on
     ∙ ap (λ b. parts_of (cond b (whole s o) (kept_behind s o (kept old o.number.0)))) not
+
+-- ---- its header
+
+pub header_off : (all : List Forced) (s : State) (old : List Stored) (o : Object) → o.on_disk ≡ false → HasHeaderIn (kept_there all s old o)
+header_off all s old o off = subst (λ b. HasHeaderIn (cond b (Some (kept_after all s (kept old o.number.0) o)) None)) (sym off) tt
+
+pub header_whole : (all : List Forced) (h : Held) (us : UnitMap) (m : Content) (d : Durable) (s : State) (o : Object) → Precedes h us m d s → o.on_disk ≡ true → list_any (is_whole o.number.0) all ≡ true
+    → HasHeader (whole_of us h o) → HasHeaderIn (kept_there all s d.objects o)
+header_whole all h us m d s o p on forced has =
+    subst (λ b. HasHeaderIn (cond b (Some (kept_after all s (kept d.objects o.number.0) o)) None)) (sym on)
+    (subst (λ b. HasHeader (cond b (whole s o) (kept_behind s o (kept d.objects o.number.0)))) (sym forced) (subst HasHeader (sym (whole_same h us m d s p o)) has))
+
+pub header_followed : (all : List Forced) (s : State) (old : List Stored) (o : Object) → o.on_disk ≡ true → list_any (is_whole o.number.0) all ≡ false → HasHeader (kept_behind s o (kept old o.number.0)) → HasHeaderIn (kept_there all s old o)
+header_followed all s old o on not has =
+    subst (λ b. HasHeaderIn (cond b (Some (kept_after all s (kept old o.number.0) o)) None)) (sym on)
+    (subst (λ b. HasHeader (cond b (whole s o) (kept_behind s o (kept old o.number.0)))) (sym not) has)
 
 -- ---- the object of a number
 
@@ -82,6 +98,13 @@ module _ (all : List Forced) (h : Held) (us : UnitMap) (m : Content) (d : Durabl
   number_there o there =
       parts_behind all d s n sorted low
       ∙ ap (λ (x : Option Object). parts_in (kept_one all s d.objects x)) (ap (λ (g : Held). object g n) p.held ∙ there)
+
+  -- and what is kept under it
+  pub kept_number_there : (o : Object) → object h n ≡ Some o → kept (durable_after all d s).objects n ≡ kept_there all s d.objects o
+  kept_number_there o there = kept_behind_step all d s n sorted ∙ ap (λ (x : Option Object). kept_one all s d.objects x) (ap (λ (g : Held). object g n) p.held ∙ there)
+
+  pub kept_number_none : object h n ≡ None → kept (durable_after all d s).objects n ≡ None
+  kept_number_none none = kept_behind_step all d s n sorted ∙ ap (λ (x : Option Object). kept_one all s d.objects x) (ap (λ (g : Held). object g n) p.held ∙ none)
 
   -- nothing is, where none is there
   pub number_none : object h n ≡ None → parts_at (durable_after all d s) n ≡ []
@@ -110,11 +133,31 @@ none_below : (ns : List ℕ) → AreBelow [] ns
 none_below [] = tt
 none_below (n ∷ ns) = (tt, none_below ns)
 
+-- ---- numbers
+
+-- what holds of all holds of one that is among them
+among_all : (P : ℕ → Type 0) (ns : List ℕ) → AllByRecursion P ns → (n : ℕ) → is_among n ns ≡ true → P n
+among_all P [] each n is = absurd cc
+among_all P (k ∷ ns) each n is = by (n == k) refl is (among_all P ns each.1 n)
+  where
+    by : (b : Bool) → (n == k) ≡ b → (b || is_among n ns) ≡ true → (is_among n ns ≡ true → P n) → P n
+    by true same among rest = let one : n ≡ k = grind (arith, nat_tests) in subst P (sym one) each.0
+    by false same among rest = rest among
+
+all_with : (P : ℕ → Type 0) (ns : List ℕ) (n : ℕ) → AllByRecursion P ns → P n → AllByRecursion P (ns ++ n ∷ [])
+all_with P [] n each here = (here, tt)
+all_with P (k ∷ ns) n each here = (each.0, all_with P ns n each.1 here)
+
+-- of what is kept under a number behind a step the header can be read
+abbrev pub HasHeaderAt : List Forced → Durable → State → ℕ → Type 0
+HasHeaderAt all d s n = HasHeaderIn (kept (durable_after all d s).objects n)
+
 -- ---- so far
 
 -- the changes of the numbers before a place, which are of objects; those from it on rise, and are above
 pub record AreSoFar {V : Type 0} (view : V → VaultView) (holds : V → Content → Type 0) (leaves : V → ℕ → Content → Type 0) (all : List Forced) (h : Held) (us : UnitMap) (old now : V) (ns : List ℕ) (at : ℕ) (into : List Change) : Type 0 where
   pub told : (m : Content) (d : Durable) (s : State) → holds old m → Precedes h us m d s → into ≡ all_differences (get m) (aims_of (durable_after all d s) (take at ns))
+  pub headers : (m : Content) (d : Durable) (s : State) → holds old m → Precedes h us m d s → AllByRecursion (HasHeaderAt all d s) (take at ns)
   pub rising : AreRising into
   pub objects : AllByRecursion (λ c. IsNumber c.key.object) into
   pub below : AreBelow into (drop at ns)
@@ -151,6 +194,7 @@ module _ {V : Type 0} {view : V → VaultView} {holds : V → Content → Type 0
   pub each_begun : (old : V) (ns : List ℕ) (into : List Change) → AreNumbers all → ns ≡ numbers all → into ≡ [] → Stays view holds leaves old old → AreSoFar view holds leaves all h us old old ns 0 into
   each_begun old ns into are is none stays = record {
     told = λ m d s held p. none;
+    headers = λ m d s held p. tt;
     rising = subst AreRising (sym none) tt;
     objects = subst (λ (cs : List Change). AllByRecursion (λ c. IsNumber c.key.object) cs) (sym none) tt;
     below = subst (λ (cs : List Change). AreBelow cs ns) (sym none) (none_below ns);
@@ -162,8 +206,9 @@ module _ {V : Type 0} {view : V → VaultView} {holds : V → Content → Type 0
 
   pub each_on : (old now new : V) (ns : List ℕ) (at n : ℕ) (into items : List Change) → AreSoFar view holds leaves all h us old now ns at into → at < length ns → drop at ns ≡ n ∷ drop (at + 1) ns → take (at + 1) ns ≡ take at ns ++ n ∷ []
       → ((m : Content) (d : Durable) (s : State) → holds now m → Precedes h us m d s → items ≡ into ++ differences (get m) (range_of n) (parts_at (durable_after all d s) n))
+      → ((m : Content) (d : Durable) (s : State) → holds now m → Precedes h us m d s → HasHeaderAt all d s n)
       → AddsAt n into items → Stays view holds leaves now new → (view new).faults ≡ (view now).faults → AreSoFar view holds leaves all h us old new ns (at + 1) items
-  each_on old now new ns at n into items was within here more told adds stays count =
+  each_on old now new ns at n into items was within here more told header adds stays count =
       let rest = drop (at + 1) ns in
       let below : AreBelow into (n ∷ rest) = subst (AreBelow into) here was.below in
       let rise : Rise (n ∷ rest) = subst Rise here was.rise in
@@ -175,6 +220,8 @@ module _ {V : Type 0} {view : V → VaultView} {holds : V → Content → Type 0
             ∙ ap (λ (cs : List Change). cs ++ differences (get m) (range_of n) (parts_at (durable_after all d s) n)) (was.told m d s held p)
             ∙ sym (one_aim (get m) (durable_after all d s) (take at ns) n)
             ∙ ap (λ (ks : List ℕ). all_differences (get m) (aims_of (durable_after all d s) ks)) (sym more);
+        headers = λ m d s held p.
+            subst (AllByRecursion (HasHeaderAt all d s)) (sym more) (all_with (HasHeaderAt all d s) (take at ns) n (was.headers m d s held p) (header m d s ((was.stays.held m).0 held) p));
         rising = subst AreRising (sym adds.added) (rising_more n into adds.more below.0 own was.rising adds.rising);
         objects = subst (λ (cs : List Change). AllByRecursion (λ c. IsNumber c.key.object) cs) (sym adds.added)
             (all_on _ into adds.more was.objects (all_of _ _ adds.more (λ c is. subst IsNumber (sym is) each.0) own));
@@ -189,6 +236,11 @@ module _ {V : Type 0} {view : V → VaultView} {holds : V → Content → Type 0
       → (m : Content) (d : Durable) (s : State) → holds old m → Precedes h us m d s → into ≡ object_changes all (get m) (durable_after all d s)
   each_done old now ns at into was end is m d s held p =
       was.told m d s held p ∙ ap (λ (ks : List ℕ). all_differences (get m) (aims_of (durable_after all d s) ks)) (take_all at ns end ∙ is)
+
+  pub each_headed : (old now : V) (ns : List ℕ) (at : ℕ) (into : List Change) → AreSoFar view holds leaves all h us old now ns at into → length ns ≤ at → ns ≡ numbers all
+      → (m : Content) (d : Durable) (s : State) → holds old m → Precedes h us m d s → (n : ℕ) → is_forced n all ≡ true → HasHeaderAt all d s n
+  each_headed old now ns at into was end is m d s held p n speaks =
+      among_all (HasHeaderAt all d s) (numbers all) (subst (AllByRecursion (HasHeaderAt all d s)) (take_all at ns end ∙ is) (was.headers m d s held p)) n (numbers_are n all ∙ speaks)
 
 -- a place of a list
 pub at_place : (at d : ℕ) (ns : List ℕ) → at < length ns → drop at ns ≡ get_or ns at d ∷ drop (at + 1) ns

@@ -3,26 +3,28 @@ use Rattle.std.proofs.Common.{◌≡◌, ◌∙◌, ◌<◌, ◌≤◌, None, Op
 use Rattle.std.specs.FinMap.{get}
 use Rattle.std.specs.Prelude.{Err, IfErr, IsErrAnd, IsTrue, Ok, OnOk, Result, is_some}
 use Rattle.s38_base.specs.NameText.{is_name}
-use Rattle.s38_codecs.proofs.CodecLaws.{both_true}
 use Rattle.s38_commits.specs.Units.{UnitMap}
-use Rattle.s38_durable.specs.Durable.{Durable, kept, kept_behind, whole_of}
+use Rattle.s38_durable.specs.Durable.{Durable, kept, kept_behind, last_in, whole_of}
 use Rattle.s38_forcing.specs.Differences.{differences}
-use Rattle.s38_image.proofs.HeaderLaws.{at_most}
 use Rattle.s38_image.specs.Faults.{ceiling_key}
-use Rattle.s38_image.specs.Images.{parts_of}
+use Rattle.s38_image.specs.Fitting.{header_codec}
+use Rattle.s38_image.specs.Images.{header_of, parts_of}
+use Rattle.s38_image.specs.declared.header.Header.{Header}
 use Rattle.s38_image.specs.declared.stored.Stored.{Stored}
 use Rattle.s38_image_printing.proofs.LengthLaws.{header_long}
 use Rattle.s38_image_printing.specs.Parts.{header_with}
 use Rattle.s38_keeping.specs.Replacing.{range_of}
 use Rattle.s38_rules.specs.Held.{Held, kind_of, object}
+use Rattle.s38_rules.specs.Journaling.{journal_for}
 use Rattle.s38_rules.specs.Parts.{profile_of}
 use Rattle.s38_rules.specs.State.{State}
+use Rattle.s38_rules.specs.Storable.{IsStorable}
 use Rattle.s38_rules.specs.declared.object.Object.{Object}
 use Rattle.s38_vault.specs.Content.{Content}
-use Rattle.s38_step_parts.proofs.KeptLaws.{IsKeptLen, front_differs, key_of, kept_number, lens, never_bad, nothing_kept, some_kept, some_len, user_parts}
+use Rattle.s38_step_parts.proofs.KeptLaws.{Fit, IsKeptLen, followed_header, front_differs, key_of, kept_number, lens, never_bad, nothing_kept, some_kept, some_len, user_followed, user_kind, user_unsequenced}
 use Rattle.s38_step_parts.specs.Fronts.{front_parts, front_range}
 use Rattle.s38_step_parts.specs.Outcomes.{IsUnread}
-use Rattle.s38_step_parts.specs.Stepping.{Precedes}
+use Rattle.s38_step_parts.specs.Stepping.{HasHeader, Precedes}
 use Rattle.s38_step_parts.specs.declared.fault.ForceFault.{ForceFault}
 use Rattle.s38_step_parts.specs.declared.fault.ForceFault.TheVariants as faults
 
@@ -31,6 +33,10 @@ use Rattle.s38_step_parts.specs.declared.fault.ForceFault.TheVariants as faults
 pub on_ok : {T E : Type 0} (r : Result T E) (P Q : Type 0) → (P → Q) → OnOk r P → OnOk r Q
 on_ok (Ok x) P Q f h = f h
 on_ok (Err e) P Q f h = tt
+
+pub always : {T E : Type 0} (r : Result T E) (Q : Type 0) → Q → OnOk r Q
+always (Ok x) Q h = h
+always (Err e) Q h = tt
 
 pub bad_on : (P Q : Type 0) → (P → Q) → (fault : ForceFault) → IsUnread P fault → IsUnread Q fault
 bad_on P Q f (faults.BadHeader object) h = f h
@@ -47,39 +53,62 @@ pub handed : {T : Type 0} (P : ForceFault → Type 0) (r : Result T ForceFault) 
 handed P (Ok done) fault same h = tt
 handed P (Err e) fault same h = subst P (sym same) h
 
+-- ---- an object that is kept whole
+
+pub whole_has : (us : UnitMap) (h : Held) (o : Object) → IsStorable o → (head : Header) → header_of (whole_of us h o) ≡ head → header_codec.fits head ≡ true → HasHeader (whole_of us h o)
+whole_has us h o storable head is fits = record {
+  fits = ap (λ (x : Header). header_codec.fits x) is ∙ fits;
+  rows = storable.rows;
+  user = λ user. user_unsequenced (last_in h (journal_for h o.number.0)) o.body o.id.kind storable.kind user;
+}
+
 -- ---- an object that is there
 
 module _ (h : Held) (us : UnitMap) (m : Content) (d : Durable) (s : State) (p : Precedes h us m d s) (o : Object) where
   -- the state has these objects and units
-  pub whole_same : parts_of (whole_of s.units s.held o) ≡ parts_of (whole_of us h o)
-  whole_same = λ i. parts_of (whole_of (p.units i) (p.held i) o)
+  pub whole_same : whole_of s.units s.held o ≡ whole_of us h o
+  whole_same = λ i. whole_of (p.units i) (p.held i) o
 
   found : object h o.number.0 ≡ Some o → object s.held o.number.0 ≡ Some o
   found there = ap (λ (g : Held). object g o.number.0) p.held ∙ there
 
-  pub user_follows : object h o.number.0 ≡ Some o → is_some (profile_of o.body) ≡ true → kind_of o.body ≡ o.id.kind → parts_of (kept_behind s o (kept d.objects o.number.0)) ≡ parts_of (whole_of us h o)
+  -- each header that is kept can be read
+  fit : Fit d
+  fit n x is = (p.headers n x is).fits
+
+  -- a user is kept whole
+  pub user_follows : object h o.number.0 ≡ Some o → is_some (profile_of o.body) ≡ true → kind_of o.body ≡ o.id.kind → kept_behind s o (kept d.objects o.number.0) ≡ whole_of us h o
   user_follows there user kind = by (kept d.objects o.number.0) refl ∙ whole_same
     where
-      by : (x : Option Stored) → kept d.objects o.number.0 ≡ x → parts_of (kept_behind s o x) ≡ parts_of (whole_of s.units s.held o)
+      by : (x : Option Stored) → kept d.objects o.number.0 ≡ x → kept_behind s o x ≡ whole_of s.units s.held o
       by None is = refl
-      by (Some x) is = user_parts s o x user kind (p.kinds o.number.0 o x (found there) is) (p.images o.number.0 x is).body
+      by (Some x) is = user_followed s o x user ((p.headers o.number.0 x is).user (p.kinds o.number.0 o x (found there) is ∙ user_kind o.body o.id.kind user kind))
 
-  pub none_follows : o.number.0 < ceiling_key → lens (get m (key_of o.number.0)) ≡ some_len None → parts_of (kept_behind s o (kept d.objects o.number.0)) ≡ parts_of (whole_of us h o)
-  none_follows low read =
-      ap (λ (x : Option Stored). parts_of (kept_behind s o x)) (nothing_kept m d o.number.0 p.stands low (λ n x is. (p.images n x is).header) read) ∙ whole_same
+  -- and so is an object of which nothing is kept
+  pub none_follows : o.number.0 < ceiling_key → lens (get m (key_of o.number.0)) ≡ some_len None → kept_behind s o (kept d.objects o.number.0) ≡ whole_of us h o
+  none_follows low read = ap (λ (x : Option Stored). kept_behind s o x) (nothing_kept m d o.number.0 p.stands low fit read) ∙ whole_same
 
   pub never_read_badly : o.number.0 < ceiling_key → lens (get m (key_of o.number.0)) ≡ Some None → ⊥
-  never_read_badly low read = never_bad m d o.number.0 p.stands low (λ n x is. (p.images n x is).header) read
+  never_read_badly low read = never_bad m d o.number.0 p.stands low fit read
 
-  pub some_follows : (len : ℕ) → o.number.0 < ceiling_key → object h o.number.0 ≡ Some o → lens (get m (key_of o.number.0)) ≡ some_len (Some len) → is_some (profile_of o.body) ≡ false → IsTrue (is_name o.id.name) → length o.rows ≤ 4096
-      → differences (get m) (range_of o.number.0) (parts_of (kept_behind s o (kept d.objects o.number.0))) ≡ differences (get m) (front_range o.number.0) (front_parts o len)
-  some_follows len low there read user named few =
-      let n = o.number.0 in
-      let was : IsKeptLen d n len = some_kept m d n len p.stands low (λ k x is. (p.images k x is).header) read in
-      let x = was.stored in
-      let image = p.images n x was.is in
-      let rows : length x.object.rows ≤ 4096 = at_most (length x.object.rows) 4096 (both_true _ _ image.within).0 in
-      let own : x.object.number.0 ≡ n = kept_number n d.objects x was.is in
-      let number : x.object.number ≡ o.number = λ i. record { 0 = own i } in
-      ap (λ (y : Option Stored). differences (get m) (range_of n) (parts_of (kept_behind s o y))) was.is
-      ∙ front_differs m d o x len p.stands low was.is was.said image.header rows (p.kinds n o x (found there) was.is) user (header_long (header_with o len) named) few number
+  module _ (len : ℕ) (low : o.number.0 < ceiling_key) (there : object h o.number.0 ≡ Some o) (read : lens (get m (key_of o.number.0)) ≡ some_len (Some len)) (user : is_some (profile_of o.body) ≡ false) (few : length o.rows ≤ 4096) where
+    was : IsKeptLen d o.number.0 len
+    was = some_kept m d o.number.0 len p.stands low fit read
+
+    -- of another header and rows follow
+    pub some_follows : IsTrue (is_name o.id.name) → differences (get m) (range_of o.number.0) (parts_of (kept_behind s o (kept d.objects o.number.0))) ≡ differences (get m) (front_range o.number.0) (front_parts o len)
+    some_follows named =
+        let n = o.number.0 in
+        let x = was.stored in
+        let has = p.headers n x was.is in
+        let own : x.object.number.0 ≡ n = kept_number n d.objects x was.is in
+        let number : x.object.number ≡ o.number = λ i. record { 0 = own i } in
+        ap (λ (y : Option Stored). differences (get m) (range_of n) (parts_of (kept_behind s o y))) was.is
+        ∙ front_differs m d o x len p.stands low was.is was.said has.fits has.rows (p.kinds n o x (found there) was.is) user (header_long (header_with o len) named) few number
+
+    pub some_header : header_codec.fits (header_with o len) ≡ true → HasHeader (kept_behind s o (kept d.objects o.number.0))
+    some_header fits =
+        let n = o.number.0 in
+        let x = was.stored in
+        subst (λ (y : Option Stored). HasHeader (kept_behind s o y)) (sym was.is)
+        (followed_header o x len user (p.kinds n o x (found there) was.is) was.said few fits (p.headers n x was.is))

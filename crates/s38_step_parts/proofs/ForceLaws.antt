@@ -22,6 +22,7 @@ use Rattle.s38_image.specs.Faults.{ceiling_key, ceiling_page}
 use Rattle.s38_image.specs.Pages.{needed, no_tags}
 use Rattle.s38_image.specs.declared.stored.Stored.{Stored}
 use Rattle.s38_keeping.specs.Replacing.{range_of}
+use Rattle.s38_object_laws.specs.Outline.{is_forced}
 use Rattle.s38_rules.specs.Forcing.{Forced}
 use Rattle.s38_rules.specs.State.{State}
 use Rattle.s38_commits.specs.Units.{UnitMap}
@@ -38,7 +39,7 @@ use Rattle.s38_step_parts.proofs.NarrowLaws.{narrowed}
 use Rattle.s38_step_parts.proofs.NumberLaws.{AreAbove, Rise, numbers_are, numbers_rise}
 use Rattle.s38_step_parts.specs.Numbers.{numbers}
 use Rattle.s38_step_parts.specs.Putting.{IsBetweenPuts}
-use Rattle.s38_step_parts.specs.Stepping.{AreNumbers, IsDue, IsNumber, Precedes, ceiling_changes, is_ceiling, object_changes, put_ceiling, put_forced, raised}
+use Rattle.s38_step_parts.specs.Stepping.{AreNumbers, HasHeader, HasHeaderIn, HaveHeaders, IsDue, IsNumber, Precedes, ceiling_changes, is_ceiling, object_changes, put_ceiling, put_forced, raised}
 
 -- ---- where the others have what they had, the pages stand for what is durable then
 
@@ -188,6 +189,15 @@ once_put all m n d s most ceiling others are one two stands due few small (inr l
       | inl none ↦ inr (inl (subst (λ (c : Content). Stands c (raised d s)) (sym (none ∙ ap (changed m) one)) (ceiling_stands all m d s stands due)))
       | inr made ↦ inr (inr (subst (λ (c : Content). Stands c (durable_after all d s)) (sym (made ∙ both_put all m (durable_after all d s) ceiling others are one two)) (forced_stands all m d s stands due)))
     ]
+
+-- ---- headers
+
+pub headers_behind : (all : List Forced) (d : Durable) (s : State) → HaveHeaders d → IsDue all d s → ((n : ℕ) → is_forced n all ≡ true → HasHeaderIn (kept (durable_after all d s).objects n)) → HaveHeaders (durable_after all d s)
+headers_behind all d s have due anew n x there = by (is_forced n all) refl
+  where
+    by : (b : Bool) → is_forced n all ≡ b → HasHeader x
+    by true speaks = subst HasHeaderIn there (anew n speaks)
+    by false silent = have n x (sym (due.objects n silent) ∙ there)
 
 -- ---- all changes are known
 

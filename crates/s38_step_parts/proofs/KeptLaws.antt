@@ -21,10 +21,9 @@ use Rattle.s38_forcing.specs.Differences.{HavePages, differences, wanted_at}
 use Rattle.s38_forcing.specs.declared.range.PartRange.{PartRange}
 use Rattle.s38_image.proofs.AgainLaws.{header_long}
 use Rattle.s38_image.proofs.HeaderLaws.{header_is}
-use Rattle.s38_image.specs.Bodies.{BodyImage, body_bytes, body_tags, profile, unsequenced}
+use Rattle.s38_image.specs.Bodies.{BodyImage, body_bytes}
 use Rattle.s38_image.specs.Faults.{ceiling_key}
-use Rattle.s38_codecs.specs.Formats.{FitsCase}
-use Rattle.s38_image.specs.Fitting.{FitsBody, header_codec}
+use Rattle.s38_image.specs.Fitting.{header_codec}
 use Rattle.s38_image.specs.Headers.{header}
 use Rattle.s38_image.specs.Images.{body_parts, header_of, image_of, parts_of}
 use Rattle.s38_image.specs.Settled.{settled_body, settled_sequence}
@@ -36,7 +35,7 @@ use Rattle.s38_keeping.specs.Replacing.{range_of}
 use Rattle.s38_keeping.specs.Walking.{AreAt}
 use Rattle.s38_rules.specs.Held.{kind_of}
 use Rattle.s38_rules.specs.Journaling.{journal_for}
-use Rattle.s38_rules.specs.Parts.{profile_of, profile_part}
+use Rattle.s38_rules.specs.Parts.{profile_of}
 use Rattle.s38_rules.specs.State.{State}
 use Rattle.s38_rules.specs.declared.object.Body.{Body}
 use Rattle.s38_rules.specs.declared.object.Body.TheVariants as bodies
@@ -49,6 +48,7 @@ use Rattle.s38_closing.proofs.PartLaws.{ArePart}
 use Rattle.s38_step_parts.proofs.FrontLaws.{front_are, first_part, page_of_header, parts_split, stream_from, wanted_before, wanted_behind}
 use Rattle.s38_step_parts.proofs.NarrowLaws.{narrowed}
 use Rattle.s38_step_parts.specs.Fronts.{AddsAt, front_parts, front_range, len_in}
+use Rattle.s38_step_parts.specs.Stepping.{HasHeader}
 
 -- ---- changes at a number
 
@@ -180,6 +180,14 @@ body_same x y number kind image =
     ∙ ap (λ (k : Kind). body_parts (record x { object = record x.object { number = y.object.number; id = record x.object.id { kind = k } } })) kind
     ∙ ap (λ (i : BodyImage). body_parts (record { object = record x.object { number = y.object.number; id = record x.object.id { kind = y.object.id.kind }; body = i.body }; sequence = i.sequence })) image
 
+-- it is as long as the header says that is kept
+image_same : (o : Object) (x : Stored) → is_some (profile_of o.body) ≡ false → image_of (followed o x) ≡ image_of x
+image_same o x user = ap (λ (b : Body). record { body = b; sequence = x.sequence }) (behind_same o.body x.object.body user)
+
+followed_len : (o : Object) (x : Stored) (len : ℕ) → is_some (profile_of o.body) ≡ false → x.object.id.kind ≡ o.id.kind → (header_of x).body ≡ len → length (body_bytes o.id.kind (image_of (followed o x))) ≡ len
+followed_len o x len user kind said =
+    ap (λ (i : BodyImage). length (body_bytes o.id.kind i)) (image_same o x user) ∙ ap (λ (k : Kind). length (body_bytes k (image_of x))) (sym kind) ∙ said
+
 module _ (m : Content) (d : Durable) (o : Object) (x : Stored) (len : ℕ) where
   pub front_differs : Stands m d → o.number.0 < ceiling_key → kept d.objects o.number.0 ≡ Some x → (header_of x).body ≡ len → header_codec.fits (header_of x) ≡ true → length x.object.rows ≤ 4096
       → x.object.id.kind ≡ o.id.kind → is_some (profile_of o.body) ≡ false → length (header.print (header_with o len)) ≡ 512 → length o.rows ≤ 4096 → x.object.number ≡ o.number
@@ -187,10 +195,8 @@ module _ (m : Content) (d : Durable) (o : Object) (x : Stored) (len : ℕ) where
   front_differs stands low is said fits few kind user long rows number =
       let n = o.number.0 in
       let f = followed o x in
-      let image : image_of f ≡ image_of x = ap (λ (b : Body). record { body = b; sequence = x.sequence }) (behind_same o.body x.object.body user) in
-      let bytes : length (body_bytes o.id.kind (image_of f)) ≡ len =
-      ap (λ (i : BodyImage). length (body_bytes o.id.kind i)) image ∙ ap (λ (k : Kind). length (body_bytes k (image_of x))) (sym kind) ∙ said in
-      let body : body_parts f ≡ body_parts x = body_same f x (sym number) (sym kind) image in
+      let bytes : length (body_bytes o.id.kind (image_of f)) ≡ len = followed_len o x len user kind said in
+      let body : body_parts f ≡ body_parts x = body_same f x (sym number) (sym kind) (image_same o x user) in
       let whole : parts_of f ≡ front_parts o len ++ body_parts x =
       parts_split f ∙ (λ i. front_parts o (bytes i) ++ body i) in
       let front = front_are o len long rows in
@@ -207,30 +213,34 @@ module _ (m : Content) (d : Durable) (o : Object) (x : Stored) (len : ℕ) where
       ∙ wanted_behind n 0 128 p (front_parts x.object (header_of x).body) (body_parts x) before far
       ∙ sym (ap (λ (cs : List Change). wanted_at cs (key_at n p)) whole ∙ wanted_behind n 0 128 p (front_parts o len) (body_parts x) front far))
 
+-- the header follows too
+pub followed_header : (o : Object) (x : Stored) (len : ℕ) → is_some (profile_of o.body) ≡ false → x.object.id.kind ≡ o.id.kind → (header_of x).body ≡ len → length o.rows ≤ 4096 → header_codec.fits (header_with o len) ≡ true
+    → HasHeader x → HasHeader (followed o x)
+followed_header o x len user kind said few fits has = record {
+  fits = ap (λ (k : ℕ). header_codec.fits (header_with o k)) (followed_len o x len user kind said) ∙ fits;
+  rows = few;
+  user = λ is. has.user (kind ∙ is);
+}
+
 -- ---- a user is kept whole
+
+pub user_kind : (b : Body) (k : Kind) → is_some (profile_of b) ≡ true → kind_of b ≡ k → k ≡ kinds.Profile
+user_kind (bodies.Profile special limit) k user kind = sym kind
+user_kind _ k user kind = absurd cc
 
 -- an object with this body and this sequence
 abbrev with_body : Object → Body → ℕ → Stored
 with_body o b sequence = record { object = record o { on_disk = true; body = b }; sequence = sequence }
 
--- no sequence is said of a user
-unsequenced_user : (k : Kind) (x : Stored) → k ≡ kinds.Profile → FitsBody k (body_tags k (image_of x)) (image_of x) → x.sequence ≡ 0
-unsequenced_user k x is fits = by x.sequence (subst (λ (j : Kind). FitsBody j (body_tags j (image_of x)) (image_of x)) is fits)
-  where
-    by : (q : ℕ) → FitsCase (λ u. profile.fits u ≡ true) (unsequenced profile_part q x.object.body) → q ≡ 0
-    by zero fits = refl
-    by (suc q) fits = absurd fits
-
-user_kind : (b : Body) (k : Kind) → is_some (profile_of b) ≡ true → kind_of b ≡ k → k ≡ kinds.Profile
-user_kind (bodies.Profile special limit) k user kind = sym kind
-user_kind _ k user kind = absurd cc
-
 user_by : (units : UnitMap) (last : ℕ) (o : Object) (b : Body) (x : Stored) → is_some (profile_of b) ≡ true → x.sequence ≡ 0
-    → parts_of (with_body o (body_behind b x.object.body) x.sequence) ≡ parts_of (with_body o (settled_body units o.number.0 b) (settled_sequence last b))
-user_by units last o (bodies.Profile special limit) x user none = ap (λ (q : ℕ). parts_of (with_body o (bodies.Profile special limit) q)) none
+    → with_body o (body_behind b x.object.body) x.sequence ≡ with_body o (settled_body units o.number.0 b) (settled_sequence last b)
+user_by units last o (bodies.Profile special limit) x user none = ap (λ (q : ℕ). with_body o (bodies.Profile special limit) q) none
 user_by units last o _ x user none = absurd cc
 
-pub user_parts : (s : State) (o : Object) (x : Stored) → is_some (profile_of o.body) ≡ true → kind_of o.body ≡ o.id.kind → x.object.id.kind ≡ o.id.kind
-    → FitsBody x.object.id.kind (body_tags x.object.id.kind (image_of x)) (image_of x) → parts_of (followed o x) ≡ parts_of (whole s o)
-user_parts s o x user kind same fits =
-    user_by s.units (last_in s.held (journal_for s.held o.number.0)) o o.body x user (unsequenced_user x.object.id.kind x (same ∙ user_kind o.body o.id.kind user kind) fits)
+pub user_followed : (s : State) (o : Object) (x : Stored) → is_some (profile_of o.body) ≡ true → x.sequence ≡ 0 → followed o x ≡ whole s o
+user_followed s o x user none = user_by s.units (last_in s.held (journal_for s.held o.number.0)) o o.body x user none
+
+-- no sequence is said of a user that is kept whole
+pub user_unsequenced : (last : ℕ) (b : Body) (k : Kind) → kind_of b ≡ k → k ≡ kinds.Profile → settled_sequence last b ≡ 0
+user_unsequenced last (bodies.DataSpace held) k kind is = absurd (let e : kinds.DataSpace ≡ kinds.Profile = kind ∙ is in cc)
+user_unsequenced last _ k kind is = refl

@@ -1,3 +1,4 @@
+pub mod HeaderLaws
 pub mod NumberLaws
 pub mod BothLaws
 pub mod NarrowLaws

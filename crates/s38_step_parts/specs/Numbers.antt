@@ -1,5 +1,6 @@
 -- The numbers of the objects that a step forces.
-use Rattle.std.specs.Prelude.{ℕ, ◌==◌, List, [], ◌∷◌, nat_lt, if◌then◌else◌}
+use Rattle.std.specs.Prelude.{ℕ, ◌==◌, Bool, List, [], ◌∷◌, filter, nat_lt, not, if◌then◌else◌}
+use Rattle.s38_object_laws.specs.Outline.{speaks_of}
 use Rattle.s38_rules.specs.Forcing.{Ceiling, Forced, Header, Removed, Whole}
 
 -- a number in its place among rising ones, once
@@ -22,3 +23,13 @@ with_all ns (one ∷ all) = with_all (with_forced ns one) all
 -- in rising order, each once
 abbrev pub numbers : List Forced → List ℕ
 numbers all = with_all [] all
+
+-- ---- the number of no object
+
+-- it is not spoken of
+abbrev pub is_numbered : Forced → Bool
+is_numbered one = not (speaks_of 0 one)
+
+-- what is forced, but for what speaks of it
+abbrev pub numbered : List Forced → List Forced
+numbered all = filter is_numbered all

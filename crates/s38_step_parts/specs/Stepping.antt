@@ -1,6 +1,8 @@
 -- What a step puts that forces something: first the ceiling, and then what differs of each object that it forces.
-use Rattle.std.specs.Prelude.{◌≡◌, ◌≤◌, ◌<◌, ℕ, Bool, false, true, List, [], ◌∷◌, Option, None, Some, if◌then◌else◌}
+use Rattle.std.specs.Prelude.{◌≡◌, ◌≤◌, ◌<◌, ℕ, Bool, false, true, List, [], ◌∷◌, length, Option, None, Some, if◌then◌else◌}
 use Rattle.std.specs.List.{list_any}
+use Rattle.s38_base.specs.Limits.{most_rows}
+use Rattle.s38_base.specs.declared.id.Kind.TheVariants as kinds
 use Rattle.s38_base.specs.declared.page.Change.{Change}
 use Rattle.s38_base.specs.declared.page.Key.{Key}
 use Rattle.s38_base.specs.declared.page.Page.{Page}
@@ -9,7 +11,8 @@ use Rattle.s38_durable.specs.Durable.{Durable, durable_after, kept, kept_after}
 use Rattle.s38_durable.specs.Stands.{Stands, aims_of, put_at}
 use Rattle.s38_forcing.specs.Aims.{all_differences}
 use Rattle.s38_image.specs.Faults.{ceiling_key}
-use Rattle.s38_image.specs.Fitting.{IsImage}
+use Rattle.s38_image.specs.Fitting.{header_codec}
+use Rattle.s38_image.specs.Images.{header_of}
 use Rattle.s38_image.specs.declared.stored.Stored.{Stored}
 use Rattle.s38_object_laws.specs.Outline.{is_forced}
 use Rattle.s38_rules.specs.Forcing.{Ceiling, Forced}
@@ -63,16 +66,33 @@ raised d s = record d { ceiling = s.held.ceiling }
 abbrev pub kept_there : List Forced → State → List Stored → Object → Option Stored
 kept_there all s old o = if o.on_disk then Some (kept_after all s (kept old o.number.0) o) else None
 
+-- ---- what can follow
+
+-- the header that is kept of an object can be read again, there are not too many rows, and no entry of a journal space is
+-- counted in of a user
+pub record HasHeader (x : Stored) : Type 0 where
+  pub fits : header_codec.fits (header_of x) ≡ true
+  pub rows : length x.object.rows ≤ most_rows
+  pub user : x.object.id.kind ≡ kinds.Profile → x.sequence ≡ 0
+
+-- where something is kept
+abbrev pub HasHeaderIn : Option Stored → Type 0
+HasHeaderIn None = Unit {0}
+HasHeaderIn (Some x) = HasHeader x
+
+-- of all that is kept
+abbrev pub HaveHeaders : Durable → Type 0
+HaveHeaders d = (n : ℕ) (x : Stored) → kept d.objects n ≡ Some x → HasHeader x
+
 -- ---- before the puts
 
--- the content stands for what is durable, which can be read again, and the state has these objects and units; an object
--- that is there is kept under its kind
+-- the content stands for what is durable, of which each header can be read again, and the state has these objects and
+-- units; an object that is there is kept under its kind
 pub record Precedes (h : Held) (us : UnitMap) (m : Content) (d : Durable) (s : State) : Type 0 where
   pub held : s.held ≡ h
   pub units : s.units ≡ us
   pub stands : Stands m d
-  pub limit : ℕ
-  pub images : (n : ℕ) (x : Stored) → kept d.objects n ≡ Some x → IsImage limit x
+  pub headers : HaveHeaders d
   pub kinds : (n : ℕ) (o : Object) (x : Stored) → object s.held n ≡ Some o → kept d.objects n ≡ Some x → x.object.id.kind ≡ o.id.kind
 
 -- a step led from what is durable to the state, and forces this: what it does not force stays durable

@@ -1,12 +1,13 @@
 //! What differs at the number of an object behind a step.
-ghost use Rattle.std.specs.Prelude.{◌≡◌, ◌<◌, ◌≤◌, ◌++◌, ℕ, IfErr, IfOk, [], ◌≢◌, None, OnOk, Some, is_some, length};
+ghost use Rattle.std.specs.Prelude.{◌≡◌, ◌<◌, ◌≤◌, ◌++◌, ℕ, IfErr, IfOk, [], ◌≢◌, None, OnOk, Some, is_some, length, true};
 ghost use Rattle.std.specs.FinMap.{get};
 ghost use Rattle.std.specs.Option.{option_map};
 ghost use Rattle.s38_base.specs.Faults.{HasCauseOf};
 ghost use Rattle.s38_durable.specs.Durable.{Durable, kept, kept_behind, whole_of};
 ghost use Rattle.s38_forcing.specs.Differences.{differences};
+ghost use Rattle.s38_image.specs.Fitting.{header_codec};
 ghost use Rattle.s38_image.specs.Images.{parts_of};
-ghost use Rattle.s38_image_printing.specs.Parts.{CanSettle};
+ghost use Rattle.s38_image_printing.specs.Parts.{CanSettle, header_with};
 ghost use Rattle.s38_keeping.specs.Replacing.{range_of};
 ghost use Rattle.s38_keeping.specs.Walking.{Stays};
 ghost use Rattle.s38_rules.specs.Held.{object_in};
@@ -15,12 +16,12 @@ ghost use Rattle.s38_rules.specs.State.{State};
 ghost use Rattle.s38_rules.specs.Storable.{IsStorable};
 ghost use Rattle.s38_step_parts.specs.Fronts.{AddsAt, front_parts, front_range, len_in};
 ghost use Rattle.s38_step_parts.specs.Outcomes.{IsUnread};
-ghost use Rattle.s38_step_parts.specs.Stepping.{IsNumber, Precedes};
+ghost use Rattle.s38_step_parts.specs.Stepping.{HasHeader, IsNumber, Precedes};
 ghost use Rattle.s38_step_parts.specs.declared.fault.ForceFault.TheVariants as faults;
 ghost use Rattle.s38_vault.specs.Content.{Content};
 
 use crate::fault::ForceFault;
-use crate::parts::front_parts;
+use crate::parts::{front_parts, whole_header};
 use s38_base::{Change, Key, Page};
 use s38_closing::whole_parts;
 use s38_codecs::ReadFault;
@@ -81,12 +82,15 @@ pub(crate) fn add_whole<V: Vault>(
     requires units { CanSettle units.now object.now.number.0 object.now.body }
     requires number { 1 ≤ object.now.number.0 }
     ensures told { OnOk result ((m : Content) → V.holds vault.old m → into.new.items ≡ into.old.items ++ differences (get m) (range_of object.now.number.0) (parts_of (whole_of units.now objects.now object.now))) }
+    ensures header { HasHeader (whole_of units.now objects.now object.now) }
     ensures adds { OnOk result (AddsAt object.now.number.0 into.old.items into.new.items) }
     ensures bad { IfErr result (IsUnread ⊥) }
     ensures stays { Stays V.view V.holds V.leaves vault.old vault.new }
     ensures cause { HasCauseOf (V.view vault.old).faults (V.view vault.new).faults result faults.Failed }
     ensures count { OnOk result ((V.view vault.new).faults ≡ (V.view vault.old).faults) }
 {
+    // Its contract says that the header is read again.
+    let _header = whole_header(object);
     let parts = whole_parts(alloc, objects, units, object)?;
     add_wanted(vault, object.number.0, &parts, into)?;
     Ok(())
@@ -132,6 +136,7 @@ fn add_front<V: Vault>(
     requires rows { length object.now.rows ≤ 4096 }
     requires number { 1 ≤ object.now.number.0 }
     ensures told { OnOk result ((m : Content) → V.holds vault.old m → into.new.items ≡ into.old.items ++ differences (get m) (front_range object.now.number.0) (front_parts object.now len)) }
+    ensures header { OnOk result (header_codec.fits (header_with object.now len) ≡ true) }
     ensures adds { OnOk result (AddsAt object.now.number.0 into.old.items into.new.items) }
     ensures bad { IfErr result (IsUnread ⊥) }
     ensures stays { Stays V.view V.holds V.leaves vault.old vault.new }
@@ -169,6 +174,7 @@ pub(crate) fn add_followed<V: Vault>(
     requires there { object_in objects.now.objects object.now.number.0 ≡ Some object.now }
     ensures told { OnOk result ((m : Content) (d : Durable) (s : State) → V.holds vault.old m → Precedes objects.now units.now m d s
         → into.new.items ≡ into.old.items ++ differences (get m) (range_of object.now.number.0) (parts_of (kept_behind s object.now (kept d.objects object.now.number.0)))) }
+    ensures header { OnOk result ((m : Content) (d : Durable) (s : State) → V.holds vault.old m → Precedes objects.now units.now m d s → HasHeader (kept_behind s object.now (kept d.objects object.now.number.0))) }
     ensures adds { OnOk result (AddsAt object.now.number.0 into.old.items into.new.items) }
     ensures bad { IfErr result (IsUnread ((m : Content) (d : Durable) (s : State) → V.holds vault.old m → Precedes objects.now units.now m d s → ⊥)) }
     ensures stays { Stays V.view V.holds V.leaves vault.old vault.new }

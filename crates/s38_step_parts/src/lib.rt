@@ -11,4 +11,5 @@ mod putting;
 mod step;
 
 pub use fault::ForceFault;
+pub use numbers::numbered;
 pub use step::force;

@@ -1,10 +1,10 @@
 //! The numbers of the objects that a step forces.
-ghost use Rattle.std.specs.Prelude.{◌≡◌, IfOk, OnOk};
+ghost use Rattle.std.specs.Prelude.{◌≡◌, [], ◌∷◌, IfOk, OnOk};
 ghost use Rattle.s38_extents.specs.Forcings.{all_forced, forced_as};
-ghost use Rattle.s38_step_parts.specs.Numbers.{numbers, with_forced, with_number};
+ghost use Rattle.s38_step_parts.specs.Numbers.{is_numbered, numbered, numbers, with_forced, with_number};
 
 use s38_base::NoMemory;
-use s38_extents::Forcing;
+use s38_extents::{Forcing, Forcings};
 use std::alloc::Global;
 
 /// Adds a number in its place among rising ones, where it is not there yet.
@@ -45,4 +45,51 @@ pub(crate) fn numbers_of(alloc: Global, all: &[Forcing]) -> Result<Vec<u64>, NoM
         add_forced(&mut found, *one)?;
     }
     Ok(found)
+}
+
+/// Whether this speaks of no object, or of one whose number is not 0.
+fn is_numbered(one: Forcing) -> bool
+    ensures { result ≡ is_numbered (forced_as one) }
+{
+    match one {
+        Forcing::Ceiling => true,
+        Forcing::Header(object) | Forcing::Whole(object) | Forcing::Removed(object) => {
+            object.0 != 0
+        }
+    }
+}
+
+/// One thing that is forced, but for what speaks of number 0.
+fn numbered_one(one: Forcing) -> Forcings
+    ensures { result ≡ numbered (forced_as one ∷ []) }
+{
+    if is_numbered(one) {
+        Forcings::one(one)
+    } else {
+        Forcings::none()
+    }
+}
+
+/// Two of them.
+fn numbered_two(first: Forcing, second: Forcing) -> Forcings
+    ensures { result ≡ numbered (forced_as first ∷ forced_as second ∷ []) }
+{
+    if !is_numbered(first) {
+        return numbered_one(second);
+    }
+    if !is_numbered(second) {
+        return Forcings::one(first);
+    }
+    Forcings::two(first, second)
+}
+
+/// What is forced, but for what speaks of number 0, which is the number of no object.
+pub fn numbered(all: &Forcings) -> Forcings
+    ensures { result ≡ numbered all.now }
+{
+    match all.as_slice() {
+        [one] => numbered_one(*one),
+        [first, second] => numbered_two(*first, *second),
+        _ => Forcings::none(),
+    }
 }

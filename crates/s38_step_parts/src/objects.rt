@@ -1,15 +1,16 @@
 //! What differs of all objects that a step forces, and of the ceiling.
-ghost use Rattle.std.specs.Prelude.{◌≡◌, ◌<◌, ◌++◌, ℕ, All, IfErr, [], OnOk, Some};
+ghost use Rattle.std.specs.Prelude.{◌≡◌, ◌<◌, ◌++◌, ℕ, All, IfErr, [], OnOk, Some, true};
 ghost use Rattle.std.specs.FinMap.{get};
 ghost use Rattle.std.specs.List.{AllByRecursion, list_any};
 ghost use Rattle.s38_base.specs.Faults.{HasCauseOf};
-ghost use Rattle.s38_durable.specs.Durable.{Durable, durable_after};
+ghost use Rattle.s38_durable.specs.Durable.{Durable, durable_after, kept};
 ghost use Rattle.s38_durable.specs.Stands.{parts_at, parts_in};
 ghost use Rattle.s38_forcing.specs.Differences.{differences};
 ghost use Rattle.s38_image.specs.Faults.{ceiling_key};
 ghost use Rattle.s38_image_printing.specs.Parts.{CanSettle};
 ghost use Rattle.s38_keeping.specs.Replacing.{range_of};
 ghost use Rattle.s38_keeping.specs.Walking.{Stays};
+ghost use Rattle.s38_object_laws.specs.Outline.{is_forced};
 ghost use Rattle.s38_rules.specs.Forcing.{is_whole};
 ghost use Rattle.s38_rules.specs.Held.{object_in};
 ghost use Rattle.s38_rules.specs.State.{State};
@@ -18,7 +19,7 @@ ghost use Rattle.s38_extents.specs.Forcings.{all_forced, forced_as};
 ghost use Rattle.s38_step_parts.specs.Fronts.{AddsAt};
 ghost use Rattle.s38_step_parts.specs.Numbers.{numbers};
 ghost use Rattle.s38_step_parts.specs.Outcomes.{IsUnread};
-ghost use Rattle.s38_step_parts.specs.Stepping.{AreNumbers, IsNumber, Precedes, ceiling_changes, is_ceiling, kept_there, object_changes};
+ghost use Rattle.s38_step_parts.specs.Stepping.{AreNumbers, HasHeaderIn, IsNumber, Precedes, ceiling_changes, is_ceiling, kept_there, object_changes};
 ghost use Rattle.s38_step_parts.specs.declared.fault.ForceFault.TheVariants as faults;
 ghost use Rattle.s38_vault.specs.Content.{AreRising, Content, HaveObjects};
 
@@ -95,6 +96,7 @@ fn add_there<V: Vault>(
     requires there { object_in objects.now.objects object.now.number.0 ≡ Some object.now }
     ensures told { OnOk result ((m : Content) (d : Durable) (s : State) → V.holds vault.old m → Precedes objects.now units.now m d s
         → into.new.items ≡ into.old.items ++ differences (get m) (range_of object.now.number.0) (parts_in (kept_there (all_forced all.now) s d.objects object.now))) }
+    ensures header { OnOk result ((m : Content) (d : Durable) (s : State) → V.holds vault.old m → Precedes objects.now units.now m d s → HasHeaderIn (kept_there (all_forced all.now) s d.objects object.now)) }
     ensures adds { OnOk result (AddsAt object.now.number.0 into.old.items into.new.items) }
     ensures bad { IfErr result (IsUnread ((m : Content) (d : Durable) (s : State) → V.holds vault.old m → Precedes objects.now units.now m d s → ⊥)) }
     ensures stays { Stays V.view V.holds V.leaves vault.old vault.new }
@@ -125,6 +127,7 @@ fn add_object<V: Vault>(
     requires number { IsNumber number }
     ensures told { OnOk result ((m : Content) (d : Durable) (s : State) → V.holds vault.old m → Precedes objects.now units.now m d s
         → into.new.items ≡ into.old.items ++ differences (get m) (range_of number) (parts_at (durable_after (all_forced all.now) d s) number)) }
+    ensures header { OnOk result ((m : Content) (d : Durable) (s : State) → V.holds vault.old m → Precedes objects.now units.now m d s → HasHeaderIn (kept (durable_after (all_forced all.now) d s).objects number)) }
     ensures adds { OnOk result (AddsAt number into.old.items into.new.items) }
     ensures bad { IfErr result (IsUnread ((m : Content) (d : Durable) (s : State) → V.holds vault.old m → Precedes objects.now units.now m d s → ⊥)) }
     ensures stays { Stays V.view V.holds V.leaves vault.old vault.new }
@@ -156,6 +159,8 @@ fn add_each<V: Vault>(
     requires none { into.old.items ≡ [] }
     ensures told { OnOk result ((m : Content) (d : Durable) (s : State) → V.holds vault.old m → Precedes objects.now units.now m d s
         → into.new.items ≡ object_changes (all_forced all.now) (get m) (durable_after (all_forced all.now) d s)) }
+    ensures headers { OnOk result ((m : Content) (d : Durable) (s : State) → V.holds vault.old m → Precedes objects.now units.now m d s
+        → (n : ℕ) → is_forced n (all_forced all.now) ≡ true → HasHeaderIn (kept (durable_after (all_forced all.now) d s).objects n)) }
     ensures rising { OnOk result (AreRising into.new.items) }
     ensures objects { OnOk result (AllByRecursion (λ c. IsNumber c.key.object) into.new.items) }
     ensures bad { IfErr result (IsUnread ((m : Content) (d : Durable) (s : State) → V.holds vault.old m → Precedes objects.now units.now m d s → ⊥)) }
@@ -184,6 +189,8 @@ pub(crate) fn add_objects<V: Vault>(
     requires none { into.old.items ≡ [] }
     ensures told { OnOk result ((m : Content) (d : Durable) (s : State) → V.holds vault.old m → Precedes objects.now units.now m d s
         → into.new.items ≡ object_changes (all_forced all.now) (get m) (durable_after (all_forced all.now) d s)) }
+    ensures headers { OnOk result ((m : Content) (d : Durable) (s : State) → V.holds vault.old m → Precedes objects.now units.now m d s
+        → (n : ℕ) → is_forced n (all_forced all.now) ≡ true → HasHeaderIn (kept (durable_after (all_forced all.now) d s).objects n)) }
     ensures rising { OnOk result (AreRising into.new.items) }
     ensures objects { OnOk result (AllByRecursion (λ c. IsNumber c.key.object) into.new.items) }
     ensures bad { IfErr result (IsUnread ((m : Content) (d : Durable) (s : State) → V.holds vault.old m → Precedes objects.now units.now m d s → ⊥)) }

@@ -1,17 +1,22 @@
 //! The parts of an object before its body.
-ghost use Rattle.std.specs.Prelude.{◌≡◌, ◌+◌, ◌≤◌, ◌++◌, IfOk, IsTrue, [], length, vec_capacity, vec_len};
+ghost use Rattle.std.specs.Prelude.{◌≡◌, ◌+◌, ◌≤◌, ◌++◌, ℕ, IfOk, IsTrue, [], OnOk, length, true, vec_capacity, vec_len};
 ghost use Rattle.std.specs.List.{flat_map};
 ghost use Rattle.s38_base.specs.NameText.{is_name};
+ghost use Rattle.s38_commits.specs.Units.{UnitMap};
 ghost use Rattle.s38_forcing.specs.Differences.{IsWanted};
+ghost use Rattle.s38_image.specs.Fitting.{header_codec};
 ghost use Rattle.s38_image.specs.Headers.{header, row};
+ghost use Rattle.s38_image.specs.Images.{header_of};
 ghost use Rattle.s38_image.specs.Pages.{stream_parts};
-ghost use Rattle.s38_image_printing.specs.Parts.{header_with};
+ghost use Rattle.s38_image.specs.Settled.{settled};
+ghost use Rattle.s38_image_printing.specs.Parts.{CanSettle, header_with};
 ghost use Rattle.s38_rules.specs.Room.{rows_pages};
+ghost use Rattle.s38_rules.specs.Storable.{IsStorable};
 ghost use Rattle.s38_step_parts.specs.Fronts.{front_parts, front_range};
 
 use s38_base::{Change, NoMemory};
 use s38_image::{Header, needed};
-use s38_image_printing::{PageWriter, put_header, put_rows};
+use s38_image_printing::{PageWriter, image_len, put_header, put_rows};
 use s38_rules::Object;
 use std::alloc::Global;
 
@@ -22,10 +27,11 @@ const ROWS_PART: u32 = 1;
 /// How many bytes a row has.
 const ROW_BYTES: u32 = 9;
 
-/// The header of an object whose body has so many bytes.
+/// The header of an object whose body has so many bytes. It is read again.
 fn header_with(object: &Object, len: u32) -> Header
     requires { length object.now.rows ≤ 4096 }
     ensures value { result ≡ header_with object.now len }
+    ensures fits { header_codec.fits result ≡ true }
     ensures name { IsTrue (is_name object.now.id.name) }
 {
     let _name = object.id.name.as_bytes();
@@ -39,6 +45,15 @@ fn header_with(object: &Object, len: u32) -> Header
     }
 }
 
+/// The header of an object as it stands, with every uncommitted change taken back. It is read again.
+pub(crate) fn whole_header(object: &Object) -> Header
+    requires { IsStorable object.now }
+    ensures value { (units : UnitMap) (last : ℕ) → CanSettle units object.now.number.0 object.now.body → header_of (settled units last object.now) ≡ result }
+    ensures fits { header_codec.fits result ≡ true }
+{
+    header_with(object, image_len(&object.body))
+}
+
 /// Adds the header of an object whose body has so many bytes.
 fn with_header(parts: Vec<Change>, object: &Object, len: u32) -> Vec<Change>
     requires rows { length object.now.rows ≤ 4096 }
@@ -46,6 +61,7 @@ fn with_header(parts: Vec<Change>, object: &Object, len: u32) -> Vec<Change>
     ensures parts { result.items ≡ parts.items ++ stream_parts object.now.number.0 0 (header.print (header_with object.now len)) [] }
     ensures len { vec_len result ≡ vec_len parts + 1 }
     ensures capacity { vec_capacity result ≡ vec_capacity parts }
+    ensures fits { header_codec.fits (header_with object.now len) ≡ true }
     ensures name { IsTrue (is_name object.now.id.name) }
 {
     let header = header_with(object, len);
@@ -71,6 +87,7 @@ pub(crate) fn front_parts(alloc: Global, object: &Object, len: u32) -> Result<Ve
     requires { length object.now.rows ≤ 4096 }
     ensures parts { IfOk result (λ parts. parts.items ≡ front_parts object.now len) }
     ensures wanted { IfOk result (λ parts. IsWanted (front_range object.now.number.0) parts.items) }
+    ensures fits { OnOk result (header_codec.fits (header_with object.now len) ≡ true) }
 {
     let rows = needed(ROW_BYTES * object.rows.len() as u32);
     let parts = Vec::with_capacity(alloc, rows as usize + 1)?;

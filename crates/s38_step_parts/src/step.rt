@@ -10,7 +10,7 @@ ghost use Rattle.s38_rules.specs.Storable.{IsStorable};
 ghost use Rattle.s38_extents.specs.Forcings.{all_forced};
 ghost use Rattle.s38_step_parts.specs.Outcomes.{IfBad, IsFullFor};
 ghost use Rattle.s38_step_parts.specs.Putting.{IsBetweenPuts};
-ghost use Rattle.s38_step_parts.specs.Stepping.{AreNumbers, IsDue, Precedes, ceiling_changes, object_changes, put_forced, raised};
+ghost use Rattle.s38_step_parts.specs.Stepping.{AreNumbers, HaveHeaders, IsDue, Precedes, ceiling_changes, object_changes, put_forced, raised};
 ghost use Rattle.s38_step_parts.specs.declared.fault.ForceFault.TheVariants as faults;
 ghost use Rattle.s38_vault.specs.Content.{Content};
 ghost use Rattle.s38_vault.specs.Directory.{new_keys};
@@ -46,6 +46,10 @@ pub fn force<V: Vault>(
     ensures holds { OnOk result ((m : Content) (d : Durable) (s : State) → V.holds vault.old m → Precedes objects.now units.now m d s
         → V.holds vault.new (put_forced (all_forced all.now) m (durable_after (all_forced all.now) d s))) }
     ensures told { OnOk result ((n : Content) → V.holds vault.new n → (m : Content) × V.holds vault.old m) }
+
+    // Each header that is kept behind the step can be read again, as before it.
+    ensures headers { OnOk result ((m : Content) (d : Durable) (s : State) → V.holds vault.old m → Precedes objects.now units.now m d s → IsDue (all_forced all.now) d s
+        → HaveHeaders (durable_after (all_forced all.now) d s)) }
 
     // Where it is full, a header is bad, or memory was refused, nothing was changed; after any error it holds what it held,
     // if it still tells.

@@ -1,4 +1,5 @@
 use Rattle.s38_kept_laws.proofs.BeginLaws.{begins_kept}
+use Rattle.s38_kept_laws.proofs.ImageLaws.{image_header}
 use Rattle.s38_kept_laws.proofs.StandLaws.{cleaned_stands, read_images}
 use Rattle.s38_kept_laws.proofs.laws.a_run_begins_kept.Goals as goal
 
@@ -7,6 +8,9 @@ returns-clause-stands c = λ m are fault. cleaned_stands m are fault
 
 pub returns-clause-images : goal.returns-clause-images
 returns-clause-images c = λ m are fault. read_images m are fault
+
+pub returns-clause-headers : goal.returns-clause-headers
+returns-clause-headers c = λ m are fault n x there. image_header x (read_images m are fault n x there)
 
 pub returns-clause-begins : goal.returns-clause-begins
 returns-clause-begins c = λ m h templates jobs room are fault of is counts. begins_kept m h are fault of is templates jobs room counts

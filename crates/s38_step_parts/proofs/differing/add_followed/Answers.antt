@@ -1,17 +1,19 @@
-use Rattle.std.proofs.Common.{◌≡◌, ◌∙◌, ◌++◌, List, None, Some, ap, false, sym, true}
+use Rattle.std.proofs.Common.{◌≡◌, ◌∙◌, ◌++◌, List, None, Some, ap, false, subst, sym, true}
 use Rattle.std.specs.FinMap.{get}
 use Rattle.std.specs.Prelude.{is_some}
 use Rattle.s38_base.specs.declared.page.Change.{Change}
 use Rattle.s38_durable.specs.Durable.{Durable}
 use Rattle.s38_forcing.specs.Differences.{differences}
+use Rattle.s38_image.specs.Images.{parts_of}
+use Rattle.s38_image.specs.declared.stored.Stored.{Stored}
 use Rattle.s38_keeping.specs.Replacing.{range_of}
 use Rattle.s38_rules.specs.Parts.{profile_of}
 use Rattle.s38_rules.specs.State.{State}
 use Rattle.s38_vault.specs.Content.{Content}
-use Rattle.s38_step_parts.proofs.FollowedLaws.{bad_on, handed, never_read_badly, none_follows, on_ok, some_follows, user_follows}
+use Rattle.s38_step_parts.proofs.FollowedLaws.{always, bad_on, handed, never_read_badly, none_follows, on_ok, some_follows, some_header, user_follows}
 use Rattle.s38_step_parts.proofs.KeptLaws.{key_of, lens, some_len}
 use Rattle.s38_step_parts.specs.Outcomes.{IsUnread}
-use Rattle.s38_step_parts.specs.Stepping.{Precedes}
+use Rattle.s38_step_parts.specs.Stepping.{HasHeader, Precedes}
 use Rattle.s38_step_parts.specs.declared.fault.ForceFault.{ForceFault}
 use Rattle.s38_step_parts.proofs.differing.add_followed.Goals as goal
 
@@ -23,8 +25,17 @@ returns-then-is_user-clause-told g c =
     let us = c.args.units.now in
     let user : is_some (profile_of o.body) ≡ true = sym c.is_user.ensures ∙ c.if-is_user.true in
     on_ok c.add_whole.result _ _
-    (λ told m d s held p. told m held ∙ ap (λ (cs : List Change). c.args.into.now.items ++ differences (get m) (range_of o.number.0) cs) (sym (user_follows h us m d s p o c.requires.there user c.requires.object.kind)))
+    (λ told m d s held p. told m held ∙ ap (λ (x : Stored). c.args.into.now.items ++ differences (get m) (range_of o.number.0) (parts_of x)) (sym (user_follows h us m d s p o c.requires.there user c.requires.object.kind)))
     c.add_whole.ensures.told
+
+pub returns-then-is_user-clause-header : goal.returns-then-is_user-clause-header
+returns-then-is_user-clause-header g c =
+    let V = g.V.Vault in
+    let o = c.args.object.now in
+    let h = c.args.objects.now in
+    let us = c.args.units.now in
+    let user : is_some (profile_of o.body) ≡ true = sym c.is_user.ensures ∙ c.if-is_user.true in
+    always c.add_whole.result _ (λ m d s held p. subst HasHeader (sym (user_follows h us m d s p o c.requires.there user c.requires.object.kind)) c.add_whole.ensures.header)
 
 pub returns-in_err-len-clause-bad : goal.returns-in_err-len-clause-bad
 returns-in_err-len-clause-bad g c =
@@ -49,8 +60,22 @@ returns-in-Some-clause-told g c =
     let read : lens (get m (key_of o.number.0)) ≡ some_len (Some len) = c.in_ok-len.ensures.told m held ∙ ap some_len c.in-Some.is in
     told m ((c.kept_len.ensures.stays.held m).0 held)
     ∙ ap (λ (cs : List Change). c.args.into.now.items ++ cs)
-    (sym (some_follows h us m d s p o len c.requires.number.1 c.requires.there read user c.as_bytes-name.ensures.name c.requires.object.rows)))
+    (sym (some_follows h us m d s p o len c.requires.number.1 c.requires.there read user c.requires.object.rows c.as_bytes-name.ensures.name)))
     c.add_front.ensures.told
+
+pub returns-in-Some-clause-header : goal.returns-in-Some-clause-header
+returns-in-Some-clause-header g c =
+    let V = g.V.Vault in
+    let o = c.args.object.now in
+    let h = c.args.objects.now in
+    let us = c.args.units.now in
+    let len = c.in-Some.len in
+    let user : is_some (profile_of o.body) ≡ false = sym c.is_user.ensures ∙ c.if-is_user.false in
+    on_ok c.add_front.result _ _
+    (λ fits m d s held p.
+    let read : lens (get m (key_of o.number.0)) ≡ some_len (Some len) = c.in_ok-len.ensures.told m held ∙ ap some_len c.in-Some.is in
+    some_header h us m d s p o len c.requires.number.1 c.requires.there read user c.requires.object.rows fits)
+    c.add_front.ensures.header
 
 pub returns-in-None-clause-told : goal.returns-in-None-clause-told
 returns-in-None-clause-told g c =
@@ -62,6 +87,17 @@ returns-in-None-clause-told g c =
     (λ told m d s held p.
     let read : lens (get m (key_of o.number.0)) ≡ some_len None = c.in_ok-len.ensures.told m held ∙ ap some_len c.in-None.is in
     told m ((c.kept_len.ensures.stays.held m).0 held)
-    ∙ ap (λ (cs : List Change). c.args.into.now.items ++ differences (get m) (range_of o.number.0) cs)
+    ∙ ap (λ (x : Stored). c.args.into.now.items ++ differences (get m) (range_of o.number.0) (parts_of x))
     (sym (none_follows h us m d s p o c.requires.number.1 read)))
     c.add_whole-in-None.ensures.told
+
+pub returns-in-None-clause-header : goal.returns-in-None-clause-header
+returns-in-None-clause-header g c =
+    let V = g.V.Vault in
+    let o = c.args.object.now in
+    let h = c.args.objects.now in
+    let us = c.args.units.now in
+    always c.add_whole-in-None.result _
+    (λ m d s held p.
+    let read : lens (get m (key_of o.number.0)) ≡ some_len None = c.in_ok-len.ensures.told m held ∙ ap some_len c.in-None.is in
+    subst HasHeader (sym (none_follows h us m d s p o c.requires.number.1 read)) c.add_whole-in-None.ensures.header)

@@ -1,6 +1,6 @@
 use Rattle.std.proofs.Common.{◌<◌, ◌≤◌, arith, get_or, length}
 use Rattle.s38_keeping.proofs.SoFarLaws.{stays_begun}
-use Rattle.s38_step_parts.proofs.EachLaws.{at_place, each_begun, each_done, each_on, to_place}
+use Rattle.s38_step_parts.proofs.EachLaws.{at_place, each_begun, each_done, each_headed, each_on, to_place}
 use Rattle.s38_rules.specs.State.{State}
 use Rattle.s38_durable.specs.Durable.{Durable}
 use Rattle.s38_vault.specs.Content.{Content}
@@ -23,13 +23,19 @@ loop-number-preserved g c =
     let x = get_or ns at 0 in
     each_on (all_forced c.args.all.now) c.args.objects.now c.args.units.now c.args.vault.now c.loop-number.vault c.add_object.new.vault ns at x c.loop-number.into.items c.add_object.new.into.items
     c.loop-number.invariant within (at_place at 0 ns within) (to_place at 0 ns within)
-    c.in_ok-add_object.ensures.told c.in_ok-add_object.ensures.adds c.add_object.ensures.stays c.in_ok-add_object.ensures.count
+    c.in_ok-add_object.ensures.told c.in_ok-add_object.ensures.header c.in_ok-add_object.ensures.adds c.add_object.ensures.stays c.in_ok-add_object.ensures.count
 
 pub returns-clause-told : goal.returns-clause-told
 returns-clause-told g c = λ m d s held p.
     let ns = c.args.forced.now in
     let end : length ns ≤ c.loop-number.number-index = omega (arith, c.loop-number-test.false) in
     each_done (all_forced c.args.all.now) c.args.objects.now c.args.units.now c.args.vault.now c.loop-number.vault ns c.loop-number.number-index c.loop-number.into.items c.loop-number.invariant end c.requires.forced m d s held p
+
+pub returns-clause-headers : goal.returns-clause-headers
+returns-clause-headers g c = λ m d s held p.
+    let ns = c.args.forced.now in
+    let end : length ns ≤ c.loop-number.number-index = omega (arith, c.loop-number-test.false) in
+    each_headed (all_forced c.args.all.now) c.args.objects.now c.args.units.now c.args.vault.now c.loop-number.vault ns c.loop-number.number-index c.loop-number.into.items c.loop-number.invariant end c.requires.forced m d s held p
 
 pub returns-in_err-add_object-clause-bad : goal.returns-in_err-add_object-clause-bad
 returns-in_err-add_object-clause-bad g c =

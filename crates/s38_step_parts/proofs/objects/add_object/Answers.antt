@@ -8,11 +8,11 @@ use Rattle.s38_keeping.specs.Replacing.{range_of}
 use Rattle.s38_rules.specs.Held.{object}
 use Rattle.s38_rules.specs.Storable.{IsStorable}
 use Rattle.s38_durable.specs.Stands.{parts_in}
-use Rattle.s38_step_parts.proofs.EachLaws.{found_at, found_is, found_own, number_none, number_there}
-use Rattle.s38_step_parts.proofs.FollowedLaws.{on_ok}
+use Rattle.s38_step_parts.proofs.EachLaws.{found_at, found_is, found_own, kept_number_none, kept_number_there, number_none, number_there}
+use Rattle.s38_step_parts.proofs.FollowedLaws.{always, on_ok}
 use Rattle.s38_extents.specs.Forcings.{all_forced}
 use Rattle.s38_step_parts.specs.Fronts.{AddsAt}
-use Rattle.s38_step_parts.specs.Stepping.{IsNumber, kept_there}
+use Rattle.s38_step_parts.specs.Stepping.{HasHeaderIn, IsNumber, kept_there}
 use Rattle.s38_step_parts.proofs.objects.add_object.Goals as goal
 
 pub add_there-requires-clause-object : goal.add_there-requires-clause-object
@@ -68,3 +68,24 @@ returns-in-None-clause-told g c =
     (λ told m d s held p.
     told m held ∙ ap (λ (cs : List Change). c.args.into.now.items ++ differences (get m) (range_of n) cs) (sym (number_none all h us m d s p n c.requires.number.1 c.len-count.ensures.lawful.rising none)))
     c.add_gone.ensures.told
+
+pub returns-in-Some-clause-header : goal.returns-in-Some-clause-header
+returns-in-Some-clause-header g c =
+    let h = c.args.objects.now in
+    let us = c.args.units.now in
+    let all = all_forced c.args.all.now in
+    let o = c.in-Some.object.now in
+    let n = c.args.number in
+    let there : object h n ≡ Some o = sym c.get.ensures ∙ ap (λ r. option_copied r) c.in-Some.is in
+    on_ok c.add_there.result _ _
+    (λ has m d s held p. subst HasHeaderIn (sym (kept_number_there all h us m d s p n c.requires.number.1 c.len-count.ensures.lawful.rising o there)) (has m d s held p))
+    c.add_there.ensures.header
+
+pub returns-in-None-clause-header : goal.returns-in-None-clause-header
+returns-in-None-clause-header g c =
+    let h = c.args.objects.now in
+    let us = c.args.units.now in
+    let all = all_forced c.args.all.now in
+    let n = c.args.number in
+    let none : object h n ≡ None = sym c.get.ensures ∙ ap (λ r. option_copied r) c.in-None.is in
+    always c.add_gone.result _ (λ m d s held p. subst HasHeaderIn (sym (kept_number_none all h us m d s p n c.requires.number.1 c.len-count.ensures.lawful.rising none)) tt)

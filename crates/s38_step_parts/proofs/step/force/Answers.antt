@@ -10,7 +10,7 @@ use Rattle.s38_vault.specs.Content.{Content, HaveObjects, changed}
 use Rattle.s38_vault.specs.Directory.{new_keys}
 use Rattle.s38_vault.specs.Vaults.{VaultView}
 use Rattle.s38_step_parts.proofs.FollowedLaws.{handed}
-use Rattle.s38_step_parts.proofs.ForceLaws.{AreForced, during_known, full_known, never_bad_put, once_known, put_known, stands_known, unread_bad, unread_full}
+use Rattle.s38_step_parts.proofs.ForceLaws.{AreForced, during_known, full_known, headers_behind, never_bad_put, once_known, put_known, stands_known, unread_bad, unread_full}
 use Rattle.s38_extents.specs.Forcings.{all_forced}
 use Rattle.s38_step_parts.specs.Outcomes.{IfBad, IsFullFor}
 use Rattle.s38_step_parts.specs.Putting.{IsBetweenPuts}
@@ -206,6 +206,9 @@ returns-clause-stands g c = λ m n d s held left p due.
     let was = c.in_ok-put_both.ensures.told n left in
     let same = c.moment-moment.ensures.one was.0 m ((stays.held was.0).1 was.1.0) held in
     stands_known c.requires.numbers known m n d s held p due (was.1.1 ∙ ap (λ (k : Content). changed (changed k first) others) same)
+
+pub returns-clause-headers : goal.returns-clause-headers
+returns-clause-headers g c = λ m d s held p due. headers_behind (all_forced c.args.all.now) d s p.headers due (c.in_ok-add_objects.ensures.headers m d s held p)
 
 pub returns-clause-after : goal.returns-clause-after
 returns-clause-after g c = λ m n d s held p left.
