@@ -4,7 +4,7 @@ use Rattle.std.proofs.lemmas.Bool.{cond_both}
 use Rattle.std.proofs.lemmas.Bool.Decides.{nat_tests}
 use Rattle.std.proofs.lemmas.List.Elements.{All-nil, recursion_from_All}
 use Rattle.std.specs.List.{AllByRecursion}
-use Rattle.std.specs.Prelude.{None, Some}
+use Rattle.std.specs.Prelude.{None, Option, Some}
 use Rattle.s38_code.specs.declared.deck.Job.{Job}
 use Rattle.s38_code.specs.declared.entry.Entry.{Entry}
 use Rattle.s38_code.specs.declared.made.CheckedTemplate.{CheckedTemplate}
@@ -17,6 +17,7 @@ use Rattle.s38_rules.specs.Held.{Held, has_number, object_in}
 use Rattle.s38_rules.specs.Legal.{Leads}
 use Rattle.s38_rules.specs.Opening.{state_of}
 use Rattle.s38_rules.specs.Parts.{data_part, part_in}
+use Rattle.s38_rules.specs.Room.{Room}
 use Rattle.s38_rules.specs.State.{State}
 use Rattle.s38_rules.specs.declared.object.Object.{Object}
 use Rattle.s38_commits.specs.Units.{IsRising}
@@ -26,6 +27,9 @@ use Rattle.std.specs.List.Sorted.{IsStrictlySortedBy}
 
 pub opening_well : (h : Held) (templates : List CheckedTemplate) (jobs : List Job) → IsOpening h → AreWell (state_of h templates jobs)
 opening_well h templates jobs is = record { limit = omega arith; objects = is.well }
+
+pub opening_well_stored : (h : Held) (templates : List CheckedTemplate) (jobs : List Job) (room : Option Room) → IsOpening h → AreWell (record (state_of h templates jobs) { room = room })
+opening_well_stored h templates jobs room is = record { limit = omega arith; objects = is.well }
 
 pub run_well : (h : Held) (templates : List CheckedTemplate) (jobs : List Job) (history : List Entry) (end : State) → IsOpening h → Leads (state_of h templates jobs) [] history end
     → AllWell (state_of h templates jobs) history × AreWell end

@@ -1,5 +1,5 @@
 //! Laws about openings.
-ghost use Rattle.std.specs.Prelude.{◌≡◌, ◌≤◌, ◌<◌, ◌^◌, ℕ, List, [], None};
+ghost use Rattle.std.specs.Prelude.{◌≡◌, ◌≤◌, ◌<◌, ◌^◌, ℕ, List, [], None, Option};
 ghost use Rattle.s38_base.specs.declared.page.Change.{Change};
 ghost use Rattle.s38_code.specs.declared.deck.Job.{Job};
 ghost use Rattle.s38_code.specs.declared.entry.Entry.{Entry};
@@ -18,6 +18,7 @@ ghost use Rattle.s38_rules.specs.Held.{Held};
 ghost use Rattle.s38_rules.specs.Kept.{CanBeKept};
 ghost use Rattle.s38_rules.specs.Legal.{Leads};
 ghost use Rattle.s38_rules.specs.Opening.{held_first, held_installed, state_of};
+ghost use Rattle.s38_rules.specs.Room.{Room};
 ghost use Rattle.s38_rules.specs.State.{State};
 
 /// A machine that was not stored before begins with an opening, and so does one that was just installed.
@@ -37,9 +38,10 @@ pub fn what_users_pay_can_be_kept()
     ensures { (held : Held) → IsOpening held → total_charge held < 2 ^ 64 → CanBeKept held }
 {}
 
-/// The objects of an opening are well, and so they are in each state of a run that begins with it.
+/// The objects of an opening are well, over whatever room of a store, and so they are in each state of a run that begins with it.
 pub fn an_opening_is_well()
     ensures begins { (held : Held) (templates : List CheckedTemplate) (jobs : List Job) → IsOpening held → AreWell (state_of held templates jobs) }
+    ensures stored { (held : Held) (templates : List CheckedTemplate) (jobs : List Job) (room : Option Room) → IsOpening held → AreWell (record (state_of held templates jobs) { room = room }) }
     ensures histories { (held : Held) (templates : List CheckedTemplate) (jobs : List Job) (history : List Entry) (end : State) → IsOpening held
         → Leads (state_of held templates jobs) [] history end → AllWell (state_of held templates jobs) history × AreWell end }
 {}

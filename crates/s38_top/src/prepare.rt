@@ -132,7 +132,11 @@ fn ready_on<D: Disk>(
     ensures cause { IfErr result (λ decided. (text : List ℕ) → OfText (Command.Jobs turns) text (D.view disk) (D.view decided.disk) decided.outcome) }
     ensures safe { IfErr result (λ decided. KeepsRestarting (D.view disk) (D.view decided.disk)) }
 {
-    let OpenStore { vault, objects } = match open(alloc, disk) {
+    let OpenStore {
+        vault,
+        objects,
+        room: _room,
+    } = match open(alloc, disk) {
         Err((disk, refusal)) => {
             return Err(Decided {
                 outcome: refused(refusal),
