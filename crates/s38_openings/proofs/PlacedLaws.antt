@@ -14,7 +14,7 @@ use Rattle.s38_image.specs.Faults.{Group, group, header, header_at, is_kind, is_
 use Rattle.s38_image.specs.Images.{object_of}
 use Rattle.s38_image.specs.declared.header.Header.{Header}
 use Rattle.s38_image.specs.declared.stored.Stored.{Stored}
-use Rattle.s38_openings.proofs.StoredLaws.{IsGiven, at_most, object_made, or_left, or_right, owner_there, read_by}
+use Rattle.s38_restart.proofs.StoredLaws.{IsGiven, at_most, object_made, or_left, or_right, owner_there, read_by}
 use Rattle.s38_openings.specs.Fitting.{IsPlaced, IsUser, is_context_or_gone}
 use Rattle.s38_restart.specs.Restarted.{followed}
 use Rattle.s38_rules.specs.Contexts.{is_at_home}

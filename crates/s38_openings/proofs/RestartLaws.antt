@@ -33,11 +33,11 @@ use Rattle.s38_openings.proofs.FitLaws.{programs_fit, rows_fit, table_fits}
 use Rattle.s38_openings.proofs.HeadLaws.{SameHead, lawful_same}
 use Rattle.s38_openings.proofs.PlacedLaws.{all_placed, header_there, is_there_said, machine_there, said}
 use Rattle.s38_openings.proofs.RedoLaws.{redone_table}
-use Rattle.s38_openings.proofs.StoredLaws.{IsGiven, IsKept, all_kept, fine_leading, fine_parts, groups_given, one_kept}
 use Rattle.s38_openings.specs.Bodies.{HoldsBody, IsBody}
 use Rattle.s38_openings.specs.Fitting.{FitTogether, IsPlaced}
 use Rattle.s38_openings.specs.Opening.{HoldsTable, IsNumbered, IsOpening}
 use Rattle.s38_owner_laws.specs.Beginnings.{HoldsChecked}
+use Rattle.s38_restart.proofs.StoredLaws.{IsGiven, IsKept, all_kept, fine_leading, fine_parts, groups_given, none_of, one_kept}
 use Rattle.s38_restart.specs.Parts.{AreParts}
 use Rattle.s38_restart.specs.Restarted.{data_followed, followed, imaged, restarted, table_behind}
 use Rattle.s38_rules.specs.Held.{Held, kind_of}
@@ -120,28 +120,7 @@ low_ceiling parts n fine e =
     let c = both_true ((only is_ceiling u64).fits n) _ b.1 in
     at_most n (last_number + ceiling_step) (both_true (is_ceiling n) (u64.fits n) c.0).0
 
--- ---- no fault
-
-record HasNone (limit : ℕ) (gs : List Group) (ceiling : Option ℕ) : Type 0 where
-  pub at : ℕ
-  pub is : ceiling ≡ Some at
-  pub none : first_of gs limit at gs ≡ None
-
-none_under : (gs : List Group) (limit ceiling : ℕ) → first_under gs limit ceiling ≡ None → first_of gs limit ceiling gs ≡ None
-none_under gs limit ceiling h = by (is_on_disk gs 1) (is_on_disk gs 2) h
-  where
-    by : (a b : Bool) → cond (not a) (Some (1, 0)) (cond (not b) (Some (2, 0)) (first_of gs limit ceiling gs)) ≡ None → first_of gs limit ceiling gs ≡ None
-    by true true h = h
-    by true false h = absurd cc
-    by false b h = absurd cc
-
-none_by : (gs : List Group) (limit : ℕ) (ceiling : Option ℕ) → first_by gs limit ceiling ≡ None → HasNone limit gs ceiling
-none_by gs limit None h = absurd cc
-none_by gs limit (Some n) h = record { at = n; is = refl; none = none_under gs limit n h }
-
-none_of : (limit : ℕ) (parts : List Change) → first_fault limit parts ≡ None → HasNone limit (groups parts) (ceiling_in (parts_of ceiling_key parts))
-unfolding store_fault
-none_of limit parts none = none_by (groups parts) limit (ceiling_in (parts_of ceiling_key parts)) none
+-- ---- the machine context is there
 
 on_disk_one : (gs : List Group) (limit ceiling : ℕ) → first_under gs limit ceiling ≡ None → is_on_disk gs 1 ≡ true
 on_disk_one gs limit ceiling h = by (is_on_disk gs 1) h

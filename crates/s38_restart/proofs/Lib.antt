@@ -5,3 +5,5 @@ pub mod PartLaws
 pub mod RedoLaws
 pub mod RemoveLaws
 pub mod RestartLaws
+pub mod StoredLaws
+pub mod ExtentLaws

@@ -3,6 +3,7 @@ use Rattle.std.specs.Prelude.{ℕ, ◌+◌, List, map, Option, Some, None}
 use Rattle.std.specs.Option.{option_map}
 use Rattle.s38_base.specs.declared.page.Change.{Change}
 use Rattle.s38_dataspaces.specs.Table.{DataTable}
+use Rattle.s38_durable.specs.Following.{extent_in}
 use Rattle.s38_groups.specs.Readings.{object_in_stored}
 use Rattle.s38_groups.specs.Stores.{ceiling_of, stored_in}
 use Rattle.s38_image.specs.declared.stored.Stored.{Stored}
@@ -12,6 +13,7 @@ use Rattle.s38_rules.specs.declared.object.Object.{Object}
 use Rattle.s38_rules.specs.Held.{Held, nothing}
 use Rattle.s38_rules.specs.Journaling.{journal_behind}
 use Rattle.s38_rules.specs.Parts.{data_part, journal_at, over_object, over_table}
+use Rattle.s38_rules.specs.Room.{Extent}
 use Rattle.s38_restart.specs.Redo.{redone}
 
 abbrev pub number_in_stored : Stored → ℕ
@@ -52,3 +54,7 @@ restarted limit parts = record {
   next = ceiling_of parts + 1;
   ceiling = ceiling_of parts;
 }
+
+-- the extents of the objects that all parts of a store hold, each as its image has it
+abbrev pub extents_kept : ℕ → List Change → List Extent
+extents_kept limit parts = map extent_in (stored_in limit parts)

@@ -2,48 +2,64 @@
 ghost use Rattle.std.specs.Prelude.{◌≡◌, ◌≢◌, ◌⊎◌, ◌≤◌, ◌<◌, ◌↔◌, ℕ, List, [], None, IfErr, IfOk, IsErrOf, OnOk, length, take};
 ghost use Rattle.s38_base.specs.Faults.{HasCauseOf};
 ghost use Rattle.s38_base.specs.declared.page.Change.{Change as Part};
+ghost use Rattle.s38_extents.specs.Extents.{AreRising as AreExtents};
 ghost use Rattle.s38_groups.specs.Groups.{removals as strays};
 ghost use Rattle.s38_groups.specs.Stores.{first_fault};
 ghost use Rattle.s38_restart.specs.Faults.{NamesFault, NamesFirst};
 ghost use Rattle.s38_restart.specs.Parts.{AreParts, all_parts};
 ghost use Rattle.s38_restart.specs.Removing.{AreRemovals};
-ghost use Rattle.s38_restart.specs.Restarted.{restarted};
+ghost use Rattle.s38_restart.specs.Restarted.{extents_kept, restarted};
 ghost use Rattle.s38_restart.specs.declared.fault.RestartFault.TheVariants as RestartFault;
 ghost use Rattle.s38_vault.specs.Content.{AreRising, Content, HaveObjects, changed};
 
+use crate::extents::extents_of;
 use crate::fault::RestartFault;
 use crate::following::followed;
 use crate::reading::read_parts;
 use crate::removing::remove_all;
 use s38_base::Change;
+use s38_extents::Extent;
 use s38_groups::store_of;
 use s38_objects::Objects;
 use s38_vault::Vault;
 use std::alloc::Global;
 
-/// What all parts of a store make: the object map, and the changes that take away each part that belongs to nothing.
+/// What a store was restarted to.
+#[derive(Drop)]
+pub struct Restarted {
+    /// The objects, each data space followed by its journal space.
+    pub objects: Objects,
+    /// How many pages the store has of each of them, as it is kept, in rising order of number.
+    pub extents: Vec<Extent>,
+}
+
+/// What all parts of a store make: the object map with the extents, and the changes that take away each part that belongs
+/// to nothing.
 #[derive(Drop)]
 struct Restored {
-    objects: Objects,
+    store: Restarted,
     removals: Vec<Change>,
 }
 
-/// What all parts of a store, of rising keys, make. `BadImage` exactly where a part is at fault; it names the first one.
+/// What all parts of a store make. `BadImage` exactly where a part is at fault; it names the first one.
 fn restore(alloc: Global, limit: u32, parts: &[Change]) -> Result<Restored, RestartFault>
     requires limit { limit ≤ 16777216 }
-    requires rising { AreRising parts.now }
+    requires parts { AreParts parts.now }
     ensures sound { OnOk result (first_fault limit parts.now ≡ None) }
-    ensures objects { IfOk result (λ restored. restored.objects ≡ restarted limit parts.now) }
+    ensures objects { IfOk result (λ restored. restored.store.objects ≡ restarted limit parts.now) }
+    ensures extents { IfOk result (λ restored. restored.store.extents.items ≡ extents_kept limit parts.now) }
+    ensures rising { IfOk result (λ restored. AreExtents restored.store.extents.items) }
     ensures removals { IfOk result (λ restored. restored.removals.items ≡ strays parts.now) }
     ensures fault { IfErr result (λ fault. NamesFirst (first_fault limit parts.now) fault) }
     ensures inside { IfErr result (λ fault. fault ≢ RestartFault.Failed) }
 {
     let store = store_of(alloc, limit, parts)?;
+    let extents = extents_of(alloc, &store.stored)?;
     let ceiling = store.ceiling;
     let objects = followed(alloc, store.stored)?;
     let objects = Objects::restored(alloc, objects, ceiling + 1, ceiling)?;
     Ok(Restored {
-        objects,
+        store: Restarted { objects, extents },
         removals: store.removals,
     })
 }
@@ -73,12 +89,16 @@ fn remove<V: Vault>(vault: &mut V, changes: &[Change]) -> Result<(), RestartFaul
 }
 
 /// Makes the object map of all that a store keeps: each object as its image has it, and each data space followed by its
-/// journal space. The parts that belong to nothing are taken away; nothing is put where there is none. `BadImage` exactly
+/// journal space. With it the extent of each object as it is kept is given. The parts that belong to nothing are taken away; nothing is put where there is none. `BadImage` exactly
 /// where a part is at fault; it names the first one. A crash on the way leaves some of those parts.
-pub fn restart<V: Vault>(alloc: Global, vault: &mut V) -> Result<Objects, RestartFault>
-    // The objects are those of the parts that were read, and these have no fault. They are the ones that the vault tells.
-    ensures read { IfOk result (λ objects. (parts : List Part) × (AreParts parts × ((first_fault (V.view vault.old).shape.body_limit parts ≡ None) × (objects ≡ restarted (V.view vault.old).shape.body_limit parts)))) }
-    ensures told { IfOk result (λ objects. (m : Content) → V.holds vault.old m → objects ≡ restarted (V.view vault.old).shape.body_limit (all_parts m)) }
+pub fn restart<V: Vault>(alloc: Global, vault: &mut V) -> Result<Restarted, RestartFault>
+    // The objects and their extents are those of the parts that were read, and these have no fault. They are the ones that the
+    // vault tells.
+    ensures read { IfOk result (λ store. (parts : List Part) × (AreParts parts × ((first_fault (V.view vault.old).shape.body_limit parts ≡ None) × ((store.objects ≡ restarted (V.view vault.old).shape.body_limit parts) × (store.extents.items ≡ extents_kept (V.view vault.old).shape.body_limit parts))))) }
+    ensures told { IfOk result (λ store. (m : Content) → V.holds vault.old m → store.objects ≡ restarted (V.view vault.old).shape.body_limit (all_parts m)) }
+    ensures extents { IfOk result (λ store. (m : Content) → V.holds vault.old m → store.extents.items ≡ extents_kept (V.view vault.old).shape.body_limit (all_parts m)) }
+    ensures rising { IfOk result (λ store. AreExtents store.extents.items) }
+    ensures parts { OnOk result ((m : Content) → V.holds vault.old m → AreParts (all_parts m)) }
     ensures sound { OnOk result ((m : Content) → V.holds vault.old m → first_fault (V.view vault.old).shape.body_limit (all_parts m) ≡ None) }
 
     // A fault is the first one.
@@ -101,5 +121,5 @@ pub fn restart<V: Vault>(alloc: Global, vault: &mut V) -> Result<Objects, Restar
     let parts = read_parts(alloc, vault)?;
     let restored = restore(alloc, limit, &parts)?;
     remove(vault, &restored.removals)?;
-    Ok(restored.objects)
+    Ok(restored.store)
 }

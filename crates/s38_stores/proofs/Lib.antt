@@ -5,3 +5,4 @@ mod StrayLaws
 pub mod CrashLaws
 mod WatchLaws
 mod SureLaws
+mod RoomLaws

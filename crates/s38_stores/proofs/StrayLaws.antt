@@ -1,5 +1,5 @@
 -- Some of the parts that belong to nothing are taken away: each object keeps its parts, and so does the ceiling.
-use Rattle.std.proofs.Common.{◌≡◌, ℕ, zero, suc, ◌+◌, ◌==◌, Bool, true, false, cond, not, List, [], ◌∷◌, map, filter, take, Option, Some, None, refl, sym, ap, ◌∙◌, arith}
+use Rattle.std.proofs.Common.{◌≡◌, ℕ, zero, suc, ◌+◌, ◌==◌, Bool, true, false, cond, not, List, [], ◌∷◌, length, map, filter, take, Option, Some, None, refl, sym, ap, ◌∙◌, arith}
 use lib.Dec.{T}
 use Rattle.std.proofs.lemmas.Bool.Decides.{nat_tests}
 use Rattle.std.specs.Prelude.{◌&&◌, ◌||◌, nat_lt}
@@ -16,7 +16,7 @@ use Rattle.s38_base.specs.declared.page.Page.{Page}
 use Rattle.s38_base.specs.Limits.{body_limit}
 use Rattle.s38_groups.specs.Groups.{group_of, groups, is_header, is_of, is_stray, parts_of, removals, taken}
 use Rattle.s38_groups.specs.Readings.{all_sound}
-use Rattle.s38_groups.specs.Stores.{first_fault}
+use Rattle.s38_groups.specs.Stores.{ceiling_of, first_fault, stored_in}
 use Rattle.s38_image.specs.Faults.{Group, ceiling_in, ceiling_key, ceiling_page, first_by, is_on_disk, store_fault}
 use Rattle.s38_image.specs.Images.{leading, rows_part}
 use Rattle.s38_image.specs.Pages.{no_tags, read_parts}
@@ -336,6 +336,12 @@ module _ (m : Content) (count : ℕ) where
   unfolding store_fault
   fault_kept limit = λ i. first_by (same_groups i) limit (ceiling_kept i)
 
+  pub read_ceiling_kept : ceiling_of (all_parts (changed m gone)) ≡ ceiling_of (all_parts m)
+  read_ceiling_kept = ap (λ (o : Option ℕ). unwrap_or o 0) ceiling_kept
+
+  pub read_kept : (limit : ℕ) → stored_in limit (all_parts (changed m gone)) ≡ stored_in limit (all_parts m)
+  read_kept limit = λ i. all_sound (same_groups i) limit (read_ceiling_kept i)
+
   restarted_kept : (limit : ℕ) → restarted limit (all_parts (changed m gone)) ≡ restarted limit (all_parts m)
   restarted_kept limit = λ i.
       record {
@@ -350,3 +356,22 @@ objects_kept m count h r = record {
   sound = fault_kept m count body_limit ∙ r.sound;
   is = r.is ∙ sym (restarted_kept m count body_limit);
 }
+
+-- ---- all of them
+
+take_all : {A : Type 0} (xs : List A) → take (length xs) xs ≡ xs
+take_all [] = refl
+take_all {A} (x ∷ xs) = ap (λ (l : List A). x ∷ l) (take_all xs)
+
+module _ (m : Content) where
+  abbrev strays : List Change
+  strays = removals (all_parts m)
+
+  all_gone : changed m (take (length strays) strays) ≡ changed m strays
+  all_gone = ap (λ (l : List Change). changed m l) (take_all strays)
+
+  pub cleaned_kept : (limit : ℕ) → stored_in limit (all_parts (changed m strays)) ≡ stored_in limit (all_parts m)
+  cleaned_kept limit = ap (λ (k : Content). stored_in limit (all_parts k)) (sym all_gone) ∙ read_kept m (length strays) limit
+
+  pub cleaned_ceiling : ceiling_of (all_parts (changed m strays)) ≡ ceiling_of (all_parts m)
+  cleaned_ceiling = ap (λ (k : Content). ceiling_of (all_parts k)) (sym all_gone) ∙ read_ceiling_kept m (length strays)

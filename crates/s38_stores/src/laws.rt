@@ -1,6 +1,7 @@
 //! What holds of stores, as contracts of functions that do nothing.
 ghost use Rattle.std.specs.Prelude.{◌≡◌, ◌⊎◌, ℕ, take};
 ghost use Rattle.s38_groups.specs.Groups.{removals};
+ghost use Rattle.s38_groups.specs.Stores.{ceiling_of, stored_in};
 ghost use Rattle.s38_restart.specs.Parts.{all_parts};
 ghost use Rattle.s38_vault.specs.Content.{Content, changed};
 ghost use Rattle.s38_disk.specs.declared.block.Block.{Block as Blocks};
@@ -18,4 +19,13 @@ pub fn a_store_that_restarts_is_opened()
 /// Whatever parts that belong to nothing are taken away first, a store is restarted to the same objects.
 pub fn parts_that_belong_to_nothing_may_go()
     ensures { (m : Content) (count : ℕ) (h : Held) → AreOf h m → AreOf h (changed m (take count (removals (all_parts m)))) }
+{}
+
+/// Whatever parts that belong to nothing are taken away first, a restart reads the same of a store: the ceiling, and the image
+/// of each object. So it does where all of them are taken away.
+pub fn what_is_kept_stays()
+    ensures objects { (m : Content) (count limit : ℕ) → stored_in limit (all_parts (changed m (take count (removals (all_parts m))))) ≡ stored_in limit (all_parts m) }
+    ensures ceiling { (m : Content) (count : ℕ) → ceiling_of (all_parts (changed m (take count (removals (all_parts m))))) ≡ ceiling_of (all_parts m) }
+    ensures cleaned { (m : Content) (limit : ℕ) → stored_in limit (all_parts (changed m (removals (all_parts m)))) ≡ stored_in limit (all_parts m) }
+    ensures cleaned_ceiling { (m : Content) → ceiling_of (all_parts (changed m (removals (all_parts m)))) ≡ ceiling_of (all_parts m) }
 {}

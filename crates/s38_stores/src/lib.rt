@@ -11,5 +11,7 @@ mod opening;
 pub use fault::{BadStore, StoreRefusal};
 pub use installing::install;
 pub use keeping::{Kept, keep};
-pub use laws::{a_store_that_restarts_is_opened, parts_that_belong_to_nothing_may_go};
+pub use laws::{
+    a_store_that_restarts_is_opened, parts_that_belong_to_nothing_may_go, what_is_kept_stays,
+};
 pub use opening::{OpenStore, open};

@@ -1,15 +1,19 @@
-ghost use Rattle.std.specs.Prelude.{◌≡◌, IfErr, IfOk, true};
+ghost use Rattle.std.specs.Prelude.{◌≡◌, ◌+◌, ◌≤◌, IfErr, IfOk, true};
+ghost use Rattle.std.specs.FinMap.{len};
 ghost use Rattle.s38_base.specs.Faults.{Rose};
 ghost use Rattle.s38_disk.specs.Blocks.{State};
 ghost use Rattle.s38_disk.specs.Disk.{IsAt};
+ghost use Rattle.s38_extents.specs.Extents.{AreRising};
 ghost use Rattle.s38_groups.specs.Groups.{removals};
 ghost use Rattle.s38_openings.specs.Opening.{IsOpening};
-ghost use Rattle.s38_pages.specs.Mounts.{layout_of};
+ghost use Rattle.s38_pages.specs.Index.{parts_of};
+ghost use Rattle.s38_pages.specs.Mounts.{fewest, layout_of};
 ghost use Rattle.s38_pages.specs.Vaults.{page_holds, page_view};
 ghost use Rattle.s38_restart.specs.Parts.{all_parts};
+ghost use Rattle.s38_room.specs.Following.{Fits};
 ghost use Rattle.s38_rules.specs.Kept.{CanBeKept};
 ghost use Rattle.s38_stores.specs.Crashes.{DuringCall, IsPartlyCleaned, KeepsRestarting};
-ghost use Rattle.s38_stores.specs.Opened.{HoldsCleaned, IsFaultless};
+ghost use Rattle.s38_stores.specs.Opened.{HoldsCleaned, IsFaultless, IsOpened, IsOpenedOn};
 ghost use Rattle.s38_stores.specs.Refusals.{IsFaultOf, IsRefusal};
 ghost use Rattle.s38_stores.specs.Stores.{AreOf, Restarts};
 ghost use Rattle.s38_vault.specs.Content.{Content, changed};
@@ -17,15 +21,34 @@ ghost use Rattle.s38_vault.specs.Content.{Content, changed};
 use crate::charges::total_charge;
 use crate::fault::{StoreRefusal, of_restart, of_store};
 use s38_disk::Disk;
+use s38_extents::Room;
 use s38_objects::Objects;
 use s38_pages::{PageVault, WatchedVault};
-use s38_restart::restart;
+use s38_restart::{Restarted, restart};
+use s38_vault::Vault;
 use std::alloc::Global;
 
-/// A store that was opened: its pages, and the objects that it was restarted to.
+/// How many blocks a store uses at most.
+const MOST_BLOCKS: u32 = 131_072;
+/// The first block that has a part.
+const FIRST_HOME: u32 = 2306;
+/// How many parts the ceiling of numbers has.
+const CEILING_PARTS: u32 = 1;
+
+/// A store that was opened: its pages, the objects that it was restarted to, and how many parts it has for objects, with
+/// the extent of each of them as it is kept.
 pub struct OpenStore<D: Disk> {
     pub vault: PageVault<D>,
     pub objects: Objects,
+    pub room: Room,
+}
+
+/// How many parts a store on a disk of so many blocks has for objects: all but that of the ceiling.
+fn parts_on(blocks: u32) -> u32
+    requires { fewest ≤ blocks }
+    ensures { result + 1 ≡ parts_of (layout_of blocks) }
+{
+    blocks.min(MOST_BLOCKS) - FIRST_HOME - CEILING_PARTS
 }
 
 /// What is kept of users can be kept of these objects.
@@ -36,11 +59,20 @@ fn can_be_kept(objects: &Objects) -> bool
     total_charge(objects).is_some()
 }
 
-/// Restarts a store that was mounted.
-fn restarted<D: Disk>(alloc: Global, vault: PageVault<D>) -> Result<OpenStore<D>, (D, StoreRefusal)>
+/// Restarts a store that was mounted, and that has so many parts for objects.
+fn restarted<D: Disk>(
+    alloc: Global,
+    vault: PageVault<D>,
+    parts: u32,
+) -> Result<OpenStore<D>, (D, StoreRefusal)>
     requires faultless { (page_view vault).faults ≡ vault.start }
     requires layout { vault.layout ≡ layout_of vault.disk.size }
-    ensures restarts { IfOk result (λ store. (m : Content) → page_holds vault m → AreOf store.objects m × page_holds store.vault (changed m (removals (all_parts m)))) }
+    requires parts { parts + 1 ≡ parts_of vault.layout }
+    ensures opened { IfOk result (λ store. (m : Content) → page_holds vault m → IsOpened m store.vault store.objects store.room.room) }
+    ensures fits { IfOk result (λ store. Fits store.room.room.extents store.objects) }
+    ensures rising { IfOk result (λ store. AreRising store.room.room.extents) }
+    ensures parts { IfOk result (λ store. store.room.room.parts + 1 ≡ (page_view store.vault).shape.parts) }
+    ensures free { IfOk result (λ store. (page_view store.vault).free + len (page_view store.vault).keys ≡ (page_view store.vault).shape.parts) }
     ensures opening { IfOk result (λ store. IsOpening store.objects) }
     ensures kept { IfOk result (λ store. CanBeKept store.objects) }
     ensures start { IfOk result (λ store. store.vault.start ≡ vault.start) }
@@ -53,10 +85,17 @@ fn restarted<D: Disk>(alloc: Global, vault: PageVault<D>) -> Result<OpenStore<D>
     let mut watched = WatchedVault::of(vault);
     match restart(alloc, &mut watched) {
         Err(fault) => Err((watched.end().release(), of_restart(fault))),
-        Ok(objects) => {
+        Ok(Restarted { objects, extents }) => {
             let vault = watched.end();
+            // Its contract says that the free parts and those that have a page are all parts.
+            let _free = vault.free();
             if can_be_kept(&objects) {
-                Ok(OpenStore { vault, objects })
+                let room = Room::new(parts, extents);
+                Ok(OpenStore {
+                    vault,
+                    objects,
+                    room,
+                })
             } else {
                 Err((vault.release(), StoreRefusal::NoMemory))
             }
@@ -65,22 +104,30 @@ fn restarted<D: Disk>(alloc: Global, vault: PageVault<D>) -> Result<OpenStore<D>
 }
 
 /// Opens the store on a disk: it is mounted and restarted, and parts that belong to nothing are taken away. A run may begin
-/// with its objects. The disk comes back with the reason where the store is refused.
+/// with its objects and its room. The disk comes back with the reason where the store is refused.
 pub fn open<D: Disk>(alloc: Global, disk: D) -> Result<OpenStore<D>, (D, StoreRefusal)>
     ensures restarts { IfOk result (λ store. (s : State) → IsAt (D.view disk).past s → Restarts (D.view disk).size s.now store.objects) }
     ensures opening { IfOk result (λ store. IsOpening store.objects) }
     ensures kept { IfOk result (λ store. CanBeKept store.objects) }
+    ensures opened { IfOk result (λ store. IsOpenedOn (D.view disk) store.vault store.objects store.room.room) }
     ensures holds { IfOk result (λ store. HoldsCleaned (D.view disk) store.vault) }
     ensures faultless { IfOk result (λ store. IsFaultless (D.view disk) store.vault) }
     ensures refused { IfErr result (λ refusal. (s : State) → IsAt (D.view disk).past s → IsRefusal (D.view disk).size s.now refusal.1) }
     ensures cause { IfErr result (λ refusal. refusal.1 ≡ StoreRefusal.Failed → Rose (D.view disk).faults (D.view refusal.0).faults) }
 
+    // Whatever the disk tells, the room fits the objects, and the ceiling's part is none of its parts.
+    ensures fits { IfOk result (λ store. Fits store.room.room.extents store.objects) }
+    ensures rising { IfOk result (λ store. AreRising store.room.room.extents) }
+    ensures parts { IfOk result (λ store. store.room.room.parts + 1 ≡ (page_view store.vault).shape.parts) }
+    ensures free { IfOk result (λ store. (page_view store.vault).free + len (page_view store.vault).keys ≡ store.room.room.parts + 1) }
+
     // Whatever it answers, a crash leaves a store that restarts to the same objects.
     ensures during { IfOk result (λ store. KeepsRestarting (D.view disk) store.vault.disk) }
     ensures crash { IfErr result (λ refusal. KeepsRestarting (D.view disk) (D.view refusal.0)) }
 {
+    let blocks = disk.blocks();
     match PageVault::mount(alloc, disk) {
-        Ok(vault) => restarted(alloc, vault),
+        Ok(vault) => restarted(alloc, vault, parts_on(blocks)),
         Err((disk, fault)) => Err((disk, of_store(fault))),
     }
 }

@@ -5,6 +5,7 @@ use Rattle.s38_base.specs.declared.page.Change.{Change}
 use Rattle.s38_groups.specs.Groups.{removals}
 use Rattle.s38_vault.specs.Content.{AreRising, HaveObjects, changed}
 use Rattle.s38_vault.specs.Vaults.{VaultView}
+use Rattle.s38_restart.specs.Parts.{AreParts}
 use Rattle.s38_restart.specs.Removing.{AreRemovals}
 use Rattle.s38_restart.specs.declared.fault.RestartFault.{RestartFault}
 use Rattle.s38_restart.specs.declared.fault.RestartFault.TheVariants as faults
@@ -55,3 +56,8 @@ returns-clause-during g c = λ m h.
     let moment = ap (λ (v : VaultView). v.moment) c.read_parts.ensures.stays in
     during_as (g.V.Vault.leaves c.remove.new.vault) (g.V.Vault.view c.args.vault.now).moment (g.V.Vault.view c.read_parts.new.vault).moment (g.V.Vault.view c.remove.new.vault).moment m
     _ _ moment strays (c.remove.ensures.during m ((c.read_parts.ensures.holds m).0 h))
+
+pub restore-requires-clause-parts : goal.restore-requires-clause-parts
+restore-requires-clause-parts g c =
+    let are : AreParts c.in_ok-parts.parts.items = record { rising = c.in_ok-parts.ensures.order; objects = c.in_ok-parts.ensures.objects; fine = c.in_ok-parts.ensures.fine } in
+    subst (λ (l : List Change). AreParts l) (sym c.deref.ensures.value) are

@@ -1,9 +1,15 @@
-use Rattle.std.proofs.Common.{All, List, ℕ, ◌+◌, ◌<◌, ◌≤◌, arith, subst, sym}
+use Rattle.std.proofs.Common.{All, List, ℕ, ◌+◌, ◌<◌, ◌≤◌, ◌∙◌, arith, subst, sym}
 use Rattle.std.specs.List.Sorted.{IsStrictlyIncreasing}
 use Rattle.s38_base.specs.Limits.{ceiling_step, last_number}
 use Rattle.s38_objects.specs.Lawful.{IsLawful}
 use Rattle.s38_rules.specs.declared.object.Object.{Object}
+use Rattle.s38_durable.specs.Following.{extent_in}
+use Rattle.s38_extents.specs.Extents.{AreRising}
+use Rattle.s38_image.specs.declared.stored.Stored.{Stored}
+use Rattle.s38_rules.specs.Room.{Extent}
+use Rattle.s38_rules.specs.Storable.{IsStorable}
 use Rattle.s38_restart.proofs.CeilingBound.{ceiling_bound}
+use Rattle.s38_restart.proofs.ExtentLaws.{all_storable, extents_rise}
 use Rattle.s38_restart.proofs.RestartLaws.{followed_lawful, followed_placed, stored_numbers}
 use Rattle.s38_restart.proofs.restarting.restore.Goals as goal
 
@@ -27,3 +33,14 @@ pub restored-requires-clause-placed : goal.restored-requires-clause-placed
 restored-requires-clause-placed c =
     let n = c.in_ok-store.store.ceiling in
     subst (λ (os : List Object). All (λ o. o.context.0 < n + 1) os) (sym c.in_ok-objects.ensures) (followed_placed n c.in_ok-store.store.stored.items c.in_ok-store.ensures.lawful)
+
+pub extents_of-requires : goal.extents_of-requires
+extents_of-requires c =
+    subst (λ (ss : List Stored). All (λ s. IsStorable s.object) ss) (sym (c.deref.ensures.value ∙ c.in_ok-store.ensures.stored))
+    (all_storable c.args.limit c.args.parts.now c.requires.limit c.requires.parts c.in_ok-store.ensures.sound)
+
+pub returns-clause-rising : goal.returns-clause-rising
+returns-clause-rising c =
+    let ss = c.in_ok-store.store.stored.items in
+    subst (λ (xs : List Extent). AreRising xs) (sym c.in_ok-extents.ensures)
+    (extents_rise ss (subst (λ (ns : List ℕ). IsStrictlyIncreasing ns) (sym (stored_numbers ss)) c.in_ok-store.ensures.lawful.lawful.rising))

@@ -1,5 +1,7 @@
 use Rattle.s38_stores.proofs.KeepLaws.{err_on, ok_on}
-use Rattle.std.proofs.Common.{◌∙◌, ap, sym}
+use Rattle.std.proofs.Common.{◌∙◌, ap, subst, sym}
+use Rattle.s38_pages.proofs.VaultLemmas.{stands_one}
+use Rattle.s38_pages.specs.Vaults.{page_holds}
 use Rattle.s38_pages.specs.Mounts.{layout_of}
 use Rattle.s38_stores.proofs.OpenLaws.{refusal_of}
 use Rattle.s38_stores.proofs.WatchLaws.{opened_during, refused_during}
@@ -7,15 +9,22 @@ use Rattle.s38_stores.proofs.opening.open.Goals as goal
 
 pub returns-in-Ok-clause-restarts : goal.returns-in-Ok-clause-restarts
 returns-in-Ok-clause-restarts g c =
-    ok_on _ _ c.restarted.result c.restarted.ensures.restarts (λ store h s is.
+    ok_on _ _ c.restarted.result c.restarted.ensures.opened (λ store h s is.
     let was = c.in-Ok.ensures.content s is in
-    record { large = c.in-Ok.ensures.large; content = was.0; stands = was.1.0; objects = (h was.0 was.1.1).0 })
+    record { large = c.in-Ok.ensures.large; content = was.0; stands = was.1.0; objects = (h was.0 was.1.1).objects })
+
+pub returns-in-Ok-clause-opened : goal.returns-in-Ok-clause-opened
+returns-in-Ok-clause-opened g c =
+    ok_on _ _ c.restarted.result c.restarted.ensures.opened (λ store h s is m stands.
+    let was = c.in-Ok.ensures.content s is in
+    let one = stands_one (layout_of (g.D.Disk.view c.args.disk).size) s.now was.0 m was.1.0 stands in
+    h m (subst (page_holds c.in-Ok.vault) one was.1.1))
 
 pub returns-in-Ok-clause-holds : goal.returns-in-Ok-clause-holds
 returns-in-Ok-clause-holds g c =
-    ok_on _ _ c.restarted.result c.restarted.ensures.restarts (λ store h s is.
+    ok_on _ _ c.restarted.result c.restarted.ensures.opened (λ store h s is.
     let was = c.in-Ok.ensures.content s is in
-    (was.0, (was.1.0, (h was.0 was.1.1).1)))
+    (was.0, (was.1.0, (h was.0 was.1.1).holds)))
 
 pub returns-in-Ok-clause-refused : goal.returns-in-Ok-clause-refused
 returns-in-Ok-clause-refused g c =

@@ -1,13 +1,18 @@
-use Rattle.std.proofs.Common.{◌∙◌, ap, subst, sym}
+use Rattle.std.proofs.Common.{◌+◌, ◌∙◌, ap, subst, sym}
 use Rattle.s38_base.specs.Faults.{Rose}
 use Rattle.s38_pages.specs.Vaults.{PageStore, page_view}
 use Rattle.s38_stores.proofs.OpenLaws.{fault_of, opening_of, was_failed}
 use Rattle.s38_stores.proofs.WatchLaws.{caused, given_back, held_now, held_then, now_is, restart_during, seen_from}
+use Rattle.s38_extents.specs.Extents.{AreRising}
+use Rattle.s38_pages.specs.Index.{parts_of}
+use Rattle.s38_room.specs.Following.{Fits}
+use Rattle.s38_rules.specs.Room.{Room}
+use Rattle.s38_stores.proofs.RoomLaws.{fits_of}
 use Rattle.s38_stores.specs.Crashes.{IsPartlyCleaned}
 use Rattle.s38_stores.proofs.opening.restarted.Goals as goal
 
 pub can_be_kept-requires : goal.can_be_kept-requires
-can_be_kept-requires g c = opening_of c.in-Ok.objects c.in-Ok.ensures.read
+can_be_kept-requires g c = opening_of c.in-Ok.objects c.in-Ok.extents.items c.in-Ok.ensures.read
 
 pub returns-in-Err-clause-refused : goal.returns-in-Err-clause-refused
 returns-in-Err-clause-refused g c m held =
@@ -18,13 +23,30 @@ returns-in-Err-clause-crash g c m held =
     given_back (λ size. IsPartlyCleaned size m) _ _ c.release.ensures.disk
     (restart_during c.of-watched.ensures c.in-Err.ensures.shape c.end.ensures.vault c.end.ensures.watched c.requires.layout c.in-Err.ensures.during m held)
 
-pub returns-then-can_be_kept-clause-restarts : goal.returns-then-can_be_kept-clause-restarts
-returns-then-can_be_kept-clause-restarts g c m held =
+pub returns-then-can_be_kept-clause-opened : goal.returns-then-can_be_kept-clause-opened
+returns-then-can_be_kept-clause-opened g c m held =
     let then = held_then c.of-watched.ensures c.in-Ok.ensures.shape c.end-vault.ensures.vault c.end-vault.ensures.watched m held in
-    (record { sound = c.in-Ok.ensures.sound m then; is = c.in-Ok.ensures.told m then }, held_now c.of-watched.ensures c.in-Ok.ensures.shape c.end-vault.ensures.vault c.end-vault.ensures.watched _ (c.in-Ok.ensures.holds m then))
+    record {
+      parts = c.in-Ok.ensures.parts m then;
+      objects = record { sound = c.in-Ok.ensures.sound m then; is = c.in-Ok.ensures.told m then };
+      extents = ap (λ (r : Room). r.extents) c.new-room.ensures ∙ c.in-Ok.ensures.extents m then;
+      holds = held_now c.of-watched.ensures c.in-Ok.ensures.shape c.end-vault.ensures.vault c.end-vault.ensures.watched _ (c.in-Ok.ensures.holds m then);
+    }
+
+pub returns-then-can_be_kept-clause-fits : goal.returns-then-can_be_kept-clause-fits
+returns-then-can_be_kept-clause-fits g c =
+    subst (λ (r : Room). Fits r.extents c.in-Ok.objects) (sym c.new-room.ensures) (fits_of c.in-Ok.objects c.in-Ok.extents.items c.in-Ok.ensures.read)
+
+pub returns-then-can_be_kept-clause-rising : goal.returns-then-can_be_kept-clause-rising
+returns-then-can_be_kept-clause-rising g c = subst (λ (r : Room). AreRising r.extents) (sym c.new-room.ensures) c.in-Ok.ensures.rising
+
+pub returns-then-can_be_kept-clause-parts : goal.returns-then-can_be_kept-clause-parts
+returns-then-can_be_kept-clause-parts g c =
+    let seen = seen_from c.of-watched.ensures c.in-Ok.ensures.shape c.end-vault.ensures.vault c.end-vault.ensures.watched in
+    ap (λ (r : Room). r.parts + 1) c.new-room.ensures ∙ c.requires.parts ∙ ap parts_of (sym seen.layout)
 
 pub returns-then-can_be_kept-clause-opening : goal.returns-then-can_be_kept-clause-opening
-returns-then-can_be_kept-clause-opening g c = opening_of c.in-Ok.objects c.in-Ok.ensures.read
+returns-then-can_be_kept-clause-opening g c = opening_of c.in-Ok.objects c.in-Ok.extents.items c.in-Ok.ensures.read
 
 pub returns-then-can_be_kept-clause-during : goal.returns-then-can_be_kept-clause-during
 returns-then-can_be_kept-clause-during g c m held =

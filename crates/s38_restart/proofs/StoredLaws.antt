@@ -5,22 +5,24 @@ use Rattle.std.proofs.lemmas.Bool.Decides.{nat_tests}
 use Rattle.std.proofs.lemmas.List.{get_or-append-add, get_or_append_left}
 use Rattle.std.specs.Prelude.{◌||◌, ◌-◌, Option, Some, None, Result, Ok, Err, filter, filter_map, nat_lt}
 use Rattle.std.specs.List.{AllByRecursion}
-use Rattle.std.specs.Option.{option_and_then}
+use Rattle.std.specs.Option.{option_and_then, unwrap_or}
 use Rattle.s38_base.specs.declared.id.Kind.TheVariants as kinds
 use Rattle.s38_base.specs.declared.page.Change.{Change}
 use Rattle.s38_codecs.proofs.CodecLaws.{AreBytes-behind, AreBytes-front, unless_some}
 use Rattle.s38_codecs.specs.Codec.{AreBytes}
-use Rattle.s38_groups.proofs.LawfulLaws.{IsWhole}
+use Rattle.s38_groups.proofs.LawfulLaws.{IsWhole, all_whole}
 use Rattle.s38_groups.specs.Groups.{group_of, groups, is_header, is_of, parts_of}
+use Rattle.s38_groups.specs.Stores.{ceiling_of, first_fault, stored_in}
 use Rattle.s38_image.proofs.ImageLaws.{fault_ok, object_exact, then_ok}
 use Rattle.s38_image.specs.Bodies.{BodyImage}
-use Rattle.s38_image.specs.Faults.{Group, group, header, header_at, is_bad_header, is_kind, is_number, sound, sound_by}
+use Rattle.s38_image.specs.Faults.{Group, ceiling_in, ceiling_key, first_by, first_of, first_under, group, header, header_at, is_bad_header, is_kind, is_number, is_on_disk, sound, sound_by, store_fault}
 use Rattle.s38_image.specs.Fitting.{AreFine, AreWhole, IsImage}
 use Rattle.s38_image.specs.Headers.{is_within}
 use Rattle.s38_image.specs.Images.{◌>>>◌, after_leading, body_in, body_part, first_missing, header_in, leading, limited, made, object_of, or_fault, rows_in, rows_part, wanted, with_all, with_body, with_rows}
 use Rattle.s38_image.specs.Pages.{bytes_of, stream}
 use Rattle.s38_image.specs.declared.header.Header.{Header}
 use Rattle.s38_image.specs.declared.stored.Stored.{Stored}
+use Rattle.s38_restart.specs.Parts.{AreParts}
 use Rattle.s38_rules.specs.declared.rows.PrivateRow.{PrivateRow}
 use Rattle.s38_base.specs.declared.id.ObjNum.{ObjNum}
 use Rattle.s38_vault.specs.Content.{HaveObjects}
@@ -183,3 +185,36 @@ module _ (all : List Group) (limit ceiling : ℕ) where
 -- all objects of groups without a fault
 pub all_kept : (all : List Group) (limit ceiling : ℕ) → AllByRecursion (IsWhole all limit ceiling) all → AllByRecursion IsGiven all → AllByRecursion (IsKept limit ceiling) (filter_map (sound all limit ceiling) all)
 all_kept all limit ceiling ws given = kept_in all limit ceiling ws all ws given
+
+-- ---- parts without a fault
+
+pub record HasNone (limit : ℕ) (gs : List Group) (ceiling : Option ℕ) : Type 0 where
+  pub at : ℕ
+  pub is : ceiling ≡ Some at
+  pub none : first_of gs limit at gs ≡ None
+
+none_under : (gs : List Group) (limit ceiling : ℕ) → first_under gs limit ceiling ≡ None → first_of gs limit ceiling gs ≡ None
+none_under gs limit ceiling h = by (is_on_disk gs 1) (is_on_disk gs 2) h
+  where
+    by : (a b : Bool) → cond (not a) (Some (1, 0)) (cond (not b) (Some (2, 0)) (first_of gs limit ceiling gs)) ≡ None → first_of gs limit ceiling gs ≡ None
+    by true true h = h
+    by true false h = absurd cc
+    by false b h = absurd cc
+
+none_by : (gs : List Group) (limit : ℕ) (ceiling : Option ℕ) → first_by gs limit ceiling ≡ None → HasNone limit gs ceiling
+none_by gs limit None h = absurd cc
+none_by gs limit (Some n) h = record { at = n; is = refl; none = none_under gs limit n h }
+
+pub none_of : (limit : ℕ) (parts : List Change) → first_fault limit parts ≡ None → HasNone limit (groups parts) (ceiling_in (parts_of ceiling_key parts))
+unfolding store_fault
+none_of limit parts none = none_by (groups parts) limit (ceiling_in (parts_of ceiling_key parts)) none
+
+-- the objects that they hold
+pub stored_kept : (limit : ℕ) (parts : List Change) → AreParts parts → first_fault limit parts ≡ None → AllByRecursion (IsKept limit (ceiling_of parts)) (stored_in limit parts)
+stored_kept limit parts are fault =
+    let gs = groups parts in
+    let ceiling = ceiling_of parts in
+    let found = none_of limit parts fault in
+    let at : ceiling ≡ found.at = ap (λ (o : Option ℕ). unwrap_or o 0) found.is in
+    let none : first_of gs limit ceiling gs ≡ None = subst (λ (n : ℕ). first_of gs limit n gs ≡ None) (sym at) found.none in
+    all_kept gs limit ceiling (all_whole gs limit ceiling gs none) (groups_given parts are.fine are.objects)
