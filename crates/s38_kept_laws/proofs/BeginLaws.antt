@@ -102,13 +102,13 @@ module _ (m : _) (h : Held) (are : AreParts (all_parts m)) (fault : first_fault 
 
   pub begins_kept : (templates : List CheckedTemplate) (jobs : List Job) (room : Option Room) → Counts room d → IsKeptOf (origin_of h templates jobs room) d
   begins_kept templates jobs room counts =
-      let well = opening_well h templates jobs is in
+      let well = opening_well room h templates jobs is in
       record {
         follows = subst (λ (k : Held). Follows k d) (sym of) restarted_follows;
         counts = counts;
         ceiling = sym (ap (λ (k : Held). k.ceiling) of);
         bodies = λ n x found. (read_printable body_limit x (omega arith) (images n x found)).kind;
         well = record { limit = well.limit; objects = well.objects };
-        right = opening_right h templates jobs is;
+        right = opening_right room h templates jobs is;
         numbered = opening_numbered h is (subst (λ (k : Held). k.next ≤ k.ceiling + 1) (sym of) (omega arith));
       }
