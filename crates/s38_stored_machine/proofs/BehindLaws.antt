@@ -360,7 +360,7 @@ module _ {V : Type 0} (view : V → VaultView) (holds : V → Content → Type 0
       state = step_stored s p e is.state;
       first = is.first;
       moment = low_moment Stopped keeps;
-      ending = subst (λ (n : ℕ). Rose n (view v).faults) now_is.1 (keeps.failed refl);
+      ending = (subst (λ (n : ℕ). Rose n (view v).faults) now_is.1 (keeps.failed refl), let count = length-append m.history (one ∷ []) in omega (arith, count));
       shape = keeps.shape ∙ is.shape;
       present = keeps.present;
       past = past_behind Stopped keeps;

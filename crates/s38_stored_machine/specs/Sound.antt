@@ -1,6 +1,6 @@
 -- What holds of a machine over a vault at all times: its history is legal, the vault stands for what is durable behind what
 -- was answered, and a crash at any moment leaves what is durable behind the entries that were answered by then.
-use Rattle.std.specs.Prelude.{◌≡◌, ◌↔◌, ◌≤◌, ℕ, true, is_some}
+use Rattle.std.specs.Prelude.{◌≡◌, ◌↔◌, ◌≤◌, ℕ, length, true, is_some}
 use Rattle.s38_base.specs.Faults.{Rose}
 use Rattle.s38_commitment_laws.specs.Right.{IsRight}
 use Rattle.s38_durable.specs.Durable.{Durable, durable}
@@ -59,10 +59,11 @@ pub record IsKeptFrom {V : Type 0} (view : V → VaultView) (holds : V → Conte
   pub crash : AllOnePut (view x.first).shape.most d x.machine.origin x.machine.history → (t : ℕ) (n : Content) → (view x.first).moment ≤ t → t ≤ (view x.vault).moment
       → leaves x.vault t n → IsKeptPrefix d x.machine.origin x.machine.history (run_of x).marks t n
 
--- while it goes on, the machine is at the moment of its vault, which did not fail; where it stopped, the vault failed
+-- while it goes on, the machine is at the moment of its vault, which did not fail; where it stopped, the vault failed, and
+-- the entry of the call that failed is there
 abbrev pub IsEnding : Ending → Run → VaultView → VaultView → Type 0
 IsEnding Going m first now = (m.moment ≡ now.moment) × (now.faults ≡ first.faults)
-IsEnding Stopped m first now = Rose first.faults now.faults
+IsEnding Stopped m first now = Rose first.faults now.faults × (1 ≤ length m.history)
 IsEnding Wanting m first now = Unit {0}
 
 pub record IsSoundOver {V : Type 0} (view : V → VaultView) (holds : V → Content → Type 0) (leaves : V → ℕ → Content → Type 0) (x : StoredView V) : Type 0 where
