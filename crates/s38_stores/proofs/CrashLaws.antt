@@ -18,7 +18,7 @@ use Rattle.s38_pages.specs.Formats.{IsMaking}
 use Rattle.s38_pages.specs.Mounts.{layout_of}
 use Rattle.s38_pages.specs.Vaults.{PageStore, page_holds, page_leaves}
 use Rattle.s38_pages.specs.Watched.{IsWatched}
-use Rattle.s38_stores.specs.Crashes.{DuringCall, IsNoneOrInstalled}
+use Rattle.s38_stores.specs.Crashes.{DuringCall, GoesOn, IsNoneOrInstalled}
 use Rattle.s38_stores.specs.Stores.{installed_store}
 use Rattle.s38_vault.specs.Content.{Content}
 
@@ -81,6 +81,21 @@ during_run {v} {w} x s is f = record {
   later = later_moment x;
   before = λ t g le. images_same x t g le;
   each = λ t g low high left. f left.0 (moments_of x s is t left.0 low high left.1.0) g left.1.1;
+}
+
+-- ---- a disk that goes on
+
+pub goes_by : {v w : DiskView} {most : ℕ} {R : State → State → Type 0} → Moves v w most R → GoesOn v w
+goes_by x = record { size = x.size; later = later_moment x; before = λ t g le. images_same x t g le }
+
+pub goes_then : {u v w : DiskView} → GoesOn u v → GoesOn v w → GoesOn u w
+goes_then x y = record {
+  size = y.size ∙ x.size;
+  later = omega (arith, x.later, y.later);
+  before = λ t g le.
+      let there = x.before t g le in
+      let here = y.before t g (omega (arith, le, x.later)) in
+      (λ h. here.0 (there.0 h), λ h. there.1 (here.1 h));
 }
 
 -- ---- a store that is made

@@ -18,6 +18,12 @@ use Rattle.s38_stores.specs.Stores.{Keeps, Restarts, installed_store}
 use Rattle.s38_vault.specs.Content.{Content, changed}
 use Rattle.s38_vault.specs.Vaults.{most_changes}
 
+-- A disk went on: it is as large, no moment was taken back, and each earlier moment is as it was.
+pub record GoesOn (old new : DiskView) : Type 0 where
+  pub size : new.size ≡ old.size
+  pub later : moment_of old.past ≤ moment_of new.past
+  pub before : (t : ℕ) (image : ℕ → Block) → t ≤ moment_of old.past → Leaves old.past t image ↔ Leaves new.past t image
+
 -- A call leaves each earlier moment of the disk as it was, and each image that a crash at a moment of the call may leave is
 -- so.
 pub record DuringCall (old new : DiskView) (P : (ℕ → Block) → Type 0) : Type 0 where

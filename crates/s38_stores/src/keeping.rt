@@ -4,9 +4,10 @@ ghost use Rattle.s38_closing.specs.Closing.{closing};
 ghost use Rattle.s38_disk.specs.Blocks.{State};
 ghost use Rattle.s38_disk.specs.Disk.{IsAt};
 ghost use Rattle.s38_image_printing.specs.Parts.{CanSettle};
+ghost use Rattle.s38_pages.specs.Mounts.{layout_of};
 ghost use Rattle.s38_pages.specs.Vaults.{page_holds, page_view};
 ghost use Rattle.s38_rules.specs.Storable.{IsStorable};
-ghost use Rattle.s38_stores.specs.Crashes.{DuringCall, IsBetween};
+ghost use Rattle.s38_stores.specs.Crashes.{DuringCall, GoesOn, IsBetween};
 ghost use Rattle.s38_stores.specs.Stores.{IsFullOf, Keeps};
 ghost use Rattle.s38_vault.specs.Content.{Content};
 
@@ -47,6 +48,8 @@ pub fn keep<D: Disk>(
     // after some of the puts; where one put takes all changes, all of them or none.
     ensures stays { IfErr result.end (λ fault. fault ≢ KeepFault.Failed → (D.view result.disk).past ≡ vault.disk.past) }
     ensures during { (m : Content) → page_holds vault m → DuringCall vault.disk (D.view result.disk) (IsBetween (D.view result.disk).size m (closing units.now objects.now)) }
+    ensures goes { GoesOn vault.disk (D.view result.disk) }
+    ensures placed { vault.layout ≡ layout_of (D.view result.disk).size }
 {
     // Its contract says that the keys are those of the content.
     let _free = vault.free();

@@ -12,7 +12,7 @@ ghost use Rattle.s38_pages.specs.Vaults.{page_holds, page_view};
 ghost use Rattle.s38_restart.specs.Parts.{all_parts};
 ghost use Rattle.s38_room.specs.Following.{Fits};
 ghost use Rattle.s38_rules.specs.Kept.{CanBeKept};
-ghost use Rattle.s38_stores.specs.Crashes.{DuringCall, IsPartlyCleaned, KeepsRestarting};
+ghost use Rattle.s38_stores.specs.Crashes.{DuringCall, GoesOn, IsPartlyCleaned, KeepsRestarting};
 ghost use Rattle.s38_stores.specs.Opened.{HoldsCleaned, IsFaultless, IsOpened, IsOpenedOn};
 ghost use Rattle.s38_stores.specs.Refusals.{IsFaultOf, IsRefusal};
 ghost use Rattle.s38_stores.specs.Stores.{AreOf, Restarts};
@@ -81,6 +81,8 @@ fn restarted<D: Disk>(
     ensures cause { IfErr result (λ refusal. refusal.1 ≡ StoreRefusal.Failed → Rose vault.start (D.view refusal.0).faults) }
     ensures during { IfOk result (λ store. (m : Content) → page_holds vault m → DuringCall vault.disk store.vault.disk (IsPartlyCleaned store.vault.disk.size m)) }
     ensures crash { IfErr result (λ refusal. (m : Content) → page_holds vault m → DuringCall vault.disk (D.view refusal.0) (IsPartlyCleaned (D.view refusal.0).size m)) }
+    ensures goes { IfOk result (λ store. GoesOn vault.disk store.vault.disk) }
+    ensures placed { IfOk result (λ store. store.vault.layout ≡ vault.layout) }
 {
     let mut watched = WatchedVault::of(vault);
     match restart(alloc, &mut watched) {
@@ -124,6 +126,8 @@ pub fn open<D: Disk>(alloc: Global, disk: D) -> Result<OpenStore<D>, (D, StoreRe
     // Whatever it answers, a crash leaves a store that restarts to the same objects.
     ensures during { IfOk result (λ store. KeepsRestarting (D.view disk) store.vault.disk) }
     ensures crash { IfErr result (λ refusal. KeepsRestarting (D.view disk) (D.view refusal.0)) }
+    ensures goes { IfOk result (λ store. GoesOn (D.view disk) store.vault.disk) }
+    ensures placed { IfOk result (λ store. store.vault.layout ≡ layout_of (D.view disk).size) }
 {
     let blocks = disk.blocks();
     match PageVault::mount(alloc, disk) {

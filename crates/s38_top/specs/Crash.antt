@@ -1,5 +1,5 @@
 -- What a crash leaves at each moment of a call.
-use Rattle.std.specs.Prelude.{◌≡◌, ◌≢◌, ◌↔◌, ◌⊎◌, ◌<◌, ◌≤◌, ℕ, List, Option, Some, None}
+use Rattle.std.specs.Prelude.{◌≡◌, ◌⊎◌, ◌<◌, ◌≤◌, ℕ, List, Option, Some, None}
 use Rattle.s38_blocks.specs.Store.{Stands}
 use Rattle.s38_code.specs.declared.deck.Deck.{Deck}
 use Rattle.s38_code.specs.declared.entry.Entry.{Entry}
@@ -15,7 +15,7 @@ use Rattle.s38_kept_laws.specs.Crashes.{IsKeptPrefix}
 use Rattle.s38_pages.specs.Mounts.{layout_of}
 use Rattle.s38_rules.specs.State.{State}
 use Rattle.s38_stored_machine.specs.Puts.{AllOnePut}
-use Rattle.s38_stores.specs.Crashes.{AtRest, DuringCall, IsBetween, IsNoneOrInstalled, IsPartlyCleaned, KeepsRestarting}
+use Rattle.s38_stores.specs.Crashes.{AtRest, DuringCall, GoesOn, IsBetween, IsNoneOrInstalled, IsPartlyCleaned, KeepsRestarting}
 use Rattle.s38_top.specs.Decks.{AreStoreMarks, opened}
 use Rattle.s38_top.specs.Runs.{RanTo, kept_of}
 use Rattle.s38_vault.specs.Content.{Content}
@@ -50,11 +50,10 @@ pub record MadeRun (turns : Turns) (old new : DiskView) (entries : List Entry) (
   -- the moments at which the run began, and ended
   pub first : ℕ
   pub last : ℕ
-  pub size : new.size ≡ old.size
+  pub goes : GoesOn old new
   pub began : moment_of old.past ≤ first
   pub marked : AreStoreMarks first last marks entries
   pub ended : last ≤ moment_of new.past
-  pub before : (t : ℕ) (g : ℕ → Block) → t ≤ moment_of old.past → Leaves old.past t g ↔ Leaves new.past t g
   -- while the store was opened, parts that belong to nothing may have gone
   pub opening : AtRest old (λ f. (m : Content) → Stands (layout_of old.size) f m → Between (moment_of old.past) first new (λ t g. IsPartlyCleaned new.size m g))
   -- while the run was made, if each step is kept by one put

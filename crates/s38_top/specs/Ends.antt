@@ -1,6 +1,6 @@
 -- On the way to an outcome: what is read of a source, what is known before a run, and what a run over an opened store comes
 -- to.
-use Rattle.std.specs.Prelude.{◌≡◌, ◌↔◌, ◌≤◌, ℕ, List, Option, Some, None, Result, Ok, Err}
+use Rattle.std.specs.Prelude.{◌≡◌, ◌≤◌, ℕ, List, Option, Some, None, Result, Ok, Err}
 use Rattle.s38_base.specs.Faults.{Rose}
 use Rattle.s38_blocks.specs.Store.{Stands}
 use Rattle.s38_keeping.specs.declared.fault.KeepFault.{KeepFault}
@@ -11,8 +11,7 @@ use Rattle.s38_code.specs.declared.made.CreateResult.{CreateResult}
 use Rattle.s38_command.specs.declared.command.Command.{Command}
 use Rattle.s38_command.specs.declared.turns.Turns.{Turns}
 use Rattle.s38_disk.specs.Blocks.{State as Blocks}
-use Rattle.s38_disk.specs.Disk.{DiskView, IsAt, Leaves, moment_of}
-use Rattle.s38_disk.specs.declared.block.Block.{Block}
+use Rattle.s38_disk.specs.Disk.{DiskView, IsAt, moment_of}
 use Rattle.s38_durable.specs.Durable.{Durable, durable}
 use Rattle.s38_io.specs.Source.{ReadsAll}
 use Rattle.s38_kept_laws.specs.Beginning.{cleaned, durable_in}
@@ -24,7 +23,7 @@ use Rattle.s38_rules.specs.State.{State}
 use Rattle.s38_stored_machine.specs.Puts.{AllOnePut}
 use Rattle.s38_stored_machine.specs.Seen.{StoredView}
 use Rattle.s38_stored_machine.specs.Sound.{IsOf}
-use Rattle.s38_stores.specs.Crashes.{KeepsRestarting}
+use Rattle.s38_stores.specs.Crashes.{GoesOn, KeepsRestarting}
 use Rattle.s38_stores.specs.Opened.{IsFaultless}
 use Rattle.s38_template.specs.Grammar.{Spells}
 use Rattle.s38_top.specs.declared.outcome.Outcome.{Outcome}
@@ -89,10 +88,9 @@ pub record LeftOver (turns : Turns) (deck : Deck) (v : PageStore) (s : State) (n
   pub planned : List Entry
   pub run : IsRunTo s.room s.held (order_of turns) deck entries
   pub last : ℕ
-  pub size : new.size ≡ v.disk.size
+  pub goes : GoesOn v.disk new
   pub marked : AreStoreMarks (page_view v).moment last marks entries
   pub ended : last ≤ moment_of new.past
-  pub before : (m : Content) → page_holds v m → (t : ℕ) (g : ℕ → Block) → t ≤ moment_of v.disk.past → Leaves v.disk.past t g ↔ Leaves new.past t g
   pub running : (m : Content) (d : Durable) → page_holds v m → IsOf m d s → AllOnePut most_changes d s planned → Between (page_view v).moment last new (λ t g. IsLeftAt new.size d s planned marks t g)
   pub closing : (m : Content) (d : Durable) → page_holds v m → IsOf m d s → Between last (moment_of new.past) new (λ t g. IsClosing new.size (durable d s entries) run.state g)
   pub reported : (o ≡ NoMemory → ⊥) → (history_of o ≡ entries) × (marks_of o ≡ marks)
@@ -123,6 +121,7 @@ pub record IsReady (old : DiskView) (deck : Deck) (made : List CreateResult) (x 
   pub holds : (s : Blocks) → IsAt old.past s → (m : Content) → Stands (layout_of old.size) s.now m → page_holds (vault_of x) (cleaned m) × IsOf (cleaned m) (durable_in m) x.machine.origin
   pub content : (s : Blocks) → IsAt old.past s → (m : Content) × Stands (layout_of old.size) s.now m
   pub faultless : IsFaultless old (vault_of x)
+  pub goes : GoesOn old (vault_of x).disk
   -- while the store was opened a crash left it as it is
   pub during : KeepsRestarting old (vault_of x).disk
 

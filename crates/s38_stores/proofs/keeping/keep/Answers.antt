@@ -8,9 +8,10 @@ use Rattle.s38_pages.specs.Vaults.{PageStore, page_view}
 use Rattle.s38_disk.specs.Disk.{DiskView}
 use Rattle.s38_vault.specs.Directory.{Keys, new_keys}
 use Rattle.s38_vault.specs.Vaults.{VaultView}
+use Rattle.s38_stores.proofs.CrashLaws.{goes_by}
 use Rattle.s38_stores.proofs.KeepLaws.{err_on, kept_of, of_fault}
 use Rattle.s38_stores.proofs.WatchLaws.{caused, close_during, given_back, held_now, held_then, now_is, seen_from, unmoved}
-use Rattle.s38_stores.specs.Crashes.{IsBetween}
+use Rattle.s38_stores.specs.Crashes.{GoesOn, IsBetween}
 use Rattle.s38_stores.proofs.keeping.keep.Goals as goal
 
 pub returns-clause-kept : goal.returns-clause-kept
@@ -59,3 +60,11 @@ returns-clause-cause g c =
     let seen = seen_from begun shape c.end.ensures.vault c.end.ensures.watched in
     err_on _ _ c.close-end.result c.close-end.ensures.cause.failed (λ fault rose failed.
     subst (λ n. Rose n (g.D.Disk.view c.release-disk.result).faults) seen.start (c.release-disk.ensures.cause (caused begun shape c.end.ensures.vault c.end.ensures.watched c.requires.faultless (rose failed))))
+
+pub returns-clause-goes : goal.returns-clause-goes
+returns-clause-goes g c =
+    subst (λ (d : DiskView). GoesOn c.args.vault.disk d) (sym c.release-disk.ensures.disk)
+    (goes_by (seen_from c.of-watched.ensures c.close-end.ensures.shape c.end.ensures.vault c.end.ensures.watched).moves)
+
+pub returns-clause-placed : goal.returns-clause-placed
+returns-clause-placed g c = sym (seen_from c.of-watched.ensures c.close-end.ensures.shape c.end.ensures.vault c.end.ensures.watched).layout ∙ c.release-disk.ensures.layout

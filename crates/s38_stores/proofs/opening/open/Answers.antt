@@ -1,3 +1,4 @@
+use Rattle.s38_stores.proofs.CrashLaws.{goes_by, goes_then}
 use Rattle.s38_stores.proofs.KeepLaws.{err_on, ok_on}
 use Rattle.std.proofs.Common.{◌∙◌, ap, subst, sym}
 use Rattle.s38_pages.proofs.VaultLemmas.{stands_one}
@@ -43,3 +44,9 @@ returns-in-Ok-clause-crash g c = err_on _ _ c.restarted.result c.restarted.ensur
 
 pub returns-in-Err-clause-crash : goal.returns-in-Err-clause-crash
 returns-in-Err-clause-crash g c = refused_during c.in-Err.ensures.crash
+
+pub returns-in-Ok-clause-goes : goal.returns-in-Ok-clause-goes
+returns-in-Ok-clause-goes g c = ok_on _ _ c.restarted.result c.restarted.ensures.goes (λ store h. goes_then (goes_by c.in-Ok.ensures.moves) h)
+
+pub returns-in-Ok-clause-placed : goal.returns-in-Ok-clause-placed
+returns-in-Ok-clause-placed g c = ok_on _ _ c.restarted.result c.restarted.ensures.placed (λ store h. h ∙ c.in-Ok.ensures.vault.2)

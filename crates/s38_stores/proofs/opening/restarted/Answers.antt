@@ -1,6 +1,7 @@
 use Rattle.std.proofs.Common.{◌+◌, ◌∙◌, ap, subst, sym}
 use Rattle.s38_base.specs.Faults.{Rose}
 use Rattle.s38_pages.specs.Vaults.{PageStore, page_view}
+use Rattle.s38_stores.proofs.CrashLaws.{goes_by}
 use Rattle.s38_stores.proofs.OpenLaws.{fault_of, opening_of, was_failed}
 use Rattle.s38_stores.proofs.WatchLaws.{caused, given_back, held_now, held_then, now_is, restart_during, seen_from}
 use Rattle.s38_extents.specs.Extents.{AreRising}
@@ -71,3 +72,9 @@ pub returns-else-can_be_kept-clause-crash : goal.returns-else-can_be_kept-clause
 returns-else-can_be_kept-clause-crash g c m held =
     given_back (λ size. IsPartlyCleaned size m) _ _ c.release-else-can_be_kept.ensures.disk
     (restart_during c.of-watched.ensures c.in-Ok.ensures.shape c.end-vault.ensures.vault c.end-vault.ensures.watched c.requires.layout c.in-Ok.ensures.during m held)
+
+pub returns-then-can_be_kept-clause-goes : goal.returns-then-can_be_kept-clause-goes
+returns-then-can_be_kept-clause-goes g c = goes_by (seen_from c.of-watched.ensures c.in-Ok.ensures.shape c.end-vault.ensures.vault c.end-vault.ensures.watched).moves
+
+pub returns-then-can_be_kept-clause-placed : goal.returns-then-can_be_kept-clause-placed
+returns-then-can_be_kept-clause-placed g c = (seen_from c.of-watched.ensures c.in-Ok.ensures.shape c.end-vault.ensures.vault c.end-vault.ensures.watched).layout
