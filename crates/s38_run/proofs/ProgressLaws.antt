@@ -3,16 +3,18 @@ use Rattle.std.proofs.Common.{◌≡◌, ◌≢◌, ℕ, ◌+◌, ◌<◌, ◌==
 use Rattle.std.proofs.lemmas.Bool.Decides.{nat_tests}
 use Rattle.std.proofs.lemmas.List.Elements.{filter_agree}
 use Rattle.std.specs.List.{range_with_len}
+use Rattle.std.specs.Prelude.{Option}
 use Rattle.s38_code.specs.declared.deck.Job.{Job}
 use Rattle.s38_code.specs.declared.entry.Entry.{Entry}
 use Rattle.s38_code.specs.declared.event.Event.{Event}
 use Rattle.s38_code.specs.declared.made.CheckedTemplate.{CheckedTemplate}
 use Rattle.s38_code.specs.declared.reply.Reply.{Reply}
+use Rattle.s38_machine.specs.Stored.{stored_state_of}
+use Rattle.s38_rules.specs.Room.{Room}
 use Rattle.s38_rules.specs.declared.verdict.Verdict.{Verdict}
 use Rattle.s38_rules.specs.declared.verdict.Verdict.TheVariants.{Permit, Refuse, Wait}
 use Rattle.s38_rules.specs.Held.{Held}
 use Rattle.s38_rules.specs.Legal.{IsProcess, Leads}
-use Rattle.s38_rules.specs.Opening as opening
 use Rattle.s38_rules.specs.State.{State, ready, ready_list, waits}
 use Rattle.s38_rules.specs.Step.{awake_verdict, by_verdict, by_waiting, step}
 use Rattle.s38_run.specs.Progress.{AllGoing, AreAwake, IsGoing, waiting_behind}
@@ -69,8 +71,8 @@ pub history_going : (s : State) (history : List Entry) → IsGoing s → AllGoin
 history_going s [] going = going
 history_going s (e ∷ es) going = (going, history_going (step s e.process e.event).state es (step_going s e.process e.event going))
 
-pub begins_going : (held : Held) (templates : List CheckedTemplate) (jobs : List Job) → IsGoing (opening.state_of held templates jobs)
-begins_going held templates jobs = going_awake (opening.state_of held templates jobs) refl
+pub begins_going : (room : Option Room) (held : Held) (templates : List CheckedTemplate) (jobs : List Job) → IsGoing (stored_state_of room held templates jobs)
+begins_going room held templates jobs = going_awake (stored_state_of room held templates jobs) refl
 
 -- ---- who waits is silent
 

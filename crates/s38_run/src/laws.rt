@@ -1,4 +1,5 @@
-ghost use Rattle.std.specs.Prelude.{◌≡◌, ℕ, List, length};
+ghost use Rattle.std.specs.Prelude.{◌≡◌, ℕ, List, Option, length};
+ghost use Rattle.s38_machine.specs.Stored.{stored_state_of};
 ghost use Rattle.s38_code.specs.declared.deck.Job.{Job};
 ghost use Rattle.s38_code.specs.declared.made.CreateResult.{CreateResult};
 ghost use Rattle.s38_rules.specs.Legal.{Run};
@@ -7,7 +8,7 @@ ghost use Rattle.s38_code.specs.declared.event.Event.{Event};
 ghost use Rattle.s38_code.specs.declared.made.CheckedTemplate.{CheckedTemplate};
 ghost use Rattle.s38_rules.specs.Held.{Held};
 ghost use Rattle.s38_rules.specs.Legal.{Leads};
-ghost use Rattle.s38_rules.specs.Opening.{state_of};
+ghost use Rattle.s38_rules.specs.Room.{Room};
 ghost use Rattle.s38_rules.specs.State.{State};
 ghost use Rattle.s38_rules.specs.Step.{step};
 ghost use Rattle.s38_run.specs.Pickers.{picks_of};
@@ -28,7 +29,7 @@ pub fn the_picks_decide<P: Picker>(picker: &P)
 /// Nobody is left alone with those that wait: where no process is ready, each has ended. It is so at the beginning, behind
 /// each step, and so in every state of a history.
 pub fn one_is_always_ready()
-    ensures begins { (held : Held) (templates : List CheckedTemplate) (jobs : List Job) → IsGoing (state_of held templates jobs) }
+    ensures begins { (room : Option Room) (held : Held) (templates : List CheckedTemplate) (jobs : List Job) → IsGoing (stored_state_of room held templates jobs) }
     ensures steps { (s : State) (p : ℕ) (e : Event) → IsGoing s → IsGoing (step s p e).state }
     ensures histories { (s : State) (history : List Entry) → IsGoing s → AllGoing s history }
 {}

@@ -3,5 +3,6 @@ mod OwnerLaws
 mod KeepLaws
 pub mod TopLaws
 mod StoreLaws
+mod OverLaws
 mod ConfinedLaws
 pub mod SafeLaws

@@ -36,7 +36,10 @@ use Rattle.s38_stores.proofs.CrashLaws.{goes_by, goes_then}
 use Rattle.s38_stores.specs.Crashes.{DuringCall, GoesOn, IsBetween}
 use Rattle.s38_stores.specs.Stores.{IsFullOf, Keeps}
 use Rattle.s38_top.specs.Crash.{Between, IsClosing, IsLeftAt}
-use Rattle.s38_top.specs.Decks.{AreStoreMarks, IsFrontOfJob, IsRunOf, IsRunTo, opened, order_of}
+use Rattle.s38_objects.specs.Lawful.{IsLawful}
+use Rattle.s38_openings.proofs.CloseLaws.{end_closes}
+use Rattle.s38_openings.specs.Closing.{CanClose}
+use Rattle.s38_top.specs.Decks.{AreStoreMarks, IsFrontOfJob, IsRunOf, IsRunTo, checked_of, opened, order_of}
 use Rattle.s38_top.specs.Ends.{LeftOver}
 use Rattle.s38_top.specs.Outcome.{history_of, marks_of}
 use Rattle.s38_top.specs.Runs.{LeavesBehind, LeavesBy, kept_of}
@@ -141,7 +144,7 @@ module _ (turns : Turns) (deck : Deck) (x : StoredView WatchedStore) (end : Halt
   abbrev behind : State
   behind = led s entries
 
-  run_to : IsRunTo s.room s.held (order_of turns) deck entries
+  pub run_to : IsRunTo s.room s.held (order_of turns) deck entries
   run_to = record {
     state = behind;
     legal = subst (λ (o : State). Leads o [] entries behind) went.origin (answered_leads x.ending x.machine went.sound.sound.legal);
@@ -218,10 +221,16 @@ module _ (turns : Turns) (deck : Deck) (x : StoredView WatchedStore) (end : Halt
         reported = reported;
       }
 
+  -- it can be closed
+  pub closes : IsLawful x.machine.state.held → CanClose x.machine.state
+  closes lawful =
+      end_closes s.room s.held (checked_of deck) deck.jobs x.machine.history x.machine.state went.opening
+      (subst (λ (o : State). Leads o [] x.machine.history x.machine.state) went.origin went.sound.sound.legal) lawful
+
   -- ---- what it came to
 
   -- each job ran whole
-  run_whole : end ≡ halts.Complete → IsRunOf s.room s.held (order_of turns) deck entries
+  pub run_whole : end ≡ halts.Complete → IsRunOf s.room s.held (order_of turns) deck entries
   run_whole complete = record {
     state = run_to.state;
     legal = run_to.legal;
@@ -229,11 +238,11 @@ module _ (turns : Turns) (deck : Deck) (x : StoredView WatchedStore) (end : Halt
     each = λ k job at. let one = run_to.each k job at in record { made = one.made; is = one.is; ran = record { by_program = one.ran; whole = went.whole complete k job at } };
   }
 
-  marked_on : (last : ℕ) → moment_of r.disk.past ≤ last → AreStoreMarks (page_view v).moment last marks entries
+  pub marked_on : (last : ℕ) → moment_of r.disk.past ≤ last → AreStoreMarks (page_view v).moment last marks entries
   marked_on last le = record { count = marked.count; moments = moments_on (page_view v).moment marks (moment_of r.disk.past) last marked.moments le }
 
   -- what a vault held as the run ended, by what it held as the run began
-  behind_by : end ≡ halts.Complete → (e : RunEnd) → (e ≡ ends.Stopped → ⊥) → LeavesBy r new x.machine.state e → LeavesBehind v s new (run_to.state) e
+  pub behind_by : end ≡ halts.Complete → (e : RunEnd) → (e ≡ ends.Stopped → ⊥) → LeavesBy r new x.machine.state e → LeavesBehind v s new (run_to.state) e
   behind_by complete ends.Kept not by = λ m d holds of t at.
       let there = held_then complete m d holds of in
       subst (λ (e : State). Keeps new.size t.now (kept_of e)) (sym (state_is complete)) (by there.content (subst (λ (p : PageStore). page_holds p there.content) (sym is) there.held) t at)
