@@ -4,3 +4,5 @@ mod StateLaws
 mod StandLaws
 mod BehindLaws
 mod SettledLaws
+mod WantLaws
+mod AskLaws

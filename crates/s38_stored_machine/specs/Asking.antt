@@ -1,19 +1,24 @@
 -- What is said of an answer of a machine over a vault, also where it goes no more.
-use Rattle.std.specs.Prelude.{◌≡◌, ◌≤◌, ℕ, Option, Some, Result, IfOk, IfSome, IsErrOf, OnErr, OnOk}
+use Rattle.std.specs.Prelude.{◌≡◌, ◌≤◌, ℕ, List, Option, Some, Result, IfOk, IfSome, IsErrOf, OnErr, OnOk}
 use Rattle.s38_code.specs.Asking.{reply_by}
 use Rattle.s38_code.specs.History.{first_stop}
 use Rattle.s38_code.specs.declared.asked.Asked.{Asked}
+use Rattle.s38_code.specs.declared.entry.Entry.{Entry}
 use Rattle.s38_code.specs.declared.event.Event.{Event}
 use Rattle.s38_code.specs.declared.reply.Reply.{Reply}
 use Rattle.s38_code.specs.declared.step.StepFault.{StepFault}
 use Rattle.s38_code.specs.declared.step.StepFault.TheVariants as faults
-use Rattle.s38_rules.specs.Legal.{after}
+use Rattle.s38_rules.specs.Legal.{IsProcess, after}
 use Rattle.s38_rules.specs.Step.{step}
 use Rattle.s38_vault.specs.Content.{Content}
 use Rattle.s38_vault.specs.Vaults.{VaultView}
-use Rattle.s38_stored_machine.specs.Seen.{StoredView, beginning_of, run_of, stopped_of}
+use Rattle.s38_stored_machine.specs.Seen.{StoredBeginning, StoredView, beginning_of, run_of, stopped_of}
 use Rattle.s38_stored_machine.specs.Sound.{IsSoundOver}
 use Rattle.s38_stored_machine.specs.declared.ending.Ending.TheVariants.{Going}
+
+-- a process of a job may ask
+abbrev pub MayAskOver : {V : Type 0} → StoredBeginning V → ℕ → Event → List Entry → Type 0
+MayAskOver beginning p e entries = IsProcess beginning.state p
 
 -- an answer is that of one step of the run
 pub record IsStoredStep {V : Type 0} (old : StoredView V) (p : ℕ) (e : Event) (answer : Result Reply StepFault) (new : StoredView V) : Type 0 where

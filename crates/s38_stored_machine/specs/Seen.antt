@@ -51,3 +51,7 @@ pub record StoredBeginning (V : Type 0) : Type 0 where
 
 abbrev pub beginning_of : {V : Type 0} → StoredView V → StoredBeginning V
 beginning_of x = record { state = x.machine.origin; vault = x.first }
+
+-- the last entry of a machine that went on counts as that of a call that failed
+abbrev pub broken_off : {V : Type 0} → StoredView V → StoredView V
+broken_off x = record { machine = x.machine; vault = x.vault; first = x.first; ending = Wanting }

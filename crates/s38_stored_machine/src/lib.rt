@@ -7,6 +7,7 @@ mod keeping;
 mod laws;
 mod machine;
 mod running;
+mod sharing;
 
 pub use ending::Ending;
 pub use machine::{StoredEnd, StoredMachine};
