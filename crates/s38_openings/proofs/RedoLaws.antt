@@ -90,7 +90,7 @@ inserted_short t at after is =
     let longer = with_deleted t n in
     cond_both (may_stand_at t at after) (restored longer at (Some after)) t IsShortTable
     (λ may. restored_short longer at (Some after) (short_by t.fields (length t.entries + n) longer (deleted_has n t)
-        (subst (λ (k : ℕ). image_size t.fields k ≤ 16777216) (most at (length t.entries)) (within (both_true (is_entry_of t.fields (Some after)) _ may).1))))
+    (subst (λ (k : ℕ). image_size t.fields k ≤ 16777216) (most at (length t.entries)) (within (both_true (is_entry_of t.fields (Some after)) _ may).1))))
     (λ not. is)
   where
     most : (a b : ℕ) → max a b ≡ b + (a - b)

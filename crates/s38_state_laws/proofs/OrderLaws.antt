@@ -319,7 +319,7 @@ one_more None n h = by (nat_le most_rows n) refl h
 pub locks_order : (op : Op) (s : State) (p d : ℕ) (t : Request) → FitsIn s s.held → LocksWell s.held.next s.locks → refused_by (locks_row op) s p d t ≡ None → LocksMay (Fit s.held.next) s p ((locks_row op).changes s p d t)
 unfolding locks_row lock_fails xfrlock_fails
 locks_order LockOp s p d t fits well e =
-    let asked = (p, state_asked t.operands) in
+    let asked : Lock = (p, state_asked t.operands) in
     let met = rule_met lock s p d t e in
     record {
       given = named_there lock s p d t (locked_need (lock_right (state_asked t.operands))) fits e (lock_there t.operands) refl refl refl;
@@ -328,15 +328,15 @@ locks_order LockOp s p d t fits well e =
       most = omega (arith, with_length asked (locks_at s t.operands 1), one_more (hindrance p (state_asked t.operands) (locks_at s t.operands 1)) (length (locks_at s t.operands 1)) met);
     }
 locks_order Unlock s p d t fits well e =
-    let asked = (p, state_asked t.operands) in
+    let asked : Lock = (p, state_asked t.operands) in
     record {
       given = named_there unlock s p d t (locked_need 0) fits e unlock_there refl refl refl;
       orderly = orderly_without asked (locks_at s t.operands 1) (orderly_there s.held.next s.locks (target s.held t.operands 1) well);
       most = omega (arith, without_less asked (locks_at s t.operands 1), few_there s.held.next s.locks (target s.held t.operands 1) well);
     }
 locks_order Xfrlock s p d t fits well e =
-    let mine = (p, state_asked t.operands) in
-    let theirs = (taker s t.operands, state_asked t.operands) in
+    let mine : Lock = (p, state_asked t.operands) in
+    let theirs : Lock = (taker s t.operands, state_asked t.operands) in
     let held = locks_at s t.operands 1 in
     let rest = orderly_without mine held (orderly_there s.held.next s.locks (target s.held t.operands 1) well) in
     let one = first_none (of_lock_fault _) _ (rule_met xfrlock s p d t e) in
