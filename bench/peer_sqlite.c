@@ -1,15 +1,17 @@
-/* The peer of queues, indexes and data spaces: an in-memory database of SQLite, by prepared statements on one connection, in one
-   transaction but where it says otherwise. It prints seconds and the library's version.
+/* The peer of queues, indexes, data spaces and units: a database of SQLite, in memory but where a file is named, by prepared
+   statements on one connection, in one transaction but where it says otherwise. It prints seconds and the library's version.
    peer_sqlite traffic PAIRS        so many puts, each followed by a take. A put inserts a message; a take selects the
                                     oldest message and deletes it.
    peer_sqlite keyed COUNT PAIRS    the same by keys, where COUNT messages stay in the queue: a put inserts a message
                                     with a key; a take selects the oldest message of the least key that is not below it.
    peer_sqlite pairs COUNT PAIRS    inserts a new entry into a table of COUNT entries, and deletes it again, so often.
    peer_sqlite find COUNT FINDS     selects an entry of a table of COUNT entries, so often.
-   peer_sqlite insert COUNT         inserts so many rows of 32 bytes into a table by row number; `update` and `read` update
-                                    each of them by its number, or select all in their order.
+   peer_sqlite insert COUNT         inserts so many rows of 32 bytes into a table by row number; `update` updates each of them
+                                    by its number, `read` selects all in their order, and `step` each by its number.
    peer_sqlite commit COUNT         updates a row in so many transactions, each of which is committed; `decommit` rolls
                                     each of them back.
+   peer_sqlite rollback COUNT FILE  the same in a new file, each committed and forced to the disk, with a rollback journal;
+   peer_sqlite wal COUNT FILE       with a log that is written ahead.
    peer_sqlite demo COUNT           reads a total, adds to it, and updates it, in so many transactions, each committed. */
 #include <sqlite3.h>
 #include <stdio.h>
@@ -177,13 +179,23 @@ static double inserted_rows(long count)
     return now() - begun;
 }
 
+/* Another entry of 32 bytes each time: SQLite does not write a row that stays as it was. */
+static void bind_other(sqlite3_stmt *update, long number)
+{
+    char other[sizeof record];
+    memcpy(other, record, sizeof record);
+    for (int at = 0; at < 8; at++, number /= 10)
+        other[at] = (char)('A' + number % 10);
+    need(sqlite3_bind_blob(update, 1, other, sizeof other, SQLITE_TRANSIENT) == SQLITE_OK, "bind");
+}
+
 static double updated_rows(long count)
 {
     inserted_rows(count);
     sqlite3_stmt *update = prepared("update records set entry = ? where id = ?");
     double begun = now();
     for (long k = 1; k <= count; k++) {
-        need(sqlite3_bind_blob(update, 1, record, sizeof record, SQLITE_STATIC) == SQLITE_OK, "bind");
+        bind_other(update, k);
         need(sqlite3_bind_int64(update, 2, k) == SQLITE_OK, "bind");
         done(update);
     }
@@ -207,6 +219,23 @@ static double read_rows(long count)
     return now() - begun;
 }
 
+static double stepped_rows(long count)
+{
+    inserted_rows(count);
+    sqlite3_stmt *one = prepared("select entry from records where id = ?");
+    char entry[sizeof record];
+    double begun = now();
+    for (long k = 1; k <= count; k++) {
+        need(sqlite3_bind_int64(one, 1, k) == SQLITE_OK, "bind");
+        need(sqlite3_step(one) == SQLITE_ROW && sqlite3_column_bytes(one, 0) == (int)sizeof entry, "a row");
+        memcpy(entry, sqlite3_column_blob(one, 0), sizeof entry);
+        need(memcmp(entry, record, sizeof record) == 0, "a row");
+        sqlite3_reset(one);
+    }
+    once("commit");
+    return now() - begun;
+}
+
 /* A row that is updated in so many transactions, each of which ends so. */
 static double transactions(long count, const char *end)
 {
@@ -218,11 +247,19 @@ static double transactions(long count, const char *end)
     double begun = now();
     for (long k = 0; k < count; k++) {
         done(beginning);
-        need(sqlite3_bind_blob(update, 1, record, sizeof record, SQLITE_STATIC) == SQLITE_OK, "bind");
+        bind_other(update, k);
         done(update);
         done(ending);
     }
     return now() - begun;
+}
+
+/* The same in a file, where each commit is forced to the disk. */
+static double forced(long count, const char *mode)
+{
+    once(mode);
+    once("pragma synchronous=full");
+    return transactions(count, "commit");
 }
 
 /* A total to which so many transactions add, each what the job of its number adds. */
@@ -250,10 +287,11 @@ static double totals(long count)
 int main(int argc, char **argv)
 {
     const char *what = argc > 2 ? argv[1] : "";
-    long first = argc > 2 ? atol(argv[2]) : 0, second = argc > 3 ? atol(argv[3]) : 0;
+    int on_file = strcmp(what, "rollback") == 0 || strcmp(what, "wal") == 0;
+    long first = argc > 2 ? atol(argv[2]) : 0, second = argc > 3 && !on_file ? atol(argv[3]) : 0;
     double taken = 0;
-    need(first > 0 && first <= 100000000 && (second > 0 || argc == 3), "a part and its numbers are wanted");
-    need(sqlite3_open(":memory:", &db) == SQLITE_OK, "open");
+    need(first > 0 && first <= 100000000 && (on_file ? argc == 4 : second > 0 || argc == 3), "a part and its numbers are wanted");
+    need(sqlite3_open(on_file ? argv[3] : ":memory:", &db) == SQLITE_OK, "open");
     if (strcmp(what, "traffic") == 0)
         taken = traffic(first);
     else if (strcmp(what, "keyed") == 0)
@@ -268,6 +306,12 @@ int main(int argc, char **argv)
         taken = updated_rows(first);
     else if (strcmp(what, "read") == 0)
         taken = read_rows(first);
+    else if (strcmp(what, "step") == 0)
+        taken = stepped_rows(first);
+    else if (strcmp(what, "rollback") == 0)
+        taken = forced(first, "pragma journal_mode=delete");
+    else if (strcmp(what, "wal") == 0)
+        taken = forced(first, "pragma journal_mode=wal");
     else if (strcmp(what, "commit") == 0)
         taken = transactions(first, "commit");
     else if (strcmp(what, "decommit") == 0)

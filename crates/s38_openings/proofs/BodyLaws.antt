@@ -1,29 +1,46 @@
--- What a store without a fault has of queues and indexes keeps to their limits.
-use Rattle.std.proofs.Common.{◌≡◌, ℕ, zero, suc, ◌==◌, ◌≤◌, Bool, true, false, cond, List, [], ◌∷◌, length, sym, subst, arith}
+-- What a store without a fault has of bodies keeps to their limits.
+use Rattle.std.proofs.Common.{◌≡◌, ◌∙◌, ◌++◌, ℕ, zero, suc, ◌+◌, ◌*◌, ◌==◌, ◌≤◌, Bool, true, false, cond, List, [], ◌∷◌, ap, length, length-append, refl, sym, subst, arith}
 use Rattle.std.proofs.lemmas.Bool.Decides.{nat_tests}
-use Rattle.std.proofs.lemmas.List.Elements.{All-cons, All-nil}
+use Rattle.std.proofs.lemmas.List.Elements.{All-cons, All-head, All-nil, All-tail}
 use Rattle.std.specs.declared.cmp.Ordering.TheVariants.{Less}
-use Rattle.std.specs.Prelude.{◌&&◌, All, nat_le}
+use Rattle.std.specs.List.{flat_map}
+use Rattle.std.specs.Prelude.{◌&&◌, All, None, Option, Some, nat_le}
 use Rattle.s38_base.specs.Limits.{longest_message}
+use Rattle.s38_base.specs.declared.attr.Attr.{Attr}
+use Rattle.s38_base.specs.declared.id.Kind.TheVariants as kinds
 use Rattle.s38_base.specs.declared.id.Kind.{Kind}
 use Rattle.s38_base.specs.declared.words.Relation.TheVariants.{Lo}
 use Rattle.s38_codecs.proofs.CodecLaws.{both_true}
+use Rattle.s38_codecs.proofs.FormatLaws.{length_copies}
 use Rattle.s38_codecs.specs.Codec.{byte, bytes, copies, fits_each, only}
-use Rattle.s38_codecs.specs.Formats.{FitsCase, list_of, short_text, text, u16, u32}
-use Rattle.s38_image.specs.Bodies.{unsequenced}
-use Rattle.s38_image.specs.Fitting.{FitsBody}
+use Rattle.s38_codecs.specs.Formats.{FitsCase, all_by, fits_from, list_of, print_by, short_text, text, u16, u32}
+use Rattle.s38_commitment_laws.specs.Right.{IsData, IsEntryOf, IsTable}
+use Rattle.s38_dataspaces.specs.Entries as spaces
+use Rattle.s38_dataspaces.specs.Table.{DataTable, entry_len, image_size}
+use Rattle.s38_image.specs.Bodies.{body_bytes, data_in, entries_part, unsequenced}
+use Rattle.s38_image.specs.DataSpaces.{DataParts, data_space}
+use Rattle.s38_image.specs.Fitting.{FitsBody, FitsSpace}
 use Rattle.s38_image.specs.Indexes.{are_rising, index, is_index}
+use Rattle.s38_image.specs.Journals.{entry, journal}
 use Rattle.s38_image.specs.Queues.{is_queue, message, queue, queue_head}
+use Rattle.s38_image.specs.Scalars.{attr}
+use Rattle.s38_image_printing.proofs.DataLaws.{data_bytes}
+use Rattle.s38_image_printing.proofs.LengthLaws.{index_long, journal_long, queue_long}
+use Rattle.s38_image_printing.specs.Printing.{slot_bytes}
 use Rattle.s38_indexes.proofs.OrderLaws.{chained, is_less-Less}
-use Rattle.s38_indexes.specs.Entries.{AreShort, Entry, EntryIndex, IsBelow, IsRising, fits}
 use Rattle.s38_indexes.specs.Entries as entries
-use Rattle.s38_openings.specs.Bodies.{IsBody, IsIndex, IsMessageOf, IsQueue}
+use Rattle.s38_indexes.specs.Entries.{AreShort, Entry, EntryIndex, IsBelow, IsRising, fits}
+use Rattle.s38_journals.specs.Entries as journaled
+use Rattle.s38_journals.specs.Journals.{JournalList}
+use Rattle.s38_memory.specs.declared.cell.Cell.{Cell}
+use Rattle.s38_openings.specs.Bodies.{IsBody, IsIndex, IsMessageOf, IsQueue, IsShortJournal, IsShortTable, IsSpace}
 use Rattle.s38_queues.specs.MessageQueue.{MessageQueue, is_keyed, longest_key}
 use Rattle.s38_queues.specs.declared.message.Message.{Message}
 use Rattle.s38_rules.specs.Held.{kind_of}
-use Rattle.s38_rules.specs.Parts.{index_part, queue_part}
-use Rattle.s38_rules.specs.declared.object.Body.{Body}
+use Rattle.s38_rules.specs.Parts.{data_of, index_part, queue_part, space_part}
+use Rattle.s38_rules.specs.declared.data_body.DataBody.{DataBody}
 use Rattle.s38_rules.specs.declared.object.Body.TheVariants as bodies
+use Rattle.s38_rules.specs.declared.object.Body.{Body}
 
 at_most : (a b : ℕ) → nat_le a b ≡ true → a ≤ b
 at_most a b h = grind (arith, nat_tests)
@@ -56,8 +73,8 @@ key_fits false key_len h = none (same key_len 0 h)
     none : key_len ≡ 0 → key_len ≤ longest_key
     none is = omega (arith, is)
 
-queue_fits : (q : MessageQueue) → queue.fits q ≡ true → IsQueue q
-queue_fits q h =
+queue_fits : (q : MessageQueue) → queue.fits q ≡ true → length (queue.print q) ≤ 16777216 → IsQueue q
+queue_fits q h long =
     let f = both_true (queue_head.fits (q.order, (q.key_len, q.longest))) ((list_of (message q.key_len q.longest)).fits q.messages) h in
     let head = both_true (is_queue q.order q.key_len q.longest) _ f.0 in
     let lengths = both_true (nat_le 1 q.longest && nat_le q.longest longest_message) _ head.0 in
@@ -68,6 +85,7 @@ queue_fits q h =
       some = at_most 1 q.longest longest.0;
       most = at_most q.longest longest_message longest.1;
       messages = messages_fit q (length q.messages) q.messages all.1;
+      image = subst (λ (n : ℕ). n ≤ 16777216) (queue_long q) long;
     }
 
 -- ---- indexes
@@ -96,8 +114,8 @@ rise (e ∷ f ∷ es) h =
     let less = is_less-Less (entries.order e f) both.0 in
     ((less, below_lower e f es less rest.0), rest)
 
-index_fits : (i : EntryIndex) → index.fits i ≡ true → IsIndex i
-index_fits i h =
+index_fits : (i : EntryIndex) → index.fits i ≡ true → length (index.print i) ≤ 16777216 → IsIndex i
+index_fits i h long =
     let f = both_true ((only is_index byte).fits i.longest) ((only are_rising (list_of (short_text i.longest))).fits i.entries) h in
     let head = both_true (is_index i.longest) (byte.fits i.longest) f.0 in
     let longest = both_true (nat_le 1 i.longest) (nat_le i.longest 120) head.0 in
@@ -108,19 +126,98 @@ index_fits i h =
       most = at_most i.longest 120 longest.1;
       short = entries_fit i.longest (length i.entries) i.entries all.1;
       rising = rise i.entries rest.0;
+      image = subst (λ (n : ℕ). n ≤ 16777216) (index_long i) long;
     }
+
+-- ---- spaces
+
+space_fits : (tags : List ℕ) (cs : List Cell) → FitsSpace tags cs → IsSpace cs
+space_fits tags cs h =
+    let f = both_true (nat_le 1 (length cs)) (nat_le (length cs) 1048576) h.some in
+    record { some = at_most 1 (length cs) f.0; image = omega (arith, at_most (length cs) 1048576 f.1) }
+
+-- ---- data spaces
+
+attrs_long : (fields : List Attr) → length (flat_map attr.print fields) ≡ 3 * length fields
+attrs_long [] = refl
+attrs_long (a ∷ fields) = omega (arith, length-append (attr.print a) (flat_map attr.print fields), attrs_long fields)
+
+slot_long : (fields : List Attr) (entry : spaces.Entry) → IsEntryOf fields entry → length (slot_bytes (entry_len fields) entry) ≡ 1 + entry_len fields
+unfolding slot_bytes
+slot_long fields None of = omega (arith, length_copies {A = ℕ} (entry_len fields) 0)
+slot_long fields (Some entry) of = omega (arith, same (length entry) (entry_len fields) (both_true (length entry == entry_len fields) _ of).0)
+
+slots_long : (fields : List Attr) (entries : List spaces.Entry) → All (IsEntryOf fields) entries → length (flat_map (slot_bytes (entry_len fields)) entries) ≡ length entries * (1 + entry_len fields)
+slots_long fields [] all = omega arith
+slots_long fields (e ∷ entries) all =
+    let here = slot_long fields e (All-head (IsEntryOf fields) e entries all) in
+    let rest = slots_long fields entries (All-tail (IsEntryOf fields) e entries all) in
+    let more : (1 + entry_len fields) + length entries * (1 + entry_len fields) ≡ suc (length entries) * (1 + entry_len fields) = omega arith in
+    length-append (slot_bytes (entry_len fields) e) (flat_map (slot_bytes (entry_len fields)) entries)
+    ∙ ap (λ (n : ℕ). n + length (flat_map (slot_bytes (entry_len fields)) entries)) here
+    ∙ ap (λ (n : ℕ). (1 + entry_len fields) + n) rest
+    ∙ more
+
+data_long : (port sequence : ℕ) (table : DataTable) → IsTable table → length (data_space.print (port, (sequence, (table.fields, table.entries)))) ≡ image_size table.fields (length table.entries)
+data_long port sequence table is =
+    let slots = flat_map (slot_bytes (entry_len table.fields)) table.entries in
+    ap length (data_bytes port sequence table.fields table.entries)
+    ∙ omega (arith, length-append (flat_map attr.print table.fields) (u32.print (length table.entries) ++ slots), attrs_long table.fields, slots_long table.fields table.entries is.entries)
 
 -- ---- bodies
 
-queue_body : (q : MessageQueue) (sequence : ℕ) → FitsCase (λ x. queue.fits x ≡ true) (unsequenced queue_part sequence (bodies.Queue q)) → IsQueue q
-queue_body q zero h = queue_fits q h
-queue_body q (suc n) h = absurd h
+-- what a body of this kind prints is not too long
+abbrev IsShort : Kind → Body → ℕ → Type 0
+IsShort k b sequence = length (body_bytes k (record { body = b; sequence = sequence })) ≤ 16777216
 
-index_body : (i : EntryIndex) (sequence : ℕ) → FitsCase (λ x. index.fits x ≡ true) (unsequenced index_part sequence (bodies.Index i)) → IsIndex i
-index_body i zero h = index_fits i h
-index_body i (suc n) h = absurd h
+queue_body : (q : MessageQueue) (sequence : ℕ) → FitsCase (λ x. queue.fits x ≡ true) (unsequenced queue_part sequence (bodies.Queue q)) → IsShort kinds.Queue (bodies.Queue q) sequence → IsQueue q
+queue_body q zero h long = queue_fits q h long
+queue_body q (suc n) h long = absurd h
 
-pub body_fits : (k : Kind) (tags : List ℕ) (b : Body) (sequence : ℕ) → kind_of b ≡ k → FitsBody k tags (record { body = b; sequence = sequence }) → IsBody b
-body_fits k tags (bodies.Queue q) sequence kind h = queue_body q sequence (subst (λ (v : Kind). FitsBody v tags (record { body = bodies.Queue q; sequence = sequence })) (sym kind) h)
-body_fits k tags (bodies.Index i) sequence kind h = index_body i sequence (subst (λ (v : Kind). FitsBody v tags (record { body = bodies.Index i; sequence = sequence })) (sym kind) h)
-body_fits k tags _ sequence kind h = tt
+index_body : (i : EntryIndex) (sequence : ℕ) → FitsCase (λ x. index.fits x ≡ true) (unsequenced index_part sequence (bodies.Index i)) → IsShort kinds.Index (bodies.Index i) sequence → IsIndex i
+index_body i zero h long = index_fits i h long
+index_body i (suc n) h long = absurd h
+
+space_body : (cs : List Cell) (tags : List ℕ) (sequence : ℕ) → FitsCase (FitsSpace tags) (unsequenced space_part sequence (bodies.Space cs)) → IsSpace cs
+space_body cs tags zero h = space_fits tags cs h
+space_body cs tags (suc n) h = absurd h
+
+abbrev printed_data : Option DataParts → List ℕ
+printed_data x = print_by (all_by data_space) x
+
+data_body : (d : DataBody) (sequence : ℕ) → FitsCase (λ x. data_space.fits x ≡ true) (data_in sequence (bodies.DataSpace d)) → IsShort kinds.DataSpace (bodies.DataSpace d) sequence → IsTable d.space → IsShortTable d.space
+data_body d sequence h long is = by (d.space.spare == 0) h long
+  where
+    by : (b : Bool) → FitsCase (λ x. data_space.fits x ≡ true) (cond b (Some (d.port.0, (sequence, (d.space.fields, d.space.entries)))) None)
+        → length (printed_data (cond b (Some (d.port.0, (sequence, (d.space.fields, d.space.entries)))) None)) ≤ 16777216 → IsShortTable d.space
+    by true fits short = subst (λ (n : ℕ). n ≤ 16777216) (data_long d.port.0 sequence d.space is) short
+    by false fits short = absurd fits
+
+abbrev printed_entries : Option (List journaled.Entry) → List ℕ
+printed_entries x = print_by journal x
+
+journal_body : (j : JournalList) (sequence : ℕ) → FitsCase (λ x. fits_from entry 1 x ≡ true) (unsequenced entries_part sequence (bodies.Journal j)) → IsShort kinds.Journal (bodies.Journal j) sequence → IsShortJournal j
+journal_body j zero h long = by ((j.spare == 0) && (j.unforced == 0)) refl h long
+  where
+    by : (b : Bool) → ((j.spare == 0) && (j.unforced == 0)) ≡ b → FitsCase (λ x. fits_from entry 1 x ≡ true) (cond b (Some j.entries) None)
+        → length (printed_entries (cond b (Some j.entries) None)) ≤ 16777216 → IsShortJournal j
+    by true is fits short = omega (arith, same j.spare 0 (both_true (j.spare == 0) (j.unforced == 0) is).0, subst (λ (n : ℕ). n ≤ 16777216) (journal_long j.entries) short)
+    by false is fits short = absurd fits
+journal_body j (suc n) h long = absurd h
+
+-- the same body by the kind that it is of
+abbrev FitsAs : Body → List ℕ → ℕ → Kind → Type 0
+FitsAs b tags sequence k = FitsBody k tags (record { body = b; sequence = sequence })
+
+pub body_fits : (k : Kind) (tags : List ℕ) (b : Body) (sequence : ℕ) → kind_of b ≡ k → FitsBody k tags (record { body = b; sequence = sequence })
+    → length (body_bytes k (record { body = b; sequence = sequence })) ≤ 16777216 → IsData (data_of b) → IsBody b
+body_fits k tags (bodies.Queue q) sequence kind h long of =
+    queue_body q sequence (subst (FitsAs (bodies.Queue q) tags sequence) (sym kind) h) (subst (λ (v : Kind). IsShort v (bodies.Queue q) sequence) (sym kind) long)
+body_fits k tags (bodies.Index i) sequence kind h long of =
+    index_body i sequence (subst (FitsAs (bodies.Index i) tags sequence) (sym kind) h) (subst (λ (v : Kind). IsShort v (bodies.Index i) sequence) (sym kind) long)
+body_fits k tags (bodies.Space cs) sequence kind h long of = space_body cs tags sequence (subst (FitsAs (bodies.Space cs) tags sequence) (sym kind) h)
+body_fits k tags (bodies.DataSpace d) sequence kind h long of =
+    data_body d sequence (subst (FitsAs (bodies.DataSpace d) tags sequence) (sym kind) h) (subst (λ (v : Kind). IsShort v (bodies.DataSpace d) sequence) (sym kind) long) of
+body_fits k tags (bodies.Journal j) sequence kind h long of =
+    journal_body j sequence (subst (FitsAs (bodies.Journal j) tags sequence) (sym kind) h) (subst (λ (v : Kind). IsShort v (bodies.Journal j) sequence) (sym kind) long)
+body_fits k tags _ sequence kind h long of = tt

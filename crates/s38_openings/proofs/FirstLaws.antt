@@ -60,7 +60,7 @@ first_opening = record {
   well = (first_well [] []).objects;
   tables = All-from_recursion HoldsTable opening (tt, (tt, (tt, (tt, (tt, tt)))));
   programs = All-from_recursion HoldsChecked opening (λ p h. cc, (λ p h. cc, (λ p h. cc, (λ p h. cc, (λ p h. cc, tt)))));
-  bodies = All-from_recursion HoldsBody opening (tt, (tt, (tt, (tt, (record { key = omega arith; some = omega arith; most = omega arith; messages = All-nil (IsMessageOf 0 8) }, tt)))));
+  bodies = All-from_recursion HoldsBody opening (tt, (tt, (tt, (tt, (record { key = omega arith; some = omega arith; most = omega arith; messages = All-nil (IsMessageOf 0 8); image = omega arith }, tt)))));
   lawful = record {
     rising = rise_first 1 2 (3 ∷ 4 ∷ 5 ∷ []) (omega arith) (rise_first 2 3 (4 ∷ 5 ∷ []) (omega arith) (rise_first 3 4 (5 ∷ []) (omega arith) (rise_first 4 5 [] (omega arith) (one_rises 5))));
     given = All-from_recursion (λ o. number_of o < 6) opening (omega arith, (omega arith, (omega arith, (omega arith, (omega arith, tt)))));

@@ -1,10 +1,12 @@
 -- A store without a fault is restarted to an opening.
 use Rattle.std.proofs.Common.{◌≡◌, ℕ, ◌+◌, ◌<◌, ◌≤◌, Bool, true, false, cond, not, List, [], ◌∷◌, map, refl, sym, ap, subst, ◌∙◌, arith}
 use Rattle.std.proofs.lemmas.List.Elements.{All-from_recursion, All-weaker, recursion_from_All}
-use Rattle.std.specs.Prelude.{Option, Some, None, All}
+use Rattle.std.specs.Prelude.{Option, Some, None, All, length, nat_le}
 use Rattle.std.specs.List.{AllByRecursion}
 use Rattle.std.specs.Option.{option_map, unwrap_or}
-use Rattle.s38_base.specs.Limits.{ceiling_step, last_number}
+use Rattle.s38_base.specs.Limits.{ceiling_step, last_number, most_rows}
+use Rattle.s38_base.specs.declared.id.Kind.TheVariants as kinds
+use Rattle.s38_base.specs.declared.id.Kind.{Kind}
 use Rattle.s38_base.specs.declared.page.Change.{Change}
 use Rattle.s38_codecs.proofs.CodecLaws.{both_true}
 use Rattle.s38_codecs.specs.Codec.{is_zero, only}
@@ -19,10 +21,11 @@ use Rattle.s38_groups.specs.Readings.{object_in_stored}
 use Rattle.s38_groups.specs.Stores.{ceiling_of, first_fault, stored_in}
 use Rattle.s38_image.proofs.HeaderLaws.{at_most}
 use Rattle.s38_image.proofs.PageLaws.{parts_exact}
-use Rattle.s38_image.specs.Bodies.{body_tags}
+use Rattle.s38_image.specs.Bodies.{body_bytes, body_tags}
 use Rattle.s38_image.specs.Faults.{Group, ceiling_in, ceiling_key, ceiling_mark, ceiling_page, first_by, first_of, first_under, is_ceiling, is_ceiling_mark, is_on_disk, store_fault}
 use Rattle.s38_image.specs.Fitting.{AreFine}
-use Rattle.s38_image.specs.Images.{image_of, leading, rows_part}
+use Rattle.s38_image.specs.Headers.{is_within, longest_body}
+use Rattle.s38_image.specs.Images.{header_of, image_of, leading, rows_part}
 use Rattle.s38_image.specs.Pages.{no_tags}
 use Rattle.s38_image.specs.declared.stored.Stored.{Stored}
 use Rattle.s38_image_printing.proofs.KindLaws.{read_printable}
@@ -32,8 +35,8 @@ use Rattle.s38_openings.proofs.BodyLaws.{body_fits}
 use Rattle.s38_openings.proofs.FitLaws.{programs_fit, rows_fit, table_fits}
 use Rattle.s38_openings.proofs.HeadLaws.{SameHead, lawful_same}
 use Rattle.s38_openings.proofs.PlacedLaws.{all_placed, header_there, is_there_said, machine_there, said}
-use Rattle.s38_openings.proofs.RedoLaws.{redone_table}
-use Rattle.s38_openings.specs.Bodies.{HoldsBody, IsBody}
+use Rattle.s38_openings.proofs.RedoLaws.{redone_short, redone_table}
+use Rattle.s38_openings.specs.Bodies.{HoldsBody, IsBody, IsShortTable}
 use Rattle.s38_openings.specs.Fitting.{FitTogether, IsPlaced}
 use Rattle.s38_openings.specs.Opening.{HoldsTable, IsNumbered, IsOpening}
 use Rattle.s38_owner_laws.specs.Beginnings.{HoldsChecked}
@@ -63,8 +66,14 @@ behind_table : (number image : ℕ) (journal : Option JournalList) (t : DataTabl
 behind_table number image None t is = is
 behind_table number image (Some journal) t is = redone_table number image journal.entries t is
 
+behind_short : (number image : ℕ) (journal : Option JournalList) (t : DataTable) → IsShortTable t → IsShortTable (table_behind number image journal t)
+behind_short number image None t is = is
+behind_short number image (Some journal) t is = redone_short number image journal.entries t is
+
 body_stays : (h : Held) (number image : ℕ) (b : Body) → StaysSo b (over_body data_part (data_followed h number image) b)
-body_stays h number image (bodies.DataSpace d) = record { kind = refl; text = λ t. t; table = λ is. behind_table number image (option_map (journal_at h) (journal_behind h d.port.0)) d.space is; code = refl; body = λ is. is }
+body_stays h number image (bodies.DataSpace d) =
+    let journal = option_map (journal_at h) (journal_behind h d.port.0) in
+    record { kind = refl; text = λ t. t; table = λ is. behind_table number image journal d.space is; code = refl; body = λ is. behind_short number image journal d.space is }
 body_stays h number image _ = record { kind = refl; text = λ t. t; table = λ is. is; code = refl; body = λ is. is }
 
 same_head : (h : Held) (s : Stored) → SameHead (followed h s) (object_in_stored s)
@@ -79,19 +88,31 @@ record IsOpened (next : ℕ) (o : Object) : Type 0 where
   pub number : IsNumbered o
   pub owner : o.owner.0 < next
 
+-- what its header says of the length of its body
+short_body : (limit : ℕ) (s : Stored) → limit ≤ 16777216 → is_within limit (header_of s) ≡ true → length (body_bytes s.object.id.kind (image_of s)) ≤ 16777216
+short_body limit s small within =
+    let h = header_of s in
+    let le = at_most h.body (longest_body limit h.id.kind) (both_true (nat_le h.rows most_rows) (nat_le h.body (longest_body limit h.id.kind)) within).1 in
+    omega (arith, le, longest limit h.id.kind small)
+  where
+    longest : (limit : ℕ) (k : Kind) → limit ≤ 16777216 → longest_body limit k ≤ 16777216
+    longest limit kinds.Journal small = omega arith
+    longest limit _ small = small
+
 opened : (h : Held) (limit ceiling : ℕ) (s : Stored) → limit ≤ 16777216 → IsKept limit ceiling s → IsOpened (ceiling + 1) (followed h s)
 opened h limit ceiling s small is =
     let storable = read_printable limit s small is.image in
     let stays = body_stays h s.object.number.0 s.sequence s.object.body in
+    let tags = body_tags s.object.id.kind (image_of s) in
+    let table = table_fits s.object.id.kind tags s.object.body s.sequence storable.kind is.image.body in
     record {
       well = record {
         storable = record { kind = stays.kind ∙ storable.kind; rows = storable.rows; text = stays.text storable.text };
         rows = rows_fit _ s.object.rows is.image.rows;
       };
-      table = stays.table (table_fits s.object.id.kind (body_tags s.object.id.kind (image_of s)) s.object.body s.sequence storable.kind is.image.body);
-      programs = λ program code.
-          programs_fit s.object.id.kind (body_tags s.object.id.kind (image_of s)) s.object.body s.sequence storable.kind is.image.body program (sym stays.code ∙ code);
-      body = stays.body (body_fits s.object.id.kind (body_tags s.object.id.kind (image_of s)) s.object.body s.sequence storable.kind is.image.body);
+      table = stays.table table;
+      programs = λ program code. programs_fit s.object.id.kind tags s.object.body s.sequence storable.kind is.image.body program (sym stays.code ∙ code);
+      body = stays.body (body_fits s.object.id.kind tags s.object.body s.sequence storable.kind is.image.body (short_body limit s small is.image.within) table);
       number = is.number;
       owner = is.owner;
     }

@@ -1,7 +1,15 @@
--- What the bodies of queues and of indexes keep to.
-use Rattle.std.specs.Prelude.{◌≡◌, ◌≤◌, ℕ, All, length}
-use Rattle.s38_base.specs.Limits.{longest_message}
+-- What the bodies of objects keep to: the messages of queues and the entries of indexes, and how long an image may be. No
+-- image is longer than 16,777,216 bytes; that of a program, a context, a profile, a cursor, a port or a commit block is not
+-- said here, since the text of a program is said where it can be kept, and the others have a few bytes.
+use Rattle.std.specs.Prelude.{◌≡◌, ◌+◌, ◌*◌, ◌≤◌, ℕ, All, List, length}
+use Rattle.s38_base.specs.Limits.{cell_bytes, furthest, longest_message}
+use Rattle.s38_dataspaces.specs.Table as tables
+use Rattle.s38_dataspaces.specs.Table.{DataTable}
+use Rattle.s38_indexes.specs.Entries as indexes
 use Rattle.s38_indexes.specs.Entries.{AreShort, EntryIndex, IsRising}
+use Rattle.s38_journals.specs.Journals.{JournalList, entries_len}
+use Rattle.s38_memory.specs.declared.cell.Cell.{Cell}
+use Rattle.s38_queues.specs.MessageQueue as queues
 use Rattle.s38_queues.specs.MessageQueue.{MessageQueue, longest_key}
 use Rattle.s38_queues.specs.declared.message.Message.{Message}
 use Rattle.s38_rules.specs.Indexes.{longest_entry}
@@ -19,6 +27,7 @@ pub record IsQueue (q : MessageQueue) : Type 0 where
   pub some : 1 ≤ q.longest
   pub most : q.longest ≤ longest_message
   pub messages : All (IsMessageOf q.key_len q.longest) q.messages
+  pub image : queues.image_size q.messages ≤ furthest
 
 -- no entry is too long, and each comes before all that follow it
 pub record IsIndex (index : EntryIndex) : Type 0 where
@@ -26,10 +35,27 @@ pub record IsIndex (index : EntryIndex) : Type 0 where
   pub most : index.longest ≤ longest_entry
   pub short : AreShort index.longest index.entries
   pub rising : IsRising index.entries
+  pub image : indexes.image_size index.entries ≤ furthest
+
+-- a space has a cell
+pub record IsSpace (cells : List Cell) : Type 0 where
+  pub some : 1 ≤ length cells
+  pub image : cell_bytes * length cells ≤ furthest
+
+-- the image of a data space: its fields and all its ordinals
+abbrev pub IsShortTable : DataTable → Type 0
+IsShortTable table = tables.image_size table.fields (length table.entries) ≤ furthest
+
+-- the entries of a journal space, with the room that it keeps for further ones
+abbrev pub IsShortJournal : JournalList → Type 0
+IsShortJournal journal = entries_len journal.entries + journal.spare ≤ furthest
 
 abbrev pub IsBody : Body → Type 0
 IsBody (bodies.Queue q) = IsQueue q
 IsBody (bodies.Index index) = IsIndex index
+IsBody (bodies.Space cells) = IsSpace cells
+IsBody (bodies.DataSpace d) = IsShortTable d.space
+IsBody (bodies.Journal journal) = IsShortJournal journal
 IsBody _ = Unit {0}
 
 abbrev pub HoldsBody : Object → Type 0

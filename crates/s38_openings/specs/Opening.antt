@@ -26,7 +26,7 @@ pub record IsOpening (h : Held) : Type 0 where
   pub tables : All HoldsTable h.objects
   -- each program is one that creation makes
   pub programs : All HoldsChecked h.objects
-  -- queues and indexes keep to their limits
+  -- bodies keep to their limits
   pub bodies : All HoldsBody h.objects
   -- numbers rise and were given, and names are told apart in each context
   pub lawful : IsLawful h

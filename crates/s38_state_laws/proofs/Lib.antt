@@ -11,6 +11,7 @@ mod HeadLaws
 mod PlaceLaws
 mod SeenLaws
 mod BodyLaws
+mod BodyRowLaws
 mod OrderLaws
 pub mod StepLaws
 pub mod EndLaws

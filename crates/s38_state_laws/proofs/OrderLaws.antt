@@ -1,6 +1,8 @@
 -- Step by step objects, users and locks stay in order.
-use Rattle.std.proofs.Common.{◌<◌, ◌≤◌, ◌==◌, ◌∷◌, ◌≡◌, Bool, List, [], ap, arith, cond, false, refl, subst, true, ℕ}
-use Rattle.std.proofs.lemmas.Bool.{cond_both}
+use Rattle.std.proofs.Common.{◌<◌, ◌≤◌, ◌==◌, ◌+◌, ◌∙◌, ◌∷◌, ◌≡◌, Bool, List, [], ap, arith, cond, false, length, not, refl, subst, suc, sym, true, ℕ}
+use Rattle.std.proofs.lemmas.Bool.Decides.{nat_tests}
+use Rattle.std.proofs.lemmas.Bool.{cond_both, true≢false}
+use Rattle.std.proofs.lemmas.List.Edits.{length-remove}
 use Rattle.std.proofs.lemmas.List.Elements.{All-weaker}
 use Rattle.std.proofs.lemmas.Map.Entries.{All-lookup}
 use Rattle.std.specs.BTreeMap.{is_at}
@@ -8,8 +10,10 @@ use Rattle.std.specs.List.{Contains}
 use Rattle.std.specs.Map.{lookup}
 use Rattle.std.specs.Option.{unwrap_or}
 use Rattle.std.specs.Ordering.{nat_cmp}
-use Rattle.std.specs.Prelude.{All, IfSome, None, Option, Some, is_some}
+use Rattle.std.specs.Prelude.{All, IfSome, None, Option, Some, filter, is_some, nat_le, nat_lt, position}
+use Rattle.std.specs.List.{position_or_len}
 use Rattle.s38_base.specs.Exceptions as exceptions
+use Rattle.s38_base.specs.Limits.{most_rows}
 use Rattle.s38_base.specs.Pointers.{object_of, target_of}
 use Rattle.s38_base.specs.Signals.{fails}
 use Rattle.s38_base.specs.declared.id.Id.{Id}
@@ -28,8 +32,8 @@ use Rattle.s38_commits.specs.Unit.{CommitUnit}
 use Rattle.s38_commits.specs.Units.{UnitMap, unit_of}
 use Rattle.s38_commits.specs.declared.change.UnitChange.{UnitChange}
 use Rattle.s38_confinement.proofs.RightLaws.{permitted, used_parts}
-use Rattle.s38_locks.proofs.OrderLaws.{orderly_filtered, orderly_with, orderly_without}
-use Rattle.s38_locks.specs.Locks.{IsOrderly, Lock, hindrance, is_held, without_lock}
+use Rattle.s38_locks.proofs.OrderLaws.{orderly_filtered, orderly_with, orderly_without, removed_at}
+use Rattle.s38_locks.specs.Locks.{IsOrderly, Lock, comes_later, hindrance, is_held, is_same, with_lock, without_lock, without_process}
 use Rattle.s38_locks.specs.Refusals.{in_the_way}
 use Rattle.s38_locks.specs.Table.{Table, locks_of, with_locks}
 use Rattle.s38_locks.specs.declared.fault.LockFault.TheVariants as faults
@@ -114,6 +118,46 @@ module _ (low : ℕ) where
 
 -- ---- locks
 
+-- so many locks an object may have
+abbrev pub IsFew : List Lock → Type 0
+IsFew locks = length locks ≤ most_rows
+
+with_length : (l : Lock) (ls : List Lock) → length (with_lock l ls) ≡ length ls + 1
+with_length l [] = refl
+with_length l (other ∷ ls) =
+    cond_both (comes_later l other) (l ∷ other ∷ ls) (other ∷ with_lock l ls) (λ (new : List Lock). length new ≡ suc (length ls) + 1) (λ here. omega arith) (λ later. omega (arith, with_length l ls))
+
+without_less : (l : Lock) (ls : List Lock) → length (without_lock l ls) ≤ length ls
+without_less l [] = omega arith
+without_less l (other ∷ ls) =
+    cond_both (is_same l other) ls (other ∷ without_lock l ls) (λ (new : List Lock). length new ≤ suc (length ls)) (λ own. omega arith) (λ other. omega (arith, without_less l ls))
+
+-- one that is held makes one less
+without_held : (l : Lock) (ls : List Lock) → is_held l ls ≡ true → length (without_lock l ls) + 1 ≡ length ls
+without_held l ls held = by (position (is_same l) ls) refl held
+  where
+    same : (n i : ℕ) → Some n ≡ Some i → n ≡ i
+    same n i g = cc
+
+    below : (n m i : ℕ) (b : Bool) → nat_lt n m ≡ b → cond b (Some n) None ≡ Some i → i < m
+    below n m i true is e = subst (λ (k : ℕ). k < m) (same n i e) (grind (arith, nat_tests, is))
+    below n m i false is e = absurd (none e)
+      where
+        none : None ≡ Some i → ⊥
+        none g = cc
+
+    by : (r : Option ℕ) → position (is_same l) ls ≡ r → is_some r ≡ true → length (without_lock l ls) + 1 ≡ length ls
+    by None at some = absurd (true≢false (sym some))
+    by (Some i) at some = ap (λ (new : List Lock). length new + 1) (sym (removed_at l ls i at)) ∙ length-remove ls i (below (position_or_len (is_same l) ls) (length ls) i _ refl at)
+
+filter_less : (p : Lock → Bool) (ls : List Lock) → length (filter p ls) ≤ length ls
+filter_less p [] = omega arith
+filter_less p (l ∷ ls) =
+    cond_both (p l) (l ∷ filter p ls) (filter p ls) (λ (new : List Lock). length new ≤ suc (length ls)) (λ stays. omega (arith, filter_less p ls)) (λ goes. omega (arith, filter_less p ls))
+
+fewer : (p : ℕ) (ls : List Lock) → IsFew ls → IsFew (without_process p ls)
+fewer p ls few = omega (arith, filter_less (λ lock. not (lock.0 == p)) ls, few)
+
 -- the table of locks is in order, for numbers below one
 pub record LocksWell (next : ℕ) (table : Table) : Type 0 where
   pub rising : AreOrdered table
@@ -122,21 +166,23 @@ pub record LocksWell (next : ℕ) (table : Table) : Type 0 where
 pub locks_later : (low high : ℕ) (table : Table) → low ≤ high → LocksWell low table → LocksWell high table
 locks_later low high table more well = record {
   rising = well.rising;
-  locks = All-weaker (AreLocks low) (AreLocks high) (λ e is. record { given = less e.0 is.given; some = is.some; orderly = is.orderly }) table well.locks;
+  locks = All-weaker (AreLocks low) (AreLocks high) (λ e is. record { given = less e.0 is.given; some = is.some; most = is.most; orderly = is.orderly }) table well.locks;
 }
   where
     less : (n : ℕ) → n < low → n < high
     less n under = omega (arith, under, more)
 
 -- what an object's locks must be
-abbrev pub Fit : ℕ → ℕ → List Lock → Type 0
-Fit next n held = (n < next) × IsOrderly held
+pub record Fit (next n : ℕ) (held : List Lock) : Type 0 where
+  pub given : n < next
+  pub orderly : IsOrderly held
+  pub most : length held ≤ most_rows
 
 module _ (next : ℕ) where
   with_locks_well : (n : ℕ) (held : List Lock) (table : Table) → Fit next n held → LocksWell next table → LocksWell next (with_locks table n held)
   with_locks_well n held table fit well = record {
     rising = ordered_with n held table well.rising;
-    locks = with_entries (AreLocks next) n held table (λ some. record { given = fit.0; some = some; orderly = fit.1 }) well.locks;
+    locks = with_entries (AreLocks next) n held table (λ some. record { given = fit.given; some = some; most = fit.most; orderly = fit.orderly }) well.locks;
   }
 
   logged_locks : (s : State) (p block : ℕ) (change : UnitChange) (journal : Option ℕ) → LocksWell next s.locks → LocksWell next (logged_in s p block change journal).locks
@@ -195,12 +241,20 @@ module _ (next : ℕ) where
       let taken = all_decommitted_locks s.units s p well in
       record {
         rising = ordered_released p (all_decommitted s p s.units).locks taken.rising;
-        locks = released_entries (AreLocks next) p (λ e is some. record { given = is.given; some = some; orderly = orderly_filtered _ e.1 is.orderly }) (all_decommitted s p s.units).locks taken.locks;
+        locks = released_entries (AreLocks next) p (λ e is some. record { given = is.given; some = some; most = fewer p e.1 is.most; orderly = orderly_filtered _ e.1 is.orderly }) (all_decommitted s p s.units).locks taken.locks;
       }
 
   pub start_locks : (s : State) (p : ℕ) (x : Option ProcessEntry) → LocksWell next s.locks → LocksWell next (start_at s p x).locks
   start_locks s p None well = well
   start_locks s p (Some x) well = well
+
+  few_there : (table : Table) (object : ℕ) → LocksWell next table → length (locks_of table object) ≤ most_rows
+  few_there table object well =
+      by (lookup (is_at (nat_cmp object)) table) (All-lookup IsFew (is_at (nat_cmp object)) table (All-weaker (AreLocks next) (λ e. IsFew e.1) (λ e is. is.most) table well.locks))
+    where
+      by : (r : Option (List Lock)) → IfSome r IsFew → length (unwrap_or r []) ≤ most_rows
+      by None h = omega arith
+      by (Some locks) h = h
 
   orderly_there : (table : Table) (object : ℕ) → LocksWell next table → IsOrderly (locks_of table object)
   orderly_there table object well =
@@ -247,27 +301,58 @@ free_way : (r : Option Lock) (later : Option LockFault) → of_lock_fault (in_th
 free_way None later h = refl
 free_way (Some x) later h = cc
 
+-- nor is one refused that makes too many
+one_more : (r : Option Lock) (n : ℕ) → of_lock_fault (in_the_way r (cond (nat_le most_rows n) (Some faults.Limit) None)) ≡ None → n + 1 ≤ most_rows
+one_more (Some x) n h = absurd (none h)
+  where
+    none : of_lock_fault (Some (faults.NotGrantable x.0 x.1)) ≡ None → ⊥
+    none g = cc
+one_more None n h = by (nat_le most_rows n) refl h
+  where
+    by : (b : Bool) → nat_le most_rows n ≡ b → of_lock_fault (cond b (Some faults.Limit) None) ≡ None → n + 1 ≤ most_rows
+    by true is g = absurd (none g)
+      where
+        none : of_lock_fault (Some faults.Limit) ≡ None → ⊥
+        none i = cc
+    by false is g = grind (arith, nat_tests, is)
+
 pub locks_order : (op : Op) (s : State) (p d : ℕ) (t : Request) → FitsIn s s.held → LocksWell s.held.next s.locks → refused_by (locks_row op) s p d t ≡ None → LocksMay (Fit s.held.next) s p ((locks_row op).changes s p d t)
 unfolding locks_row lock_fails xfrlock_fails
-locks_order LockOp s p d t fits well e = (
-  named_there lock s p d t (locked_need (lock_right (state_asked t.operands))) fits e (lock_there t.operands) refl refl refl,
-  orderly_with (p, state_asked t.operands) (locks_at s t.operands 1) (free_way (hindrance p (state_asked t.operands) (locks_at s t.operands 1)) _ (rule_met lock s p d t e))
-      (orderly_there s.held.next s.locks (target s.held t.operands 1) well),
-)
-locks_order Unlock s p d t fits well e = (
-  named_there unlock s p d t (locked_need 0) fits e unlock_there refl refl refl,
-  orderly_without (p, state_asked t.operands) (locks_at s t.operands 1) (orderly_there s.held.next s.locks (target s.held t.operands 1) well),
-)
+locks_order LockOp s p d t fits well e =
+    let asked : Lock = (p, state_asked t.operands) in
+    let met = rule_met lock s p d t e in
+    record {
+      given = named_there lock s p d t (locked_need (lock_right (state_asked t.operands))) fits e (lock_there t.operands) refl refl refl;
+      orderly = orderly_with asked (locks_at s t.operands 1) (free_way (hindrance p (state_asked t.operands) (locks_at s t.operands 1)) _ met)
+          (orderly_there s.held.next s.locks (target s.held t.operands 1) well);
+      most = omega (arith, with_length asked (locks_at s t.operands 1), one_more (hindrance p (state_asked t.operands) (locks_at s t.operands 1)) (length (locks_at s t.operands 1)) met);
+    }
+locks_order Unlock s p d t fits well e =
+    let asked : Lock = (p, state_asked t.operands) in
+    record {
+      given = named_there unlock s p d t (locked_need 0) fits e unlock_there refl refl refl;
+      orderly = orderly_without asked (locks_at s t.operands 1) (orderly_there s.held.next s.locks (target s.held t.operands 1) well);
+      most = omega (arith, without_less asked (locks_at s t.operands 1), few_there s.held.next s.locks (target s.held t.operands 1) well);
+    }
 locks_order Xfrlock s p d t fits well e =
-    let rest = orderly_without (p, state_asked t.operands) (locks_at s t.operands 1) (orderly_there s.held.next s.locks (target s.held t.operands 1) well) in
+    let mine : Lock = (p, state_asked t.operands) in
+    let theirs : Lock = (taker s t.operands, state_asked t.operands) in
+    let held = locks_at s t.operands 1 in
+    let rest = orderly_without mine held (orderly_there s.held.next s.locks (target s.held t.operands 1) well) in
     let one = first_none (of_lock_fault _) _ (rule_met xfrlock s p d t e) in
-    let two = first_none _ _ one.1 in (
-      named_there xfrlock s p d t (locked_need 0) fits e unlock_there refl refl refl,
-      orderly_with (taker s t.operands, state_asked t.operands) (without_lock (p, state_asked t.operands) (locks_at s t.operands 1)) (by (is_held (p, state_asked t.operands) (locks_at s t.operands 1)) two.1) rest,
-    )
+    let two = first_none _ _ one.1 in
+    record {
+      given = named_there xfrlock s p d t (locked_need 0) fits e unlock_there refl refl refl;
+      orderly = orderly_with theirs (without_lock mine held) (by (is_held mine held) two.1) rest;
+      most = omega (arith, with_length theirs (without_lock mine held), without_held mine held (there (is_held mine held) two.1), few_there s.held.next s.locks (target s.held t.operands 1) well);
+    }
   where
     by : (b : Bool) → of_lock_fault (cond b (in_the_way (hindrance (taker s t.operands) (state_asked t.operands) (without_lock (p, state_asked t.operands) (locks_at s t.operands 1))) None) (Some faults.NotHeld)) ≡ None
         → hindrance (taker s t.operands) (state_asked t.operands) (without_lock (p, state_asked t.operands) (locks_at s t.operands 1)) ≡ None
     by true h = free_way _ None h
     by false h = cc
+
+    there : (b : Bool) → of_lock_fault (cond b (in_the_way (hindrance (taker s t.operands) (state_asked t.operands) (without_lock (p, state_asked t.operands) (locks_at s t.operands 1))) None) (Some faults.NotHeld)) ≡ None → b ≡ true
+    there true h = refl
+    there false h = cc
 locks_order _ s p d t fits well e = tt

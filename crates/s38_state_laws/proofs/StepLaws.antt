@@ -47,7 +47,8 @@ use Rattle.s38_rules.specs.declared.process.ProcessEntry.{ProcessEntry}
 use Rattle.s38_rules.specs.declared.process.Started.{Started}
 use Rattle.s38_rules.specs.declared.verdict.Verdict.TheVariants.{Permit, Refuse, Wait}
 use Rattle.s38_rules.specs.declared.verdict.Verdict.{Verdict}
-use Rattle.s38_state_laws.proofs.BodyLaws.{Hold, step_hold}
+use Rattle.s38_state_laws.proofs.BodyLaws.{Hold}
+use Rattle.s38_state_laws.proofs.BodyRowLaws.{step_hold}
 use Rattle.s38_state_laws.proofs.FitLaws.{Fits, head_fits, other_users}
 use Rattle.s38_state_laws.proofs.HeadLaws.{found_object, same_kinds}
 use Rattle.s38_state_laws.proofs.OrderLaws.{LocksWell, act_locks, end_locks, locks_later, locks_order, stored_later}
@@ -281,7 +282,7 @@ is_in_order s ordered bodies =
     }
 
 pub step_in_order : (s : State) (p : ℕ) (e : Event) → AreWell s → AreInOrder s → AreInOrder (step s p e).state
-step_in_order s p e well order = is_in_order (step s p e).state (step_ordered s p e well (ordered_from s order)) (step_hold s p e order.bodies)
+step_in_order s p e well order = is_in_order (step s p e).state (step_ordered s p e well (ordered_from s order)) (step_hold s p e well.limit order.bodies)
 
 history_in_order : (s : State) (before history : List Entry) (end : State) → AreWell s → AreInOrder s → Leads s before history end → AllInOrder s history × AreInOrder end
 history_in_order s before [] end well order leads = (order, subst AreInOrder leads order)

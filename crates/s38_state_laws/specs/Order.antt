@@ -1,8 +1,9 @@
 -- What is true of the objects, of the users of processes and of the locks in every state of a run.
-use Rattle.std.specs.Prelude.{◌≡◌, ◌<◌, ℕ, false, All, IsTrue, List, [], ◌∷◌, Some}
+use Rattle.std.specs.Prelude.{◌≡◌, ◌<◌, ◌≤◌, ℕ, false, All, IsTrue, List, [], ◌∷◌, Some, length}
 use Rattle.std.specs.List.Sorted.{IsStrictlySortedBy}
 use Rattle.std.specs.Map.{keys_of}
 use Rattle.std.specs.Ordering.{nat_cmp}
+use Rattle.s38_base.specs.Limits.{most_rows}
 use Rattle.s38_code.specs.declared.entry.Entry.{Entry}
 use Rattle.s38_locks.specs.Locks.{IsOrderly, Lock, is_locked}
 use Rattle.s38_objects.specs.Lawful.{IsLawful}
@@ -19,11 +20,12 @@ use Rattle.s38_rules.specs.declared.process.Started.{Started}
 abbrev pub HasUser : Held → ProcessEntry → Type 0
 HasUser h x = (p : Started) → x.started ≡ Some p → x.ended ≡ false → IsUser h p.user.0
 
--- an object with locks: its number was given, and its locks are in order, so that no two of different processes are
--- incompatible
+-- an object with locks: its number was given, they are not too many, and they are in order, so that no two of different
+-- processes are incompatible
 pub record AreLocks (next : ℕ) (e : ℕ × List Lock) : Type 0 where
   pub given : e.0 < next
   pub some : IsTrue (is_locked e.1)
+  pub most : length e.1 ≤ most_rows
   pub orderly : IsOrderly e.1
 
 pub record AreInOrder (s : State) : Type 0 where
@@ -33,7 +35,7 @@ pub record AreInOrder (s : State) : Type 0 where
   pub numbered : All IsNumbered s.held.objects
   -- each object has an owner who is there, and stands in a context or in none
   pub fit : FitTogether s.held
-  -- queues and indexes keep to their limits
+  -- bodies keep to their limits
   pub bodies : All HoldsBody s.held.objects
   pub users : All (HasUser s.held) s.processes
   -- objects with locks rise by number

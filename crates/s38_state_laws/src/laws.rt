@@ -38,8 +38,8 @@ pub fn whole_runs_leave_nothing()
 
 /// In every state of a run from an opening the objects are in order: numbers rise and were given, none above the ceiling;
 /// no two objects of a context that is there have one identification; each object has an owner who is a user that is
-/// there, and stands in a context or in none; queues and indexes keep to their limits. The user of each process that has
-/// started and has not ended is there, and no two locks of different processes on one object are incompatible. Each step
+/// there, and stands in a context or in none; bodies keep to their limits. The user of each process that has started and
+/// has not ended is there; an object has at most 4,096 locks, and no two of different processes are incompatible. Each step
 /// keeps it.
 pub fn objects_stay_in_order()
     ensures begins { (room : Option Room) (held : Held) (templates : List CheckedTemplate) (jobs : List Job) → IsOpening held → AreInOrder (state_over room held templates jobs) }
