@@ -74,9 +74,8 @@ pub fn run_machine<R: Threads + Wait + Sync, G: Gate + Sync>(
 {
     let still = StillMachine { machine };
     match run_jobs(rt, alloc, still, jobs, made, workers, gate) {
-        Err(fault) => Err(fault),
-        Ok((_, RunEnd::Stopped)) => unreachable!(),
-        Ok((_, RunEnd::NoMemory)) => Err(NoMemory),
-        Ok((still, RunEnd::Complete)) => Ok(still.machine),
+        (_, RunEnd::Stopped) => unreachable!(),
+        (_, RunEnd::NoMemory) => Err(NoMemory),
+        (still, RunEnd::Complete) => Ok(still.machine),
     }
 }

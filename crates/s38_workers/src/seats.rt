@@ -1,5 +1,5 @@
 //! The seats of the processes: one for each, and all in one again.
-ghost use Rattle.std.specs.Prelude.{◌≡◌, ◌+◌, ◌-◌, ◌<◌, ◌≤◌, ◌^◌, ◌++◌, ℕ, List, IfOk, Some, false, length, slice_get, slice_index_or};
+ghost use Rattle.std.specs.Prelude.{◌≡◌, ◌+◌, ◌-◌, ◌<◌, ◌≤◌, ◌^◌, ◌++◌, ℕ, List, [], Some, false, length, slice_get, slice_index_or, vec_capacity};
 ghost use Rattle.s38_code.specs.declared.deck.Job.{Job};
 ghost use Rattle.s38_code.specs.declared.made.CreateResult.{CreateResult};
 ghost use Rattle.s38_code.specs.History.{entries_of};
@@ -11,10 +11,8 @@ ghost use Rattle.s38_workers.specs.Runs.{AreGathered, AreLeft, AreSeated};
 ghost use Rattle.s38_workers.specs.declared.runner.Runner.{Runner};
 
 use crate::runner::{Progress, Runner};
-use s38_base::NoMemory;
 use s38_code::{CreateResult, Job, Stepper};
 use s38_turn::{Seat, Turn};
-use std::alloc::Global;
 
 /// A job before its first event, with the seat of its process.
 fn seated<M: Stepper + Drop>(
@@ -42,32 +40,29 @@ fn seated<M: Stepper + Drop>(
     }
 }
 
-/// Gives each process a seat of its own.
+/// Gives each process a seat of its own. The memory of so many jobs is taken.
 pub fn all_seated<M: Stepper + Drop>(
-    alloc: Global,
     turn: &Turn<M>,
     seat: &mut Seat<M>,
     jobs: &[Job],
     made: &[CreateResult],
-) -> Result<Vec<Runner<M>>, NoMemory>
+    runners: &mut Vec<Runner<M>>,
+)
     requires seat { IsSeatOf turn.now seat.old }
     requires left { AreLeft turn.now.processes 0 seat.old.lists }
     requires jobs { length jobs.now ≡ turn.now.processes }
     requires few { length jobs.now < 2 ^ 32 - 1 }
+    requires empty { runners.old.items ≡ [] }
+    requires room { length jobs.now ≤ vec_capacity runners.old }
     ensures seat { IsSeatOf turn.now seat.new }
-    ensures none { IfOk result (λ _. (process : ℕ) → has process seat.new.lists ≡ false) }
-    ensures count { IfOk result (λ runners. length runners.items ≡ length jobs.now) }
-    ensures seated { IfOk result (λ runners. AreSeated (WasStopped M.is_sound M.origin M.steps turn.now.machine) turn.now made.now jobs.now runners.items) }
+    ensures none { (process : ℕ) → has process seat.new.lists ≡ false }
+    ensures count { length runners.new.items ≡ length jobs.now }
+    ensures seated { AreSeated (WasStopped M.is_sound M.origin M.steps turn.now.machine) turn.now made.now jobs.now runners.new.items }
 {
-    let mut runners = Vec::with_capacity(alloc, jobs.len())?;
     for i in 0..jobs.len() {
         let runner = seated(turn, seat, jobs, made, i as u32 + 1);
-        match runners.push(runner) {
-            Ok(()) => {}
-            Err(_) => return Err(NoMemory),
-        }
+        runners.push_reserved(runner);
     }
-    Ok(runners)
 }
 
 /// Takes in the seat of a job.

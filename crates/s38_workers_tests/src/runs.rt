@@ -23,7 +23,7 @@ fn any_machine_is_shared(rt: HostRuntime) -> Result<(), Fail> {
             made.as_slice(),
             workers,
             &NoGate,
-        )?;
+        );
         assert!(rt; end == RunEnd::Complete);
         assert!(rt; ended(machine.history()) == 7);
     }
