@@ -30,7 +30,7 @@ use Rattle.s38_rules.specs.Held.{Held}
 use Rattle.s38_vault.specs.Content.{Content, changed}
 use Rattle.s38_vault.specs.Directory.{new_keys}
 use Rattle.s38_vault.specs.Vaults.{VaultView}
-use Rattle.s38_step_parts.specs.Outcomes.{IfBad, IsFullFor, IsUnread}
+use Rattle.s38_step_parts.specs.Outcomes.{IfBad, IfFull, IsFullFor, IsUnread}
 use Rattle.s38_step_parts.specs.declared.fault.ForceFault.{ForceFault}
 use Rattle.s38_step_parts.specs.declared.fault.ForceFault.TheVariants as faults
 use Rattle.s38_step_parts.proofs.EachLaws.{each_is}
@@ -243,6 +243,18 @@ unread_full P wanted room (faults.BadHeader object) h = tt
 unread_full P wanted room (faults.Full needed free) h = absurd h
 unread_full P wanted room faults.Failed h = tt
 unread_full P wanted room faults.NoMemory h = tt
+
+pub unread_less : (P Q : Type 0) (fault : ForceFault) → IsUnread P fault → IfFull Q fault
+unread_less P Q (faults.BadHeader object) h = tt
+unread_less P Q (faults.Full needed free) h = absurd h
+unread_less P Q faults.Failed h = tt
+unread_less P Q faults.NoMemory h = tt
+
+pub if_full : (Q : Type 0) (fault : ForceFault) → Q → IfFull Q fault
+if_full Q (faults.BadHeader object) h = tt
+if_full Q (faults.Full needed free) h = h
+if_full Q faults.Failed h = tt
+if_full Q faults.NoMemory h = tt
 
 pub unread_bad : (P Q : Type 0) → (P → Q) → (fault : ForceFault) → IsUnread P fault → IfBad Q fault
 unread_bad P Q f (faults.BadHeader object) h = f h

@@ -1,19 +1,19 @@
 -- Which headers are read again as they were printed, and how long a body may be that a header says.
-use Rattle.std.proofs.Common.{◌≡◌, ◌∙◌, ◌^◌, ◌<◌, ◌≤◌, ◌-◌, Bool, List, ap, arith, drop, false, length, refl, suc, take, true, zero, ℕ}
-use Rattle.std.proofs.lemmas.Bool.{eq-eqb, lt-ltb, ltb-true}
+use Rattle.std.proofs.Common.{◌≡◌, ◌∙◌, ◌^◌, ◌<◌, ◌≤◌, ◌-◌, List, ap, arith, drop, length, refl, suc, take, true, zero, ℕ}
+use Rattle.std.proofs.lemmas.Bool.{eq-eqb, lt-ltb}
 use Rattle.std.proofs.lemmas.List.{drop_at, length-append, length-drop, take_at}
 use Rattle.std.specs.List.{list_all}
-use Rattle.std.specs.Prelude.{◌&&◌, ◌==◌, IsTrue, nat_le, nat_lt, replicate}
+use Rattle.std.specs.Prelude.{IsTrue, nat_le, nat_lt, replicate}
 use Rattle.s38_base.specs.NameText.{are_name_bytes, is_name, padded}
 use Rattle.s38_base.specs.declared.id.Kind.TheVariants as kinds
 use Rattle.s38_base.specs.declared.id.Kind.{Kind}
 use Rattle.s38_codecs.proofs.CodecLaws.{and_true, both_true}
 use Rattle.s38_codecs.proofs.FormatLaws.{length_copies}
 use Rattle.s38_codecs.specs.Codec.{byte, copies, is_zero, only}
-use Rattle.s38_codecs.specs.Formats.{u16, u32}
+use Rattle.s38_codecs.specs.Formats.{u32}
 use Rattle.s38_image.proofs.HeaderLaws.{at_most, drop_zeros}
 use Rattle.s38_image.specs.Fitting.{header_codec}
-use Rattle.s38_image.specs.Headers.{is_mark, kind, mark, name, object, rights}
+use Rattle.s38_image.specs.Headers.{is_mark, kind, mark, name}
 use Rattle.s38_image.specs.declared.header.Header.{Header}
 
 -- ---- small values

@@ -1,5 +1,5 @@
 -- What is kept of an object, as a content says it, and what differs of it behind a step.
-use Rattle.std.proofs.Common.{◌==◌, ◌+◌, ◌≡◌, ◌<◌, ◌≤◌, ◌∙◌, ◌∷◌, ◌++◌, [], Bool, List, None, Option, Some, ap, arith, cond, false, length, lit≤, refl, subst, suc, sym, true, zero, ℕ}
+use Rattle.std.proofs.Common.{◌==◌, ◌+◌, ◌≡◌, ◌<◌, ◌≤◌, ◌∙◌, ◌∷◌, ◌++◌, [], Bool, List, None, Option, Some, ap, arith, cond, false, length, lit≤, refl, subst, sym, true, ℕ}
 use Rattle.std.proofs.lemmas.Bool.Decides.{nat_tests}
 use Rattle.std.specs.FinMap.{get}
 use Rattle.std.specs.List.{AllByRecursion}

@@ -15,6 +15,11 @@ abbrev pub IsFullFor : ℕ → ℕ → ForceFault → Type 0
 IsFullFor wanted room (Full needed free) = (needed ≡ wanted) × ((free ≡ room) × (free < needed))
 IsFullFor wanted room _ = Unit {0}
 
+-- where it is full, this is so
+abbrev pub IfFull : Type 0 → ForceFault → Type 0
+IfFull P (Full needed free) = P
+IfFull P _ = Unit {0}
+
 -- where the header of an object is bad, this is so
 abbrev pub IfBad : Type 0 → ForceFault → Type 0
 IfBad P (BadHeader object) = P

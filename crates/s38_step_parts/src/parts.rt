@@ -34,7 +34,12 @@ fn header_with(object: &Object, len: u32) -> Header
     ensures fits { header_codec.fits result ≡ true }
     ensures name { IsTrue (is_name object.now.id.name) }
 {
+    // What these fields can be by their types makes that the header is read again.
     let _name = object.id.name.as_bytes();
+    let _sub = object.id.sub;
+    let _context = object.context.0;
+    let _owner = object.owner.0;
+    let _public = object.public.0;
     Header {
         id: object.id,
         context: object.context,

@@ -8,7 +8,7 @@ ghost use Rattle.s38_image_printing.specs.Parts.{CanSettle};
 ghost use Rattle.s38_rules.specs.State.{State};
 ghost use Rattle.s38_rules.specs.Storable.{IsStorable};
 ghost use Rattle.s38_extents.specs.Forcings.{all_forced};
-ghost use Rattle.s38_step_parts.specs.Outcomes.{IfBad, IsFullFor};
+ghost use Rattle.s38_step_parts.specs.Outcomes.{IfBad, IfFull, IsFullFor};
 ghost use Rattle.s38_step_parts.specs.Putting.{IsBetweenPuts};
 ghost use Rattle.s38_step_parts.specs.Stepping.{AreNumbers, HaveHeaders, IsDue, Precedes, ceiling_changes, object_changes, put_forced, raised};
 ghost use Rattle.s38_step_parts.specs.declared.fault.ForceFault.TheVariants as faults;
@@ -47,7 +47,7 @@ pub fn force<V: Vault>(
         → V.holds vault.new (put_forced (all_forced all.now) m (durable_after (all_forced all.now) d s))) }
     ensures told { OnOk result ((n : Content) → V.holds vault.new n → (m : Content) × V.holds vault.old m) }
 
-    // Each header that is kept behind the step can be read again, as before it.
+    // Each header that is kept behind the step can be read again, as before it; so it could, where the vault is full.
     ensures headers { OnOk result ((m : Content) (d : Durable) (s : State) → V.holds vault.old m → Precedes objects.now units.now m d s → IsDue (all_forced all.now) d s
         → HaveHeaders (durable_after (all_forced all.now) d s)) }
 
@@ -55,6 +55,8 @@ pub fn force<V: Vault>(
     // if it still tells.
     ensures full { IfErr result (λ fault. (m : Content) (d : Durable) (s : State) → V.holds vault.old m → Precedes objects.now units.now m d s
         → IsFullFor (new_keys (V.view vault.old).keys (ceiling_changes (all_forced all.now) (get m) (durable_after (all_forced all.now) d s)) + new_keys (V.view vault.old).keys (object_changes (all_forced all.now) (get m) (durable_after (all_forced all.now) d s))) (V.view vault.old).free fault) }
+    ensures full_headers { IfErr result (IfFull ((m : Content) (d : Durable) (s : State) → V.holds vault.old m → Precedes objects.now units.now m d s → IsDue (all_forced all.now) d s
+        → HaveHeaders (durable_after (all_forced all.now) d s))) }
     ensures bad { IfErr result (IfBad ((m : Content) (d : Durable) (s : State) → V.holds vault.old m → Precedes objects.now units.now m d s → ⊥)) }
     ensures refused { IfErr result (λ fault. fault ≢ faults.Failed → V.view vault.new ≡ record (V.view vault.old) { spare = (V.view vault.new).spare; faults = (V.view vault.new).faults }) }
     ensures refused_holds { IfErr result (λ fault. fault ≢ faults.Failed → (m : Content) → V.holds vault.old m ↔ V.holds vault.new m) }

@@ -1,10 +1,18 @@
-use Rattle.std.proofs.Common.{◌∙◌, length, ap, arith}
+use Rattle.std.proofs.Common.{◌∙◌, ◌++◌, [], length, ap, arith}
 use Rattle.s38_image.specs.Headers.{header}
+use Rattle.s38_image.specs.Pages.{stream_parts}
 use Rattle.s38_image.specs.declared.header.Header.{Header}
 use Rattle.s38_image_printing.proofs.LengthLaws.{header_long}
 use Rattle.s38_image_printing.proofs.PartLaws.{streamed, streamed_len}
 use Rattle.s38_image_printing.specs.Parts.{header_with}
 use Rattle.s38_step_parts.proofs.parts.with_header.Goals as goal
+
+pub returns-clause-parts : goal.returns-clause-parts
+returns-clause-parts c =
+    let number = c.args.object.now.number.0 in
+    let h = c.header_with-header.result in
+    streamed c.new-writer.result c.put_header.new.into c.args.parts.items number 0 _ _ _ (header.print h) c.finish.result.items c.new-writer.ensures c.put_header.ensures c.finish.ensures.parts
+    ∙ ap (λ (v : Header). c.args.parts.items ++ stream_parts number 0 (header.print v) []) c.header_with-header.ensures.value
 
 pub returns-clause-len : goal.returns-clause-len
 returns-clause-len c =

@@ -10,11 +10,11 @@ use Rattle.s38_vault.specs.Content.{Content, HaveObjects, changed}
 use Rattle.s38_vault.specs.Directory.{new_keys}
 use Rattle.s38_vault.specs.Vaults.{VaultView}
 use Rattle.s38_step_parts.proofs.FollowedLaws.{handed}
-use Rattle.s38_step_parts.proofs.ForceLaws.{AreForced, during_known, full_known, headers_behind, never_bad_put, once_known, put_known, stands_known, unread_bad, unread_full}
+use Rattle.s38_step_parts.proofs.ForceLaws.{AreForced, during_known, full_known, headers_behind, if_full, never_bad_put, once_known, put_known, stands_known, unread_bad, unread_full, unread_less}
 use Rattle.s38_extents.specs.Forcings.{all_forced}
-use Rattle.s38_step_parts.specs.Outcomes.{IfBad, IsFullFor}
+use Rattle.s38_step_parts.specs.Outcomes.{IfBad, IfFull, IsFullFor}
 use Rattle.s38_step_parts.specs.Putting.{IsBetweenPuts}
-use Rattle.s38_step_parts.specs.Stepping.{Precedes, ceiling_changes, object_changes}
+use Rattle.s38_step_parts.specs.Stepping.{HaveHeaders, IsDue, Precedes, ceiling_changes, object_changes}
 use Rattle.s38_step_parts.specs.declared.fault.ForceFault.{ForceFault}
 use Rattle.s38_step_parts.proofs.step.force.Goals as goal
 
@@ -235,3 +235,28 @@ returns-in_err-put_both-clause-bad g c =
     let fault = c.in_err-put_both.field-0.0 in
     handed (λ (e : ForceFault). IfBad ((m : Content) (d : Durable) (s : State) → V.holds old m → Precedes h us m d s → ⊥) e)
     c.from_residual-in_err-put_both.result fault c.from_residual-in_err-put_both.ensures.1 (never_bad_put _ fault c.in_err-put_both.ensures.bad)
+
+pub returns-in_err-add_objects-clause-full_headers : goal.returns-in_err-add_objects-clause-full_headers
+returns-in_err-add_objects-clause-full_headers g c =
+    let V = g.V.Vault in
+    let all = all_forced c.args.all.now in
+    let fault = c.in_err-add_objects.field-0.0 in
+    handed (λ (e : ForceFault). IfFull ((m : Content) (d : Durable) (s : State) → V.holds c.args.vault.now m → Precedes c.args.objects.now c.args.units.now m d s → IsDue all d s → HaveHeaders (durable_after all d s)) e)
+    c.from_residual.result fault c.from_residual.ensures.1 (unread_less _ _ fault c.in_err-add_objects.ensures.bad)
+
+pub returns-in_err-add_ceiling-clause-full_headers : goal.returns-in_err-add_ceiling-clause-full_headers
+returns-in_err-add_ceiling-clause-full_headers g c =
+    let V = g.V.Vault in
+    let all = all_forced c.args.all.now in
+    let fault = c.in_err-add_ceiling.field-0.0 in
+    handed (λ (e : ForceFault). IfFull ((m : Content) (d : Durable) (s : State) → V.holds c.args.vault.now m → Precedes c.args.objects.now c.args.units.now m d s → IsDue all d s → HaveHeaders (durable_after all d s)) e)
+    c.from_residual-in_err-add_ceiling.result fault c.from_residual-in_err-add_ceiling.ensures.1 (unread_less _ _ fault c.in_err-add_ceiling.ensures.bad)
+
+pub returns-in_err-put_both-clause-full_headers : goal.returns-in_err-put_both-clause-full_headers
+returns-in_err-put_both-clause-full_headers g c =
+    let V = g.V.Vault in
+    let all = all_forced c.args.all.now in
+    let fault = c.in_err-put_both.field-0.0 in
+    handed (λ (e : ForceFault). IfFull ((m : Content) (d : Durable) (s : State) → V.holds c.args.vault.now m → Precedes c.args.objects.now c.args.units.now m d s → IsDue all d s → HaveHeaders (durable_after all d s)) e)
+    c.from_residual-in_err-put_both.result fault c.from_residual-in_err-put_both.ensures.1
+    (if_full _ fault (λ m d s held p due. headers_behind all d s p.headers due (c.in_ok-add_objects.ensures.headers m d s held p)))
