@@ -87,11 +87,12 @@ fn restarted<D: Disk>(
     let mut watched = WatchedVault::of(vault);
     match restart(alloc, &mut watched) {
         Err(fault) => Err((watched.end().release(), of_restart(fault))),
-        Ok(Restarted { objects, extents }) => {
+        Ok(restarted) => {
             let vault = watched.end();
             // Its contract says that the free parts and those that have a page are all parts.
             let _free = vault.free();
-            if can_be_kept(&objects) {
+            if can_be_kept(&restarted.objects) {
+                let Restarted { objects, extents } = restarted;
                 let room = Room::new(parts, extents);
                 Ok(OpenStore {
                     vault,

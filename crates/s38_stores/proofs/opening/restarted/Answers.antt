@@ -13,7 +13,7 @@ use Rattle.s38_stores.specs.Crashes.{IsPartlyCleaned}
 use Rattle.s38_stores.proofs.opening.restarted.Goals as goal
 
 pub can_be_kept-requires : goal.can_be_kept-requires
-can_be_kept-requires g c = opening_of c.in-Ok.objects c.in-Ok.extents.items c.in-Ok.ensures.read
+can_be_kept-requires g c = opening_of c.in-Ok.restarted.objects c.in-Ok.restarted.extents.items c.in-Ok.ensures.read
 
 pub returns-in-Err-clause-refused : goal.returns-in-Err-clause-refused
 returns-in-Err-clause-refused g c m held =
@@ -36,7 +36,7 @@ returns-then-can_be_kept-clause-opened g c m held =
 
 pub returns-then-can_be_kept-clause-fits : goal.returns-then-can_be_kept-clause-fits
 returns-then-can_be_kept-clause-fits g c =
-    subst (λ (r : Room). Fits r.extents c.in-Ok.objects) (sym c.new-room.ensures) (fits_of c.in-Ok.objects c.in-Ok.extents.items c.in-Ok.ensures.read)
+    subst (λ (r : Room). Fits r.extents c.in-Ok.restarted.objects) (sym c.new-room.ensures) (fits_of c.in-Ok.restarted.objects c.in-Ok.restarted.extents.items c.in-Ok.ensures.read)
 
 pub returns-then-can_be_kept-clause-rising : goal.returns-then-can_be_kept-clause-rising
 returns-then-can_be_kept-clause-rising g c = subst (λ (r : Room). AreRising r.extents) (sym c.new-room.ensures) c.in-Ok.ensures.rising
@@ -47,7 +47,7 @@ returns-then-can_be_kept-clause-parts g c =
     ap (λ (r : Room). r.parts + 1) c.new-room.ensures ∙ c.requires.parts ∙ ap parts_of (sym seen.layout)
 
 pub returns-then-can_be_kept-clause-opening : goal.returns-then-can_be_kept-clause-opening
-returns-then-can_be_kept-clause-opening g c = opening_of c.in-Ok.objects c.in-Ok.extents.items c.in-Ok.ensures.read
+returns-then-can_be_kept-clause-opening g c = opening_of c.in-Ok.restarted.objects c.in-Ok.restarted.extents.items c.in-Ok.ensures.read
 
 pub returns-then-can_be_kept-clause-during : goal.returns-then-can_be_kept-clause-during
 returns-then-can_be_kept-clause-during g c m held =
