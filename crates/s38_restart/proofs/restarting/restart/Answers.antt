@@ -61,3 +61,8 @@ pub restore-requires-clause-parts : goal.restore-requires-clause-parts
 restore-requires-clause-parts g c =
     let are : AreParts c.in_ok-parts.parts.items = record { rising = c.in_ok-parts.ensures.order; objects = c.in_ok-parts.ensures.objects; fine = c.in_ok-parts.ensures.fine } in
     subst (λ (l : List Change). AreParts l) (sym c.deref.ensures.value) are
+
+pub returns-clause-parts : goal.returns-clause-parts
+returns-clause-parts g c = λ m h.
+    let are : AreParts c.in_ok-parts.parts.items = record { rising = c.in_ok-parts.ensures.order; objects = c.in_ok-parts.ensures.objects; fine = c.in_ok-parts.ensures.fine } in
+    subst (λ (l : List Change). AreParts l) (c.in_ok-parts.ensures.parts m h) are

@@ -1,4 +1,4 @@
-use Rattle.std.proofs.Common.{All, List, ℕ, ◌+◌, ◌<◌, ◌≤◌, ◌∙◌, arith, subst, sym}
+use Rattle.std.proofs.Common.{All, List, ℕ, ◌+◌, ◌<◌, ◌≤◌, ◌∙◌, arith, map, subst, sym}
 use Rattle.std.specs.List.Sorted.{IsStrictlyIncreasing}
 use Rattle.s38_base.specs.Limits.{ceiling_step, last_number}
 use Rattle.s38_objects.specs.Lawful.{IsLawful}
@@ -10,6 +10,7 @@ use Rattle.s38_rules.specs.Room.{Extent}
 use Rattle.s38_rules.specs.Storable.{IsStorable}
 use Rattle.s38_restart.proofs.CeilingBound.{ceiling_bound}
 use Rattle.s38_restart.proofs.ExtentLaws.{all_storable, extents_rise}
+use Rattle.s38_restart.specs.Restarted.{number_in_stored}
 use Rattle.s38_restart.proofs.RestartLaws.{followed_lawful, followed_placed, stored_numbers}
 use Rattle.s38_restart.proofs.restarting.restore.Goals as goal
 
@@ -42,5 +43,7 @@ extents_of-requires c =
 pub returns-clause-rising : goal.returns-clause-rising
 returns-clause-rising c =
     let ss = c.in_ok-store.store.stored.items in
+    let numbers : IsStrictlyIncreasing (map number_in_stored ss) =
+    subst (λ (ns : List ℕ). IsStrictlyIncreasing ns) (sym (stored_numbers ss)) c.in_ok-store.ensures.lawful.lawful.rising in
     subst (λ (xs : List Extent). AreRising xs) (sym c.in_ok-extents.ensures)
-    (extents_rise ss (subst (λ (ns : List ℕ). IsStrictlyIncreasing ns) (sym (stored_numbers ss)) c.in_ok-store.ensures.lawful.lawful.rising))
+    (subst (λ (l : List Stored). AreRising (map extent_in l)) (sym c.deref.ensures.value) (extents_rise ss numbers))
