@@ -72,7 +72,7 @@ fn restarted<D: Disk>(
     ensures fits { IfOk result (λ store. Fits store.room.room.extents store.objects) }
     ensures rising { IfOk result (λ store. AreRising store.room.room.extents) }
     ensures parts { IfOk result (λ store. store.room.room.parts + 1 ≡ (page_view store.vault).shape.parts) }
-    ensures free { IfOk result (λ store. (page_view store.vault).free + len (page_view store.vault).keys ≡ (page_view store.vault).shape.parts) }
+    ensures free { IfOk result (λ store. (page_view store.vault).free + len (page_view store.vault).keys ≡ store.room.room.parts + 1) }
     ensures opening { IfOk result (λ store. IsOpening store.objects) }
     ensures kept { IfOk result (λ store. CanBeKept store.objects) }
     ensures start { IfOk result (λ store. store.vault.start ≡ vault.start) }

@@ -46,6 +46,11 @@ returns-then-can_be_kept-clause-parts g c =
     let seen = seen_from c.of-watched.ensures c.in-Ok.ensures.shape c.end-vault.ensures.vault c.end-vault.ensures.watched in
     ap (λ (r : Room). r.parts + 1) c.new-room.ensures ∙ c.requires.parts ∙ ap parts_of (sym seen.layout)
 
+pub returns-then-can_be_kept-clause-free : goal.returns-then-can_be_kept-clause-free
+returns-then-can_be_kept-clause-free g c =
+    let seen = seen_from c.of-watched.ensures c.in-Ok.ensures.shape c.end-vault.ensures.vault c.end-vault.ensures.watched in
+    c.free-free.ensures.sum ∙ sym (ap (λ (r : Room). r.parts + 1) c.new-room.ensures ∙ c.requires.parts ∙ ap parts_of (sym seen.layout))
+
 pub returns-then-can_be_kept-clause-opening : goal.returns-then-can_be_kept-clause-opening
 returns-then-can_be_kept-clause-opening g c = opening_of c.in-Ok.restarted.objects c.in-Ok.restarted.extents.items c.in-Ok.ensures.read
 
