@@ -5,4 +5,3 @@ mod StandLaws
 mod BehindLaws
 mod SettledLaws
 mod WantLaws
-mod AskLaws

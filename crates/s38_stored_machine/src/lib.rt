@@ -6,8 +6,6 @@ mod ending;
 mod keeping;
 mod laws;
 mod machine;
-mod running;
-mod sharing;
 
 pub use ending::Ending;
 pub use machine::{StoredEnd, StoredMachine};
