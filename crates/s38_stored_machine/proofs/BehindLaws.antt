@@ -210,7 +210,7 @@ module _ {V : Type 0} (view : V → VaultView) (holds : V → Content → Type 0
 
     -- ---- where something is
 
-    module _ (does : IsDone (step s p e).reply) (v : V) (k : Ending) (keeps : KeepsStep view holds leaves x.vault v t.held t.units (forced s p e) k) where
+    module _ (does : IsDone (step s p e).reply) (v : V) (k : Ending) (keeps : KeepsStep view holds leaves x.vault v t.held t.units (numbered (forced s p e)) k) where
       precedes : Precedes t.held t.units held.content old t
       precedes = goes_before laws s p e old is_old does held.content held.headers held.stands
 
@@ -223,10 +223,10 @@ module _ {V : Type 0} (view : V → VaultView) (holds : V → Content → Type 0
       kept_now : k ≡ Going → HoldsOf holds v new
       kept_now goes = subst (λ (y : Durable). HoldsOf holds v y) kept_is (keeps.kept goes held.content old t held.held precedes due)
 
-      one_put : (r : Reply) → IsDone r → IsOnePutBy (view x.first).shape.most old s one r → AreOnePut (view x.vault).shape.most old (forced s p e) (durable_after (numbered (forced s p e)) old t)
+      one_put : (r : Reply) → IsDone r → IsOnePutBy (view x.first).shape.most old s one r → AreOnePut (view x.vault).shape.most old (numbered (forced s p e)) (durable_after (numbered (forced s p e)) old t)
       one_put (Done values) is_done puts =
-          subst (λ (most : ℕ). AreOnePut most old (forced s p e) (durable_after (numbered (forced s p e)) old t)) (ap (λ shape. shape.most) (sym is.shape))
-          (subst (λ (y : Durable). AreOnePut (view x.first).shape.most old (forced s p e) y) (sym (numbered_same laws s p e old is_old does)) puts)
+          subst (λ (most : ℕ). AreOnePut most old (numbered (forced s p e)) (durable_after (numbered (forced s p e)) old t)) (ap (λ shape. shape.most) (sym is.shape))
+          (subst (λ (y : Durable). AreOnePut (view x.first).shape.most old (numbered (forced s p e)) y) (sym (numbered_same laws s p e old is_old does)) puts)
       one_put (Signal signal) is_done puts = absurd is_done
       one_put MustWait is_done puts = absurd is_done
 
@@ -312,9 +312,9 @@ module _ {V : Type 0} (view : V → VaultView) (holds : V → Content → Type 0
 
   module _ (does : IsDone (step s p e).reply) (v : V) where
     Keeps : Ending → Type 0
-    Keeps k = KeepsStep view holds leaves x.vault v t.held t.units (forced s p e) k
+    Keeps k = KeepsStep view holds leaves x.vault v t.held t.units (numbered (forced s p e)) k
 
-    past_behind : (k : Ending) → KeepsStep view holds leaves x.vault v t.held t.units (forced s p e) k → (j : ℕ) (n : Content) → j ≤ (view x.first).moment → leaves x.first j n ↔ leaves v j n
+    past_behind : (k : Ending) → KeepsStep view holds leaves x.vault v t.held t.units (numbered (forced s p e)) k → (j : ℕ) (n : Content) → j ≤ (view x.first).moment → leaves x.first j n ↔ leaves v j n
     past_behind k keeps j n low =
         let high : j ≤ (view x.vault).moment = let later = later_than_first in omega (arith, low, later) in
         let one = is.past j n low in
@@ -322,7 +322,7 @@ module _ {V : Type 0} (view : V → VaultView) (holds : V → Content → Type 0
         (λ left. two.0 (one.0 left), λ left. one.1 (two.1 left))
 
     -- what was kept anew
-    pub going_sound : KeepsStep view holds leaves x.vault v t.held t.units (forced s p e) Going
+    pub going_sound : KeepsStep view holds leaves x.vault v t.held t.units (numbered (forced s p e)) Going
         → IsSoundOver view holds leaves (record { machine = entered m (view v).moment one t; vault = v; first = x.first; ending = Going })
     going_sound keeps =
         let enters = enters_done s p e does in
@@ -345,16 +345,16 @@ module _ {V : Type 0} (view : V → VaultView) (holds : V → Content → Type 0
               record { now = kept_now d kept of.kept does v Going keeps refl; crash = going_crash d kept of.kept does v Going keeps refl };
         }
 
-    ended_crash_by : (k : Ending) (marks : List ℕ) → marks ≡ m.marks → KeepsStep view holds leaves x.vault v t.held t.units (forced s p e) k → (d : Durable) → IsKeptFrom view holds leaves x d → IsKeptOf m.origin d
+    ended_crash_by : (k : Ending) (marks : List ℕ) → marks ≡ m.marks → KeepsStep view holds leaves x.vault v t.held t.units (numbered (forced s p e)) k → (d : Durable) → IsKeptFrom view holds leaves x d → IsKeptOf m.origin d
         → AllOnePut (view x.first).shape.most d m.origin (m.history ++ one ∷ []) → (j : ℕ) (n : Content) → (view x.first).moment ≤ j → j ≤ (view v).moment → leaves v j n
         → IsKeptPrefix d m.origin (m.history ++ one ∷ []) marks j n
     ended_crash_by k marks same keeps d kept begun puts j n low high left =
         subst (λ (ms : List ℕ). IsKeptPrefix d m.origin (m.history ++ one ∷ []) ms j n) (sym same) (ended_crash d kept begun does v k keeps puts j n low high left)
 
-    pub low_moment : (k : Ending) → KeepsStep view holds leaves x.vault v t.held t.units (forced s p e) k → m.moment ≤ (view v).moment
+    pub low_moment : (k : Ending) → KeepsStep view holds leaves x.vault v t.held t.units (numbered (forced s p e)) k → m.moment ≤ (view v).moment
     low_moment k keeps = let now = now_is.0 in let later = keeps.later in omega (arith, now, later)
 
-    pub stopped_sound : KeepsStep view holds leaves x.vault v t.held t.units (forced s p e) Stopped → IsSoundOver view holds leaves (record { machine = last_entry; vault = v; first = x.first; ending = Stopped })
+    pub stopped_sound : KeepsStep view holds leaves x.vault v t.held t.units (numbered (forced s p e)) Stopped → IsSoundOver view holds leaves (record { machine = last_entry; vault = v; first = x.first; ending = Stopped })
     stopped_sound keeps = record {
       sound = sound_entered (enters_done s p e does);
       state = step_stored s p e is.state;
@@ -367,7 +367,7 @@ module _ {V : Type 0} (view : V → VaultView) (holds : V → Content → Type 0
       kept = λ c d held_first of. record { now = tt; crash = ended_crash_by Stopped (without_last (m.marks ++ m.moment ∷ [])) (last_left m.marks m.moment) keeps d (is.kept c d held_first of) of.kept };
     }
 
-    pub wanting_sound : KeepsStep view holds leaves x.vault v t.held t.units (forced s p e) Wanting → IsSoundOver view holds leaves (record { machine = last_entry; vault = v; first = x.first; ending = Wanting })
+    pub wanting_sound : KeepsStep view holds leaves x.vault v t.held t.units (numbered (forced s p e)) Wanting → IsSoundOver view holds leaves (record { machine = last_entry; vault = v; first = x.first; ending = Wanting })
     wanting_sound keeps = record {
       sound = sound_entered (enters_done s p e does);
       state = step_stored s p e is.state;

@@ -28,12 +28,28 @@ last_left xs x =
 
 -- ---- the moment of a store goes on
 
-same_count : (marks : List ℕ) (new : ℕ) → length (with_last new marks) ≡ length marks
+less_one : (n : ℕ) → suc n - 1 ≡ n
+less_one n = omega arith
+
+-- the last mark is another one
+set_end : List ℕ → ℕ → List ℕ
+set_end [] new = []
+set_end (m ∷ []) new = new ∷ []
+set_end (m ∷ k ∷ marks) new = m ∷ set_end (k ∷ marks) new
+
+set_is : (marks : List ℕ) (new : ℕ) → with_last new marks ≡ set_end marks new
+set_is [] new = refl
+set_is (m ∷ []) new = refl
+set_is (m ∷ k ∷ marks) new =
+    ap (λ (j : ℕ). slice_set (m ∷ k ∷ marks) j new) (less_one (suc (length marks)))
+    ∙ ap (λ (ms : List ℕ). m ∷ ms) (ap (λ (j : ℕ). slice_set (k ∷ marks) j new) (sym (less_one (length marks))) ∙ set_is (k ∷ marks) new)
+
+same_count : (marks : List ℕ) (new : ℕ) → length (set_end marks new) ≡ length marks
 same_count [] new = refl
 same_count (m ∷ []) new = refl
 same_count (m ∷ k ∷ marks) new = ap suc (same_count (k ∷ marks) new)
 
-moments_set : (first : ℕ) (marks : List ℕ) (now new : ℕ) → AreMoments first marks now → now ≤ new → AreMoments first (with_last new marks) new
+moments_set : (first : ℕ) (marks : List ℕ) (now new : ℕ) → AreMoments first marks now → now ≤ new → AreMoments first (set_end marks new) new
 moments_set first [] now new are later = omega (arith, are, later)
 moments_set first (m ∷ []) now new are later = let low = are.0 in let high = are.1 in (omega (arith, low, high, later), omega arith)
 moments_set first (m ∷ k ∷ marks) now new are later = (are.0, moments_set m (k ∷ marks) now new are.1 later)
@@ -41,6 +57,9 @@ moments_set first (m ∷ k ∷ marks) now new are later = (are.0, moments_set m 
 pub stamped_sound : (m : Run) (now : ℕ) → IsSound m → m.moment ≤ now → IsSound (stamped now m)
 stamped_sound m now sound later = record {
   legal = sound.legal;
-  stored = record { marked = same_count m.marks now ∙ sound.stored.marked; stamped = moments_set m.first m.marks m.moment now sound.stored.stamped later };
+  stored = record {
+    marked = ap length (set_is m.marks now) ∙ same_count m.marks now ∙ sound.stored.marked;
+    stamped = subst (λ (ms : List ℕ). AreMoments m.first ms now) (sym (set_is m.marks now)) (moments_set m.first m.marks m.moment now sound.stored.stamped later);
+  };
   kept = sound.kept;
 }

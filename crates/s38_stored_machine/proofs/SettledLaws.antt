@@ -15,6 +15,7 @@ use Rattle.s38_machine.specs.Stored.{kept_anew, stamped}
 use Rattle.s38_rules.specs.Forcing.{Forced, forced}
 use Rattle.s38_rules.specs.Legal.{IsProcess, Run, after}
 use Rattle.s38_rules.specs.Step.{step}
+use Rattle.s38_step_parts.specs.Numbers.{numbered}
 use Rattle.s38_vault.specs.Content.{Content}
 use Rattle.s38_vault.specs.Vaults.{VaultView}
 use Rattle.s38_stored_machine.specs.Keeping.{IsKeptBehind, IsSettled, KeepsStep, answer_by, behind, machine_by}
@@ -105,7 +106,7 @@ module _ {V : Type 0} (view : V → VaultView) (holds : V → Content → Type 0
     }
 
     -- behind what was kept, or not
-    kept_by : IsDone (step m.state p e).reply → (v : V) (k : Ending) → KeepsStep view holds leaves x.vault v (step m.state p e).state.held (step m.state p e).state.units (forced m.state p e) k
+    kept_by : IsDone (step m.state p e).reply → (v : V) (k : Ending) → KeepsStep view holds leaves x.vault v (step m.state p e).state.held (step m.state p e).state.units (numbered (forced m.state p e)) k
         → Behind (behind k (view v).moment v (record { machine = answered_run m.moment; vault = x.vault; first = x.first; ending = x.ending })) (answer_by k asked)
     kept_by does v Going keeps =
         let same : stamped (view v).moment (answered_run m.moment) ≡ answered_run (view v).moment = ap (λ (ms : List ℕ). record (answered_run (view v).moment) { marks = ms }) (last_set m.marks m.moment (view v).moment) in
@@ -186,7 +187,7 @@ module _ {V : Type 0} (view : V → VaultView) (holds : V → Content → Type 0
       in
       subst (λ (z : StoredView V). Behind z answer) (sym ready_kept.is)
       (subst (λ (r : Result Asked StepFault). Behind (behind y.ending (view y.vault).moment y.vault (record { machine = entered m m.moment one (step m.state p e).state; vault = x.vault; first = x.first; ending = x.ending })) r)
-      (sym ready_kept.answer) (kept_by enters does y.vault y.ending ready_kept.keeps))
+      (sym ready_kept.answered) (kept_by enters does y.vault y.ending ready_kept.keeps))
 
   pub behind_settled : (y : StoredView V) (all : List Forced) (answer : Result Asked StepFault) → all ≡ kept_anew m.state p e → IsSettled view holds leaves stepped y all asked answer → Behind y answer
   behind_settled y [] answer same settled =

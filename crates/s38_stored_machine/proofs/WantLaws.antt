@@ -24,9 +24,18 @@ use Rattle.s38_stored_machine.specs.declared.ending.Ending.TheVariants.{Going, W
 
 -- ---- the last of a list
 
+less_one : (n : ℕ) → suc n - 1 ≡ n
+less_one n = omega arith
+
+without_more : {A : Type 0} (x z : A) (zs : List A) → without_last (x ∷ z ∷ zs) ≡ x ∷ without_last (z ∷ zs)
+without_more {A} x z zs =
+    ap (λ (j : ℕ). take j (x ∷ z ∷ zs)) (less_one (suc (length zs))) ∙ ap (λ (j : ℕ). x ∷ take j (z ∷ zs)) (sym (less_one (length zs)))
+
 pub split_last : {A : Type 0} (x : A) (xs : List A) → (y : A) × (x ∷ xs ≡ without_last (x ∷ xs) ++ y ∷ [])
 split_last x [] = (x, refl)
-split_last {A} x (z ∷ zs) = let rest = split_last z zs in (rest.0, ap (λ (ys : List A). x ∷ ys) rest.1)
+split_last {A} x (z ∷ zs) =
+    let rest = split_last z zs in
+    (rest.0, ap (λ (ys : List A). x ∷ ys) rest.1 ∙ ap (λ (ys : List A). ys ++ rest.0 ∷ []) (sym (without_more x z zs)))
 
 -- ---- marks
 

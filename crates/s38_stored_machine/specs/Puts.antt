@@ -15,10 +15,10 @@ use Rattle.s38_vault.specs.Content.{Content}
 
 -- from a content that stands for what is durable, no more parts of objects differ than one put takes
 abbrev pub AreOnePut : ℕ → Durable → List Forced → Durable → Type 0
-AreOnePut most d all d' = (m : Content) → Stands m d → length (object_changes (numbered all) (get m) d') ≤ most
+AreOnePut most d all d' = (m : Content) → Stands m d → length (object_changes all (get m) d') ≤ most
 
 abbrev pub IsOnePutBy : ℕ → Durable → State → Entry → Reply → Type 0
-IsOnePutBy most d s e (Done values) = AreOnePut most d (forced s e.process e.event) (durable_after (forced s e.process e.event) d (step s e.process e.event).state)
+IsOnePutBy most d s e (Done values) = AreOnePut most d (numbered (forced s e.process e.event)) (durable_after (forced s e.process e.event) d (step s e.process e.event).state)
 IsOnePutBy most d s e (Signal x) = Unit {0}
 IsOnePutBy most d s e MustWait = Unit {0}
 

@@ -5,7 +5,7 @@ ghost use Rattle.s38_image_printing.specs.Parts.{CanSettle};
 ghost use Rattle.s38_rules.specs.Storable.{IsStorable};
 ghost use Rattle.s38_step_parts.specs.Numbers.{numbered};
 ghost use Rattle.s38_step_parts.specs.Stepping.{AreNumbers};
-ghost use Rattle.s38_stored_machine.specs.Keeping.{KeepsStep};
+ghost use Rattle.s38_stored_machine.specs.Keeping.{KeepsStep, ending_of};
 
 use crate::ending::Ending;
 use s38_commits::Units;
@@ -16,11 +16,15 @@ use s38_vault::Vault;
 use std::alloc::Global;
 
 /// How a machine goes on behind a step that was kept or not.
-fn ending_of(kept: Result<(), ForceFault>) -> Ending {
+fn ending_of(kept: Result<(), ForceFault>) -> Ending
+    ensures { result ≡ ending_of kept }
+{
     match kept {
         Ok(()) => Ending::Going,
         Err(ForceFault::Failed) => Ending::Stopped,
-        Err(_) => Ending::Wanting,
+        Err(ForceFault::Full { .. } | ForceFault::BadHeader { .. } | ForceFault::NoMemory) => {
+            Ending::Wanting
+        }
     }
 }
 
@@ -35,7 +39,7 @@ pub fn keep<V: Vault>(
     requires storable { All IsStorable objects.now.objects }
     requires settles { All (λ o. CanSettle units.now o.number.0 o.body) objects.now.objects }
     requires numbers { AreNumbers (numbered all.now) }
-    ensures { KeepsStep V.view V.holds V.leaves vault.old vault.new objects.now units.now all.now result }
+    ensures { KeepsStep V.view V.holds V.leaves vault.old vault.new objects.now units.now (numbered all.now) result }
 {
     let numbered = numbered(all);
     let kept = force(alloc, vault, objects, units, numbered.as_slice());
