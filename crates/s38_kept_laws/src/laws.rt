@@ -108,7 +108,6 @@ pub fn one_more_entry_is_durable()
 /// one more entry is marked by a later moment, or a call is stopped: of each moment before the puts, of each moment of them,
 /// and of each moment from the mark on.
 pub fn a_crash_leaves_a_prefix()
-    ensures headers { (m : Content) → AreParts (all_parts m) → first_fault body_limit (all_parts m) ≡ None → HaveHeaders (durable_in m) }
     ensures begins { (d : Durable) (s : State) (t : ℕ) (m : Content) → Stands m d → IsKeptPrefix d s [] [] t m }
     ensures earlier { (d : Durable) (s : State) (history : List Entry) (marks : List ℕ) (e : Entry) (now t : ℕ) (m : Content) → length marks ≡ length history
         → (durable d s history).ceiling ≡ (led s history).held.ceiling → t < now → IsKeptPrefix d s history marks t m → IsKeptPrefix d s (history ++ e ∷ []) (marks ++ now ∷ []) t m }
