@@ -148,7 +148,7 @@ module _ (ks : Keys) (m : Content) (d : Durable) (have : HavePages ks (get m)) (
   -- ---- all that is forced
 
   module _ (all : List Forced) (t : State) (rising : AreRising t.held) (users : All (StaysUserIn d) t.held.objects) (room : Room) (counts : room.extents ≡ map extent_in d.objects)
-    (new_headers : HaveHeaders (durable_after all d t)) where
+      (new_headers : HaveHeaders (durable_after all d t)) where
     abbrev new : Durable
     new = durable_after all d t
 

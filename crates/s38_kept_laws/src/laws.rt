@@ -105,7 +105,7 @@ pub fn what_takes_effect_finds_room()
     ensures room { (s : State) (p : ℕ) (e : Event) (values : List Val) (d : Durable) (room : Room) (m : Content) (free : ℕ) → IsKeptOf s d → (step s p e).reply ≡ Done values → s.room ≡ Some room
         → Stands m d → HasParts m → HaveHeaders d → HaveHeaders (durable_after (numbered (forced s p e)) d (step s p e).state) → free + len (keys_of m) ≡ room.parts + 1
         → new_keys (keys_of m) (ceiling_changes (numbered (forced s p e)) (get m) (durable_after (numbered (forced s p e)) d (step s p e).state))
-            + new_keys (keys_of m) (object_changes (numbered (forced s p e)) (get m) (durable_after (numbered (forced s p e)) d (step s p e).state)) ≤ free }
+        + new_keys (keys_of m) (object_changes (numbered (forced s p e)) (get m) (durable_after (numbered (forced s p e)) d (step s p e).state)) ≤ free }
     ensures parts { (all : List Forced) (m : Content) (d : Durable) → HasParts m → HasParts (put_forced all m d) }
 {
     what_is_durable_follows();
