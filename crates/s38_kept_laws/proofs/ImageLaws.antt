@@ -24,6 +24,7 @@ use Rattle.s38_rules.specs.declared.object.Object.{Object}
 use Rattle.s38_step_parts.proofs.KeptLaws.{user_followed}
 use Rattle.s38_step_parts.specs.Stepping.{HasHeader}
 use Rattle.s38_kept_laws.specs.Kept.{IsFront}
+use Rattle.s38_kept_laws.proofs.LongLaws.{read_long}
 
 -- ---- users
 
@@ -43,6 +44,7 @@ no_sequence b (suc n) fits = absurd fits
 pub image_header : (x : Stored) → IsImage body_limit x → HasHeader x
 image_header x image_is = record {
   fits = image_is.header;
+  long = read_long x.object.id.kind (body_tags x.object.id.kind (image_of x)) x.object.body x.sequence image_is.body;
   rows = at_most _ _ (both_true (nat_le (length x.object.rows) most_rows) _ image_is.within).0;
   user = λ is. no_sequence x.object.body x.sequence (subst (λ (k : Kind). FitsBody k (body_tags k (image_of x)) (image_of x)) is image_is.body);
 }

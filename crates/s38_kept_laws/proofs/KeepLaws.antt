@@ -84,7 +84,7 @@ module _ (laws : DurableLaws) (s : State) (p : ℕ) (e : Event) (d : Durable) (i
   abbrev new : Durable
   new = durable_after all d t
 
-  goes : Goes all s.held t.held
+  pub goes : Goes all s.held t.held
   goes = step_goes s p e is.numbered does
 
   well : AreWell t
@@ -110,7 +110,7 @@ module _ (laws : DurableLaws) (s : State) (p : ℕ) (e : Event) (d : Durable) (i
       by q there (inl gone) = absurd (let h : Some (kind_of o.body) ≡ None = sym (ap kind_in found) ∙ gone in cc)
       by q there (inr kinds) = same (kind_of o.body) (kind_of q.body) (sym (ap kind_in found) ∙ kinds ∙ ap kind_in there)
 
-  users : All (StaysUserIn d) t.held.objects
+  pub users : All (StaysUserIn d) t.held.objects
   users = all_found (StaysUserIn d) t.held goes.numbered.rising (λ o found. by o found (kept d.objects o.number.0) refl)
     where
       by : (o : Object) → object t.held o.number.0 ≡ Some o → (r : Option Stored) → kept d.objects o.number.0 ≡ r → StaysUserOf o.body r

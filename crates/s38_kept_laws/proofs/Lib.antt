@@ -10,3 +10,13 @@ pub mod NumberLaws
 pub mod StandLaws
 pub mod BeginLaws
 pub mod CrashLaws
+pub mod SumLaws
+pub mod CountLaws
+pub mod RuleLaws
+pub mod StreamLaws
+pub mod LongLaws
+pub mod SizeLaws
+pub mod ExtentLaws
+pub mod RoomLaws
+pub mod FindLaws
+pub mod HoldLaws

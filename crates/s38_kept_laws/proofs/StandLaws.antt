@@ -402,7 +402,7 @@ module _ (m : Content) (are : AreParts (all_parts m)) (fault : first_fault body_
 
   -- ---- the whole content
 
-  page_cleaned : (q : Key) → get (cleaned m) q ≡ page_of (durable_in m) q
+  pub page_cleaned : (q : Key) → get (cleaned m) q ≡ page_of (durable_in m) q
   page_cleaned q = cleaned_page m q ∙ by (q.object == ceiling_key) refl
     where
       by : (b : Bool) → (q.object == ceiling_key) ≡ b → cond (is_stray gs (at_key q)) None (get m q) ≡ wanted_at (cond b (ceiling_parts (ceiling_of parts)) (parts_in (kept (stored_in body_limit parts) q.object))) q

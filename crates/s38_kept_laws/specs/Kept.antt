@@ -1,7 +1,9 @@
 -- How what is durable goes with a state at every moment of a run.
 use Rattle.std.specs.Prelude.{◌≡◌, ◌+◌, ◌<◌, ◌≤◌, ℕ, All, true, List, [], ◌∷◌, None, Some, is_some, length, map}
+use Rattle.std.specs.FinMap.{contains_key}
 use Rattle.std.specs.List.{list_any}
 use Rattle.s38_base.specs.Limits.{body_limit, ceiling_step, last_number}
+use Rattle.s38_base.specs.declared.page.Key.{Key}
 use Rattle.s38_code.specs.declared.entry.Entry.{Entry}
 use Rattle.s38_code.specs.declared.event.Event.TheVariants.{Act, Finish, Start}
 use Rattle.s38_code.specs.declared.event.Event.{Event}
@@ -10,6 +12,7 @@ use Rattle.s38_code.specs.declared.reply.Reply.TheVariants.{Done, MustWait, Sign
 use Rattle.s38_commitment_laws.specs.Right.{IsRight}
 use Rattle.s38_durable.specs.Durable.{Durable, kept, whole}
 use Rattle.s38_durable.specs.Following.{AreRising, Counts, Follows, number_of}
+use Rattle.s38_durable.specs.Stands.{parts_end}
 use Rattle.s38_image.specs.Fitting.{IsImage, header_codec, rows_codec}
 use Rattle.s38_image.specs.declared.stored.Stored.{Stored}
 use Rattle.s38_image_printing.specs.Parts.{header_with}
@@ -21,6 +24,8 @@ use Rattle.s38_rules.specs.Parts.{profile_of}
 use Rattle.s38_rules.specs.State.{State}
 use Rattle.s38_rules.specs.Step.{step}
 use Rattle.s38_rules.specs.declared.object.Object.{Object}
+use Rattle.s38_vault.specs.Content.{Content}
+use Rattle.s38_vault.specs.Directory.{keys_of}
 
 -- ---- numbers
 
@@ -47,6 +52,12 @@ pub record IsKeptOf (s : State) (d : Durable) : Type 0 where
   pub well : AreWell s
   pub right : IsRight s
   pub numbered : AreNumbered s.held
+
+-- ---- how much is held
+
+-- each part that a store holds is one of 32 bits
+abbrev pub HasParts : Content → Type 0
+HasParts m = (key : Key) → contains_key (keys_of m) key ≡ true → key.part < parts_end
 
 -- ---- what can be read again
 

@@ -1,5 +1,6 @@
 //! Laws about what is durable, at every moment of a run.
-ghost use Rattle.std.specs.Prelude.{◌≡◌, ◌∷◌, ◌++◌, ◌<◌, ◌≤◌, ℕ, All, List, None, Option, [], length};
+ghost use Rattle.std.specs.Prelude.{◌≡◌, ◌+◌, ◌∷◌, ◌++◌, ◌<◌, ◌≤◌, ℕ, All, List, None, Option, Some, [], length};
+ghost use Rattle.std.specs.FinMap.{get, len};
 ghost use Rattle.s38_base.specs.Limits.{body_limit};
 ghost use Rattle.s38_base.specs.declared.exception.Exception.{Exception};
 ghost use Rattle.s38_code.specs.declared.deck.Job.{Job};
@@ -15,11 +16,11 @@ ghost use Rattle.s38_groups.specs.Stores.{first_fault};
 ghost use Rattle.s38_image_printing.specs.Parts.{CanSettle};
 ghost use Rattle.s38_kept_laws.specs.Beginning.{cleaned, durable_in, origin_of};
 ghost use Rattle.s38_kept_laws.specs.Crashes.{IsKeptPrefix, StandsBetween, led};
-ghost use Rattle.s38_kept_laws.specs.Kept.{AllReadable, AreImages, AreReadable, HasOperand, IsKeptOf};
+ghost use Rattle.s38_kept_laws.specs.Kept.{AllReadable, AreImages, AreReadable, HasOperand, HasParts, IsKeptOf};
 ghost use Rattle.s38_openings.specs.Opening.{IsOpening};
 ghost use Rattle.s38_restart.specs.Parts.{AreParts, all_parts};
 ghost use Rattle.s38_restart.specs.Restarted.{restarted};
-ghost use Rattle.s38_rules.specs.Forcing.{forced};
+ghost use Rattle.s38_rules.specs.Forcing.{Forced, forced};
 ghost use Rattle.s38_rules.specs.Held.{Held};
 ghost use Rattle.s38_rules.specs.Legal.{AreMoments, IsEntry, Leads};
 ghost use Rattle.s38_rules.specs.Room.{Room};
@@ -27,8 +28,9 @@ ghost use Rattle.s38_rules.specs.State.{State};
 ghost use Rattle.s38_rules.specs.Step.{step};
 ghost use Rattle.s38_rules.specs.Storable.{IsStorable};
 ghost use Rattle.s38_step_parts.specs.Numbers.{numbered};
-ghost use Rattle.s38_step_parts.specs.Stepping.{AreNumbers, HaveHeaders, IsDue, Precedes};
+ghost use Rattle.s38_step_parts.specs.Stepping.{AreNumbers, HaveHeaders, IsDue, Precedes, ceiling_changes, object_changes, put_forced};
 ghost use Rattle.s38_vault.specs.Content.{Content};
+ghost use Rattle.s38_vault.specs.Directory.{keys_of, new_keys};
 
 use s38_durable::{
     room_counts_what_is_durable, what_is_durable_follows, what_is_not_forced_stays_durable,
@@ -41,6 +43,7 @@ pub fn a_run_begins_kept()
     ensures stands { (m : Content) → AreParts (all_parts m) → first_fault body_limit (all_parts m) ≡ None → Stands (cleaned m) (durable_in m) }
     ensures images { (m : Content) → AreParts (all_parts m) → first_fault body_limit (all_parts m) ≡ None → AreImages (durable_in m) }
     ensures headers { (m : Content) → AreParts (all_parts m) → first_fault body_limit (all_parts m) ≡ None → HaveHeaders (durable_in m) }
+    ensures parts { (m : Content) → AreParts (all_parts m) → first_fault body_limit (all_parts m) ≡ None → HasParts (cleaned m) }
     ensures begins { (m : Content) (h : Held) (templates : List CheckedTemplate) (jobs : List Job) (room : Option Room) → AreParts (all_parts m) → first_fault body_limit (all_parts m) ≡ None
         → h ≡ restarted body_limit (all_parts m) → IsOpening h → Counts room (durable_in m) → IsKeptOf (origin_of h templates jobs room) (durable_in m) }
 {}
@@ -89,6 +92,21 @@ pub fn what_is_forced_can_be_put()
     ensures storable { (s : State) (p : ℕ) (e : Event) (values : List Val) (d : Durable) → IsKeptOf s d → (step s p e).reply ≡ Done values → All IsStorable (step s p e).state.held.objects }
     ensures settles { (s : State) (p : ℕ) (e : Event) (values : List Val) (d : Durable) → IsKeptOf s d → (step s p e).reply ≡ Done values
         → All (λ o. CanSettle (step s p e).state.units o.number.0 o.body) (step s p e).state.held.objects }
+{
+    what_is_durable_follows();
+    room_counts_what_is_durable();
+    what_is_not_forced_stays_durable();
+}
+
+/// What takes effect finds room: where the free parts of the store, and those that it holds, are as many as the room of the
+/// machine has, and one more for the ceiling, the changes of what is forced bring no more keys than there are free parts. Parts
+/// are numbers of 32 bits, and stay so.
+pub fn what_takes_effect_finds_room()
+    ensures room { (s : State) (p : ℕ) (e : Event) (values : List Val) (d : Durable) (room : Room) (m : Content) (free : ℕ) → IsKeptOf s d → (step s p e).reply ≡ Done values → s.room ≡ Some room
+        → Stands m d → HasParts m → HaveHeaders d → HaveHeaders (durable_after (numbered (forced s p e)) d (step s p e).state) → free + len (keys_of m) ≡ room.parts + 1
+        → new_keys (keys_of m) (ceiling_changes (numbered (forced s p e)) (get m) (durable_after (numbered (forced s p e)) d (step s p e).state))
+        + new_keys (keys_of m) (object_changes (numbered (forced s p e)) (get m) (durable_after (numbered (forced s p e)) d (step s p e).state)) ≤ free }
+    ensures parts { (all : List Forced) (m : Content) (d : Durable) → HasParts m → HasParts (put_forced all m d) }
 {
     what_is_durable_follows();
     room_counts_what_is_durable();

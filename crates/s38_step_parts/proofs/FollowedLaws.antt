@@ -16,12 +16,13 @@ use Rattle.s38_image_printing.specs.Parts.{header_with}
 use Rattle.s38_keeping.specs.Replacing.{range_of}
 use Rattle.s38_rules.specs.Held.{Held, kind_of, object}
 use Rattle.s38_rules.specs.Journaling.{journal_for}
+use Rattle.s38_rules.specs.Room.{image_len}
 use Rattle.s38_rules.specs.Parts.{profile_of}
 use Rattle.s38_rules.specs.State.{State}
 use Rattle.s38_rules.specs.Storable.{IsStorable}
 use Rattle.s38_rules.specs.declared.object.Object.{Object}
 use Rattle.s38_vault.specs.Content.{Content}
-use Rattle.s38_step_parts.proofs.KeptLaws.{Fit, IsKeptLen, followed_header, front_differs, key_of, kept_number, lens, never_bad, nothing_kept, some_kept, some_len, user_followed, user_kind, user_unsequenced}
+use Rattle.s38_step_parts.proofs.KeptLaws.{Fit, IsKeptLen, followed_header, front_differs, key_of, kept_number, lens, never_bad, nothing_kept, some_kept, settled_len, some_len, user_followed, user_kind, user_unsequenced}
 use Rattle.s38_step_parts.specs.Fronts.{front_parts, front_range}
 use Rattle.s38_step_parts.specs.Outcomes.{IsUnread}
 use Rattle.s38_step_parts.specs.Stepping.{HasHeader, Precedes}
@@ -55,9 +56,10 @@ handed P (Err e) fault same h = subst P (sym same) h
 
 -- ---- an object that is kept whole
 
-pub whole_has : (us : UnitMap) (h : Held) (o : Object) → IsStorable o → (head : Header) → header_of (whole_of us h o) ≡ head → header_codec.fits head ≡ true → HasHeader (whole_of us h o)
-whole_has us h o storable head is fits = record {
+pub whole_has : (us : UnitMap) (h : Held) (o : Object) → IsStorable o → (head : Header) → header_of (whole_of us h o) ≡ head → head.body ≡ image_len o.body → header_codec.fits head ≡ true → HasHeader (whole_of us h o)
+whole_has us h o storable head is len fits = record {
   fits = ap (λ (x : Header). header_codec.fits x) is ∙ fits;
+  long = ap (λ (x : Header). x.body) is ∙ len ∙ sym (settled_len us o.number.0 o.body);
   rows = storable.rows;
   user = λ user. user_unsequenced (last_in h (journal_for h o.number.0)) o.body o.id.kind storable.kind user;
 }

@@ -12,6 +12,7 @@ use Rattle.s38_base.specs.declared.page.Change.{Change}
 use Rattle.s38_base.specs.declared.page.Key.{Key}
 use Rattle.s38_base.specs.declared.page.Page.{Page}
 use Rattle.s38_commits.specs.Units.{UnitMap}
+use Rattle.s38_dataspaces.specs.Table.{image_size}
 use Rattle.s38_durable.specs.Durable.{Durable, body_behind, followed, kept, last_in, whole}
 use Rattle.s38_durable.specs.Stands.{Stands, parts_end, parts_in}
 use Rattle.s38_forcing.proofs.LookLaws.{differences_rising, each_difference}
@@ -30,11 +31,13 @@ use Rattle.s38_image.specs.Settled.{settled_body, settled_sequence}
 use Rattle.s38_image.specs.Pages.{needed}
 use Rattle.s38_image.specs.declared.header.Header.{Header}
 use Rattle.s38_image.specs.declared.stored.Stored.{Stored}
+use Rattle.s38_image_printing.proofs.DataLaws.{settled_length}
 use Rattle.s38_image_printing.specs.Parts.{header_with}
 use Rattle.s38_keeping.specs.Replacing.{range_of}
 use Rattle.s38_keeping.specs.Walking.{AreAt}
 use Rattle.s38_rules.specs.Held.{kind_of}
 use Rattle.s38_rules.specs.Journaling.{journal_for}
+use Rattle.s38_rules.specs.Room.{image_len}
 use Rattle.s38_rules.specs.Parts.{profile_of}
 use Rattle.s38_rules.specs.State.{State}
 use Rattle.s38_rules.specs.declared.object.Body.{Body}
@@ -218,6 +221,7 @@ pub followed_header : (o : Object) (x : Stored) (len : ℕ) → is_some (profile
     → HasHeader x → HasHeader (followed o x)
 followed_header o x len user kind said few fits has = record {
   fits = ap (λ (k : ℕ). header_codec.fits (header_with o k)) (followed_len o x len user kind said) ∙ fits;
+  long = followed_len o x len user kind said ∙ sym said ∙ has.long ∙ sym (ap image_len (behind_same o.body x.object.body user));
   rows = few;
   user = λ is. has.user (kind ∙ is);
 }
@@ -239,6 +243,12 @@ user_by units last o _ x user none = absurd cc
 
 pub user_followed : (s : State) (o : Object) (x : Stored) → is_some (profile_of o.body) ≡ true → x.sequence ≡ 0 → followed o x ≡ whole s o
 user_followed s o x user none = user_by s.units (last_in s.held (journal_for s.held o.number.0)) o o.body x user none
+
+-- as long as before, with every uncommitted change taken back
+pub settled_len : (units : UnitMap) (n : ℕ) (b : Body) → image_len (settled_body units n b) ≡ image_len b
+settled_len units n (bodies.DataSpace held) = ap (image_size held.space.fields) (settled_length units n 1 held.space.entries)
+settled_len units n (bodies.Journal j) = refl
+settled_len units n _ = refl
 
 -- no sequence is said of a user that is kept whole
 pub user_unsequenced : (last : ℕ) (b : Body) (k : Kind) → kind_of b ≡ k → k ≡ kinds.Profile → settled_sequence last b ≡ 0

@@ -17,6 +17,7 @@ use Rattle.s38_image.specs.declared.stored.Stored.{Stored}
 use Rattle.s38_object_laws.specs.Outline.{is_forced}
 use Rattle.s38_rules.specs.Forcing.{Ceiling, Forced}
 use Rattle.s38_rules.specs.Held.{Held, object}
+use Rattle.s38_rules.specs.Room.{image_len}
 use Rattle.s38_rules.specs.State.{State}
 use Rattle.s38_rules.specs.declared.object.Object.{Object}
 use Rattle.s38_vault.specs.Content.{Content}
@@ -68,10 +69,11 @@ kept_there all s old o = if o.on_disk then Some (kept_after all s (kept old o.nu
 
 -- ---- what can follow
 
--- the header that is kept of an object can be read again, there are not too many rows, and no entry of a journal space is
--- counted in of a user
+-- the header that is kept of an object can be read again, and says as many bytes as the image of the body has, there are not
+-- too many rows, and no entry of a journal space is counted in of a user
 pub record HasHeader (x : Stored) : Type 0 where
   pub fits : header_codec.fits (header_of x) ≡ true
+  pub long : (header_of x).body ≡ image_len x.object.body
   pub rows : length x.object.rows ≤ most_rows
   pub user : x.object.id.kind ≡ kinds.Profile → x.sequence ≡ 0
 

@@ -10,7 +10,7 @@ ghost use Rattle.s38_image.specs.Images.{header_of};
 ghost use Rattle.s38_image.specs.Pages.{stream_parts};
 ghost use Rattle.s38_image.specs.Settled.{settled};
 ghost use Rattle.s38_image_printing.specs.Parts.{CanSettle, header_with};
-ghost use Rattle.s38_rules.specs.Room.{rows_pages};
+ghost use Rattle.s38_rules.specs.Room.{image_len, rows_pages};
 ghost use Rattle.s38_rules.specs.Storable.{IsStorable};
 ghost use Rattle.s38_step_parts.specs.Fronts.{front_parts, front_range};
 
@@ -54,6 +54,7 @@ fn header_with(object: &Object, len: u32) -> Header
 pub(crate) fn whole_header(object: &Object) -> Header
     requires { IsStorable object.now }
     ensures value { (units : UnitMap) (last : ℕ) → CanSettle units object.now.number.0 object.now.body → header_of (settled units last object.now) ≡ result }
+    ensures len { result.body ≡ image_len object.now.body }
     ensures fits { header_codec.fits result ≡ true }
 {
     header_with(object, image_len(&object.body))
