@@ -4,7 +4,6 @@ pub mod ChargeLaws
 mod RedoLaws
 mod FitLaws
 mod BodyLaws
-mod StoredLaws
 mod PlacedLaws
 mod HeadLaws
 pub mod RestartLaws
