@@ -13,12 +13,11 @@ use Rattle.s38_openings.proofs.RestartLaws.{restarts}
 use Rattle.s38_pages.specs.Mounts.{layout_of}
 use Rattle.s38_restart.specs.Faults.{NamesFirst}
 use Rattle.s38_restart.specs.Parts.{AreParts, all_parts}
-use Rattle.s38_restart.specs.Restarted.{extents_kept, restarted}
+use Rattle.s38_restart.specs.Restarted.{restarted}
 use Rattle.s38_restart.specs.declared.fault.RestartFault.{RestartFault}
 use Rattle.s38_restart.specs.declared.fault.RestartFault.TheVariants as faults
 use Rattle.s38_rules.specs.Held.{Held}
 use Rattle.s38_rules.specs.Kept.{CanBeKept}
-use Rattle.s38_rules.specs.Room.{Extent}
 use Rattle.s38_stores.specs.Refusals.{IsFaultOf, IsRefusal, of_restart}
 use Rattle.s38_stores.specs.declared.fault.BadStore.TheVariants as bad
 use Rattle.s38_stores.specs.declared.fault.StoreRefusal.{StoreRefusal}
@@ -30,13 +29,9 @@ pub kept_where_counted : (h : Held) → IsOpening h → (r : Option ℕ) → IfS
 kept_where_counted h opening None counted is = cc
 kept_where_counted h opening (Some t) counted is = can_be_kept h opening (subst (λ n. n < 2 ^ 64) counted.0 counted.1)
 
--- what was read of a vault, whatever it tells: objects and extents are those of parts without a fault
-abbrev pub IsReadOf : Held → List Extent → List Change → Type 0
-IsReadOf h xs parts = AreParts parts × ((first_fault body_limit parts ≡ None) × ((h ≡ restarted body_limit parts) × (xs ≡ extents_kept body_limit parts)))
-
 -- what was restarted is an opening
-pub opening_of : (h : Held) (xs : List Extent) → (parts : List Change) × IsReadOf h xs parts → IsOpening h
-opening_of h xs r = subst IsOpening (sym r.1.1.1.0) (restarts body_limit r.0 (omega arith) r.1.0 r.1.1.0)
+pub opening_of : (h : Held) (parts : List Change) → AreParts parts → first_fault body_limit parts ≡ None → h ≡ restarted body_limit parts → IsOpening h
+opening_of h parts are fault is = subst IsOpening (sym is) (restarts body_limit parts (omega arith) are fault)
 
 -- the first fault is told
 pub fault_of : (m : Content) (fault : RestartFault) (r : StoreRefusal) → r ≡ of_restart fault → NamesFirst (first_fault body_limit (all_parts m)) fault → IsFaultOf m r

@@ -6,14 +6,14 @@ use Rattle.std.specs.Prelude.{None, Option, Some}
 use Rattle.s38_base.specs.Limits.{body_limit}
 use Rattle.s38_base.specs.declared.page.Change.{Change}
 use Rattle.s38_durable.specs.Following.{extent_in}
-use Rattle.s38_groups.specs.Stores.{ceiling_of, stored_in}
+use Rattle.s38_groups.specs.Stores.{ceiling_of, first_fault, stored_in}
 use Rattle.s38_image.specs.declared.stored.Stored.{Stored}
 use Rattle.s38_restart.proofs.StoredLaws.{IsKept, stored_kept}
+use Rattle.s38_restart.specs.Parts.{AreParts}
 use Rattle.s38_restart.specs.Restarted.{extents_kept, followed, imaged, restarted}
 use Rattle.s38_room.specs.Following.{Fits, rows_in, rows_kept}
 use Rattle.s38_rules.specs.Held.{Held, object_in}
 use Rattle.s38_rules.specs.Room.{Extent, extent_at, rows_pages}
-use Rattle.s38_stores.proofs.OpenLaws.{IsReadOf}
 
 module _ (h : Held) (limit ceiling : ℕ) where
   -- the rows of what was kept are those of what is followed
@@ -30,9 +30,8 @@ module _ (h : Held) (limit ceiling : ℕ) where
       by rest false = rest
 
 -- what was restarted has the rows that were read
-pub fits_of : (h : Held) (xs : List Extent) → (parts : List Change) × IsReadOf h xs parts → Fits xs h
-fits_of h xs r =
-    let parts = r.0 in
+pub fits_of : (h : Held) (xs : List Extent) (parts : List Change) → AreParts parts → first_fault body_limit parts ≡ None → h ≡ restarted body_limit parts → xs ≡ extents_kept body_limit parts → Fits xs h
+fits_of h xs parts are fault objects extents =
     let ss = stored_in body_limit parts in
-    let fits : Fits (extents_kept body_limit parts) (restarted body_limit parts) = record { rows = λ n. rows_at (imaged ss) body_limit (ceiling_of parts) ss (stored_kept body_limit parts r.1.0 r.1.1.0) n } in
-    subst (λ (k : Held). Fits xs k) (sym r.1.1.1.0) (subst (λ (ys : List Extent). Fits ys (restarted body_limit parts)) (sym r.1.1.1.1) fits)
+    let fits : Fits (extents_kept body_limit parts) (restarted body_limit parts) = record { rows = λ n. rows_at (imaged ss) body_limit (ceiling_of parts) ss (stored_kept body_limit parts are fault) n } in
+    subst (λ (k : Held). Fits xs k) (sym objects) (subst (λ (ys : List Extent). Fits ys (restarted body_limit parts)) (sym extents) fits)

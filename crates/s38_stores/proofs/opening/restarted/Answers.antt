@@ -12,7 +12,7 @@ use Rattle.s38_stores.specs.Crashes.{IsPartlyCleaned}
 use Rattle.s38_stores.proofs.opening.restarted.Goals as goal
 
 pub can_be_kept-requires : goal.can_be_kept-requires
-can_be_kept-requires g c = opening_of c.in-Ok.objects c.in-Ok.extents.items c.in-Ok.ensures.read
+can_be_kept-requires g c = let r = c.in-Ok.ensures.read in opening_of _ r.0 r.1.0 r.1.1.0 r.1.1.1.0
 
 pub returns-in-Err-clause-refused : goal.returns-in-Err-clause-refused
 returns-in-Err-clause-refused g c m held =
@@ -35,7 +35,7 @@ returns-then-can_be_kept-clause-opened g c m held =
 
 pub returns-then-can_be_kept-clause-fits : goal.returns-then-can_be_kept-clause-fits
 returns-then-can_be_kept-clause-fits g c =
-    subst (λ (r : Room). Fits r.extents c.in-Ok.objects) (sym c.new-room.ensures) (fits_of c.in-Ok.objects c.in-Ok.extents.items c.in-Ok.ensures.read)
+    subst (λ (r : Room). Fits r.extents c.in-Ok.field-0.objects) (sym c.new-room.ensures) (let r = c.in-Ok.ensures.read in fits_of _ _ r.0 r.1.0 r.1.1.0 r.1.1.1.0 r.1.1.1.1)
 
 pub returns-then-can_be_kept-clause-rising : goal.returns-then-can_be_kept-clause-rising
 returns-then-can_be_kept-clause-rising g c = subst (λ (r : Room). AreRising r.extents) (sym c.new-room.ensures) c.in-Ok.ensures.rising
@@ -51,7 +51,7 @@ returns-then-can_be_kept-clause-free g c =
     c.free-free.ensures.sum ∙ sym (ap (λ (r : Room). r.parts + 1) c.new-room.ensures ∙ c.requires.parts ∙ ap parts_of (sym seen.layout))
 
 pub returns-then-can_be_kept-clause-opening : goal.returns-then-can_be_kept-clause-opening
-returns-then-can_be_kept-clause-opening g c = opening_of c.in-Ok.objects c.in-Ok.extents.items c.in-Ok.ensures.read
+returns-then-can_be_kept-clause-opening g c = let r = c.in-Ok.ensures.read in opening_of _ r.0 r.1.0 r.1.1.0 r.1.1.1.0
 
 pub returns-then-can_be_kept-clause-during : goal.returns-then-can_be_kept-clause-during
 returns-then-can_be_kept-clause-during g c m held =
