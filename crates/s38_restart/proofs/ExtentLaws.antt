@@ -32,7 +32,7 @@ sorted_rise : (ss : List Stored) → IsStrictlySortedBy nat_cmp (map number_in_s
 sorted_rise [] rising = tt
 sorted_rise (s ∷ ss) rising = (
   below s.object.number.0 ss (sorted_head nat_cmp s.object.number.0 (map number_in_stored ss) rising),
-  sorted_rise ss (sorted_tail nat_cmp s.object.number.0 (map number_in_stored ss) rising)
+  sorted_rise ss (sorted_tail nat_cmp s.object.number.0 (map number_in_stored ss) rising),
 )
 
 pub extents_rise : (ss : List Stored) → IsStrictlyIncreasing (map number_in_stored ss) → AreRising (map extent_in ss)

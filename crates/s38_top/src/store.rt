@@ -57,11 +57,13 @@ pub fn of_list<D: Disk>(alloc: Global, disk: D) -> Decided<D>
     ensures safe { IsSafeOf (Some Command.List) (D.view disk) (D.view result.disk) result.outcome }
 {
     match open(alloc, disk) {
-        Ok(OpenStore {
-            vault,
-            objects,
-            room: _room,
-        }) => Decided {
+        Ok(
+            OpenStore {
+                vault,
+                objects,
+                room: _room,
+            },
+        ) => Decided {
             outcome: Outcome::Listed(objects),
             disk: vault.release(),
         },
