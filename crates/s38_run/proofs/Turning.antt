@@ -1,5 +1,5 @@
 -- One event that is asked of a machine: how it is answered, or broken off.
-use Rattle.std.proofs.Common.{◌≡◌, ℕ, ◌≤◌, Bool, true, refl, sym, ◌∙◌, ap, inl, inr}
+use Rattle.std.proofs.Common.{◌≡◌, ℕ, ◌≤◌, Bool, true, refl, ◌∙◌, ap, inl, inr}
 use Rattle.std.specs.Prelude.{Option, Some, None, is_some}
 use Rattle.s38_code.specs.declared.asked.Asked.{Asked}
 use Rattle.s38_code.specs.declared.event.Event.{Event}
