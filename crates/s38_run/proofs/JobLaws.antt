@@ -241,7 +241,7 @@ pub has_halted : {S : Type 0} (answer : S → ℕ) (after : S → S) (x : S) (fi
 has_halted answer after x first made jobs m all list y place m' call comes at halt = record {
   process = halt.process;
   event = halt.event;
-  is = halt.call;
+  is = halt.is;
   state = m.state;
   led = subst (λ (s : State). Leads s [] m'.history m.state) (sym halt.same.origin) (subst (λ (es : List Entry). Leads m.origin [] es m.state) (sym halt.same.history) comes.between.sound.legal);
   picked = subst (λ (es : List Entry). chosen m.state (answer (behind_picks after (length es) x)) ≡ Some halt.process) (sym halt.same.history)

@@ -6,6 +6,7 @@ pub mod ProgressLaws
 pub mod ReadyLaws
 pub mod Running
 pub mod Stepping
+mod Turning
 pub mod TurnLaws
 pub mod StillLaws
 mod WaitLaws

@@ -1,5 +1,5 @@
 -- A machine without a store stays at the moment of its start.
-use Rattle.std.proofs.Common.{◌≡◌, ℕ, refl, sym, ap, ◌∙◌, subst}
+use Rattle.std.proofs.Common.{◌≡◌, ◌≤◌, ℕ, arith, refl, sym, ap, ◌∙◌, subst}
 use Rattle.std.specs.Prelude.{Result, Ok, Err, OnErr, OnOk}
 use Rattle.s38_code.specs.declared.event.Event.{Event}
 use Rattle.s38_rules.specs.Legal.{IsSound, Run, after, begun}
@@ -17,9 +17,25 @@ after_is : (m : Run) (p : ℕ) (e : Event) → IsStepOrNone m (after m m.moment 
 unfolding after
 after_is m p e = record { origin = refl; first = refl; moment = refl }
 
+is_after : (m n : Run) (p : ℕ) (e : Event) → n ≡ after m m.moment p e → IsStepOrNone m n
+is_after m n p e ok = subst (IsStepOrNone m) (sym ok) (after_is m p e)
+
 pub step_or_none : {T E : Type 0} (r : Result T E) (m n : Run) (p : ℕ) (e : Event) → OnOk r (n ≡ after m m.moment p e) → OnErr r (n ≡ m) → IsStepOrNone m n
-step_or_none (Ok x) m n p e ok err = subst (IsStepOrNone m) (sym ok) (after_is m p e)
+step_or_none (Ok x) m n p e ok err = is_after m n p e ok
 step_or_none (Err x) m n p e ok err = subst (IsStepOrNone m) (sym err) (record { origin = refl; first = refl; moment = refl })
+
+-- it is one at the moment to which it came
+pub moved_still : {T E : Type 0} (r : Result T E) (m n : Run) (p : ℕ) (e : Event) → OnOk r (n ≡ after m m.moment p e) → OnOk r (n ≡ after m n.moment p e)
+moved_still (Ok x) m n p e ok = subst (λ k. n ≡ after m k p e) (sym (is_after m n p e ok).moment) ok
+moved_still (Err x) m n p e ok = tt
+
+pub later_still : {T E : Type 0} (r : Result T E) (m n : Run) (p : ℕ) (e : Event) → OnOk r (n ≡ after m m.moment p e) → OnOk r (m.moment ≤ n.moment)
+later_still (Ok x) m n p e ok = omega (arith, (is_after m n p e ok).moment)
+later_still (Err x) m n p e ok = tt
+
+pub kept_still : {T E A : Type 0} (r : Result T E) (m n : Run) (f : Run → A) → OnErr r (n ≡ m) → OnErr r (f n ≡ f m)
+kept_still (Ok x) m n f err = tt
+kept_still (Err x) m n f err = ap f err
 
 pub same_beginning : (m n : Run) → IsStepOrNone m n → beginning n ≡ beginning m
 same_beginning m n s = λ k. record { state = s.origin k; first = s.first k }

@@ -3,7 +3,7 @@ use Rattle.std.proofs.Common.{◌≡◌, ◌≢◌, ℕ, zero, suc, ◌+◌, ◌
 use Rattle.std.proofs.lemmas.List.{length-map}
 use Rattle.std.proofs.lemmas.Bool.Decides.{nat_tests}
 use Rattle.std.proofs.lemmas.Option.{get_or_from_slice_get, same_Some, slice_get_read, slice_get_within, slice_get-get_or}
-use Rattle.std.specs.Prelude.{MatchBool, OnOk, Option, Some, Result, Ok, Err, filter, slice_get, slice_set}
+use Rattle.std.specs.Prelude.{MatchBool, Option, Some, filter, slice_get, slice_set}
 use Rattle.s38_code.specs.declared.deck.Job.{Job}
 use Rattle.s38_code.specs.declared.entry.Entry.{Entry}
 use Rattle.s38_code.specs.declared.event.Event.{Event}
@@ -387,10 +387,6 @@ all_by_program made jobs m all was between = record {
       (between.each.each k x.0 job one state.0 x.1 job_at one_at state.1).by_program;
 }
 
-on_ok : {T E : Type 0} (P Q : Type 0) (r : Result T E) → (P → Q) → OnOk r P → OnOk r Q
-on_ok P Q (Ok x) f h = f h
-on_ok P Q (Err e) f h = tt
-
 module _ {made : List CreateResult} {jobs : List Job} {m : Run} {all : List JobState} {was : List ℕ} {place p : ℕ} {job : Job} {one : CreateResult} {state : JobState} (at : AtJob made jobs m all was place p job one state) where
   at_turn : (e : Event) → event_of (doing one job.budget state) ≡ Some e → AtTurn made jobs m all was place p job one state e
   at_turn e asks = record { at = at; asks = asks }
@@ -437,10 +433,9 @@ module _ {made : List CreateResult} {jobs : List Job} {m : Run} {all : List JobS
       ∙ count_then made jobs m all was place p job one state took.turned.event m'.moment took.turned.later (at_turn took.turned.event took.turned.asks)
 
   -- where who is ready was listed anew
-  pub went_listed : {T E : Type 0} (r : Result T E) (o : Outcome) (m' : Run) (state' : JobState) (waited : Bool) (now : List ℕ) → TookTurn p one job.budget m state o m' state' → waited ≡ anyone m.state.waiting
-      → OnOk r (now ≡ ready_behind m'.state p waited o was) → OnOk r (WentOn made jobs m all was place m' (slice_set all (p - 1) state') now)
-  went_listed r o m' state' waited now took waits now_is =
-      on_ok _ _ r (λ is. went_on o m' state' now took (is ∙ ap (λ b. ready_behind m'.state p b o was) waits)) now_is
+  pub went_listed : (o : Outcome) (m' : Run) (state' : JobState) (waited : Bool) (now : List ℕ) → TookTurn p one job.budget m state o m' state' → waited ≡ anyone m.state.waiting
+      → now ≡ ready_behind m'.state p waited o was → WentOn made jobs m all was place m' (slice_set all (p - 1) state') now
+  went_listed o m' state' waited now took waits is = went_on o m' state' now took (is ∙ ap (λ b. ready_behind m'.state p b o was) waits)
 
   -- ---- a turn that was broken off
 
@@ -483,7 +478,7 @@ module _ {made : List CreateResult} {jobs : List Job} {m : Run} {all : List JobS
     same = stopped.same;
     process = p;
     event = stopped.event;
-    call = stopped.call;
+    is = stopped.is;
     by = at.listed;
     asks = λ j o j_at o_at.
         let same_job : job ≡ j = some_same (slice_get jobs (p - 1)) job j at.job_at j_at in

@@ -87,7 +87,7 @@ BrokeOff number m d m' = IsAsBefore m m' ⊎ WasAnswered number m d m'
 pub record WasStopped (number : ℕ) (m : Run) (d : ProcessState) (m' : Run) (call : Option (ℕ × Event)) : Type 0 where
   pub event : Event
   pub asks : event_of d ≡ Some event
-  pub call : call ≡ Some (number, event)
+  pub is : call ≡ Some (number, event)
   pub same : IsAsBefore m m'
 
 -- the process of a job; it is fresh before its first turn
@@ -189,7 +189,7 @@ pub record CameToHalt (made : List CreateResult) (jobs : List Job) (m : Run) (re
   pub same : IsAsBefore m m'
   pub process : ℕ
   pub event : Event
-  pub call : call ≡ Some (process, event)
+  pub is : call ≡ Some (process, event)
   pub by : slice_get ready place ≡ Some process
   pub asks : (job : Job) (one : CreateResult) → slice_get jobs (process - 1) ≡ Some job → slice_get made (process - 1) ≡ Some one
       → event_of (behind (fresh one job.budget) (entries_of process m.history)) ≡ Some event

@@ -79,17 +79,20 @@ fn go_on<M: RunMachine>(
     let number = ready[place];
     let at = number as usize - 1;
     let waited = machine.somebody_waits();
-    let outcome = take_turn(
+    let outcome = match take_turn(
         alloc,
         machine,
         &mut states[at],
         &jobs[at],
         &made[at],
         number,
-    )?;
+    ) {
+        Ok(outcome) => outcome,
+        Err(fault) => return Err(fault),
+    };
     match update(machine, ready, number, waited, outcome) {
-        Err(_) => Err(StepFault::NoMemory),
         Ok(()) => Ok(()),
+        Err(_) => Err(StepFault::NoMemory),
     }
 }
 

@@ -1,4 +1,6 @@
 use Rattle.std.proofs.Common.{arith}
+use Rattle.s38_code.specs.declared.step.StepFault.TheVariants.{Stopped}
+use Rattle.s38_run.proofs.EndLaws.{handed_on}
 use Rattle.s38_run.proofs.TurnLaws.{at_job, came_off, came_off_behind, came_to_halt, going, may_ask, read_listed, took_count, went_listed, within_jobs}
 use Rattle.s38_run.proofs.jobs.go_on.Goals as goal
 
@@ -38,33 +40,33 @@ take_turn-requires-clause-open g c =
     c.index-jobs-at.result c.index-made-at.result c.index_mut.result.now c.requires.between (omega arith) c.index-number.ensures c.index-jobs-at.is c.index-made-at.is c.index_mut.ensures.value in
     going at
 
-pub returns-in_err-outcome-clause-came_off : goal.returns-in_err-outcome-clause-came_off
-returns-in_err-outcome-clause-came_off g c =
+pub returns-in-Err-clause-came_off : goal.returns-in-Err-clause-came_off
+returns-in-Err-clause-came_off g c =
     let at = at_job c.args.made.now c.args.jobs.now (g.M.RunMachine.run c.args.machine.now) c.args.states.now.items c.args.ready.now.items c.args.place c.index-number.result.now
     c.index-jobs-at.result c.index-made-at.result c.index_mut.result.now c.requires.between (omega arith) c.index-number.ensures c.index-jobs-at.is c.index-made-at.is c.index_mut.ensures.value in
-    came_off at (g.M.RunMachine.run c.take_turn.new.machine) c.in_err-outcome.ensures.broke
+    came_off at (g.M.RunMachine.run c.take_turn.new.machine) c.in-Err.ensures.broke
 
-pub returns-in_err-outcome-clause-stopped : goal.returns-in_err-outcome-clause-stopped
-returns-in_err-outcome-clause-stopped g c =
+pub returns-in-Err-clause-stopped : goal.returns-in-Err-clause-stopped
+returns-in-Err-clause-stopped g c stop =
     let at = at_job c.args.made.now c.args.jobs.now (g.M.RunMachine.run c.args.machine.now) c.args.states.now.items c.args.ready.now.items c.args.place c.index-number.result.now
     c.index-jobs-at.result c.index-made-at.result c.index_mut.result.now c.requires.between (omega arith) c.index-number.ensures c.index-jobs-at.is c.index-made-at.is c.index_mut.ensures.value in
-    ?
+    came_to_halt at (g.M.RunMachine.run c.take_turn.new.machine) (g.M.RunMachine.stopped c.take_turn.new.machine) (c.take_turn.ensures.stopped (handed_on c.take_turn.result c.in-Err.fault Stopped c.in-Err.is stop))
 
 pub update-requires-clause-few : goal.update-requires-clause-few
 update-requires-clause-few g c =
     let at = at_job c.args.made.now c.args.jobs.now (g.M.RunMachine.run c.args.machine.now) c.args.states.now.items c.args.ready.now.items c.args.place c.index-number.result.now
     c.index-jobs-at.result c.index-made-at.result c.index_mut.result.now c.requires.between (omega arith) c.index-number.ensures c.index-jobs-at.is c.index-made-at.is c.index_mut.ensures.value in
-    omega (arith, took_count at c.in_ok-outcome.outcome (g.M.RunMachine.run c.take_turn.new.machine) c.take_turn.new.state c.in_ok-outcome.ensures.took, c.requires.few)
+    omega (arith, took_count at c.in-Ok.outcome (g.M.RunMachine.run c.take_turn.new.machine) c.take_turn.new.state c.in-Ok.ensures.took, c.requires.few)
 
-pub returns-in-Err-clause-came_off : goal.returns-in-Err-clause-came_off
-returns-in-Err-clause-came_off g c =
+pub returns-in-Err-update-clause-came_off : goal.returns-in-Err-update-clause-came_off
+returns-in-Err-update-clause-came_off g c =
     let at = at_job c.args.made.now c.args.jobs.now (g.M.RunMachine.run c.args.machine.now) c.args.states.now.items c.args.ready.now.items c.args.place c.index-number.result.now
     c.index-jobs-at.result c.index-made-at.result c.index_mut.result.now c.requires.between (omega arith) c.index-number.ensures c.index-jobs-at.is c.index-made-at.is c.index_mut.ensures.value in
-    came_off_behind at c.in_ok-outcome.outcome (g.M.RunMachine.run c.take_turn.new.machine) c.take_turn.new.state c.in_ok-outcome.ensures.took
+    came_off_behind at c.in-Ok.outcome (g.M.RunMachine.run c.take_turn.new.machine) c.take_turn.new.state c.in-Ok.ensures.took
 
-pub returns-in-Ok-clause-went : goal.returns-in-Ok-clause-went
-returns-in-Ok-clause-went g c =
+pub returns-in-Ok-update-clause-went : goal.returns-in-Ok-update-clause-went
+returns-in-Ok-update-clause-went g c =
     let at = at_job c.args.made.now c.args.jobs.now (g.M.RunMachine.run c.args.machine.now) c.args.states.now.items c.args.ready.now.items c.args.place c.index-number.result.now
     c.index-jobs-at.result c.index-made-at.result c.index_mut.result.now c.requires.between (omega arith) c.index-number.ensures c.index-jobs-at.is c.index-made-at.is c.index_mut.ensures.value in
-    went_listed at c.update.result c.in_ok-outcome.outcome (g.M.RunMachine.run c.take_turn.new.machine) c.take_turn.new.state c.somebody_waits-waited.result c.update.new.ready.items
-    c.in_ok-outcome.ensures.took c.somebody_waits-waited.ensures c.update.ensures
+    went_listed at c.in-Ok.outcome (g.M.RunMachine.run c.take_turn.new.machine) c.take_turn.new.state c.somebody_waits-waited.result c.update.new.ready.items
+    c.in-Ok.ensures.took c.somebody_waits-waited.ensures c.in-Ok-update.ensures

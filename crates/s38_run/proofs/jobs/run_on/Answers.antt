@@ -7,4 +7,4 @@ returns-in-Err-clause-so_far g c =
 
 pub take_turns-requires-clause-between : goal.take_turns-requires-clause-between
 take_turns-requires-clause-between g c =
-    between_begun c.args.made.now c.args.jobs.now (g.M.RunMachine.run c.args.machine.now) c.in-Ok.states.items c.ready_list.new.into.items c.requires.made c.requires.begun c.in-Ok.ensures ?
+    between_begun c.args.made.now c.args.jobs.now (g.M.RunMachine.run c.args.machine.now) c.in-Ok-unbegun.states.items c.ready_list.new.into.items c.requires.made c.requires.begun c.in-Ok-unbegun.ensures c.in-Ok.ensures

@@ -38,7 +38,7 @@ returns-in-Err-clause-stopped g c stop =
     has_halted g.P.Picker.answer g.P.Picker.after c.args.picker.now (S.run c.args.machine.now) c.args.made.now c.args.jobs.now (S.run l.machine) l.states.items l.ready.items l.picker
     (c.pick.result % c.len.result) (S.run c.go_on.new.machine) (S.stopped c.go_on.new.machine) l.invariant.0
     (ap (λ n. n % c.len.result) c.pick.ensures.answer ∙ ap (λ k. g.P.Picker.answer l.picker % k) count)
-    (c.go_on.ensures.stopped ?)
+    (c.go_on.ensures.stopped (c.in-Err.is ∙ stop))
 
 pub returns-clause-so_far : goal.returns-clause-so_far
 returns-clause-so_far g c =

@@ -1,49 +1,34 @@
-use Rattle.std.proofs.Common.{◌≡◌, ℕ, Bool, refl, sym, ◌∙◌, ap, subst}
-use Rattle.std.specs.Prelude.{List, Option, Some, None, Result, Ok, Err, IfOk, IfSome, is_some, true}
-use Rattle.std.specs.Option.{option_map}
-use Rattle.s38_code.specs.declared.asked.Asked.{Asked}
-use Rattle.s38_code.specs.declared.entry.Entry.{Entry}
-use Rattle.s38_code.specs.declared.event.Event.{Event}
-use Rattle.s38_code.specs.declared.reply.Reply.{Reply}
-use Rattle.s38_code.specs.declared.step.StepFault.{StepFault}
-use Rattle.s38_code.specs.Asking.{answer_by, reply_by}
+use Rattle.std.proofs.Common.{inl, sym, ◌∙◌, ap}
 use Rattle.s38_process.specs.Asked.{asked}
-use Rattle.s38_process.specs.Process.{ProcessState, absorbed, event_of, is_finish}
-use Rattle.s38_run.specs.Running.{HasAsked, outcome_of}
-use Rattle.s38_run.specs.declared.outcome.Outcome.{Outcome}
+use Rattle.s38_code.specs.declared.step.StepFault.TheVariants.{Stopped}
+use Rattle.s38_run.proofs.EndLaws.{handed_on}
+use Rattle.s38_run.proofs.Turning.{broke_before, broke_behind, is_there, not_answered, was_stopped, was_turned}
 use Rattle.s38_run.proofs.turn.turn.Goals as goal
 
-abbrev Steps : Type 1
-Steps = Event → Result Reply StepFault → Type 0
+pub absorb_asked-requires-clause-replied : goal.absorb_asked-requires-clause-replied
+absorb_asked-requires-clause-replied g c = is_there _ _ c.in-Ok.ensures.reply
 
--- how a process goes on by the reply to what it asked
-abbrev GoesOn : {E : Type 0} → ProcessState → ProcessState → Bool → Option Reply → Result Outcome E → Type 0
-GoesOn d d' ends last r = IfOk r (λ o. (y : Reply) → last ≡ Some y → (d' ≡ absorbed d y) × ((x : Event) → ends ≡ is_finish x → o ≡ outcome_of x y))
+pub returns-in-Err-clause-broke : goal.returns-in-Err-clause-broke
+returns-in-Err-clause-broke g c = broke_before c.args.number (g.M.RunMachine.run c.args.machine.now) c.args.process.now
 
--- what it asked was answered, and it went on by that reply
-went : {E : Type 0} (steps : Steps) (d d' : ProcessState) (e : Event) (ends : Bool) (last : Option Reply) (r : Result Outcome E)
-    → event_of d ≡ Some e → ends ≡ is_finish e → is_some last ≡ true → IfSome last (λ y. steps e (Ok y)) → GoesOn d d' ends last r → IfOk r (λ o. HasAsked steps d o d')
-went steps d d' e ends None r asks finish there stepped on = cc
-went steps d d' e ends (Some y) (Ok o) asks finish there stepped on =
-    let next = on y refl in
-    record { event = e; asks = asks; reply = y; steps = stepped; process = next.0; outcome = next.1 e finish }
-went steps d d' e ends (Some y) (Err x) asks finish there stepped on = tt
+pub returns-in-Err-ask-clause-broke : goal.returns-in-Err-ask-clause-broke
+returns-in-Err-ask-clause-broke g c =
+    let S = g.M.RunMachine in
+    inl (not_answered (S.run c.args.machine.now) (S.run c.ask.new.self) c.in-Err-ask.ensures.begun c.in-Err-ask.ensures.history)
 
--- the answer that says where the reply is, is that reply
-replied : (steps : Steps) (e : Event) (x : Asked) (history : List Entry) → IfSome (answer_by (Ok x) history) (λ answer. steps e answer) → IfSome (reply_by x history) (λ y. steps e (Ok y))
-replied steps e x history stepped = by (reply_by x history) stepped
-  where
-    by : (o : Option Reply) → IfSome (option_map (λ (y : Reply). Ok y) o) (λ answer. steps e answer) → IfSome o (λ y. steps e (Ok y))
-    by None h = tt
-    by (Some y) h = h
+pub returns-in-Err-ask-clause-stopped : goal.returns-in-Err-ask-clause-stopped
+returns-in-Err-ask-clause-stopped g c stop =
+    let S = g.M.RunMachine in
+    was_stopped c.args.number (S.run c.args.machine.now) (S.run c.ask.new.self) c.args.process.now c.in-Ok-Step.event (S.stopped c.ask.new.self) (sym c.in-Ok-Step.ensures.asked ∙ ap asked c.in-Ok-Step.field-0-is)
+    (c.ask.ensures.stopped (handed_on c.ask.result c.in-Err-ask.fault Stopped c.in-Err-ask.is stop)) (not_answered (S.run c.args.machine.now) (S.run c.ask.new.self) c.in-Err-ask.ensures.begun c.in-Err-ask.ensures.history)
 
--- asking left it as it was
-stood : {E : Type 0} (d now d' : ProcessState) (ends : Bool) (last : Option Reply) (r : Result Outcome E) → now ≡ d → GoesOn now d' ends last r → GoesOn d d' ends last r
-stood d now d' ends last r same on = subst (λ (k : ProcessState). GoesOn k d' ends last r) same on
+pub returns-in-Err-absorb_asked-clause-broke : goal.returns-in-Err-absorb_asked-clause-broke
+returns-in-Err-absorb_asked-clause-broke g c =
+    let S = g.M.RunMachine in
+    broke_behind c.args.number (S.run c.args.machine.now) (S.run c.ask.new.self) c.args.process.now c.in-Ok-Step.event (sym c.in-Ok-Step.ensures.asked ∙ ap asked c.in-Ok-Step.field-0-is) c.in-Ok.ensures.moved c.in-Ok.ensures.later
 
-pub returns-in-Ok : goal.returns-in-Ok
-returns-in-Ok g c =
-    went (λ e a. g.S.Stepper.steps c.args.machine.now c.args.number e a c.ask.new.self) c.args.process.now c.absorb_asked.new.process c.in-Ok-Step.event c.is_finish-ends.result _ c.absorb_asked.result
-    (sym c.in-Ok-Step.ensures.asked ∙ ap asked c.in-Ok-Step.field-0-is) c.is_finish-ends.ensures c.in-Ok.ensures.replied
-    (replied (λ e a. g.S.Stepper.steps c.args.machine.now c.args.number e a c.ask.new.self) c.in-Ok-Step.event c.in-Ok.asked (g.S.Stepper.history c.ask.new.self) c.in-Ok.ensures.steps)
-    (stood c.args.process.now c.next.new.self c.absorb_asked.new.process c.is_finish-ends.result _ c.absorb_asked.result c.in-Ok-Step.ensures.same c.absorb_asked.ensures)
+pub returns-in-Ok-absorb_asked-clause-turned : goal.returns-in-Ok-absorb_asked-clause-turned
+returns-in-Ok-absorb_asked-clause-turned g c =
+    let S = g.M.RunMachine in
+    was_turned c.args.number (S.run c.args.machine.now) (S.run c.ask.new.self) c.args.process.now c.next.new.self c.absorb_asked.new.process c.in-Ok-Step.event c.is_finish-ends.result c.in-Ok.asked c.in-Ok-absorb_asked.outcome
+    (sym c.in-Ok-Step.ensures.asked ∙ ap asked c.in-Ok-Step.field-0-is) c.is_finish-ends.ensures c.in-Ok-Step.ensures.same c.in-Ok.ensures.moved c.in-Ok.ensures.later c.in-Ok.ensures.reply c.in-Ok-absorb_asked.ensures
