@@ -1,11 +1,11 @@
 -- What a store without a fault has of bodies keeps to their limits.
-use Rattle.std.proofs.Common.{◌≡◌, ◌∙◌, ◌++◌, ℕ, zero, suc, ◌+◌, ◌*◌, ◌==◌, ◌≤◌, Bool, true, false, cond, List, [], ◌∷◌, ap, length, length-append, refl, sym, subst, arith}
+use Rattle.std.proofs.Common.{◌≡◌, ◌∙◌, ◌++◌, ℕ, zero, suc, ◌+◌, ◌*◌, ◌==◌, ◌≤◌, Bool, true, false, cond, List, [], ◌∷◌, ap, length, length-append, refl, sym, subst, take, arith}
 use Rattle.std.proofs.lemmas.Bool.Decides.{nat_tests}
 use Rattle.std.proofs.lemmas.List.Elements.{All-cons, All-head, All-nil, All-tail}
 use Rattle.std.specs.declared.cmp.Ordering.TheVariants.{Less}
 use Rattle.std.specs.List.{flat_map}
 use Rattle.std.specs.Prelude.{◌&&◌, All, None, Option, Some, nat_le}
-use Rattle.s38_base.specs.Limits.{longest_message}
+use Rattle.s38_base.specs.Limits.{body_limit, longest_message}
 use Rattle.s38_base.specs.declared.attr.Attr.{Attr}
 use Rattle.s38_base.specs.declared.id.Kind.TheVariants as kinds
 use Rattle.s38_base.specs.declared.id.Kind.{Kind}
@@ -17,13 +17,16 @@ use Rattle.s38_codecs.specs.Formats.{FitsCase, all_by, fits_from, list_of, print
 use Rattle.s38_commitment_laws.specs.Right.{IsData, IsEntryOf, IsTable}
 use Rattle.s38_dataspaces.specs.Entries as spaces
 use Rattle.s38_dataspaces.specs.Table.{DataTable, entry_len, image_size}
+use Rattle.s38_image.proofs.SpaceLaws.{length_cells}
 use Rattle.s38_image.specs.Bodies.{body_bytes, data_in, entries_part, unsequenced}
 use Rattle.s38_image.specs.DataSpaces.{DataParts, data_space}
 use Rattle.s38_image.specs.Fitting.{FitsBody, FitsSpace}
+use Rattle.s38_image.specs.Headers.{longest_body}
 use Rattle.s38_image.specs.Indexes.{are_rising, index, is_index}
 use Rattle.s38_image.specs.Journals.{entry, journal}
 use Rattle.s38_image.specs.Queues.{is_queue, message, queue, queue_head}
 use Rattle.s38_image.specs.Scalars.{attr}
+use Rattle.s38_image.specs.Spaces.{flags_in}
 use Rattle.s38_image_printing.proofs.DataLaws.{data_bytes}
 use Rattle.s38_image_printing.proofs.LengthLaws.{index_long, journal_long, queue_long}
 use Rattle.s38_image_printing.specs.Printing.{slot_bytes}
@@ -32,6 +35,7 @@ use Rattle.s38_indexes.specs.Entries as entries
 use Rattle.s38_indexes.specs.Entries.{AreShort, Entry, EntryIndex, IsBelow, IsRising, fits}
 use Rattle.s38_journals.specs.Entries as journaled
 use Rattle.s38_journals.specs.Journals.{JournalList}
+use Rattle.s38_memory.specs.Tagged.{bytes_in}
 use Rattle.s38_memory.specs.declared.cell.Cell.{Cell}
 use Rattle.s38_openings.specs.Bodies.{IsBody, IsIndex, IsMessageOf, IsQueue, IsShortJournal, IsShortTable, IsSpace}
 use Rattle.s38_queues.specs.MessageQueue.{MessageQueue, is_keyed, longest_key}
@@ -73,7 +77,7 @@ key_fits false key_len h = none (same key_len 0 h)
     none : key_len ≡ 0 → key_len ≤ longest_key
     none is = omega (arith, is)
 
-queue_fits : (q : MessageQueue) → queue.fits q ≡ true → length (queue.print q) ≤ 16777216 → IsQueue q
+queue_fits : (q : MessageQueue) → queue.fits q ≡ true → length (queue.print q) ≤ body_limit → IsQueue body_limit q
 queue_fits q h long =
     let f = both_true (queue_head.fits (q.order, (q.key_len, q.longest))) ((list_of (message q.key_len q.longest)).fits q.messages) h in
     let head = both_true (is_queue q.order q.key_len q.longest) _ f.0 in
@@ -85,7 +89,7 @@ queue_fits q h long =
       some = at_most 1 q.longest longest.0;
       most = at_most q.longest longest_message longest.1;
       messages = messages_fit q (length q.messages) q.messages all.1;
-      image = subst (λ (n : ℕ). n ≤ 16777216) (queue_long q) long;
+      image = subst (λ (n : ℕ). n ≤ body_limit) (queue_long q) long;
     }
 
 -- ---- indexes
@@ -114,7 +118,7 @@ rise (e ∷ f ∷ es) h =
     let less = is_less-Less (entries.order e f) both.0 in
     ((less, below_lower e f es less rest.0), rest)
 
-index_fits : (i : EntryIndex) → index.fits i ≡ true → length (index.print i) ≤ 16777216 → IsIndex i
+index_fits : (i : EntryIndex) → index.fits i ≡ true → length (index.print i) ≤ body_limit → IsIndex body_limit i
 index_fits i h long =
     let f = both_true ((only is_index byte).fits i.longest) ((only are_rising (list_of (short_text i.longest))).fits i.entries) h in
     let head = both_true (is_index i.longest) (byte.fits i.longest) f.0 in
@@ -126,15 +130,15 @@ index_fits i h long =
       most = at_most i.longest 120 longest.1;
       short = entries_fit i.longest (length i.entries) i.entries all.1;
       rising = rise i.entries rest.0;
-      image = subst (λ (n : ℕ). n ≤ 16777216) (index_long i) long;
+      image = subst (λ (n : ℕ). n ≤ body_limit) (index_long i) long;
     }
 
 -- ---- spaces
 
-space_fits : (tags : List ℕ) (cs : List Cell) → FitsSpace tags cs → IsSpace cs
-space_fits tags cs h =
+space_fits : (tags : List ℕ) (cs : List Cell) → FitsSpace tags cs → length (bytes_in cs) ≤ body_limit → IsSpace body_limit cs
+space_fits tags cs h long =
     let f = both_true (nat_le 1 (length cs)) (nat_le (length cs) 1048576) h.some in
-    record { some = at_most 1 (length cs) f.0; image = omega (arith, at_most (length cs) 1048576 f.1) }
+    record { some = at_most 1 (length cs) f.0; image = subst (λ (n : ℕ). n ≤ body_limit) (length_cells (take (length cs) (flags_in tags)) cs h.cells) long }
 
 -- ---- data spaces
 
@@ -168,26 +172,29 @@ data_long port sequence table is =
 
 -- what a body of this kind prints is not too long
 abbrev IsShort : Kind → Body → ℕ → Type 0
-IsShort k b sequence = length (body_bytes k (record { body = b; sequence = sequence })) ≤ 16777216
+IsShort k b sequence = length (body_bytes k (record { body = b; sequence = sequence })) ≤ longest_body body_limit k
 
-queue_body : (q : MessageQueue) (sequence : ℕ) → FitsCase (λ x. queue.fits x ≡ true) (unsequenced queue_part sequence (bodies.Queue q)) → IsShort kinds.Queue (bodies.Queue q) sequence → IsQueue q
+queue_body : (q : MessageQueue) (sequence : ℕ) → FitsCase (λ x. queue.fits x ≡ true) (unsequenced queue_part sequence (bodies.Queue q)) → IsShort kinds.Queue (bodies.Queue q) sequence → IsQueue body_limit q
 queue_body q zero h long = queue_fits q h long
 queue_body q (suc n) h long = absurd h
 
-index_body : (i : EntryIndex) (sequence : ℕ) → FitsCase (λ x. index.fits x ≡ true) (unsequenced index_part sequence (bodies.Index i)) → IsShort kinds.Index (bodies.Index i) sequence → IsIndex i
+index_body : (i : EntryIndex) (sequence : ℕ) → FitsCase (λ x. index.fits x ≡ true) (unsequenced index_part sequence (bodies.Index i)) → IsShort kinds.Index (bodies.Index i) sequence → IsIndex body_limit i
 index_body i zero h long = index_fits i h long
 index_body i (suc n) h long = absurd h
 
-space_body : (cs : List Cell) (tags : List ℕ) (sequence : ℕ) → FitsCase (FitsSpace tags) (unsequenced space_part sequence (bodies.Space cs)) → IsSpace cs
-space_body cs tags zero h = space_fits tags cs h
-space_body cs tags (suc n) h = absurd h
+space_body : (cs : List Cell) (tags : List ℕ) (sequence : ℕ) → FitsCase (FitsSpace tags) (unsequenced space_part sequence (bodies.Space cs)) → IsShort kinds.Space (bodies.Space cs) sequence → IsSpace body_limit cs
+space_body cs tags zero h long = space_fits tags cs h long
+space_body cs tags (suc n) h long = absurd h
 
 abbrev printed_data : Option DataParts → List ℕ
 printed_data x = print_by (all_by data_space) x
 
 data_body : (d : DataBody) (sequence : ℕ) → FitsCase (λ x. data_space.fits x ≡ true) (data_in sequence (bodies.DataSpace d)) → IsShort kinds.DataSpace (bodies.DataSpace d) sequence → IsTable d.space → IsShortTable d.space
-data_body d sequence h long is = by (d.space.spare == 0) h long
+data_body d sequence h long is = by (d.space.spare == 0) h (higher _ long)
   where
+    higher : (n : ℕ) → n ≤ body_limit → n ≤ 16777216
+    higher n low = omega (arith, low)
+
     by : (b : Bool) → FitsCase (λ x. data_space.fits x ≡ true) (cond b (Some (d.port.0, (sequence, (d.space.fields, d.space.entries)))) None)
         → length (printed_data (cond b (Some (d.port.0, (sequence, (d.space.fields, d.space.entries)))) None)) ≤ 16777216 → IsShortTable d.space
     by true fits short = subst (λ (n : ℕ). n ≤ 16777216) (data_long d.port.0 sequence d.space is) short
@@ -210,12 +217,13 @@ abbrev FitsAs : Body → List ℕ → ℕ → Kind → Type 0
 FitsAs b tags sequence k = FitsBody k tags (record { body = b; sequence = sequence })
 
 pub body_fits : (k : Kind) (tags : List ℕ) (b : Body) (sequence : ℕ) → kind_of b ≡ k → FitsBody k tags (record { body = b; sequence = sequence })
-    → length (body_bytes k (record { body = b; sequence = sequence })) ≤ 16777216 → IsData (data_of b) → IsBody b
+    → length (body_bytes k (record { body = b; sequence = sequence })) ≤ longest_body body_limit k → IsData (data_of b) → IsBody body_limit b
 body_fits k tags (bodies.Queue q) sequence kind h long of =
     queue_body q sequence (subst (FitsAs (bodies.Queue q) tags sequence) (sym kind) h) (subst (λ (v : Kind). IsShort v (bodies.Queue q) sequence) (sym kind) long)
 body_fits k tags (bodies.Index i) sequence kind h long of =
     index_body i sequence (subst (FitsAs (bodies.Index i) tags sequence) (sym kind) h) (subst (λ (v : Kind). IsShort v (bodies.Index i) sequence) (sym kind) long)
-body_fits k tags (bodies.Space cs) sequence kind h long of = space_body cs tags sequence (subst (FitsAs (bodies.Space cs) tags sequence) (sym kind) h)
+body_fits k tags (bodies.Space cs) sequence kind h long of =
+    space_body cs tags sequence (subst (FitsAs (bodies.Space cs) tags sequence) (sym kind) h) (subst (λ (v : Kind). IsShort v (bodies.Space cs) sequence) (sym kind) long)
 body_fits k tags (bodies.DataSpace d) sequence kind h long of =
     data_body d sequence (subst (FitsAs (bodies.DataSpace d) tags sequence) (sym kind) h) (subst (λ (v : Kind). IsShort v (bodies.DataSpace d) sequence) (sym kind) long) of
 body_fits k tags (bodies.Journal j) sequence kind h long of =

@@ -4,6 +4,7 @@ use Rattle.std.specs.Prelude.{Some}
 use Rattle.std.proofs.lemmas.List.Elements.{All-from_recursion, All-nil}
 use Rattle.std.specs.List.Sorted.{IsStrictlyIncreasing}
 use Rattle.s38_base.specs.Ids.{same_id}
+use Rattle.s38_base.specs.Limits.{body_limit}
 use Rattle.s38_object_laws.proofs.EventLaws.{first_well, installed_well}
 use Rattle.s38_objects.specs.Lawful.{number_of}
 use Rattle.s38_openings.specs.Bodies.{HoldsBody, IsMessageOf}
@@ -60,7 +61,7 @@ first_opening = record {
   well = (first_well [] []).objects;
   tables = All-from_recursion HoldsTable opening (tt, (tt, (tt, (tt, (tt, tt)))));
   programs = All-from_recursion HoldsChecked opening (λ p h. cc, (λ p h. cc, (λ p h. cc, (λ p h. cc, (λ p h. cc, tt)))));
-  bodies = All-from_recursion HoldsBody opening (tt, (tt, (tt, (tt, (record { key = omega arith; some = omega arith; most = omega arith; messages = All-nil (IsMessageOf 0 8); image = omega arith }, tt)))));
+  bodies = All-from_recursion (HoldsBody body_limit) opening (tt, (tt, (tt, (tt, (record { key = omega arith; some = omega arith; most = omega arith; messages = All-nil (IsMessageOf 0 8); image = omega arith }, tt)))));
   lawful = record {
     rising = rise_first 1 2 (3 ∷ 4 ∷ 5 ∷ []) (omega arith) (rise_first 2 3 (4 ∷ 5 ∷ []) (omega arith) (rise_first 3 4 (5 ∷ []) (omega arith) (rise_first 4 5 [] (omega arith) (one_rises 5))));
     given = All-from_recursion (λ o. number_of o < 6) opening (omega arith, (omega arith, (omega arith, (omega arith, (omega arith, tt)))));
@@ -84,7 +85,7 @@ installed_opening = record {
   well = (installed_well [] []).objects;
   tables = All-from_recursion HoldsTable installed (tt, (tt, tt));
   programs = All-from_recursion HoldsChecked installed (λ p h. cc, (λ p h. cc, tt));
-  bodies = All-from_recursion HoldsBody installed (tt, (tt, tt));
+  bodies = All-from_recursion (HoldsBody body_limit) installed (tt, (tt, tt));
   lawful = record {
     rising = rise_first 1 2 [] (omega arith) (one_rises 2);
     given = All-from_recursion (λ o. number_of o < 3) installed (omega arith, (omega arith, tt));

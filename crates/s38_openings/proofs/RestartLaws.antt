@@ -4,7 +4,7 @@ use Rattle.std.proofs.lemmas.List.Elements.{All-from_recursion, All-weaker, recu
 use Rattle.std.specs.Prelude.{Option, Some, None, All, length, nat_le}
 use Rattle.std.specs.List.{AllByRecursion}
 use Rattle.std.specs.Option.{option_map, unwrap_or}
-use Rattle.s38_base.specs.Limits.{ceiling_step, last_number, most_rows}
+use Rattle.s38_base.specs.Limits.{body_limit, ceiling_step, last_number, most_rows}
 use Rattle.s38_base.specs.declared.id.Kind.TheVariants as kinds
 use Rattle.s38_base.specs.declared.id.Kind.{Kind}
 use Rattle.s38_base.specs.declared.page.Change.{Change}
@@ -60,7 +60,7 @@ record StaysSo (old new : Body) : Type 0 where
   pub text : HasShortText old → HasShortText new
   pub table : IsData (data_of old) → IsData (data_of new)
   pub code : code_of new ≡ code_of old
-  pub body : IsBody old → IsBody new
+  pub body : IsBody body_limit old → IsBody body_limit new
 
 behind_table : (number image : ℕ) (journal : Option JournalList) (t : DataTable) → IsTable t → IsTable (table_behind number image journal t)
 behind_table number image None t is = is
@@ -84,24 +84,24 @@ record IsOpened (next : ℕ) (o : Object) : Type 0 where
   pub well : IsWell o
   pub table : HoldsTable o
   pub programs : HoldsChecked o
-  pub body : HoldsBody o
+  pub body : HoldsBody body_limit o
   pub number : IsNumbered o
   pub owner : o.owner.0 < next
 
 -- what its header says of the length of its body
-short_body : (limit : ℕ) (s : Stored) → limit ≤ 16777216 → is_within limit (header_of s) ≡ true → length (body_bytes s.object.id.kind (image_of s)) ≤ 16777216
+short_body : (limit : ℕ) (s : Stored) → limit ≤ body_limit → is_within limit (header_of s) ≡ true → length (body_bytes s.object.id.kind (image_of s)) ≤ longest_body body_limit s.object.id.kind
 short_body limit s small within =
     let h = header_of s in
     let le = at_most h.body (longest_body limit h.id.kind) (both_true (nat_le h.rows most_rows) (nat_le h.body (longest_body limit h.id.kind)) within).1 in
-    omega (arith, le, longest limit h.id.kind small)
+    omega (arith, le, longer limit h.id.kind small)
   where
-    longest : (limit : ℕ) (k : Kind) → limit ≤ 16777216 → longest_body limit k ≤ 16777216
-    longest limit kinds.Journal small = omega arith
-    longest limit _ small = small
+    longer : (limit : ℕ) (k : Kind) → limit ≤ body_limit → longest_body limit k ≤ longest_body body_limit k
+    longer limit kinds.Journal small = omega arith
+    longer limit _ small = small
 
-opened : (h : Held) (limit ceiling : ℕ) (s : Stored) → limit ≤ 16777216 → IsKept limit ceiling s → IsOpened (ceiling + 1) (followed h s)
+opened : (h : Held) (limit ceiling : ℕ) (s : Stored) → limit ≤ body_limit → IsKept limit ceiling s → IsOpened (ceiling + 1) (followed h s)
 opened h limit ceiling s small is =
-    let storable = read_printable limit s small is.image in
+    let storable = read_printable limit s (omega (arith, small)) is.image in
     let stays = body_stays h s.object.number.0 s.sequence s.object.body in
     let tags = body_tags s.object.id.kind (image_of s) in
     let table = table_fits s.object.id.kind tags s.object.body s.sequence storable.kind is.image.body in
@@ -117,7 +117,7 @@ opened h limit ceiling s small is =
       owner = is.owner;
     }
 
-all_opened : (h : Held) (limit ceiling : ℕ) (ss : List Stored) → limit ≤ 16777216 → AllByRecursion (IsKept limit ceiling) ss → AllByRecursion (IsOpened (ceiling + 1)) (map (followed h) ss)
+all_opened : (h : Held) (limit ceiling : ℕ) (ss : List Stored) → limit ≤ body_limit → AllByRecursion (IsKept limit ceiling) ss → AllByRecursion (IsOpened (ceiling + 1)) (map (followed h) ss)
 all_opened h limit ceiling [] small all = tt
 all_opened h limit ceiling (s ∷ ss) small all = (opened h limit ceiling s small all.0, all_opened h limit ceiling ss small all.1)
 
@@ -160,7 +160,7 @@ one_there limit parts none = has_one (groups parts) limit (ceiling_in (parts_of 
 
 -- ---- objects that fit one another
 
-fit_together : (limit : ℕ) (parts : List Change) → limit ≤ 16777216 → AllByRecursion (IsWhole (groups parts) limit (ceiling_of parts)) (groups parts) → AllByRecursion IsGiven (groups parts) → is_on_disk (groups parts) 1 ≡ true
+fit_together : (limit : ℕ) (parts : List Change) → limit ≤ body_limit → AllByRecursion (IsWhole (groups parts) limit (ceiling_of parts)) (groups parts) → AllByRecursion IsGiven (groups parts) → is_on_disk (groups parts) 1 ≡ true
     → FitTogether (restarted limit parts)
 fit_together limit parts small whole given one =
     let gs = groups parts in
@@ -179,7 +179,7 @@ fit_together limit parts small whole given one =
 
 -- ---- the whole store
 
-pub restarts : (limit : ℕ) (parts : List Change) → limit ≤ 16777216 → AreParts parts → first_fault limit parts ≡ None → IsOpening (restarted limit parts)
+pub restarts : (limit : ℕ) (parts : List Change) → limit ≤ body_limit → AreParts parts → first_fault limit parts ≡ None → IsOpening (restarted limit parts)
 restarts limit parts small are fault =
     let gs = groups parts in
     let found = none_of limit parts fault in

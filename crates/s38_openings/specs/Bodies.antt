@@ -1,6 +1,7 @@
--- What the bodies of objects keep to: the messages of queues and the entries of indexes, and how long an image may be. No
--- image is longer than 16,777,216 bytes; that of a program, a context, a profile, a cursor, a port or a commit block is not
--- said here, since the text of a program is said where it can be kept, and the others have a few bytes.
+-- What the bodies of objects keep to: the messages of queues and the entries of indexes, and how long an image may be. That of
+-- a queue, an index or a space is no longer than the limit of a body. Data spaces, which a restart makes again of their journal
+-- entries, and journal spaces have at most 16,777,216 bytes. How long the text of a program is, is said where it can be kept;
+-- other bodies have a few bytes.
 use Rattle.std.specs.Prelude.{◌≡◌, ◌+◌, ◌*◌, ◌≤◌, ℕ, All, List, length}
 use Rattle.s38_base.specs.Limits.{cell_bytes, furthest, longest_message}
 use Rattle.s38_dataspaces.specs.Table as tables
@@ -22,25 +23,25 @@ pub record IsMessageOf (key_len longest : ℕ) (m : Message) : Type 0 where
   pub key : length m.key ≡ key_len
   pub text : length m.text ≤ longest
 
-pub record IsQueue (q : MessageQueue) : Type 0 where
+pub record IsQueue (limit : ℕ) (q : MessageQueue) : Type 0 where
   pub key : q.key_len ≤ longest_key
   pub some : 1 ≤ q.longest
   pub most : q.longest ≤ longest_message
   pub messages : All (IsMessageOf q.key_len q.longest) q.messages
-  pub image : queues.image_size q.messages ≤ furthest
+  pub image : queues.image_size q.messages ≤ limit
 
 -- no entry is too long, and each comes before all that follow it
-pub record IsIndex (index : EntryIndex) : Type 0 where
+pub record IsIndex (limit : ℕ) (index : EntryIndex) : Type 0 where
   pub some : 1 ≤ index.longest
   pub most : index.longest ≤ longest_entry
   pub short : AreShort index.longest index.entries
   pub rising : IsRising index.entries
-  pub image : indexes.image_size index.entries ≤ furthest
+  pub image : indexes.image_size index.entries ≤ limit
 
 -- a space has a cell
-pub record IsSpace (cells : List Cell) : Type 0 where
+pub record IsSpace (limit : ℕ) (cells : List Cell) : Type 0 where
   pub some : 1 ≤ length cells
-  pub image : cell_bytes * length cells ≤ furthest
+  pub image : cell_bytes * length cells ≤ limit
 
 -- the image of a data space: its fields and all its ordinals
 abbrev pub IsShortTable : DataTable → Type 0
@@ -50,13 +51,14 @@ IsShortTable table = tables.image_size table.fields (length table.entries) ≤ f
 abbrev pub IsShortJournal : JournalList → Type 0
 IsShortJournal journal = entries_len journal.entries + journal.spare ≤ furthest
 
-abbrev pub IsBody : Body → Type 0
-IsBody (bodies.Queue q) = IsQueue q
-IsBody (bodies.Index index) = IsIndex index
-IsBody (bodies.Space cells) = IsSpace cells
-IsBody (bodies.DataSpace d) = IsShortTable d.space
-IsBody (bodies.Journal journal) = IsShortJournal journal
-IsBody _ = Unit {0}
+-- a body under a limit
+abbrev pub IsBody : ℕ → Body → Type 0
+IsBody limit (bodies.Queue q) = IsQueue limit q
+IsBody limit (bodies.Index index) = IsIndex limit index
+IsBody limit (bodies.Space cells) = IsSpace limit cells
+IsBody limit (bodies.DataSpace d) = IsShortTable d.space
+IsBody limit (bodies.Journal journal) = IsShortJournal journal
+IsBody limit _ = Unit {0}
 
-abbrev pub HoldsBody : Object → Type 0
-HoldsBody o = IsBody o.body
+abbrev pub HoldsBody : ℕ → Object → Type 0
+HoldsBody limit o = IsBody limit o.body

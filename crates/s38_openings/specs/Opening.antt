@@ -1,6 +1,6 @@
 -- With which objects a run may begin: those of a machine that was not stored before, and those that a restart gives.
 use Rattle.std.specs.Prelude.{◌+◌, ◌<◌, ◌≤◌, All}
-use Rattle.s38_base.specs.Limits.{ceiling_step, last_number}
+use Rattle.s38_base.specs.Limits.{body_limit, ceiling_step, last_number}
 use Rattle.s38_commitment_laws.specs.Right.{IsData}
 use Rattle.s38_object_laws.specs.Well.{IsWell}
 use Rattle.s38_objects.specs.Lawful.{IsLawful, number_of}
@@ -27,7 +27,7 @@ pub record IsOpening (h : Held) : Type 0 where
   -- each program is one that creation makes
   pub programs : All HoldsChecked h.objects
   -- bodies keep to their limits
-  pub bodies : All HoldsBody h.objects
+  pub bodies : All (HoldsBody body_limit) h.objects
   -- numbers rise and were given, and names are told apart in each context
   pub lawful : IsLawful h
   -- 0 is the number of no object, and never will be: the next one is above it

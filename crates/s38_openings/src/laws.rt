@@ -1,5 +1,6 @@
 //! Laws about openings.
 ghost use Rattle.std.specs.Prelude.{◌≡◌, ◌≤◌, ◌<◌, ◌^◌, ℕ, List, [], None, Option};
+ghost use Rattle.s38_base.specs.Limits.{body_limit};
 ghost use Rattle.s38_base.specs.declared.page.Change.{Change};
 ghost use Rattle.s38_code.specs.declared.deck.Job.{Job};
 ghost use Rattle.s38_code.specs.declared.entry.Entry.{Entry};
@@ -30,7 +31,7 @@ pub fn the_first_stores_are_openings()
 /// A store without a fault is restarted to an opening: each of its parts is of an object and has a whole page, and they
 /// rise in their keys.
 pub fn a_store_restarts_to_an_opening()
-    ensures { (limit : ℕ) (parts : List Change) → limit ≤ 16777216 → AreParts parts → first_fault limit parts ≡ None → IsOpening (restarted limit parts) }
+    ensures { (limit : ℕ) (parts : List Change) → limit ≤ body_limit → AreParts parts → first_fault limit parts ≡ None → IsOpening (restarted limit parts) }
 {}
 
 /// What is kept of users can be kept of an opening, where all that they pay for can be counted.

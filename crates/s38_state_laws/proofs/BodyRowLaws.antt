@@ -1,6 +1,6 @@
 -- Bodies keep to their limits in each step: one clause for each instruction that makes a body or changes how long one is.
 use Rattle.s38_base.specs.Exceptions as exceptions
-use Rattle.s38_base.specs.Limits.{furthest, longest_message}
+use Rattle.s38_base.specs.Limits.{furthest, longest_message, page_bytes}
 use Rattle.s38_base.specs.Pointers.{target_of}
 use Rattle.s38_base.specs.declared.attr.Attr.TheVariants as attrs
 use Rattle.s38_base.specs.declared.attr.Attr.{Attr}
@@ -80,20 +80,24 @@ use Rattle.std.specs.Prelude.{All, None, Option, Some, is_some, max, min, nat_le
 
 -- ---- queues
 
--- no body may be longer than a space may reach
+-- a limit of bodies: a page at least, and no longer than a space may reach
+pub record IsLimit (limit : ℕ) : Type 0 where
+  pub some : page_bytes ≤ limit
+  pub most : limit ≤ furthest
+
 abbrev pub MayRow : Instruction → Type 0
-MayRow i = (s : State) (p d : ℕ) (t : Request) → s.limit ≤ furthest → refused_by i s p d t ≡ None → May s p (i.changes s p d t)
+MayRow i = (s : State) (p d : ℕ) (t : Request) → IsLimit s.limit → refused_by i s p d t ≡ None → May s.limit s p (i.changes s p d t)
 
 under : (a b : ℕ) → nat_lt a b ≡ false → b ≤ a
 under a b h = grind (arith, nat_tests)
 
-new_queue_so : (ops : List Operand) → IsQueue (new_queue ops)
-new_queue_so ops = record {
+new_queue_so : (limit : ℕ) (ops : List Operand) → IsLimit limit → IsQueue limit (new_queue ops)
+new_queue_so limit ops is = record {
   key = low longest_key (whole_at ops 6);
   some = some longest_message (whole_at ops 7);
   most = most longest_message (whole_at ops 7) (omega arith);
   messages = All-nil (IsMessageOf (new_queue ops).key_len (new_queue ops).longest);
-  image = omega arith;
+  image = omega (arith, is.some);
 }
   where
     low : (a b : ℕ) → min a b ≤ a
@@ -105,8 +109,8 @@ new_queue_so ops = record {
     most : (a b : ℕ) → 1 ≤ a → max 1 (min a b) ≤ a
     most a b one = grind (arith, nat_tests, one)
 
-new_index_so : (ops : List Operand) → IsIndex (new_index ops)
-new_index_so ops = record { some = some longest_entry (whole_at ops 5); most = most longest_entry (whole_at ops 5) (omega arith); short = tt; rising = tt; image = omega arith }
+new_index_so : (limit : ℕ) (ops : List Operand) → IsLimit limit → IsIndex limit (new_index ops)
+new_index_so limit ops is = record { some = some longest_entry (whole_at ops 5); most = most longest_entry (whole_at ops 5) (omega arith); short = tt; rising = tt; image = omega (arith, is.some) }
   where
     some : (a b : ℕ) → 1 ≤ max 1 (min a b)
     some a b = grind (arith, nat_tests)
@@ -114,8 +118,8 @@ new_index_so ops = record { some = some longest_entry (whole_at ops 5); most = m
     most : (a b : ℕ) → 1 ≤ a → max 1 (min a b) ≤ a
     most a b one = grind (arith, nat_tests, one)
 
-put_so : (limit : ℕ) (q : MessageQueue) (key text : List ℕ) → limit ≤ furthest → put_fails limit q (length key) (length text) ≡ None → IsQueue q → IsQueue (with_message q (message key text))
-put_so limit q key text small met is =
+put_so : (limit : ℕ) (q : MessageQueue) (key text : List ℕ) → put_fails limit q (length key) (length text) ≡ None → IsQueue limit q → IsQueue limit (with_message q (message key text))
+put_so limit q key text met is =
     let one = first_none _ _ met in
     let two = first_none _ _ one.1 in
     let short = under limit (queues.image_size q.messages + (length key + length text + 2)) (fails_none _ exceptions.limit_exceeded 1 two.1) in
@@ -127,7 +131,7 @@ put_so limit q key text small met is =
           (All-cons (IsMessageOf q.key_len q.longest) (message key text) []
           (record { key = same (length key) q.key_len (not_false _ (fails_none _ exceptions.length_invalid 2 one.0)); text = under q.longest (length text) (fails_none _ exceptions.length_invalid 3 two.0) })
           (All-nil (IsMessageOf q.key_len q.longest)));
-      image = omega (arith, sum_by_push queues.message_size q.messages (message key text), short, small);
+      image = omega (arith, sum_by_push queues.message_size q.messages (message key text), short);
     }
   where
     same : (a b : ℕ) → (a == b) ≡ true → a ≡ b
@@ -145,27 +149,27 @@ left_less size xs k = omega (arith, sum_by-append size (take k xs) (drop (suc k)
     behind (x ∷ xs) zero = omega (arith, sum_by-cons size x xs)
     behind (x ∷ xs) (suc k) = behind xs k
 
-left_so : (q : MessageQueue) (at : Option ℕ) → IsQueue q → IsQueue (without_place q at)
-left_so q None is = is
-left_so q (Some at) is = record { key = is.key; some = is.some; most = is.most; messages = removed_all (IsMessageOf q.key_len q.longest) q.messages at is.messages; image = omega (arith, is.image, left_less queues.message_size q.messages at) }
+left_so : (limit : ℕ) (q : MessageQueue) (at : Option ℕ) → IsQueue limit q → IsQueue limit (without_place q at)
+left_so limit q None is = is
+left_so limit q (Some at) is = record { key = is.key; some = is.some; most = is.most; messages = removed_all (IsMessageOf q.key_len q.longest) q.messages at is.messages; image = omega (arith, is.image, left_less queues.message_size q.messages at) }
 
 enq_may : MayRow enq
 unfolding enq_fails
 enq_may s p d t small e q at is =
-    put_so s.limit q (bytes_at s.held t.operands 2) (bytes_at s.held t.operands 3) small
+    put_so s.limit q (bytes_at s.held t.operands 2) (bytes_at s.held t.operands 3)
     (subst (λ (r : Option MessageQueue). put_fails s.limit (unwrap_or r no_queue) (length (bytes_at s.held t.operands 2)) (length (bytes_at s.held t.operands 3)) ≡ None) at (rule_met enq s p d t e)) is
 
 queues_may : (op : Op) → MayRow (queues_row op)
 unfolding queues_row
-queues_may Crtq = λ s p d t small e. new_queue_so t.operands
+queues_may Crtq = λ s p d t small e. new_queue_so s.limit t.operands small
 queues_may Enq = enq_may
-queues_may Deq = λ s p d t small e q at is. left_so q _ is
+queues_may Deq = λ s p d t small e q at is. left_so s.limit q _ is
 queues_may _ = λ s p d t small e. tt
 
 -- ---- indexes
 
-insert_so : (limit : ℕ) (i : EntryIndex) (entry : List ℕ) → limit ≤ furthest → insert_fails limit i entry ≡ None → IsIndex i → IsIndex (record i { entries = with_entry entry i.entries })
-insert_so limit i entry small met is =
+insert_so : (limit : ℕ) (i : EntryIndex) (entry : List ℕ) → insert_fails limit i entry ≡ None → IsIndex limit i → IsIndex limit (record i { entries = with_entry entry i.entries })
+insert_so limit i entry met is =
     let one = first_none _ _ met in
     let two = first_none _ _ one.1 in
     let short = under limit (indexes.image_size i.entries + indexes.entry_size entry) (fails_none _ exceptions.limit_exceeded 1 two.1) in
@@ -174,13 +178,13 @@ insert_so limit i entry small met is =
       most = is.most;
       short = short_with i.longest entry i.entries (with_entry entry i.entries) is.short (under i.longest (length entry) (fails_none _ exceptions.length_invalid 2 one.0)) refl;
       rising = rising_with entry i.entries (fails_none _ exceptions.duplicate_entry 2 two.0) is.rising;
-      image = omega (arith, size-with entry i.entries, short, small);
+      image = omega (arith, size-with entry i.entries, short);
     }
 
 insinxen_may : MayRow insinxen
 unfolding insinxen_fails
 insinxen_may s p d t small e i at is =
-    insert_so s.limit i (bytes_at s.held t.operands 2) small
+    insert_so s.limit i (bytes_at s.held t.operands 2)
     (subst (λ (r : Option EntryIndex). insert_fails s.limit (unwrap_or r no_index) (bytes_at s.held t.operands 2) ≡ None) at (rule_met insinxen s p d t e)) is
 
 without_less : (entry : List ℕ) (xs : List (List ℕ)) → indexes.image_size (without_entry entry xs) ≤ indexes.image_size xs
@@ -190,8 +194,8 @@ without_less entry (x ∷ xs) =
     (λ own. omega (arith, sum_by-cons indexes.entry_size x xs))
     (λ other. omega (arith, sum_by-cons indexes.entry_size x xs, sum_by-cons indexes.entry_size x (without_entry entry xs), without_less entry xs))
 
-removed_so : (i : EntryIndex) (entry : List ℕ) → IsIndex i → IsIndex (record i { entries = without_entry entry i.entries })
-removed_so i entry is = record {
+removed_so : (limit : ℕ) (i : EntryIndex) (entry : List ℕ) → IsIndex limit i → IsIndex limit (record i { entries = without_entry entry i.entries })
+removed_so limit i entry is = record {
   some = is.some;
   most = is.most;
   short = short_without i.longest entry i.entries (without_entry entry i.entries) is.short refl;
@@ -201,20 +205,20 @@ removed_so i entry is = record {
 
 indexes_may : (op : Op) → MayRow (indexes_row op)
 unfolding indexes_row
-indexes_may Crtinx = λ s p d t small e. new_index_so t.operands
+indexes_may Crtinx = λ s p d t small e. new_index_so s.limit t.operands small
 indexes_may Insinxen = insinxen_may
-indexes_may Rmvinxen = λ s p d t small e i at is. removed_so i (bytes_at s.held t.operands 2) is
+indexes_may Rmvinxen = λ s p d t small e i at is. removed_so s.limit i (bytes_at s.held t.operands 2) is
 indexes_may _ = λ s p d t small e. tt
 
 -- ---- the other families
 
-program_so : (x : Option Program) → MadeSo (option_map bodies.Program x)
-program_so None = tt
-program_so (Some program) = tt
+program_so : (limit : ℕ) (x : Option Program) → MadeSo limit (option_map bodies.Program x)
+program_so limit None = tt
+program_so limit (Some program) = tt
 
 programs_may : (op : Op) → MayRow (programs_row op)
 unfolding programs_row
-programs_may Crtpg = λ s p d t small e. program_so (program_in (template_at s t.operands))
+programs_may Crtpg = λ s p d t small e. program_so s.limit (program_in (template_at s t.operands))
 programs_may _ = λ s p d t small e. tt
 
 resolving_may : (op : Op) → MayRow (resolving_row op)
@@ -244,32 +248,32 @@ locks_may _ = λ s p d t small e. tt
 
 -- ---- spaces
 
-resized_so : (limit n : ℕ) (cells : List Cell) → limit ≤ furthest → is_space_length limit n ≡ true → IsSpace (resized n cells)
-resized_so limit n cells small is =
+resized_so : (limit n : ℕ) (cells : List Cell) → is_space_length limit n ≡ true → IsSpace limit (resized n cells)
+resized_so limit n cells is =
     let parts = and_parts (nat_le 16 n) _ is in
     let one = and_parts (nat_le n limit) _ parts.1 in
-    record { some = some n (length (resized n cells)) (resized_length n cells) parts.0; image = image n (length (resized n cells)) limit (resized_length n cells) one.0 small }
+    record { some = some n (length (resized n cells)) (resized_length n cells) parts.0; image = image n (length (resized n cells)) limit (resized_length n cells) one.0 }
   where
     some : (n k : ℕ) → k ≡ n / 16 → nat_le 16 n ≡ true → 1 ≤ k
     some n k is h = grind (arith, nat_tests, is)
 
-    image : (n k limit : ℕ) → k ≡ n / 16 → nat_le n limit ≡ true → limit ≤ 16777216 → 16 * k ≤ 16777216
-    image n k limit is h small = grind (arith, nat_tests, is, small)
+    image : (n k limit : ℕ) → k ≡ n / 16 → nat_le n limit ≡ true → 16 * k ≤ limit
+    image n k limit is h = grind (arith, nat_tests, is)
 
-length_so : (s : State) (ops : List Operand) (k : ℕ) (cells : List Cell) → s.limit ≤ furthest → length_rule s ops k ≡ None → IsSpace (resized (length_at s ops k) cells)
-length_so s ops k cells small met =
+length_so : (s : State) (ops : List Operand) (k : ℕ) (cells : List Cell) → length_rule s ops k ≡ None → IsSpace s.limit (resized (length_at s ops k) cells)
+length_so s ops k cells met =
     let n = count_at s.held ops k in
     let fits = not_false _ (fails_none _ exceptions.length_invalid k (first_none _ _ met).1) in
-    cond_both (is_space_length s.limit n) n 0 (λ (len : ℕ). IsSpace (resized len cells))
-    (λ is. resized_so s.limit n cells small is) (λ not. absurd (true≢false (sym fits ∙ not)))
+    cond_both (is_space_length s.limit n) n 0 (λ (len : ℕ). IsSpace s.limit (resized len cells))
+    (λ is. resized_so s.limit n cells is) (λ not. absurd (true≢false (sym fits ∙ not)))
 
 crts_may : MayRow crts
 unfolding crts_fails creation_fails
-crts_may s p d t small e = length_so s t.operands 5 [] small (first_none _ _ (first_none _ _ (rule_met crts s p d t e)).1).0
+crts_may s p d t small e = length_so s t.operands 5 [] (first_none _ _ (first_none _ _ (rule_met crts s p d t e)).1).0
 
 mods_may : MayRow mods
 unfolding mods_fails
-mods_may s p d t small e = λ cells. length_so s t.operands 2 cells small (first_none _ _ (rule_met mods s p d t e)).0
+mods_may s p d t small e = λ cells. length_so s t.operands 2 cells (first_none _ _ (rule_met mods s p d t e)).0
 
 spaces_may : (op : Op) → MayRow (spaces_row op)
 unfolding spaces_row
@@ -296,7 +300,7 @@ new_table_so : (ops : List Operand) → IsShortTable (new_data_space ops).space
 new_table_so ops = omega (arith, few_fields (attributes_of (place ops 5)))
 
 -- the rules of a change see to the room in its journal space
-room_met : (s : State) (block : ℕ) (change : UnitChange) (journal : Option ℕ) → journal_rule s block (journal_bytes change) journal ≡ None → HasRoom s block change journal
+room_met : (s : State) (block : ℕ) (change : UnitChange) (journal : Option ℕ) → journal_rule s block (journal_bytes change) journal ≡ None → HasRoom s.limit s block change journal
 room_met s block change None met = tt
 room_met s block change (Some journal) met =
     none _ (or_left _ _ (fails_none _ exceptions.limit_exceeded 0 met))
@@ -309,7 +313,7 @@ room_met s block change (Some journal) met =
     none None h = refl
     none (Some x) h = cc
 
-inserted_so : (s : State) (ops : List Operand) → s.limit ≤ furthest → room_rule s.limit (table_of s.held ops 1) ≡ None → KeepsPart data_part s.held (cursor_of s.held ops 1).space.0 (over_table (with_inserted (bytes_at s.held ops 2)))
+inserted_so : (s : State) (ops : List Operand) → s.limit ≤ furthest → room_rule s.limit (table_of s.held ops 1) ≡ None → KeepsPart s.limit data_part s.held (cursor_of s.held ops 1).space.0 (over_table (with_inserted (bytes_at s.held ops 2)))
 inserted_so s ops small met d at is = by (subst (λ (r : Option DataBody). room_rule s.limit (table_in r) ≡ None) at met)
   where
     by : room_rule s.limit d.space ≡ None → IsShortTable (with_inserted (bytes_at s.held ops 2) d.space)
@@ -317,26 +321,23 @@ inserted_so s ops small met d at is = by (subst (λ (r : Option DataBody). room_
         let short = under s.limit (image_size d.space.fields (length d.space.entries + 1)) (fails_none _ exceptions.limit_exceeded 0 met) in
         subst (λ (n : ℕ). image_size d.space.fields n ≤ 16777216) (sym (length-append d.space.entries (Some (bytes_at s.held ops 2) ∷ []))) (omega (arith, short, small))
 
-insdsen_may : (s : State) (p d : ℕ) (t : Request) → s.limit ≤ furthest → refused_by insdsen s p d t ≡ None
-    → MayEnter s (cursor_of s.held t.operands 1).block.0 (insertion s.held t.operands) (with_inserted (bytes_at s.held t.operands 2))
+insdsen_may : (s : State) (p d : ℕ) (t : Request) → IsLimit s.limit → refused_by insdsen s p d t ≡ None
+    → MayEnter s.limit s (cursor_of s.held t.operands 1).block.0 (insertion s.held t.operands) (with_inserted (bytes_at s.held t.operands 2))
 unfolding insdsen_fails
 insdsen_may s p d t small e =
     let ops = t.operands in
     let limits = first_none (room_rule s.limit (table_of s.held ops 1)) _ (first_none _ (insertion_limits s ops) (first_none _ _ (rule_met insdsen s p d t e)).1).1 in
-    record { room = room_met s (cursor_of s.held ops 1).block.0 (insertion s.held ops) _ limits.1; table = inserted_so s ops small limits.0 }
+    (room_met s (cursor_of s.held ops 1).block.0 (insertion s.held ops) _ limits.1, inserted_so s ops small.most limits.0)
 
 changed_so : (at : ℕ) (entry : spaces.Entry) (t : DataTable) → IsShortTable t → IsShortTable (with_changed at entry t)
 changed_so at entry t is = subst (λ (n : ℕ). image_size t.fields n ≤ 16777216) (sym (length-set t.entries (at - 1) entry)) is
 
 current_may : (s : State) (p : ℕ) (ops : List Operand) (entry : spaces.Entry) → current_fails s p ops entry ≡ None
-    → MayEnter s (cursor_of s.held ops 1).block.0 (change_at s.held ops entry) (with_changed (cursor_of s.held ops 1).position entry)
+    → MayEnter s.limit s (cursor_of s.held ops 1).block.0 (change_at s.held ops entry) (with_changed (cursor_of s.held ops 1).position entry)
 unfolding current_fails
 current_may s p ops entry met =
     let rule = first_none _ _ (first_none _ _ met).1 in
-    record {
-      room = room_met s (cursor_of s.held ops 1).block.0 (change_at s.held ops entry) _ rule.1;
-      table = λ d at is. changed_so (cursor_of s.held ops 1).position entry d.space is;
-    }
+    (room_met s (cursor_of s.held ops 1).block.0 (change_at s.held ops entry) _ rule.1, λ d at is. changed_so (cursor_of s.held ops 1).position entry d.space is)
 
 updsen_may : MayRow updsen
 unfolding updsen_fails
@@ -377,45 +378,45 @@ row_may _ op = λ s p d t small e. tt
 
 -- ---- an event, and a step
 
-value_hold : (h : Held) (n at : ℕ) (v : Val) → Hold h → Hold (put_value h n at v)
-value_hold h n at (vals.Bytes bytes) all = space_hold h n (with_bytes at bytes) (bytes_length at bytes) all
-value_hold h n at (vals.Ptr p) all = space_hold h n (with_pointer at p) (pointer_length at p) all
-value_hold h n at _ all = all
+value_hold : (limit : ℕ) (h : Held) (n at : ℕ) (v : Val) → Hold limit h → Hold limit (put_value h n at v)
+value_hold limit h n at (vals.Bytes bytes) all = space_hold limit h n (with_bytes at bytes) (bytes_length at bytes) all
+value_hold limit h n at (vals.Ptr p) all = space_hold limit h n (with_pointer at p) (pointer_length at p) all
+value_hold limit h n at _ all = all
 
-delivered_hold : (s : State) (shift : ℕ) (receiver : Option Operand) (v : Option Val) → Hold s.held → Hold (delivered s shift receiver v).state.held
-delivered_hold s shift receiver None all = all
-delivered_hold s shift (Some (operands.InSpace base offset attr)) (Some v) all = value_hold s.held (target_of base) _ v all
-delivered_hold s shift _ (Some v) all = all
+delivered_hold : (limit : ℕ) (s : State) (shift : ℕ) (receiver : Option Operand) (v : Option Val) → Hold limit s.held → Hold limit (delivered s shift receiver v).state.held
+delivered_hold limit s shift receiver None all = all
+delivered_hold limit s shift (Some (operands.InSpace base offset attr)) (Some v) all = value_hold limit s.held (target_of base) _ v all
+delivered_hold limit s shift _ (Some v) all = all
 
-act_hold : (s : State) (p d : ℕ) (t : Request) → s.limit ≤ furthest → refused_by (row t.op) s p d t ≡ None → Hold s.held → Hold (effect (row t.op) s p d t).state.held
+act_hold : (s : State) (p d : ℕ) (t : Request) → IsLimit s.limit → refused_by (row t.op) s p d t ≡ None → Hold s.limit s.held → Hold s.limit (effect (row t.op) s p d t).state.held
 unfolding effect
 act_hold s p d t small met all =
     let x = (row t.op).changes s p d t in
-    delivered_hold (done s p x) (shift_at s.held t.op t.operands) (receiver_at t.op t.operands) ((row t.op).gives s p d t) (done_hold x s p (row_may (family_of t.op) t.op s p d t small met) all)
+    delivered_hold s.limit (done s p x) (shift_at s.held t.op t.operands) (receiver_at t.op t.operands) ((row t.op).gives s p d t) (done_hold s.limit x s p (row_may (family_of t.op) t.op s p d t small met) all)
 
-start_hold : (s : State) (p : ℕ) (x : Option ProcessEntry) → Hold s.held → Hold (start_at s p x).held
+start_hold : (s : State) (p : ℕ) (x : Option ProcessEntry) → Hold s.limit s.held → Hold s.limit (start_at s p x).held
 start_hold s p None all = all
 start_hold s p (Some x) all = all
 
-finish_hold : (s : State) (p : ℕ) (x : Option ProcessEntry) → Hold s.held → Hold (end_at s p x).held
+finish_hold : (s : State) (p : ℕ) (x : Option ProcessEntry) → Hold s.limit s.held → Hold s.limit (end_at s p x).held
 finish_hold s p None all = all
-finish_hold s p (Some x) all = all_decommitted_hold s.units s p all
+finish_hold s p (Some x) all = all_decommitted_hold s.limit s.units s p all
 
-event_hold : (s : State) (p : ℕ) (e : Event) → s.limit ≤ furthest → awake_verdict s p e ≡ Permit → Hold s.held → Hold (effect_of s p e).state.held
+event_hold : (s : State) (p : ℕ) (e : Event) → IsLimit s.limit → awake_verdict s p e ≡ Permit → Hold s.limit s.held → Hold s.limit (effect_of s p e).state.held
 unfolding effect_of ruled_verdict
 event_hold s p Start small may all = start_hold s p (process_entry s p) all
 event_hold s p (Act d t) small may all = act_hold s p d t small (permitted_none s p t (refused_by (row t.op) s p d t) (permitted_by_rules s p (Act d t) may)) all
 event_hold s p (Finish cause) small may all = finish_hold s p (process_entry s p) all
 
-verdict_hold : (s : State) (p : ℕ) (e : Event) (v : Verdict) → s.limit ≤ furthest → awake_verdict s p e ≡ v → Hold s.held → Hold (by_verdict s p e v).state.held
-verdict_hold s p e Permit small is all = stored_holds Hold forced_hold s p e (effect_of s p e).state (event_hold s p e small is all)
+verdict_hold : (s : State) (p : ℕ) (e : Event) (v : Verdict) → IsLimit s.limit → awake_verdict s p e ≡ v → Hold s.limit s.held → Hold s.limit (by_verdict s p e v).state.held
+verdict_hold s p e Permit small is all = stored_holds (Hold s.limit) (forced_hold s.limit) s p e (effect_of s p e).state (event_hold s p e small is all)
 verdict_hold s p e Wait small is all = all
 verdict_hold s p e (Refuse x) small is all = all
 
-pub step_hold : (s : State) (p : ℕ) (e : Event) → s.limit ≤ furthest → Hold s.held → Hold (step s p e).state.held
+pub step_hold : (s : State) (p : ℕ) (e : Event) → IsLimit s.limit → Hold s.limit s.held → Hold s.limit (step s p e).state.held
 unfolding step
 step_hold s p e small all = by (waits s p)
   where
-    by : (b : Bool) → Hold (by_waiting b s p e).state.held
+    by : (b : Bool) → Hold s.limit (by_waiting b s p e).state.held
     by true = all
     by false = verdict_hold s p e (awake_verdict s p e) small refl all

@@ -344,13 +344,16 @@ locks_order Xfrlock s p d t fits well e =
     record {
       given = named_there xfrlock s p d t (locked_need 0) fits e unlock_there refl refl refl;
       orderly = orderly_with theirs (without_lock mine held) (by (is_held mine held) two.1) rest;
-      most = omega (arith, with_length theirs (without_lock mine held), without_held mine held (there (is_held mine held) two.1), few_there s.held.next s.locks (target s.held t.operands 1) well);
+      most = as_many _ _ _ (with_length theirs (without_lock mine held)) (without_held mine held (there (is_held mine held) two.1)) (few_there s.held.next s.locks (target s.held t.operands 1) well);
     }
   where
     by : (b : Bool) → of_lock_fault (cond b (in_the_way (hindrance (taker s t.operands) (state_asked t.operands) (without_lock (p, state_asked t.operands) (locks_at s t.operands 1))) None) (Some faults.NotHeld)) ≡ None
         → hindrance (taker s t.operands) (state_asked t.operands) (without_lock (p, state_asked t.operands) (locks_at s t.operands 1)) ≡ None
     by true h = free_way _ None h
     by false h = cc
+
+    as_many : (new less old : ℕ) → new ≡ less + 1 → less + 1 ≡ old → old ≤ most_rows → new ≤ most_rows
+    as_many new less old more held few = omega (arith, more, held, few)
 
     there : (b : Bool) → of_lock_fault (cond b (in_the_way (hindrance (taker s t.operands) (state_asked t.operands) (without_lock (p, state_asked t.operands) (locks_at s t.operands 1))) None) (Some faults.NotHeld)) ≡ None → b ≡ true
     there true h = refl

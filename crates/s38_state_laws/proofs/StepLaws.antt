@@ -1,12 +1,12 @@
 -- Step by step objects, users and locks stay in order, and so over a history from an opening.
-use Rattle.std.proofs.Common.{◌++◌, ◌-◌, ◌==◌, ◌∙◌, ◌∷◌, ◌≡◌, ◌≢◌, ◌&&◌, Bool, List, [], ap, arith, cond, false, refl, subst, suc, sym, true, zero, ℕ}
+use Rattle.std.proofs.Common.{◌++◌, ◌-◌, ◌≤◌, ◌==◌, ◌∙◌, ◌∷◌, ◌≡◌, ◌≢◌, ◌&&◌, Bool, List, [], ap, arith, cond, false, refl, subst, suc, sym, true, zero, ℕ}
 use Rattle.std.proofs.lemmas.Bool.Decides.{nat_tests}
 use Rattle.std.proofs.lemmas.List.Elements.{All-cons, All-head, All-nil, All-tail}
 use Rattle.std.proofs.lemmas.Option.{slice_get-map}
 use Rattle.std.specs.Option.{option_map, unwrap_or}
 use Rattle.std.specs.Prelude.{All, None, Option, Some, slice_get, slice_set}
 use Rattle.s38_base.specs.Ids.{same_id, same_kind}
-use Rattle.s38_base.specs.Limits.{machine_context}
+use Rattle.s38_base.specs.Limits.{machine_context, page_bytes}
 use Rattle.s38_base.specs.declared.exception.Exception.{Exception}
 use Rattle.s38_base.specs.declared.id.Id.{Id}
 use Rattle.s38_base.specs.declared.id.Kind.TheVariants as kinds
@@ -17,7 +17,7 @@ use Rattle.s38_code.specs.declared.entry.Entry.{Entry}
 use Rattle.s38_code.specs.declared.event.Event.TheVariants.{Act, Finish, Start}
 use Rattle.s38_code.specs.declared.event.Event.{Event}
 use Rattle.s38_code.specs.declared.made.CheckedTemplate.{CheckedTemplate}
-use Rattle.s38_object_laws.proofs.EventLaws.{step_well}
+use Rattle.s38_object_laws.proofs.EventLaws.{effect_beside, step_well}
 use Rattle.s38_object_laws.specs.Well.{AreWell, IsWell}
 use Rattle.s38_openings.proofs.BeginLaws.{opening_well}
 use Rattle.s38_openings.specs.Fitting.{IsUser}
@@ -268,13 +268,28 @@ ordered_from s order = record {
   locks = record { rising = order.rising; locks = order.locks };
 }
 
-is_in_order : (s : State) → Ordered s → Hold s.held → AreInOrder s
-is_in_order s ordered bodies =
+-- the limit of a body stays
+verdict_limit : (s : State) (p : ℕ) (e : Event) (v : Verdict) → (by_verdict s p e v).state.limit ≡ s.limit
+verdict_limit s p e Permit = (stored_beside s p e (effect_of s p e).state).limit ∙ (effect_beside s p e).limit
+verdict_limit s p e Wait = refl
+verdict_limit s p e (Refuse x) = refl
+
+step_limit : (s : State) (p : ℕ) (e : Event) → (step s p e).state.limit ≡ s.limit
+unfolding step
+step_limit s p e = by (waits s p)
+  where
+    by : (b : Bool) → (by_waiting b s p e).state.limit ≡ s.limit
+    by true = refl
+    by false = verdict_limit s p e (awake_verdict s p e)
+
+is_in_order : (s : State) → page_bytes ≤ s.limit → Ordered s → Hold s.limit s.held → AreInOrder s
+is_in_order s limit ordered bodies =
     let all = unseen (IsUsed s.processes) s.held ordered.fits in
     record {
       lawful = all.0;
       numbered = all.1;
       fit = all.2;
+      limit = limit;
       bodies = bodies;
       users = by_places (HasUser s.held) s.processes (λ k x at p of going. ordered.fits.users p.user.0 (record { at = k; process = x; started = p; there = at; of = of; going = going; is = refl }));
       rising = ordered.locks.rising;
@@ -282,7 +297,11 @@ is_in_order s ordered bodies =
     }
 
 pub step_in_order : (s : State) (p : ℕ) (e : Event) → AreWell s → AreInOrder s → AreInOrder (step s p e).state
-step_in_order s p e well order = is_in_order (step s p e).state (step_ordered s p e well (ordered_from s order)) (step_hold s p e well.limit order.bodies)
+step_in_order s p e well order =
+    let t = (step s p e).state in
+    let same = step_limit s p e in
+    let bodies = step_hold s p e (record { some = order.limit; most = well.limit }) order.bodies in
+    is_in_order t (subst (λ (n : ℕ). page_bytes ≤ n) (sym same) order.limit) (step_ordered s p e well (ordered_from s order)) (subst (λ (n : ℕ). Hold n t.held) (sym same) bodies)
 
 history_in_order : (s : State) (before history : List Entry) (end : State) → AreWell s → AreInOrder s → Leads s before history end → AllInOrder s history × AreInOrder end
 history_in_order s before [] end well order leads = (order, subst AreInOrder leads order)
@@ -302,6 +321,7 @@ opening_in_order room held templates jobs is = record {
   lawful = is.lawful;
   numbered = is.numbered;
   fit = is.fit;
+  limit = omega arith;
   bodies = is.bodies;
   users = none_started held jobs;
   rising = ordered_none;
