@@ -3,6 +3,5 @@ mod OwnerLaws
 mod KeepLaws
 pub mod TopLaws
 mod StoreLaws
-mod OverLaws
 mod ConfinedLaws
 pub mod SafeLaws

@@ -3,7 +3,6 @@ pub mod Begun
 pub mod Crash
 pub mod Outside
 pub mod Runs
-pub mod Stored
 pub mod Lines
 pub mod Laws
 pub mod Outcome

@@ -9,7 +9,6 @@ mod report;
 mod run;
 mod start;
 mod store;
-mod stored;
 mod tell;
 mod templates;
 mod top;
