@@ -8,24 +8,24 @@ use Rattle.s38_workers.proofs.jobs.run_jobs.Goals as goal
 
 pub all_seated-requires-clause-left : goal.all_seated-requires-clause-left
 all_seated-requires-clause-left g c =
-    let e = c.in_ok-turn.ensures in
-    let people = c.in_ok-turn.turn.processes in
+    let e = c.in-Ok-new.ensures in
+    let people = c.in-Ok-new.turn.processes in
     subst (AreLeft people 0) (sym (e.lists ∙ ap empty_lists (sym e.processes))) (first_left people)
 
-pub returns-clause-by_program : goal.returns-clause-by_program
-returns-clause-by_program g c =
+pub returns-in-Ok-new-clause-by_program : goal.returns-in-Ok-new-clause-by_program
+returns-in-Ok-new-clause-by_program g c =
     let S = g.M.Stepper in
-    all_by_program (WasStopped S.is_sound S.origin S.steps c.in_ok-turn.turn.machine) c.args.made.now c.args.jobs.now c.passes_of-end.new.runners.items (S.history c.closed.result) (c.passes_of-end.ensures.count ∙ c.in_ok-runners.ensures.count) c.closed.ensures.stands
+    all_by_program (WasStopped S.is_sound S.origin S.steps c.in-Ok-new.turn.machine) c.args.made.now c.args.jobs.now c.passes_of-end.new.runners.items (S.history c.closed.result) (c.passes_of-end.ensures.count ∙ c.all_seated.ensures.count) c.closed.ensures.stands
 
-pub returns-clause-complete : goal.returns-clause-complete
-returns-clause-complete g c e =
+pub returns-in-Ok-new-clause-complete : goal.returns-in-Ok-new-clause-complete
+returns-in-Ok-new-clause-complete g c e =
     let S = g.M.Stepper in
-    all_ran (WasStopped S.is_sound S.origin S.steps c.in_ok-turn.turn.machine) c.args.made.now c.args.jobs.now c.passes_of-end.new.runners.items (S.history c.closed.result) (c.passes_of-end.ensures.count ∙ c.in_ok-runners.ensures.count) c.closed.ensures.stands
+    all_ran (WasStopped S.is_sound S.origin S.steps c.in-Ok-new.turn.machine) c.args.made.now c.args.jobs.now c.passes_of-end.new.runners.items (S.history c.closed.result) (c.passes_of-end.ensures.count ∙ c.all_seated.ensures.count) c.closed.ensures.stands
     (c.passes_of-end.ensures.complete e)
 
-pub returns-clause-stopped : goal.returns-clause-stopped
-returns-clause-stopped g c e =
+pub returns-in-Ok-new-clause-stopped : goal.returns-in-Ok-new-clause-stopped
+returns-in-Ok-new-clause-stopped g c e =
     let S = g.M.Stepper in
-    subst (λ m. WasStopped S.is_sound S.origin S.steps m) c.in_ok-turn.ensures.machine
-    (halted (WasStopped S.is_sound S.origin S.steps c.in_ok-turn.turn.machine) c.args.made.now c.args.jobs.now c.passes_of-end.new.runners.items (S.history c.closed.result) (c.passes_of-end.ensures.count ∙ c.in_ok-runners.ensures.count) c.closed.ensures.stands
+    subst (λ m. WasStopped S.is_sound S.origin S.steps m) c.in-Ok-new.ensures.machine
+    (halted (WasStopped S.is_sound S.origin S.steps c.in-Ok-new.turn.machine) c.args.made.now c.args.jobs.now c.passes_of-end.new.runners.items (S.history c.closed.result) (c.passes_of-end.ensures.count ∙ c.all_seated.ensures.count) c.closed.ensures.stands
     c.requires.made (c.passes_of-end.ensures.stopped e))
