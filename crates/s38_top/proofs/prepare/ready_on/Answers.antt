@@ -8,8 +8,8 @@ start-requires-clause-has g c = c.each_job_has_its_template.ensures c.requires.s
 pub start-requires-clause-few : goal.start-requires-clause-few
 start-requires-clause-few g c = c.requires.spelled.1.few_jobs
 
-pub returns-in-Ok-start-clause-ready : goal.returns-in-Ok-start-clause-ready
-returns-in-Ok-start-clause-ready g c =
+pub returns-clause-ready : goal.returns-clause-ready
+returns-clause-ready g c =
     ready_of (g.D.Disk.view c.args.disk) c.in-Ok.store.objects c.in-Ok-start.started c.in-Ok.store.vault c.in-Ok-start.ensures.held c.in-Ok-start.ensures.started
     c.in-Ok.ensures.opening c.in-Ok.ensures.restarts c.in-Ok.ensures.holds c.in-Ok.ensures.faultless c.in-Ok.ensures.during
 
