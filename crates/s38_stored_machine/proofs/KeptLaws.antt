@@ -1,0 +1,75 @@
+-- What is said of a vault behind a step that was kept, or not.
+use Rattle.std.proofs.Common.{◌≡◌, ◌∙◌, ℕ, ◌<◌, ◌≤◌, List, length, refl, sym, ap, subst}
+use Rattle.std.specs.FinMap.{get}
+use Rattle.std.specs.Prelude.{◌↔◌, Result, Ok, Err, OnOk}
+use Rattle.s38_base.specs.Faults.{HasCauseOf, Rose}
+use Rattle.s38_commits.specs.Units.{UnitMap}
+use Rattle.s38_durable.specs.Durable.{Durable, durable_after}
+use Rattle.s38_durable.specs.Stands.{Stands}
+use Rattle.s38_kept_laws.specs.Crashes.{StandsBetween}
+use Rattle.s38_rules.specs.Forcing.{Forced}
+use Rattle.s38_rules.specs.Held.{Held}
+use Rattle.s38_rules.specs.State.{State}
+use Rattle.s38_step_parts.specs.Stepping.{HaveHeaders, IsDue, Precedes, object_changes, put_forced}
+use Rattle.s38_step_parts.specs.declared.fault.ForceFault.{ForceFault}
+use Rattle.s38_step_parts.specs.declared.fault.ForceFault.TheVariants as fails
+use Rattle.s38_vault.specs.Content.{Content}
+use Rattle.s38_vault.specs.Vaults.{VaultView}
+use Rattle.s38_stored_machine.specs.Keeping.{KeepsStep, ending_of}
+use Rattle.s38_stored_machine.specs.Puts.{AreOnePut}
+use Rattle.s38_stored_machine.specs.Sound.{HoldsOf}
+use Rattle.s38_stored_machine.specs.declared.ending.Ending.{Ending}
+use Rattle.s38_stored_machine.specs.declared.ending.Ending.TheVariants.{Going, Stopped, Wanting}
+
+Going_Stopped : Stopped ≡ Going → ⊥
+Going_Stopped h = cc
+
+Wanting_Going : Wanting ≡ Going → ⊥
+Wanting_Going h = cc
+
+Wanting_Stopped : Wanting ≡ Stopped → ⊥
+Wanting_Stopped h = cc
+
+Going_is_not : Going ≡ Stopped → ⊥
+Going_is_not h = cc
+
+-- the machine goes on where all was kept, and stopped where the vault failed
+went_on : {P : Type 0} (r : Result (Unit {0}) ForceFault) → OnOk r P → ending_of r ≡ Going → P
+went_on (Ok done) is h = is
+went_on (Err fails.Failed) is h = absurd (Going_Stopped h)
+went_on (Err (fails.Full needed free)) is h = absurd (Wanting_Going h)
+went_on (Err (fails.BadHeader object)) is h = absurd (Wanting_Going h)
+went_on (Err fails.NoMemory) is h = absurd (Wanting_Going h)
+
+failed_by : (before now : ℕ) (r : Result (Unit {0}) ForceFault) → HasCauseOf before now r fails.Failed → ending_of r ≡ Stopped → Rose before now
+failed_by before now (Ok done) cause h = absurd (Going_is_not h)
+failed_by before now (Err fails.Failed) cause h = cause.failed refl
+failed_by before now (Err (fails.Full needed free)) cause h = absurd (Wanting_Stopped h)
+failed_by before now (Err (fails.BadHeader object)) cause h = absurd (Wanting_Stopped h)
+failed_by before now (Err fails.NoMemory) cause h = absurd (Wanting_Stopped h)
+
+pub keeps_step : {V : Type 0} (view : V → VaultView) (holds : V → Content → Type 0) (leaves : V → ℕ → Content → Type 0) (old new : V) (h : Held) (us : UnitMap) (all : List Forced) (r : Result (Unit {0}) ForceFault) (ending : Ending) → ending ≡ ending_of r
+    → OnOk r ((m n : Content) (d : Durable) (s : State) → holds old m → holds new n → Precedes h us m d s → IsDue all d s → Stands n (durable_after all d s))
+    → OnOk r ((m : Content) (d : Durable) (s : State) → holds old m → Precedes h us m d s → holds new (put_forced all m (durable_after all d s)))
+    → OnOk r ((m : Content) (d : Durable) (s : State) → holds old m → Precedes h us m d s → IsDue all d s → HaveHeaders (durable_after all d s))
+    → ((m : Content) (d : Durable) (s : State) → holds old m → Precedes h us m d s → IsDue all d s → length (object_changes all (get m) (durable_after all d s)) ≤ (view old).shape.most
+    → (t : ℕ) (n : Content) → (view old).moment < t → t ≤ (view new).moment → leaves new t n → StandsBetween n d s (durable_after all d s))
+    → ((m n : Content) → holds new m → leaves new (view new).moment n → n ≡ m)
+    → ((t : ℕ) (m : Content) → t ≤ (view old).moment → leaves old t m ↔ leaves new t m) → (view old).moment ≤ (view new).moment → (view new).shape ≡ (view old).shape
+    → HasCauseOf (view old).faults (view new).faults r fails.Failed → OnOk r ((view new).faults ≡ (view old).faults) → KeepsStep view holds leaves old new h us all ending
+keeps_step view holds leaves old new h us all r ending is stands held headers once present past later shape cause count = record {
+  kept = λ goes m d s holds_old precedes due.
+      let ok = is_ok goes in
+      let put = went_on r held ok m d s holds_old precedes in
+      record { content = put_forced all m (durable_after all d s); held = put; stands = went_on r stands ok m (put_forced all m (durable_after all d s)) d s holds_old put precedes due; headers = went_on r headers ok m d s holds_old precedes due };
+  during = λ m d s holds_old precedes due puts. once m d s holds_old precedes due (puts m precedes.stands);
+  present = present;
+  past = past;
+  later = later;
+  shape = shape;
+  failed = λ stopped. failed_by (view old).faults (view new).faults r cause (sym is ∙ stopped);
+  count = λ goes. went_on r count (is_ok goes);
+}
+  where
+    is_ok : ending ≡ Going → ending_of r ≡ Going
+    is_ok goes = sym is ∙ goes

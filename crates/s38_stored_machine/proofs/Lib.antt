@@ -1,0 +1,10 @@
+mod PutLaws
+mod MarkLaws
+mod StateLaws
+mod StandLaws
+mod KeptLaws
+mod StartLaws
+mod BehindLaws
+mod SettledLaws
+mod WantLaws
+mod AskLaws

@@ -1,0 +1,9 @@
+use Rattle.std.proofs.Common.{All, ap, subst, sym, ◌∙◌}
+use Rattle.s38_rules.specs.Held.{Held}
+use Rattle.s38_rules.specs.Storable.{IsStorable}
+use Rattle.s38_stored_machine.specs.Seen.{StoredView}
+use Rattle.s38_stored_machine.proofs.machine.StoredMachine.settle.Goals as goal
+
+pub keep-self-inside-requires-clause-storable : goal.keep-self-inside-requires-clause-storable
+keep-self-inside-requires-clause-storable g c =
+    subst (λ (h : Held). All IsStorable h.objects) (ap (λ (x : StoredView _). x.machine.state.held) (sym c.self.view_is) ∙ sym c.objects.ensures) c.requires.storable

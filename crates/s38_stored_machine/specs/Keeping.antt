@@ -1,0 +1,74 @@
+-- What becomes of a step that a vault is to keep.
+use Rattle.std.specs.Prelude.{◌≡◌, ◌↔◌, ◌<◌, ◌≤◌, ℕ, List, [], ◌∷◌, Result, Ok, Err}
+use Rattle.s38_base.specs.Faults.{Rose}
+use Rattle.s38_code.specs.declared.asked.Asked.{Asked}
+use Rattle.s38_code.specs.declared.step.StepFault.{StepFault}
+use Rattle.s38_code.specs.declared.step.StepFault.TheVariants as faults
+use Rattle.s38_commits.specs.Units.{UnitMap}
+use Rattle.s38_durable.specs.Durable.{Durable, durable_after}
+use Rattle.s38_kept_laws.specs.Crashes.{StandsBetween}
+use Rattle.s38_machine.specs.Stored.{stamped}
+use Rattle.s38_rules.specs.Forcing.{Forced}
+use Rattle.s38_rules.specs.Held.{Held}
+use Rattle.s38_rules.specs.Legal.{Run}
+use Rattle.s38_rules.specs.State.{State}
+use Rattle.s38_step_parts.specs.Numbers.{numbered}
+use Rattle.s38_step_parts.specs.Stepping.{IsDue, Precedes}
+use Rattle.s38_step_parts.specs.declared.fault.ForceFault.{ForceFault}
+use Rattle.s38_step_parts.specs.declared.fault.ForceFault.TheVariants as fails
+use Rattle.s38_vault.specs.Content.{Content}
+use Rattle.s38_vault.specs.Vaults.{VaultView}
+use Rattle.s38_stored_machine.specs.Puts.{AreOnePut}
+use Rattle.s38_stored_machine.specs.Seen.{StoredView}
+use Rattle.s38_stored_machine.specs.Sound.{HoldsOf}
+use Rattle.s38_stored_machine.specs.declared.ending.Ending.{Ending}
+use Rattle.s38_stored_machine.specs.declared.ending.Ending.TheVariants.{Going, Stopped, Wanting}
+
+-- whether the machine goes on, by whether the step was kept
+abbrev pub ending_of : Result (Unit {0}) ForceFault → Ending
+ending_of (Ok done) = Going
+ending_of (Err fails.Failed) = Stopped
+ending_of (Err (fails.Full needed free)) = Wanting
+ending_of (Err (fails.BadHeader object)) = Wanting
+ending_of (Err fails.NoMemory) = Wanting
+
+-- a vault keeps what a step forces that led to these objects and units, or does not
+pub record KeepsStep {V : Type 0} (view : V → VaultView) (holds : V → Content → Type 0) (leaves : V → ℕ → Content → Type 0) (old new : V) (h : Held) (us : UnitMap) (all : List Forced) (ending : Ending) : Type 0 where
+  -- where it does, it holds what is durable behind the step
+  pub kept : ending ≡ Going → (m : Content) (d : Durable) (s : State) → holds old m → Precedes h us m d s → IsDue all d s → HoldsOf holds new (durable_after all d s)
+  -- a crash leaves what was durable before the step, or that with the ceiling, or what is durable behind it
+  pub during : (m : Content) (d : Durable) (s : State) → holds old m → Precedes h us m d s → IsDue all d s → AreOnePut (view old).shape.most d all (durable_after all d s)
+      → (t : ℕ) (n : Content) → (view old).moment < t → t ≤ (view new).moment → leaves new t n → StandsBetween n d s (durable_after all d s)
+  pub present : (m n : Content) → holds new m → leaves new (view new).moment n → n ≡ m
+  pub past : (t : ℕ) (m : Content) → t ≤ (view old).moment → leaves old t m ↔ leaves new t m
+  pub later : (view old).moment ≤ (view new).moment
+  pub shape : (view new).shape ≡ (view old).shape
+  pub failed : ending ≡ Stopped → Rose (view old).faults (view new).faults
+  pub count : ending ≡ Going → (view new).faults ≡ (view old).faults
+
+-- ---- the machine behind it
+
+-- where the step was kept, the last entry was answered at the moment of the vault
+abbrev pub machine_by : Ending → ℕ → Run → Run
+machine_by Going moment m = stamped moment m
+machine_by Stopped moment m = m
+machine_by Wanting moment m = m
+
+abbrev pub behind : {V : Type 0} → Ending → ℕ → V → StoredView V → StoredView V
+behind ending moment vault x = record { machine = machine_by ending moment x.machine; vault = vault; first = x.first; ending = ending }
+
+abbrev pub answer_by : Ending → Asked → Result Asked StepFault
+answer_by Going asked = Ok asked
+answer_by Stopped asked = Err faults.Stopped
+answer_by Wanting asked = Err faults.NoMemory
+
+-- what the machine did was kept
+pub record IsKeptBehind {V : Type 0} (view : V → VaultView) (holds : V → Content → Type 0) (leaves : V → ℕ → Content → Type 0) (old new : StoredView V) (all : List Forced) (asked : Asked) (answer : Result Asked StepFault) : Type 0 where
+  pub keeps : KeepsStep view holds leaves old.vault new.vault old.machine.state.held old.machine.state.units (numbered all) new.ending
+  pub is : new ≡ behind new.ending (view new.vault).moment new.vault old
+  pub answered : answer ≡ answer_by new.ending asked
+
+-- where there is something to keep
+abbrev pub IsSettled : {V : Type 0} → (V → VaultView) → (V → Content → Type 0) → (V → ℕ → Content → Type 0) → StoredView V → StoredView V → List Forced → Asked → Result Asked StepFault → Type 0
+IsSettled view holds leaves old new [] asked answer = (new ≡ old) × (answer ≡ Ok asked)
+IsSettled view holds leaves old new (one ∷ more) asked answer = IsKeptBehind view holds leaves old new (one ∷ more) asked answer

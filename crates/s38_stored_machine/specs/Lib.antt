@@ -1,0 +1,6 @@
+pub mod Seen
+pub mod Puts
+pub mod Sound
+pub mod Keeping
+pub mod Laws
+pub mod Asking

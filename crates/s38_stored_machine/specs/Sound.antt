@@ -1,0 +1,80 @@
+-- What holds of a machine over a vault at all times: its history is legal, the vault stands for what is durable behind what
+-- was answered, and a crash at any moment leaves what is durable behind the entries that were answered by then.
+use Rattle.std.specs.Prelude.{◌≡◌, ◌↔◌, ◌≤◌, ℕ, length, true, is_some}
+use Rattle.s38_base.specs.Faults.{Rose}
+use Rattle.s38_commitment_laws.specs.Right.{IsRight}
+use Rattle.s38_durable.specs.Durable.{Durable, durable}
+use Rattle.s38_durable.specs.Stands.{Stands}
+use Rattle.s38_kept_laws.specs.Crashes.{IsKeptPrefix}
+use Rattle.s38_kept_laws.specs.Kept.{AreNumbered, IsKeptOf}
+use Rattle.s38_object_laws.specs.Well.{AreWell}
+use Rattle.s38_rules.specs.Legal.{IsSound, Run}
+use Rattle.s38_rules.specs.State.{State}
+use Rattle.s38_step_parts.specs.Stepping.{HaveHeaders}
+use Rattle.s38_vault.specs.Content.{Content}
+use Rattle.s38_vault.specs.Vaults.{VaultView}
+use Rattle.s38_stored_machine.specs.Puts.{AllOnePut}
+use Rattle.s38_stored_machine.specs.Seen.{StoredView, run_of}
+use Rattle.s38_stored_machine.specs.declared.ending.Ending.{Ending}
+use Rattle.s38_stored_machine.specs.declared.ending.Ending.TheVariants.{Going, Stopped, Wanting}
+
+-- ---- states
+
+-- a store has room, each object can be kept, and each change that is not committed can be taken back
+pub record CanBeStored (s : State) : Type 0 where
+  pub room : is_some s.room ≡ true
+  pub well : AreWell s
+  pub right : IsRight s
+  pub numbered : AreNumbered s.held
+
+-- ---- what is held
+
+-- the content stands for what is durable, which goes with a state and has headers that can be read
+pub record IsOf (m : Content) (d : Durable) (s : State) : Type 0 where
+  pub stands : Stands m d
+  pub headers : HaveHeaders d
+  pub kept : IsKeptOf s d
+
+-- ---- a run over a vault
+
+-- the vault tells what it holds, and it stands for what is durable
+pub record HoldsOf {V : Type 0} (holds : V → Content → Type 0) (v : V) (d : Durable) : Type 0 where
+  pub content : Content
+  pub held : holds v content
+  pub stands : Stands content d
+  pub headers : HaveHeaders d
+
+-- while the machine goes on
+abbrev pub HoldsWhile : {V : Type 0} → (V → Content → Type 0) → Ending → V → Durable → Type 0
+HoldsWhile holds Going v d = HoldsOf holds v d
+HoldsWhile holds Stopped v d = Unit {0}
+HoldsWhile holds Wanting v d = Unit {0}
+
+-- of a run that began as this was durable
+pub record IsKeptFrom {V : Type 0} (view : V → VaultView) (holds : V → Content → Type 0) (leaves : V → ℕ → Content → Type 0) (x : StoredView V) (d : Durable) : Type 0 where
+  -- while it goes on, the vault holds what is durable behind the history
+  pub now : HoldsWhile holds x.ending x.vault (durable d x.machine.origin x.machine.history)
+  -- what a crash leaves at each moment of the run: what is durable behind the entries that were answered by then, or behind
+  -- one entry more, of which at least the ceiling may be there
+  pub crash : AllOnePut (view x.first).shape.most d x.machine.origin x.machine.history → (t : ℕ) (n : Content) → (view x.first).moment ≤ t → t ≤ (view x.vault).moment
+      → leaves x.vault t n → IsKeptPrefix d x.machine.origin x.machine.history (run_of x).marks t n
+
+-- while it goes on, the machine is at the moment of its vault, which did not fail; where it stopped, the vault failed, and
+-- the entry of the call that failed is there
+abbrev pub IsEnding : Ending → Run → VaultView → VaultView → Type 0
+IsEnding Going m first now = (m.moment ≡ now.moment) × (now.faults ≡ first.faults)
+IsEnding Stopped m first now = Rose first.faults now.faults × (1 ≤ length m.history)
+IsEnding Wanting m first now = Unit {0}
+
+pub record IsSoundOver {V : Type 0} (view : V → VaultView) (holds : V → Content → Type 0) (leaves : V → ℕ → Content → Type 0) (x : StoredView V) : Type 0 where
+  pub sound : IsSound x.machine
+  pub state : CanBeStored x.machine.state
+  pub first : x.machine.first ≡ (view x.first).moment
+  pub moment : x.machine.moment ≤ (view x.vault).moment
+  pub ending : IsEnding x.ending x.machine (view x.first) (view x.vault)
+  pub shape : (view x.vault).shape ≡ (view x.first).shape
+  -- a crash now leaves what is held
+  pub present : (m n : Content) → holds x.vault m → leaves x.vault (view x.vault).moment n → n ≡ m
+  -- what a crash may leave at moments before the run is as it was
+  pub past : (t : ℕ) (m : Content) → t ≤ (view x.first).moment → leaves x.first t m ↔ leaves x.vault t m
+  pub kept : (m : Content) (d : Durable) → holds x.first m → IsOf m d x.machine.origin → IsKeptFrom view holds leaves x d

@@ -1,0 +1,49 @@
+//! What a step has a vault keep anew.
+ghost use Rattle.std.specs.Prelude.{◌≡◌, All, Ok};
+ghost use Rattle.s38_base.specs.Faults.{Rose};
+ghost use Rattle.s38_image_printing.specs.Parts.{CanSettle};
+ghost use Rattle.s38_rules.specs.Storable.{IsStorable};
+ghost use Rattle.s38_step_parts.specs.Numbers.{numbered};
+ghost use Rattle.s38_step_parts.specs.Stepping.{AreNumbers};
+ghost use Rattle.s38_stored_machine.specs.Keeping.{KeepsStep, ending_of};
+
+use crate::ending::Ending;
+use s38_commits::Units;
+use s38_extents::Forcings;
+use s38_objects::Objects;
+use s38_step_parts::{ForceFault, force, numbered};
+use s38_vault::Vault;
+use std::alloc::Global;
+
+/// How a machine goes on behind a step that was kept or not.
+fn ending_of(kept: Result<(), ForceFault>) -> Ending
+    ensures { result ≡ ending_of kept }
+{
+    match kept {
+        Ok(()) => Ending::Going,
+        Err(ForceFault::Failed) => Ending::Stopped,
+        Err(ForceFault::Full { .. } | ForceFault::BadHeader { .. } | ForceFault::NoMemory) => {
+            Ending::Wanting
+        }
+    }
+}
+
+/// Keeps what a step forces that led to these objects and units, and says how the machine goes on.
+pub fn keep<V: Vault>(
+    alloc: Global,
+    vault: &mut V,
+    objects: &Objects,
+    units: &Units,
+    all: &Forcings,
+) -> Ending
+    requires storable { All IsStorable objects.now.objects }
+    requires settles { All (λ o. CanSettle units.now o.number.0 o.body) objects.now.objects }
+    requires numbers { AreNumbers (numbered all.now) }
+    ensures { KeepsStep V.view V.holds V.leaves vault.old vault.new objects.now units.now (numbered all.now) result }
+{
+    let numbered = numbered(all);
+    let kept = force(alloc, vault, objects, units, numbered.as_slice());
+    // Its contract says that a crash now leaves what is held.
+    let _moment = vault.moment();
+    ending_of(kept)
+}
