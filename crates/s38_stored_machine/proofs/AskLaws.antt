@@ -1,5 +1,5 @@
 -- What is said of an answer of a machine over a vault, by whether it goes on.
-use Rattle.std.proofs.Common.{◌≡◌, ◌∙◌, ◌⊎◌, inl, inr, ℕ, ◌+◌, ◌-◌, ◌≤◌, Bool, true, false, List, [], ◌∷◌, ◌++◌, length, refl, sym, ap, subst, arith, length-append, suc}
+use Rattle.std.proofs.Common.{◌≡◌, ◌∙◌, ◌⊎◌, inl, inr, ℕ, ◌-◌, ◌≤◌, List, [], ◌∷◌, ◌++◌, length, refl, sym, ap, subst, arith, length-append}
 use Rattle.std.specs.Option.{option_map}
 use Rattle.std.specs.Prelude.{None, Option, Some, Result, Ok, Err, IfErr, IfOk, IfSome, IsErrOf, OnErr, OnOk, slice_get}
 use Rattle.s38_code.specs.Asking.{last_reply, reply_by}
@@ -13,7 +13,7 @@ use Rattle.s38_code.specs.declared.step.StepFault.{StepFault}
 use Rattle.s38_code.specs.declared.step.StepFault.TheVariants as faults
 use Rattle.s38_kept_laws.proofs.KeepLaws.{DurableLaws}
 use Rattle.s38_rules.proofs.Laws.{answered_after}
-use Rattle.s38_rules.specs.Legal.{IsProcess, Run, after}
+use Rattle.s38_rules.specs.Legal.{Run, after}
 use Rattle.s38_rules.specs.Step.{step}
 use Rattle.s38_vault.specs.Content.{Content}
 use Rattle.s38_vault.specs.Vaults.{VaultView}

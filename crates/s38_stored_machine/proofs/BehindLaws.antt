@@ -1,50 +1,44 @@
 -- A machine over a vault stays sound behind each step, whether what the step forces was kept or not.
-use Rattle.std.proofs.Common.{◌≡◌, ◌∙◌, ◌⊎◌, inl, inr, ℕ, ◌+◌, ◌-◌, ◌<◌, ◌≤◌, Bool, true, false, cond, List, [], ◌∷◌, ◌++◌, length, refl, sym, ap, subst, arith, length-append}
+use Rattle.std.proofs.Common.{◌≡◌, ◌∙◌, ◌⊎◌, inl, inr, ℕ, ◌-◌, ◌<◌, ◌≤◌, Bool, true, false, cond, List, [], ◌∷◌, ◌++◌, length, refl, sym, ap, subst, arith, length-append}
 use Rattle.std.proofs.lemmas.Bool.{cases_lt}
 use Rattle.std.specs.Option.{option_map}
-use Rattle.std.specs.Prelude.{◌↔◌, None, Option, Some, Result, Ok, Err, IfOk, IsErrOf, OnErr, OnOk, slice_get}
+use Rattle.std.specs.Prelude.{◌↔◌, Option, Some, slice_get}
 use Rattle.s38_base.specs.Faults.{Rose}
-use Rattle.s38_code.specs.Asking.{reply_by}
 use Rattle.s38_code.specs.History.{entry_after}
-use Rattle.s38_code.specs.declared.asked.Asked.{Asked}
 use Rattle.s38_code.specs.declared.entry.Entry.{Entry}
 use Rattle.s38_code.specs.declared.event.Event.{Event}
 use Rattle.s38_code.specs.declared.reply.Reply.TheVariants.{Done, MustWait, Signal}
 use Rattle.s38_code.specs.declared.reply.Reply.{Reply}
-use Rattle.s38_code.specs.declared.step.StepFault.{StepFault}
-use Rattle.s38_code.specs.declared.step.StepFault.TheVariants as faults
 use Rattle.s38_durable.specs.Durable.{Durable, after_reply, durable, durable_after}
 use Rattle.s38_durable.specs.Stands.{Stands}
-use Rattle.s38_kept_laws.proofs.CrashLaws.{answered_left, begins_left, during_left, during_stopped, earlier_left, earlier_stopped}
+use Rattle.s38_kept_laws.proofs.CrashLaws.{answered_left, during_left, during_stopped, earlier_left, earlier_stopped}
 use Rattle.s38_kept_laws.proofs.KeepLaws.{all_due, durable_more, goes_before, history_kept, led_by, led_to, numbered_due, numbered_same}
 use Rattle.s38_kept_laws.proofs.KeepLaws as kept_laws
 use Rattle.s38_kept_laws.proofs.StepLaws.{IsDone}
 use Rattle.s38_kept_laws.specs.Crashes.{IsKeptPrefix, StandsBetween, led}
 use Rattle.s38_kept_laws.specs.Kept.{IsKeptOf}
-use Rattle.s38_machine.specs.Log.{with_last}
-use Rattle.s38_machine.specs.Stored.{kept_anew, stamped}
+use Rattle.s38_machine.specs.Stored.{kept_anew}
 use Rattle.s38_rules.proofs.Laws.{sound_after}
 use Rattle.s38_rules.specs.Forcing.{Forced, forced}
 use Rattle.s38_rules.specs.Legal.{AreMoments, IsProcess, IsSound, Run, after}
 use Rattle.s38_rules.specs.State.{State, waits}
-use Rattle.s38_rules.specs.Step.{Stepped, awake_verdict, by_verdict, by_waiting, step}
+use Rattle.s38_rules.specs.Step.{awake_verdict, by_verdict, by_waiting, step}
 use Rattle.s38_rules.specs.declared.verdict.Verdict.TheVariants.{Permit, Refuse, Wait}
 use Rattle.s38_rules.specs.declared.verdict.Verdict.{Verdict}
 use Rattle.s38_step_parts.specs.Numbers.{numbered}
 use Rattle.s38_step_parts.specs.Stepping.{HaveHeaders, IsDue, Precedes}
 use Rattle.s38_vault.specs.Content.{Content}
 use Rattle.s38_vault.specs.Vaults.{VaultView}
-use Rattle.s38_stored_machine.specs.Keeping.{IsKeptBehind, IsSettled, KeepsStep, answer_by, behind, machine_by}
-use Rattle.s38_stored_machine.specs.Laws.{DurableLaws}
+use Rattle.s38_stored_machine.specs.Keeping.{KeepsStep}
 use Rattle.s38_stored_machine.specs.Puts.{AllOnePut, AreOnePut, IsOnePutBy}
-use Rattle.s38_stored_machine.specs.Seen.{StoredView, answered_by, call_of, run_of, stopped_of, without_last}
-use Rattle.s38_stored_machine.specs.Sound.{HoldsOf, HoldsWhile, IsEnding, IsKeptFrom, IsOf, IsSoundOver}
+use Rattle.s38_stored_machine.specs.Seen.{StoredView, answered_by, call_of, run_of, without_last}
+use Rattle.s38_stored_machine.specs.Sound.{HoldsOf, HoldsWhile, IsEnding, IsKeptFrom, IsSoundOver}
 use Rattle.s38_stored_machine.specs.declared.ending.Ending.{Ending}
 use Rattle.s38_stored_machine.specs.declared.ending.Ending.TheVariants.{Going, Stopped, Wanting}
-use Rattle.s38_stored_machine.proofs.MarkLaws.{last_left, last_set, stamped_sound}
+use Rattle.s38_stored_machine.proofs.MarkLaws.{last_left}
 use Rattle.s38_stored_machine.proofs.PutLaws.{front_puts, last_put}
 use Rattle.s38_stored_machine.proofs.StandLaws.{still_headers, still_stands}
-use Rattle.s38_stored_machine.proofs.StateLaws.{is_done, kept_done, kept_none, step_stored}
+use Rattle.s38_stored_machine.proofs.StateLaws.{is_done, kept_done, step_stored}
 
 -- ---- steps that make no entry
 

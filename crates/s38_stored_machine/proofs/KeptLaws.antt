@@ -1,5 +1,5 @@
 -- What is said of a vault behind a step that was kept, or not.
-use Rattle.std.proofs.Common.{◌≡◌, ◌∙◌, ℕ, ◌<◌, ◌≤◌, List, length, refl, sym, ap, subst}
+use Rattle.std.proofs.Common.{◌≡◌, ◌∙◌, ℕ, ◌<◌, ◌≤◌, List, length, refl, sym}
 use Rattle.std.specs.FinMap.{get}
 use Rattle.std.specs.Prelude.{◌↔◌, Result, Ok, Err, OnOk}
 use Rattle.s38_base.specs.Faults.{HasCauseOf, Rose}
@@ -16,8 +16,6 @@ use Rattle.s38_step_parts.specs.declared.fault.ForceFault.TheVariants as fails
 use Rattle.s38_vault.specs.Content.{Content}
 use Rattle.s38_vault.specs.Vaults.{VaultView}
 use Rattle.s38_stored_machine.specs.Keeping.{KeepsStep, ending_of}
-use Rattle.s38_stored_machine.specs.Puts.{AreOnePut}
-use Rattle.s38_stored_machine.specs.Sound.{HoldsOf}
 use Rattle.s38_stored_machine.specs.declared.ending.Ending.{Ending}
 use Rattle.s38_stored_machine.specs.declared.ending.Ending.TheVariants.{Going, Stopped, Wanting}
 

@@ -1,6 +1,6 @@
 -- What is said of a machine over a vault behind each event, by how what it did was settled.
-use Rattle.std.proofs.Common.{◌≡◌, ◌∙◌, ◌⊎◌, inl, inr, ℕ, ◌+◌, ◌-◌, ◌<◌, ◌≤◌, Bool, true, false, cond, List, [], ◌∷◌, ◌++◌, length, refl, sym, ap, subst, arith}
-use Rattle.std.specs.Prelude.{None, Option, Some, Result, Ok, Err, IfOk, IsErrOf, OnErr, OnOk}
+use Rattle.std.proofs.Common.{◌≡◌, ◌∙◌, ◌⊎◌, inl, inr, ℕ, ◌≤◌, Bool, true, false, List, [], ◌∷◌, refl, sym, ap, subst, arith}
+use Rattle.std.specs.Prelude.{None, Some, Result, Ok, Err, IfOk, IsErrOf, OnErr, OnOk}
 use Rattle.s38_code.specs.Asking.{reply_by}
 use Rattle.s38_code.specs.History.{entry_after}
 use Rattle.s38_code.specs.declared.asked.Asked.{Asked}
@@ -11,7 +11,6 @@ use Rattle.s38_code.specs.declared.step.StepFault.{StepFault}
 use Rattle.s38_code.specs.declared.step.StepFault.TheVariants as faults
 use Rattle.s38_kept_laws.proofs.KeepLaws as kept_laws
 use Rattle.s38_kept_laws.proofs.StepLaws.{IsDone}
-use Rattle.s38_machine.specs.Log.{with_last}
 use Rattle.s38_machine.specs.Stored.{kept_anew, stamped}
 use Rattle.s38_rules.specs.Forcing.{Forced, forced}
 use Rattle.s38_rules.specs.Legal.{IsProcess, Run, after}
@@ -19,8 +18,8 @@ use Rattle.s38_rules.specs.Step.{step}
 use Rattle.s38_step_parts.specs.Numbers.{numbered}
 use Rattle.s38_vault.specs.Content.{Content}
 use Rattle.s38_vault.specs.Vaults.{VaultView}
-use Rattle.s38_stored_machine.specs.Keeping.{IsKeptBehind, IsSettled, KeepsStep, answer_by, behind, machine_by}
-use Rattle.s38_stored_machine.specs.Seen.{StoredView, answered_by, beginning_of, run_of, stopped_by, stopped_of, without_last}
+use Rattle.s38_stored_machine.specs.Keeping.{IsKeptBehind, IsSettled, KeepsStep, answer_by, behind}
+use Rattle.s38_stored_machine.specs.Seen.{StoredView, answered_by, beginning_of, run_of, stopped_by, stopped_of}
 use Rattle.s38_stored_machine.specs.Sound.{IsSoundOver}
 use Rattle.s38_stored_machine.specs.declared.ending.Ending.{Ending}
 use Rattle.s38_stored_machine.specs.declared.ending.Ending.TheVariants.{Going, Stopped, Wanting}

@@ -1,16 +1,12 @@
 -- Where nothing of the numbers is forced, the same pages stand for what is durable behind a step.
-use Rattle.std.proofs.Common.{◌≡◌, ◌∙◌, ℕ, Bool, true, false, cond, List, [], refl, sym, ap, subst, ◌==◌}
-use Rattle.std.specs.Prelude.{None, Option, Some}
+use Rattle.std.proofs.Common.{◌≡◌, ◌∙◌, ℕ, Bool, true, false, cond, [], refl, sym, ap, ◌==◌}
 use Rattle.s38_base.specs.declared.page.Key.{Key}
-use Rattle.s38_base.specs.declared.page.Page.{Page}
 use Rattle.s38_durable.specs.Durable.{Durable, durable_after, kept}
 use Rattle.s38_durable.specs.Stands.{Stands, ceiling_parts, page_of, parts_in}
 use Rattle.s38_forcing.specs.Differences.{wanted_at}
 use Rattle.s38_image.specs.Faults.{ceiling_key}
-use Rattle.s38_image.specs.declared.stored.Stored.{Stored}
-use Rattle.s38_rules.specs.Forcing.{Forced}
 use Rattle.s38_rules.specs.State.{State}
-use Rattle.s38_step_parts.specs.Stepping.{HaveHeaders, HasHeader, IsDue}
+use Rattle.s38_step_parts.specs.Stepping.{HaveHeaders, IsDue}
 use Rattle.s38_vault.specs.Content.{Content}
 
 module _ (d : Durable) (s : State) (due : IsDue [] d s) where

@@ -1,14 +1,12 @@
 -- A machine that has begun over a vault is sound.
-use Rattle.std.proofs.Common.{◌≡◌, ◌∙◌, ℕ, ◌≤◌, List, [], refl, sym, ap, subst, arith}
-use Rattle.s38_durable.specs.Durable.{Durable}
+use Rattle.std.proofs.Common.{◌≡◌, ℕ, refl, sym, subst, arith}
 use Rattle.s38_durable.specs.Stands.{Stands}
 use Rattle.s38_kept_laws.proofs.CrashLaws.{begins_left}
 use Rattle.s38_rules.proofs.Laws.{sound_begun}
-use Rattle.s38_rules.specs.Legal.{IsSound, Run, begun}
+use Rattle.s38_rules.specs.Legal.{Run, begun}
 use Rattle.s38_rules.specs.State.{State}
 use Rattle.s38_vault.specs.Content.{Content}
 use Rattle.s38_vault.specs.Vaults.{VaultView}
-use Rattle.s38_stored_machine.specs.Seen.{StoredView}
 use Rattle.s38_stored_machine.specs.Sound.{CanBeStored, IsSoundOver}
 use Rattle.s38_stored_machine.specs.declared.ending.Ending.TheVariants.{Going}
 

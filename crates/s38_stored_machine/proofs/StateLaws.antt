@@ -1,25 +1,20 @@
 -- Behind each step a store can keep the objects.
-use Rattle.std.proofs.Common.{◌≡◌, ◌∙◌, ◌⊎◌, inl, inr, ℕ, ◌<◌, Bool, true, false, cond, List, [], ◌∷◌, refl, sym, ap, subst, arith}
+use Rattle.std.proofs.Common.{◌≡◌, ◌∙◌, ◌⊎◌, inl, inr, ℕ, Bool, true, false, cond, List, [], refl, sym, ap, subst, arith}
 use Rattle.std.proofs.lemmas.List.Elements.{All-weaker}
 use Rattle.std.specs.Prelude.{All, None, Option, Some, is_some}
-use Rattle.s38_base.specs.declared.exception.Exception.{Exception}
 use Rattle.s38_code.specs.declared.event.Event.{Event}
 use Rattle.s38_code.specs.declared.reply.Reply.TheVariants.{Done, MustWait, Signal}
 use Rattle.s38_code.specs.declared.reply.Reply.{Reply}
 use Rattle.s38_commitment_laws.proofs.StepLaws.{step_right}
-use Rattle.s38_image.specs.Faults.{ceiling_key}
 use Rattle.s38_image_printing.specs.Parts.{CanSettle}
-use Rattle.s38_kept_laws.proofs.GoesLaws.{Goes}
 use Rattle.s38_kept_laws.proofs.NumberLaws.{numbers_numbered}
 use Rattle.s38_kept_laws.proofs.SettleLaws.{all_settle}
-use Rattle.s38_kept_laws.proofs.StepLaws.{IsDone, Stayed, follows_room, stayed, step_goes, step_room}
+use Rattle.s38_kept_laws.proofs.StepLaws.{IsDone, follows_room, stayed, step_goes, step_room}
 use Rattle.s38_kept_laws.specs.Kept.{AreNumbered}
-use Rattle.s38_machine.specs.Stored.{anew, anew_by, anew_in, kept_anew}
+use Rattle.s38_machine.specs.Stored.{anew_by, anew_in, kept_anew}
 use Rattle.s38_object_laws.proofs.EventLaws.{step_well}
-use Rattle.s38_object_laws.specs.Outline.{is_forced}
 use Rattle.s38_object_laws.specs.Well.{IsWell}
 use Rattle.s38_rules.specs.Forcing.{Forced, forced}
-use Rattle.s38_rules.specs.Held.{Held}
 use Rattle.s38_rules.specs.Room.{Room}
 use Rattle.s38_rules.specs.State.{State, waits}
 use Rattle.s38_rules.specs.Step.{awake_verdict, by_verdict, by_waiting, step, verdict_of}

@@ -1,5 +1,5 @@
 -- A machine over a vault whose last entry counts as that of a call that failed is sound.
-use Rattle.std.proofs.Common.{◌≡◌, ◌∙◌, ◌⊎◌, inl, inr, ℕ, suc, ◌+◌, ◌-◌, ◌<◌, ◌≤◌, Bool, true, false, cond, List, [], ◌∷◌, ◌++◌, length, filter, take, refl, sym, ap, subst, arith, length-append}
+use Rattle.std.proofs.Common.{◌≡◌, ◌∙◌, ◌⊎◌, inl, inr, ℕ, suc, ◌+◌, ◌-◌, ◌<◌, ◌≤◌, true, false, cond, List, [], ◌∷◌, ◌++◌, length, filter, take, refl, sym, ap, subst, arith, length-append}
 use Rattle.std.proofs.lemmas.Bool.Decides.{nat_tests}
 use Rattle.std.proofs.lemmas.Bool.{cases_lt}
 use Rattle.std.proofs.lemmas.List.Elements.{filter-append}
@@ -18,9 +18,9 @@ use Rattle.s38_vault.specs.Content.{Content}
 use Rattle.s38_vault.specs.Vaults.{VaultView}
 use Rattle.s38_stored_machine.specs.Puts.{AllOnePut}
 use Rattle.s38_stored_machine.specs.Seen.{StoredView, answered_by, broken_off, without_last}
-use Rattle.s38_stored_machine.specs.Sound.{IsKeptFrom, IsOf, IsSoundOver}
+use Rattle.s38_stored_machine.specs.Sound.{IsKeptFrom, IsSoundOver}
 use Rattle.s38_stored_machine.specs.declared.ending.Ending.{Ending}
-use Rattle.s38_stored_machine.specs.declared.ending.Ending.TheVariants.{Going, Wanting}
+use Rattle.s38_stored_machine.specs.declared.ending.Ending.TheVariants.{Going}
 
 -- ---- the last of a list
 

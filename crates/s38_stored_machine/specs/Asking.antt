@@ -1,8 +1,6 @@
 -- What is said of an answer of a machine over a vault, also where it goes no more.
-use Rattle.std.specs.Prelude.{◌≡◌, ◌≤◌, ℕ, List, Option, Some, Result, IfOk, IfSome, IsErrOf, OnErr, OnOk}
-use Rattle.s38_code.specs.Asking.{reply_by}
+use Rattle.std.specs.Prelude.{◌≡◌, ◌≤◌, ℕ, List, Result, IfOk, IfSome, IsErrOf, OnErr, OnOk}
 use Rattle.s38_code.specs.History.{first_stop}
-use Rattle.s38_code.specs.declared.asked.Asked.{Asked}
 use Rattle.s38_code.specs.declared.entry.Entry.{Entry}
 use Rattle.s38_code.specs.declared.event.Event.{Event}
 use Rattle.s38_code.specs.declared.reply.Reply.{Reply}
@@ -14,7 +12,6 @@ use Rattle.s38_vault.specs.Content.{Content}
 use Rattle.s38_vault.specs.Vaults.{VaultView}
 use Rattle.s38_stored_machine.specs.Seen.{StoredBeginning, StoredView, beginning_of, run_of, stopped_of}
 use Rattle.s38_stored_machine.specs.Sound.{IsSoundOver}
-use Rattle.s38_stored_machine.specs.declared.ending.Ending.TheVariants.{Going}
 
 -- a process of a job may ask
 abbrev pub MayAskOver : {V : Type 0} → StoredBeginning V → ℕ → Event → List Entry → Type 0

@@ -1,5 +1,5 @@
 -- A machine over a vault, as contracts see it.
-use Rattle.std.specs.Prelude.{◌-◌, ℕ, List, Option, None, Some, length, slice_get, take}
+use Rattle.std.specs.Prelude.{◌-◌, ℕ, List, Option, None, length, slice_get, take}
 use Rattle.std.specs.Option.{option_map}
 use Rattle.s38_code.specs.declared.entry.Entry.{Entry}
 use Rattle.s38_code.specs.declared.event.Event.{Event}

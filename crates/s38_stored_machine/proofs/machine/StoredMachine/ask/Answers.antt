@@ -4,7 +4,7 @@ use Rattle.s38_code.specs.Asking.{reply_by}
 use Rattle.s38_kept_laws.proofs.KeepLaws.{DurableLaws}
 use Rattle.s38_image_printing.specs.Parts.{CanSettle}
 use Rattle.s38_rules.specs.Forcing.{Forced}
-use Rattle.s38_rules.specs.Legal.{IsProcess, Run, after}
+use Rattle.s38_rules.specs.Legal.{IsProcess, Run}
 use Rattle.s38_rules.specs.State.{State}
 use Rattle.s38_rules.specs.Step.{step}
 use Rattle.s38_rules.specs.Storable.{IsStorable}

@@ -1,10 +1,9 @@
-use Rattle.std.proofs.Common.{◌≡◌, ◌∙◌, ap, subst, sym}
+use Rattle.std.proofs.Common.{◌∙◌, ap, subst, sym}
 use Rattle.std.specs.Prelude.{Some}
 use Rattle.s38_machine.specs.Stored.{stored_state_of}
 use Rattle.s38_rules.specs.Legal.{begun}
 use Rattle.s38_rules.specs.State.{State}
 use Rattle.s38_stored_machine.proofs.StartLaws.{begun_sound}
-use Rattle.s38_stored_machine.specs.Seen.{StoredView}
 use Rattle.s38_stored_machine.specs.Sound.{IsSoundOver}
 use Rattle.s38_stored_machine.specs.declared.ending.Ending.TheVariants.{Going}
 use Rattle.s38_stored_machine.proofs.machine.StoredMachine.start.Goals as goal

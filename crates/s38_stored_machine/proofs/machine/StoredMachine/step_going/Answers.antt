@@ -1,12 +1,6 @@
-use Rattle.std.proofs.Common.{◌≡◌, ◌∙◌, ap, length, subst, sym}
-use Rattle.std.specs.Prelude.{Ok, Err, IfErr, IfOk, Result}
-use Rattle.s38_code.specs.Asking.{last_reply}
-use Rattle.s38_code.specs.declared.reply.Reply.{Reply}
-use Rattle.s38_code.specs.declared.step.StepFault.{StepFault}
+use Rattle.std.proofs.Common.{◌∙◌, ap, length, sym}
 use Rattle.s38_kept_laws.proofs.KeepLaws.{DurableLaws}
-use Rattle.std.specs.Prelude.{Some}
-use Rattle.s38_stored_machine.specs.Asking.{IsAskedOver}
-use Rattle.s38_stored_machine.specs.Seen.{StoredView, broken_off}
+use Rattle.s38_stored_machine.specs.Seen.{StoredView}
 use Rattle.s38_stored_machine.proofs.AskLaws.{copied_told, some_there, waited}
 use Rattle.s38_stored_machine.proofs.machine.StoredMachine.step_going.Goals as goal
 
