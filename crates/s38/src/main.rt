@@ -11,10 +11,10 @@ use locking::{Hold, hold_store};
 use refusal::{refusal_of, refuse};
 use s38_io::{StdSink, StdSource};
 use service::{attach, serve_over_file};
-use streams::take_places;
 use std::env::Env;
 use std::process::ExitCode;
 use std::{env, io};
+use streams::take_places;
 
 /// The words of the command line behind the program's own.
 fn command_line<R: Env + AllocGlobal>(rt: &R) -> io::Result<Vec<String>> {

@@ -46,8 +46,12 @@ pub returns-in-Err : goal.returns-in-Err
 returns-in-Err g c =
     no_memory _ (outside (g.I.Source.left c.args.deck.now) (g.I.Source.faults c.args.deck.now) (g.O.Sink.written c.args.out.now) (g.O.Sink.faults c.args.out.now) (g.D.Disk.view c.args.disk)) _ _ _ c.refuse.ensures
 
-pub returns-in-Ok : goal.returns-in-Ok
-returns-in-Ok g c =
-    answered_of g.D.Disk.view _ (λ text. text.now) _ c.in-Ok.texts.items c.as_slice.result.now c.serve_texts-report.result.disk
+pub returns-in-Err-takes_threads : goal.returns-in-Err-takes_threads
+returns-in-Err-takes_threads g c =
+    no_memory _ (outside (g.I.Source.left c.args.deck.now) (g.I.Source.faults c.args.deck.now) (g.O.Sink.written c.args.out.now) (g.O.Sink.faults c.args.out.now) (g.D.Disk.view c.args.disk)) _ _ _ c.refuse-in-Err-takes_threads.ensures
+
+pub returns-in-Ok-takes_threads : goal.returns-in-Ok-takes_threads
+returns-in-Ok-takes_threads g c =
+    answered_of g.D.Disk.view _ (λ text. text.now) _ c.in-Ok.texts.items c.as_slice-in-Ok-takes_threads.result.now c.serve_texts-report.result.disk
     (outside (g.I.Source.left c.args.deck.now) (g.I.Source.faults c.args.deck.now) (g.O.Sink.written c.args.out.now) (g.O.Sink.faults c.args.out.now) (g.D.Disk.view c.args.disk)) _ _ _ _ _ _ _
-    c.in-Ok.ensures c.as_slice.ensures.value c.serve_texts-report.ensures.back c.serve_texts-report.ensures.answered
+    c.in-Ok.ensures c.as_slice-in-Ok-takes_threads.ensures.value c.serve_texts-report.ensures.back c.serve_texts-report.ensures.answered
