@@ -4,9 +4,10 @@ use Rattle.s38_run.proofs.jobs.take_turns.Goals as goal
 
 pub loop-alloc-init : goal.loop-alloc-init
 loop-alloc-init g c =
-    let S = g.M.RunMachine in
-    (comes_begun g.P.Picker.answer g.P.Picker.after c.args.picker.now c.args.made.now c.args.jobs.now (S.run c.args.machine.now) c.args.states.now.items c.args.ready.now.items c.requires.begun c.requires.between,
-    (c.requires.sound, (c.requires.going, refl)))
+    let S = g.M.RunMachine in (
+      comes_begun g.P.Picker.answer g.P.Picker.after c.args.picker.now c.args.made.now c.args.jobs.now (S.run c.args.machine.now) c.args.states.now.items c.args.ready.now.items c.requires.begun c.requires.between,
+      (c.requires.sound, (c.requires.going, refl)),
+    )
 
 pub loop-alloc-preserved : goal.loop-alloc-preserved
 loop-alloc-preserved g c =
@@ -16,9 +17,10 @@ loop-alloc-preserved g c =
     let comes = comes_on g.P.Picker.answer g.P.Picker.after c.args.picker.now (S.run c.args.machine.now) c.args.made.now c.args.jobs.now (S.run l.machine) l.states.items l.ready.items l.picker
     (c.pick.result % c.len.result) (S.run c.go_on.new.machine) c.go_on.new.states.items c.go_on.new.ready.items l.invariant.0
     (ap (λ n. n % c.len.result) c.pick.ensures.answer ∙ ap (λ k. g.P.Picker.answer l.picker % k) count)
-    c.in-Ok.ensures.went in
-    (subst (λ y. ComesOn g.P.Picker.answer g.P.Picker.after c.args.picker.now (S.run c.args.machine.now) c.args.made.now c.args.jobs.now (S.run c.go_on.new.machine) c.go_on.new.states.items c.go_on.new.ready.items y) (sym c.pick.ensures.after) comes,
-    (c.go_on.ensures.sound, (c.in-Ok.ensures.going, c.go_on.ensures.origin ∙ l.invariant.1.1.1)))
+    c.in-Ok.ensures.went in (
+      subst (λ y. ComesOn g.P.Picker.answer g.P.Picker.after c.args.picker.now (S.run c.args.machine.now) c.args.made.now c.args.jobs.now (S.run c.go_on.new.machine) c.go_on.new.states.items c.go_on.new.ready.items y) (sym c.pick.ensures.after) comes,
+      (c.go_on.ensures.sound, (c.in-Ok.ensures.going, c.go_on.ensures.origin ∙ l.invariant.1.1.1)),
+    )
 
 pub returns-in-Err-clause-so_far : goal.returns-in-Err-clause-so_far
 returns-in-Err-clause-so_far g c =
