@@ -120,8 +120,7 @@ impl<V: Vault> StoredMachine<V> {
     }
 
     /// Answers one event of a job's process by one step of the machine. What the step forces is kept in the vault before the
-    /// answer. Where the vault fails, or memory is refused for what is to be kept, the step has no answer, and the machine
-    /// answers nothing more; where memory is refused for the step itself, nothing changed.
+    /// answer. Where the vault fails, or memory is refused, the step has no answer, and the history is as it was.
     pub fn ask(&mut self, process: u32, event: Event) -> Result<Asked, StepFault>
         requires sound { IsSoundOver V.view V.holds V.leaves self.old }
         requires going { self.old.ending ≡ Ending.Going }
