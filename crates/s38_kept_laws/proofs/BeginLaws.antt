@@ -68,13 +68,13 @@ none_zero (o ∷ os) all =
     let other : (o.number.0 == 0) ≡ false = grind (arith, nat_tests) in
     rw other (none_zero os all.1)
 
-opening_numbered : (h : Held) → IsOpening h → h.next ≤ h.ceiling + 1 → AreNumbered h
-opening_numbered h is within = record {
+pub opening_numbered : (h : Held) → IsOpening h → AreNumbered h
+opening_numbered h is = record {
   rising = is.lawful.rising;
   given = All-map (λ n. n < h.next) number_of h.objects is.lawful.given;
   none = none_zero h.objects (recursion_from_All IsNumbered h.objects is.numbered);
   first = is.next;
-  within = within;
+  within = is.within;
   low = is.ceiling;
 }
 
@@ -110,5 +110,5 @@ module _ (m : _) (h : Held) (are : AreParts (all_parts m)) (fault : first_fault 
         bodies = λ n x found. (read_printable body_limit x (omega arith) (images n x found)).kind;
         well = record { limit = well.limit; objects = well.objects };
         right = opening_right room h templates jobs is;
-        numbered = opening_numbered h is (subst (λ (k : Held). k.next ≤ k.ceiling + 1) (sym of) (omega arith));
+        numbered = opening_numbered h is;
       }

@@ -77,6 +77,7 @@ first_opening = record {
     below = omega arith;
   };
   ceiling = omega arith;
+  within = omega arith;
 }
 
 pub installed_opening : IsOpening held_installed
@@ -97,4 +98,5 @@ installed_opening = record {
   placed = All-from_recursion (λ o. o.context.0 < 3) installed (omega arith, (omega arith, tt));
   fit = record { placed = All-from_recursion (IsPlaced held_installed) installed (installed_placed machine_context refl refl, (installed_placed officer refl refl, tt)); machine = refl; below = omega arith };
   ceiling = omega arith;
+  within = omega arith;
 }

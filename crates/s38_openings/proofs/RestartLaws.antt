@@ -204,4 +204,5 @@ restarts limit parts small are fault =
       placed = All-from_recursion (λ o. o.context.0 < ceiling + 1) os (placed_same h (ceiling + 1) ss (recursion_from_All (λ o. o.context.0 < ceiling + 1) (map object_in_stored ss) lawful.placed));
       fit = fit_together limit parts small (all_whole gs limit ceiling gs none) (groups_given parts are.fine are.objects) (one_there limit parts fault);
       ceiling = subst (λ (n : ℕ). n ≤ last_number + ceiling_step) (sym at) (low_ceiling parts found.at are.fine found.is);
+      within = omega arith;
     }

@@ -38,5 +38,6 @@ pub record IsOpening (h : Held) : Type 0 where
   pub placed : All (λ o. o.context.0 < h.next) h.objects
   -- each object has an owner who is there, and stands in a context or in none
   pub fit : FitTogether h
-  -- a store can keep the ceiling of numbers
+  -- a store can keep the ceiling of numbers, and no number above it was given
   pub ceiling : h.ceiling ≤ last_number + ceiling_step
+  pub within : h.next ≤ h.ceiling + 1

@@ -32,6 +32,7 @@ use std::snapshot::Snapshot;
 /// Contracts see the disk and the layout, at which home each key stands, for how many new keys memory is reserved,
 /// whether no put has failed, how many puts were refused since one failed, and how often the disk had failed as the vault
 /// was made.
+#[derive(Drop)]
 pub struct PageVault<D: Disk> {
     pub(crate) disk: D,
     pub(crate) layout: Layout,

@@ -11,6 +11,7 @@ use std::snapshot::Snapshot;
 
 /// A page vault that is watched from a moment on. Contracts see it as it was then and as it is. What uses it as a vault
 /// leaves it the one that it was: each image of each moment since then mounts.
+#[derive(Drop)]
 pub struct WatchedVault<D: Disk> {
     vault: PageVault<D>,
     first: Snapshot<PageVault<D>>,

@@ -7,4 +7,5 @@ mod StartLaws
 mod BehindLaws
 mod SettledLaws
 mod WantLaws
+pub mod SentLaws
 mod AskLaws

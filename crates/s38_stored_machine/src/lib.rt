@@ -11,3 +11,12 @@ mod sharing;
 
 pub use ending::Ending;
 pub use machine::{StoredEnd, StoredMachine};
+use s38_vault::Vault;
+
+/// What is sent between threads.
+fn sends<T: Send>() {}
+
+/// A machine may be sent where its vault may.
+pub fn machine_may_be_sent<V: Vault + Drop + Send>() {
+    sends::<StoredMachine<V>>();
+}

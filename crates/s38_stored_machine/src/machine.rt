@@ -1,6 +1,5 @@
 ghost use Rattle.std.specs.Prelude.{◌≡◌, ◌-◌, ◌<◌, ◌≤◌, ◌==◌, ◌^◌, not, All, IfErr, IfOk, IsErrOf, OnErr, OnOk, Some, length};
-ghost use Rattle.std.specs.Option.{option_copied};
-ghost use Rattle.s38_code.specs.Asking.{last_reply, reply_by};
+ghost use Rattle.s38_code.specs.Asking.{reply_by};
 ghost use Rattle.s38_code.specs.declared.step.StepFault.{StepFault};
 ghost use Rattle.s38_image_printing.specs.Parts.{CanSettle};
 ghost use Rattle.s38_machine.specs.Stored.{FitsStore, stored_state_of};
@@ -20,7 +19,7 @@ use crate::ending::Ending;
 use crate::keeping::keep;
 use crate::laws::durable_laws;
 use s38_base::NoMemory;
-use s38_code::{Asked, Checked, Entry, Event, Job, Reply, StepFault};
+use s38_code::{Asked, Checked, Entry, Event, Job, StepFault};
 use s38_extents::{Forcings, Room};
 use s38_machine::{Machine, State};
 use s38_objects::Objects;
@@ -141,14 +140,6 @@ impl<V: Vault> StoredMachine<V> {
             Err(_) => Err(StepFault::NoMemory),
             Ok((asked, all)) => self.settle(asked, &all),
         }
-    }
-
-    /// The reply of the last entry of the history.
-    pub fn last_reply(&self) -> Option<&Reply>
-        requires going { self.now.ending ≡ Ending.Going }
-        ensures { option_copied result ≡ last_reply (run_of self.now).history }
-    {
-        self.machine.last_reply()
     }
 
     /// Lists the processes that are ready, in order of their numbers.

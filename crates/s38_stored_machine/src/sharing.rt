@@ -36,7 +36,7 @@ impl<V: Vault> StoredMachine<V> {
     }
 
     /// The reply of the last entry that was answered.
-    fn last_answer(&self) -> Option<&Reply>
+    pub fn last_reply(&self) -> Option<&Reply>
         ensures { option_copied result ≡ last_reply (run_of self.now).history }
     {
         match self.answered().last() {
@@ -146,6 +146,6 @@ impl<V: Vault> Stepper for StoredMachine<V> {
     }
 
     fn last_reply(&self) -> Option<&Reply> {
-        self.last_answer()
+        StoredMachine::last_reply(self)
     }
 }
