@@ -26,7 +26,7 @@ fn texts(alloc: Global, words: &[String]) -> Result<Vec<&str>, AllocError>
 
 /// Serves words over a disk: on threads where their command starts some.
 #[tactic(auto, using(s38_command::proofs::CommandLaws::on_its_side))]
-fn serve_texts<R: Threads + Wait + Sync, D: Disk, I: Source, O: Sink>(
+fn serve_texts<R: Threads + Wait + Sync, D: Disk + Drop + Send, I: Source, O: Sink>(
     rt: &R,
     alloc: Global,
     threads: bool,
@@ -49,7 +49,7 @@ fn serve_texts<R: Threads + Wait + Sync, D: Disk, I: Source, O: Sink>(
 
 /// Serves words over a disk. The program ends behind it, and its memory with it: neither the disk nor the history is taken
 /// apart.
-fn serve<R: Threads + Wait + Sync, D: Disk + Drop, I: Source, O: Sink>(
+fn serve<R: Threads + Wait + Sync, D: Disk + Drop + Send, I: Source, O: Sink>(
     rt: &R,
     alloc: Global,
     words: &[String],

@@ -49,11 +49,12 @@ const MOUNTING: &[u64] = &[0, 1, 2, 3];
 /// The calls from the last ones of mounting on; a run makes fewer.
 const CALLS: (u64, u64) = (1_790, 3_000);
 
-/// What a call came to: its status, the text, the disk, and the moment of the disk at which it began.
+/// What a call came to: its status, the text, the marks of its entries, the disk, and the moment of the disk at which it began.
 #[derive(Drop)]
 struct Outcome {
     status: u8,
     text: Vec<u8>,
+    marks: Vec<u64>,
     disk: MemDisk,
     begun: u64,
 }
@@ -88,12 +89,14 @@ fn came_of(
     let report = plain_top(alloc, words, &mut source, disk, &mut sink);
     let text = sink.written().to_vec(alloc)?;
     let status = report.status;
+    let marks = report.marks;
     let disk = report.disk;
     match disk {
         None => Err(Failed)?,
         Some(disk) => Ok(Outcome {
             status,
             text,
+            marks,
             disk,
             begun,
         }),
@@ -173,18 +176,31 @@ fn are_new(alloc: Global, disk: MemDisk, moment: u64, fill: u8) -> Result<Option
     }
 }
 
-/// At the moment at which the run begins both entries are old, at that at which it ends both are new.
+/// The moment at which the COMMIT was answered: its entry is the last but one.
+fn committed_at(run: &Outcome) -> Result<u64, Fail> {
+    match run.marks.as_slice() {
+        [.., committed, _] => Ok(*committed),
+        _ => Err(Failed)?,
+    }
+}
+
+/// At the moment at which the run begins both entries are old; from that on at which the COMMIT is answered both are new.
 #[test]
 fn a_crash_leaves_both_changes_or_none(rt: HostRuntime) -> Result<(), Fail> {
     let blocks = two_entries(rt.alloc())?;
     let whole = changed(rt.alloc(), &blocks, NONE)?;
-    assert!(rt; whole.status == 0 && whole.begun < whole.disk.moment());
+    let committed = committed_at(&whole)?;
+    assert!(rt; whole.status == 0 && whole.begun < committed && committed <= whole.disk.moment());
     for &fill in FILLS {
         for moment in whole.begun..whole.disk.moment() {
             let run = changed(rt.alloc(), &blocks, NONE)?;
             let found = are_new(rt.alloc(), run.disk, moment, fill)?;
             assert!(rt; found.is_some(), "{moment} by {fill}");
             assert!(rt; moment != whole.begun || found == Some(false), "{fill}");
+            assert!(rt;
+                moment < committed || found == Some(true),
+                "{moment} by {fill}"
+            );
         }
         let run = changed(rt.alloc(), &blocks, NONE)?;
         let found = are_new(rt.alloc(), run.disk, whole.disk.moment(), fill)?;

@@ -12,6 +12,7 @@ use Rattle.s38_code.specs.declared.entry.Entry.{Entry}
 use Rattle.s38_code.specs.declared.made.CreateResult.{CreateResult}
 use Rattle.s38_code.specs.History.{entries_of}
 use Rattle.s38_process.specs.Process.{ProcessState, RanFrom, fresh}
+use Rattle.s38_rules.specs.Room.{Room}
 use Rattle.s38_rules.specs.declared.object.Object.{Object}
 use Rattle.s38_rules.specs.Headers.{rows_in}
 use Rattle.s38_rules.specs.Held.{Held, has_number, object_in}
@@ -33,8 +34,8 @@ made_is : (deck : Deck) (job : Job) (made : CreateResult) → made_for deck job 
 made_is deck job made h = ap (λ (m : Option CreateResult). fresh (unwrap_or m no_program) job.budget) h
 
 -- each process of the deck ran by its job
-pub each_ran : (held : Held) (Order : State → List Entry → Type 0) (deck : Deck) (history : List Entry) → IsRunOf held Order deck history → AreRun (processes_of deck) history
-each_ran held Order deck history run = record {
+pub each_ran : (room : Option Room) (held : Held) (Order : State → List Entry → Type 0) (deck : Deck) (history : List Entry) → IsRunOf room held Order deck history → AreRun (processes_of deck) history
+each_ran room held Order deck history run = record {
   each = λ k d there.
       let at = mapped_at (process_of deck) deck.jobs k d there in
       let one = run.each k at.0 at.1 in
@@ -46,8 +47,8 @@ begins_closed deck o r k d there =
     let at = mapped_at (process_of deck) deck.jobs k d there in
     subst (λ (x : ProcessState). NoWayIn o r x) at.2 (begins (IsHarmless o r) (unwrap_or (made_for deck at.0) no_program) at.0.budget)
 
-pub as_many : (held : Held) (deck : Deck) → length (processes_of deck) ≡ length (opened held deck).processes
-as_many held deck = length-map deck.jobs (process_of deck) ∙ sym (length-map deck.jobs _)
+pub as_many : (room : Option Room) (held : Held) (deck : Deck) → length (processes_of deck) ≡ length (opened room held deck).processes
+as_many room held deck = length-map deck.jobs (process_of deck) ∙ sym (length-map deck.jobs _)
 
 -- ---- the openings
 
@@ -57,15 +58,15 @@ rows_kept (x ∷ os) n all =
     cond_both (has_number n x) (Some x) (object_in os n) (λ y. AreRows (rows_in y))
     (λ yes. All-head (λ x. AreRows x.rows) x os all) (λ no. rows_kept os n (All-tail (λ x. AreRows x.rows) x os all))
 
-begins_shut : (held : Held) (deck : Deck) (users : List ℕ) (o r : ℕ) → All (λ x. AreRows x.rows) held.objects → o ≢ 0 → NoWay held users o r → BeginsClosed (processes_of deck) (opened held deck) users o r
-begins_shut held deck users o r in_order some none = record {
-  count = as_many held deck;
+begins_shut : (room : Option Room) (held : Held) (deck : Deck) (users : List ℕ) (o r : ℕ) → All (λ x. AreRows x.rows) held.objects → o ≢ 0 → NoWay held users o r → BeginsClosed (processes_of deck) (opened room held deck) users o r
+begins_shut room held deck users o r in_order some none = record {
+  count = as_many room held deck;
   number = some;
   objects = none;
   rows = rows_kept held.objects o in_order;
   variables = begins_closed deck o r;
 }
 
-pub run_confined : (held : Held) (Order : State → List Entry → Type 0) (deck : Deck) (history : List Entry) → All (λ x. AreRows x.rows) held.objects → (run : IsRunOf held Order deck history) → IsConfined held deck history run.state
-run_confined held Order deck history in_order run users o r some none within =
-    closed_history (processes_of deck) (opened held deck) history run.state users o r (begins_shut held deck users o r in_order some none) run.legal within (each_ran held Order deck history run)
+pub run_confined : (room : Option Room) (held : Held) (Order : State → List Entry → Type 0) (deck : Deck) (history : List Entry) → All (λ x. AreRows x.rows) held.objects → (run : IsRunOf room held Order deck history) → IsConfined room held deck history run.state
+run_confined room held Order deck history in_order run users o r some none within =
+    closed_history (processes_of deck) (opened room held deck) history run.state users o r (begins_shut room held deck users o r in_order some none) run.legal within (each_ran room held Order deck history run)

@@ -1,10 +1,11 @@
 -- A whole run from an opening keeps the laws of runs.
-use Rattle.std.specs.Prelude.{None}
+use Rattle.std.specs.Prelude.{Option}
 use Rattle.std.proofs.Common.{All, List, []}
 use Rattle.s38_code.specs.declared.deck.Deck.{Deck}
 use Rattle.s38_code.specs.declared.entry.Entry.{Entry}
 use Rattle.s38_openings.proofs.BeginLaws.{opening_well, run_right, run_well}
 use Rattle.s38_openings.specs.Opening.{IsOpening}
+use Rattle.s38_rules.specs.Room.{Room}
 use Rattle.s38_rules.specs.Held.{Held}
 use Rattle.s38_rules.specs.PrivateRows.{AreRows}
 use Rattle.s38_rules.specs.State.{State}
@@ -24,27 +25,27 @@ rows_in_order : (held : Held) → IsOpening held → All (λ x. AreRows x.rows) 
 rows_in_order held opening k d h = (opening.well k d h).rows
 
 -- each job has the entries of a process, from its start on
-run_by_jobs : (held : Held) (Order : State → List Entry → Type 0) (deck : Deck) (history : List Entry) → IsRunOf held Order deck history → AreRunByJobs deck.jobs history
-run_by_jobs held Order deck history run = record {
+run_by_jobs : (room : Option Room) (held : Held) (Order : State → List Entry → Type 0) (deck : Deck) (history : List Entry) → IsRunOf room held Order deck history → AreRunByJobs deck.jobs history
+run_by_jobs room held Order deck history run = record {
   each = λ k job there. let one = run.each k job there in record { made = one.made; ran = one.ran.by_program };
 }
 
-whole_runs : (held : Held) (Order : State → List Entry → Type 0) (deck : Deck) (history : List Entry) → IsRunOf held Order deck history → AreWholeRuns deck.jobs history
-whole_runs held Order deck history run = record { runs = run_by_jobs held Order deck history run; whole = λ k job there. (run.each k job there).ran.whole }
+whole_runs : (room : Option Room) (held : Held) (Order : State → List Entry → Type 0) (deck : Deck) (history : List Entry) → IsRunOf room held Order deck history → AreWholeRuns deck.jobs history
+whole_runs room held Order deck history run = record { runs = run_by_jobs room held Order deck history run; whole = λ k job there. (run.each k job there).ran.whole }
 
-pub run_keeps : (held : Held) (Order : State → List Entry → Type 0) (deck : Deck) (history : List Entry) → IsOpening held → (run : IsRunOf held Order deck history) → KeepsLaws held deck history run.state
-run_keeps held Order deck history opening run = record {
-  confined = run_confined held Order deck history (rows_in_order held opening) run;
+pub run_keeps : (room : Option Room) (held : Held) (Order : State → List Entry → Type 0) (deck : Deck) (history : List Entry) → IsOpening held → (run : IsRunOf room held Order deck history) → KeepsLaws room held deck history run.state
+run_keeps room held Order deck history opening run = record {
+  confined = run_confined room held Order deck history (rows_in_order held opening) run;
   later =
-      confined_later (processes_of deck) (opened held deck) history run.state (opening_well None held (checked_of deck) deck.jobs opening) (as_many held deck) run.legal
-      (each_ran held Order deck history run);
-  owned = run_owned held Order deck history opening run;
-  suited = run_suits held Order deck history opening run;
-  live = (run_live None held (checked_of deck) deck.jobs history run.state (run_by_jobs held Order deck history run) run.legal).0;
-  left = nothing_left None held (checked_of deck) deck.jobs history run.state opening (whole_runs held Order deck history run) run.legal;
-  well = (run_well None held (checked_of deck) deck.jobs history run.state opening run.legal).0;
-  ordered = (run_in_order None held (checked_of deck) deck.jobs history run.state opening run.legal).0;
-  right = (run_right None held (checked_of deck) deck.jobs history run.state opening run.legal).0;
-  going = history_going (opened held deck) history (begins_going None held (checked_of deck) deck.jobs);
-  awake = history_awake (opened held deck) [] history run.state run.legal;
+      confined_later (processes_of deck) (opened room held deck) history run.state (opening_well room held (checked_of deck) deck.jobs opening) (as_many room held deck) run.legal
+      (each_ran room held Order deck history run);
+  owned = run_owned room held Order deck history opening run;
+  suited = run_suits room held Order deck history opening run;
+  live = (run_live room held (checked_of deck) deck.jobs history run.state (run_by_jobs room held Order deck history run) run.legal).0;
+  left = nothing_left room held (checked_of deck) deck.jobs history run.state opening (whole_runs room held Order deck history run) run.legal;
+  well = (run_well room held (checked_of deck) deck.jobs history run.state opening run.legal).0;
+  ordered = (run_in_order room held (checked_of deck) deck.jobs history run.state opening run.legal).0;
+  right = (run_right room held (checked_of deck) deck.jobs history run.state opening run.legal).0;
+  going = history_going (opened room held deck) history (begins_going room held (checked_of deck) deck.jobs);
+  awake = history_awake (opened room held deck) [] history run.state run.legal;
 }

@@ -3,5 +3,8 @@ mod OwnerLaws
 mod KeepLaws
 pub mod TopLaws
 mod StoreLaws
+mod SentLaws
+mod OverLaws
+mod BegunLaws
 mod ConfinedLaws
 pub mod SafeLaws

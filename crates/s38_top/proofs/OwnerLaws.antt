@@ -14,6 +14,7 @@ use Rattle.s38_owner_laws.specs.Beginnings.{AreAsked, Begin, IsChecked, IsFresh}
 use Rattle.s38_owner_laws.specs.Owners.{AllOwnersAgree}
 use Rattle.s38_reply_laws.proofs.HistoryLaws.{history_suits}
 use Rattle.s38_reply_laws.specs.Replies.{AllSuit}
+use Rattle.s38_rules.specs.Room.{Room}
 use Rattle.s38_rules.specs.Held.{Held}
 use Rattle.s38_rules.specs.State.{State}
 use Rattle.s38_template.specs.Places.{template_of}
@@ -29,19 +30,19 @@ job_fresh : (deck : Deck) (job : Job) → IsFresh (process_of deck job)
 job_fresh deck job = record { made = unwrap_or (made_for deck job) no_program; budget = job.budget; is = refl; checked = job_checked (template_of deck job) }
 
 -- the jobs of a deck begin
-run_begins : (held : Held) (deck : Deck) → IsOpening held → Begin (processes_of deck) (opened held deck)
-run_begins held deck opening =
-    opening_begins None held (checked_of deck) deck.jobs (processes_of deck) (in_order held opening) (templates_checked checked_template deck.templates template_checked)
+run_begins : (room : Option Room) (held : Held) (deck : Deck) → IsOpening held → Begin (processes_of deck) (opened room held deck)
+run_begins room held deck opening =
+    opening_begins room held (checked_of deck) deck.jobs (processes_of deck) (in_order held opening) (templates_checked checked_template deck.templates template_checked)
     (each_fresh (process_of deck) deck.jobs (job_fresh deck))
 
-run_asked : (held : Held) (Order : State → List Entry → Type 0) (deck : Deck) (history : List Entry) → IsRunOf held Order deck history → AreAsked (processes_of deck) history
-run_asked held Order deck history run = record { each = (each_ran held Order deck history run).each }
+run_asked : (room : Option Room) (held : Held) (Order : State → List Entry → Type 0) (deck : Deck) (history : List Entry) → IsRunOf room held Order deck history → AreAsked (processes_of deck) history
+run_asked room held Order deck history run = record { each = (each_ran room held Order deck history run).each }
 
-pub run_owned : (held : Held) (Order : State → List Entry → Type 0) (deck : Deck) (history : List Entry) → IsOpening held → (run : IsRunOf held Order deck history)
-    → AllOwnersAgree (processes_of deck) (opened held deck) [] history
-run_owned held Order deck history opening run =
-    history_agrees (processes_of deck) (opened held deck) history run.state (run_begins held deck opening) run.legal (run_asked held Order deck history run)
+pub run_owned : (room : Option Room) (held : Held) (Order : State → List Entry → Type 0) (deck : Deck) (history : List Entry) → IsOpening held → (run : IsRunOf room held Order deck history)
+    → AllOwnersAgree (processes_of deck) (opened room held deck) [] history
+run_owned room held Order deck history opening run =
+    history_agrees (processes_of deck) (opened room held deck) history run.state (run_begins room held deck opening) run.legal (run_asked room held Order deck history run)
 
-pub run_suits : (held : Held) (Order : State → List Entry → Type 0) (deck : Deck) (history : List Entry) → IsOpening held → (run : IsRunOf held Order deck history) → AllSuit (processes_of deck) [] history
-run_suits held Order deck history opening run =
-    history_suits (processes_of deck) (opened held deck) history run.state (run_begins held deck opening) run.legal (run_asked held Order deck history run)
+pub run_suits : (room : Option Room) (held : Held) (Order : State → List Entry → Type 0) (deck : Deck) (history : List Entry) → IsOpening held → (run : IsRunOf room held Order deck history) → AllSuit (processes_of deck) [] history
+run_suits room held Order deck history opening run =
+    history_suits (processes_of deck) (opened room held deck) history run.state (run_begins room held deck opening) run.legal (run_asked room held Order deck history run)

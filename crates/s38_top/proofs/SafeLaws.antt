@@ -1,102 +1,127 @@
 -- What a crash leaves of a store while a call goes on.
-use Rattle.std.proofs.Common.{◌≡◌, inl, inr, sym, subst}
-use Rattle.std.specs.Prelude.{IfErr, IfOk, Option, Result, Some, None, Ok, Err}
-use Rattle.s38_base.specs.declared.fault.NoMemory.{NoMemory as Fault}
+use Rattle.std.proofs.Common.{◌≡◌, ◌∙◌, ◌⊎◌, inl, inr, ℕ, ◌<◌, ◌≤◌, List, [], ap, sym, subst, arith}
+use Rattle.std.specs.Prelude.{IfErr, Option, Result, Some, None, Ok, Err}
 use Rattle.s38_closing.specs.Closing.{closing}
+use Rattle.s38_blocks.specs.Store.{Stands}
 use Rattle.s38_code.specs.declared.deck.Deck.{Deck}
+use Rattle.s38_code.specs.declared.entry.Entry.{Entry}
+use Rattle.s38_code.specs.declared.made.CreateResult.{CreateResult}
 use Rattle.s38_command.specs.declared.command.Command.{Command}
 use Rattle.s38_command.specs.declared.command.Command.TheVariants.{Jobs, Check, Demo, Install, List as Listing}
 use Rattle.s38_command.specs.declared.turns.Turns.{Turns}
-use Rattle.s38_disk.specs.Disk.{DiskView}
-use Rattle.s38_pages.specs.Vaults.{PageStore, page_holds}
-use Rattle.s38_rules.specs.Held.{Held}
+use Rattle.s38_disk.specs.Disk.{DiskView, Leaves, moment_of}
+use Rattle.s38_disk.specs.declared.block.Block.{Block}
+use Rattle.s38_durable.specs.Durable.{durable}
+use Rattle.s38_kept_laws.specs.Beginning.{cleaned, durable_in}
+use Rattle.s38_pages.specs.Mounts.{layout_of}
+use Rattle.s38_pages.specs.Vaults.{PageStore, page_holds, page_view}
+use Rattle.s38_pages.specs.Watched.{WatchedStore}
+use Rattle.s38_rules.specs.Legal.{Leads, Run}
+use Rattle.s38_rules.specs.Room.{Room}
 use Rattle.s38_rules.specs.State.{State}
-use Rattle.s38_stores.proofs.CrashLaws.{during_both, during_none, during_wider}
+use Rattle.s38_stored_machine.specs.Puts.{AllOnePut}
+use Rattle.s38_stored_machine.specs.Seen.{StoredView}
+use Rattle.s38_stored_machine.specs.Sound.{IsOf}
+use Rattle.s38_stores.proofs.CrashLaws.{during_none, goes_then}
 use Rattle.s38_stores.specs.Crashes.{DuringCall, IsBetween, IsPartlyCleaned, KeepsRestarting}
-use Rattle.s38_stores.specs.Stores.{Restarts}
-use Rattle.s38_top.specs.Begun.{IsWholeOf, held_of}
-use Rattle.s38_top.specs.Crash.{IsRunLeft, IsSafe, KeepsRun, NoneWasKept, RunWasKept, WasLeft, cleaned}
-use Rattle.s38_top.specs.Decks.{order_of}
-use Rattle.s38_top.specs.Ends.{IsReady}
-use Rattle.s38_top.specs.Runs.{kept_of}
-use Rattle.s38_top.specs.declared.outcome.Whole.{Whole}
-use Rattle.s38_top.specs.declared.start.Started.{Started}
+use Rattle.s38_top.specs.Crash.{ArePlanned, Between, IsClosing, IsLeftAt, IsSafe, KeepsRun, MadeRun}
+use Rattle.s38_top.specs.Decks.{AreStoreMarks, IsRunTo, opened, order_of}
+use Rattle.s38_top.specs.Ends.{IsReady, IsSafeOf, LeftOver}
+use Rattle.s38_top.specs.Runs.{BeginsWith, RanTo, kept_of}
+use Rattle.s38_top.specs.Stored.{vault_of}
+use Rattle.s38_top.specs.declared.outcome.Outcome.{Outcome}
+use Rattle.s38_top.specs.declared.outcome.Outcome.TheVariants.{NoMemory}
+use Rattle.s38_top.specs.Outcome.{history_of, marks_of}
 use Rattle.s38_vault.specs.Content.{Content}
+use Rattle.s38_vault.specs.Vaults.{most_changes}
 
 -- ---- a disk that is left alone
 
 pub keeps_none : (d : DiskView) → KeepsRestarting d d
 keeps_none d = record { content = λ s at rest m stands. during_none d _; objects = λ s at rest h is. during_none d _ }
 
-pub safe_none : (asked : Option Command) (d : DiskView) → IsSafe asked d d
-safe_none None d = keeps_none d
-safe_none (Some (Jobs turns)) d = inl (keeps_none d)
-safe_none (Some Check) d = keeps_none d
-safe_none (Some (Demo size)) d = keeps_none d
-safe_none (Some Install) d = λ s at rest. during_none d _
-safe_none (Some Listing) d = keeps_none d
+pub safe_still : (asked : Option Command) (d : DiskView) (wanting : Type 0) (history : List Entry) (marks : List ℕ) → IsSafe asked d d wanting history marks
+safe_still None d wanting history marks = keeps_none d
+safe_still (Some (Jobs turns)) d wanting history marks = inl (keeps_none d)
+safe_still (Some Check) d wanting history marks = keeps_none d
+safe_still (Some (Demo size)) d wanting history marks = keeps_none d
+safe_still (Some Install) d wanting history marks = λ s at rest. during_none d _
+safe_still (Some Listing) d wanting history marks = keeps_none d
+
+pub safe_none : (asked : Option Command) (d : DiskView) (o : Outcome) → IsSafeOf asked d d o
+safe_none asked d o = safe_still asked d (o ≡ NoMemory) (history_of o) (marks_of o)
 
 -- the disk is given back as it is
 pub keeps_given : (old v new : DiskView) → new ≡ v → KeepsRestarting old v → KeepsRestarting old new
 keeps_given old v new is keeps = subst (λ (d : DiskView). KeepsRestarting old d) (sym is) keeps
 
-pub safe_of : (asked : Option Command) (command : Command) (old new : DiskView) → asked ≡ Some command → IsSafe (Some command) old new → IsSafe asked old new
-safe_of asked command old new is safe = subst (λ (o : Option Command). IsSafe o old new) (sym is) safe
+pub safe_of : (asked : Option Command) (command : Command) (old new : DiskView) (o : Outcome) → asked ≡ Some command → IsSafeOf (Some command) old new o → IsSafeOf asked old new o
+safe_of asked command old new o is safe = subst (λ (a : Option Command). IsSafeOf a old new o) (sym is) safe
 
 -- where no run was prepared
-pub unprepared_safe : {R E : Type 0} (r : Result R E) (new : E → DiskView) (asked : Option Command) (turns : Turns) (old : DiskView) → asked ≡ Some (Jobs turns)
-    → IfErr r (λ d. KeepsRestarting old (new d)) → IfErr r (λ d. IsSafe asked old (new d))
-unprepared_safe (Ok x) new asked turns old is keeps = tt
-unprepared_safe (Err d) new asked turns old is keeps = safe_of asked (Jobs turns) old (new d) is (inl keeps)
+pub unprepared_safe : {R E : Type 0} (r : Result R E) (new : E → DiskView) (of : E → Outcome) (asked : Option Command) (turns : Turns) (old : DiskView) → asked ≡ Some (Jobs turns)
+    → IfErr r (λ d. KeepsRestarting old (new d)) → IfErr r (λ d. IsSafeOf asked old (new d) (of d))
+unprepared_safe (Ok x) new of asked turns old is keeps = tt
+unprepared_safe (Err d) new of asked turns old is keeps = safe_of asked (Jobs turns) old (new d) (of d) is (inl keeps)
 
 -- ---- what a run left is kept
 
 pub kept_at : {e e' : State} → e ≡ e' → (v new : DiskView) (m : Content) → DuringCall v new (IsBetween new.size m (closing e.units e.held)) → DuringCall v new (IsBetween new.size m (kept_of e'))
 kept_at same v new m during = subst (λ s. DuringCall v new (IsBetween new.size m (kept_of s))) same during
 
--- memory was wanted for the run
-pub given_back : (v new : DiskView) (r : Result Whole Fault) (fault : Fault) (m : Content) → r ≡ Err fault → new ≡ v → DuringCall v new (IsRunLeft r new.size m)
-given_back v new r fault m is same = subst (λ (x : Result Whole Fault). DuringCall v new (IsRunLeft x new.size m)) (sym is) (subst (λ (d : DiskView). DuringCall v d (λ _. ⊥)) (sym same) (during_none v (λ _. ⊥)))
-
-pub run_left : (turns : Turns) (held : Held) (deck : Deck) (v : PageStore) (new : DiskView) (r : Result Whole Fault) → IfOk r (λ whole. IsWholeOf held (order_of turns) deck whole)
-    → ((m : Content) → page_holds v m → DuringCall v.disk new (IsRunLeft r new.size m)) → WasLeft turns held deck v new
-run_left turns held deck v new (Ok whole) w during = inr (record {
-  history = whole.history.items;
-  run = w.run;
-  during = λ m holds. subst (λ s. DuringCall v.disk new (IsBetween new.size m (kept_of s))) (sym w.state_is) (during m holds);
-})
-run_left turns held deck v new (Err fault) w during = inl during
-
 -- ---- behind the opening
 
-none_behind : (old new : DiskView) (started : Started) (v : PageStore) → IsReady old started v → NoneWasKept v new → KeepsRestarting old new
-none_behind old new started v ready none = record {
-  content = λ s at rest m stands.
-      let was = ready.holds s at in
-      let late = none (cleaned was.0) was.1.1 in
-      during_both (subst (λ n. DuringCall old v.disk (IsPartlyCleaned n m)) (sym late.size) (ready.during.content s at rest m stands))
-      (during_wider late (λ g no. absurd no));
-  objects = λ s at rest h is.
-      let was = ready.holds s at in
-      let late = none (cleaned was.0) was.1.1 in
-      during_both (subst (λ n. DuringCall old v.disk (λ g. Restarts n g h)) (sym late.size) (ready.during.objects s at rest h is))
-      (during_wider late (λ g no. absurd no));
-}
+module _ (turns : Turns) (old new : DiskView) (deck : Deck) (made : List CreateResult) (x : StoredView WatchedStore) (o : Outcome) (ready : IsReady old deck made x)
+    (left : LeftOver turns deck (vault_of x) x.machine.origin new o) where
+  abbrev v : PageStore
+  v = vault_of x
 
-run_behind : (turns : Turns) (old new : DiskView) (started : Started) (v : PageStore) → IsReady old started v → RunWasKept turns (held_of started) started.deck v new → KeepsRun turns old new
-run_behind turns old new started v ready kept = record {
-  deck = started.deck;
-  history = kept.history;
-  ran = record { held = held_of started; opening = ready.opening; restarts = ready.restarts; run = kept.run };
-  during = λ s at rest.
-      let was = ready.holds s at in
-      let late = kept.during (cleaned was.0) was.1.1 in
-      let early = subst (λ n. DuringCall old v.disk (IsPartlyCleaned n was.0)) (sym late.size) (ready.during.content s at rest was.0 was.1.0) in
-      (was.0, (was.1.0, during_both (during_wider early (λ g is. inl is)) (during_wider late (λ g is. inr is))));
-}
+  abbrev s : State
+  s = x.machine.origin
 
--- a run that was prepared, and kept or not
-pub ready_safe : (asked : Option Command) (turns : Turns) (old new : DiskView) (started : Started) (v : PageStore) → asked ≡ Some (Jobs turns) → IsReady old started v
-    → WasLeft turns (held_of started) started.deck v new → IsSafe asked old new
-ready_safe asked turns old new started v is ready (inl none) = safe_of asked (Jobs turns) old new is (inl (none_behind old new started v ready none))
-ready_safe asked turns old new started v is ready (inr kept) = safe_of asked (Jobs turns) old new is (inr (run_behind turns old new started v ready kept))
+  -- the state with which the run began
+  state_is : s ≡ opened (Some ready.room) s.held deck
+  state_is = origin_opened ∙ ap (λ (r : Option Room). opened r s.held deck) ready.has
+    where
+      origin_opened : s ≡ opened s.room s.held deck
+      origin_opened = ap (λ (m : Run). m.origin) ready.begun.machine
+
+  abbrev ran : RanTo turns old deck left.entries
+  ran = record {
+    held = s.held;
+    room = ready.room;
+    begins = ready.begins;
+    run = record {
+      state = left.run.state;
+      legal = subst (λ (r : Option Room). Leads (opened r s.held deck) [] left.entries left.run.state) ready.has left.run.legal;
+      order = subst (λ (r : Option Room). order_of turns (opened r s.held deck) left.entries) ready.has left.run.order;
+      each = left.run.each;
+    };
+  }
+
+  run_made : MadeRun turns old new left.entries left.marks
+  run_made = record {
+    deck = deck;
+    ran = ran;
+    planned = left.planned;
+    plans = subst (λ (u : State). ArePlanned u left.entries left.planned) state_is left.plans;
+    first = (page_view v).moment;
+    last = left.last;
+    goes = goes_then ready.goes left.goes;
+    began = ready.goes.later;
+    marked = left.marked;
+    ended = left.ended;
+    opening = λ f at rest m stands t g low high image.
+        let during = ready.during.content f at rest m stands in
+        subst (λ (n : ℕ). IsPartlyCleaned n m g) (sym left.goes.size) (during.each t g low high ((left.goes.before t g high).1 image));
+    running = λ f at rest m stands puts t g low high image.
+        let one = ready.holds f at m stands in
+        subst (λ (u : State). IsLeftAt new.size (durable_in m) u left.planned left.marks t g) state_is
+        (left.running (cleaned m) (durable_in m) one.0 one.1 (subst (λ (u : State). AllOnePut most_changes (durable_in m) u left.planned) (sym state_is) puts) t g low high image);
+    closing = λ f at rest m stands t g low high image.
+        let one = ready.holds f at m stands in
+        subst (λ (u : State). IsClosing new.size (durable (durable_in m) u left.entries) left.run.state g) state_is (left.closing (cleaned m) (durable_in m) one.0 one.1 t g low high image);
+  }
+
+  pub run_safe : (asked : Option Command) → asked ≡ Some (Jobs turns) → IsSafeOf asked old new o
+  run_safe asked is = safe_of asked (Jobs turns) old new o is (inr (record { entries = left.entries; marks_made = left.marks; made = run_made; reported = left.reported }))

@@ -1,24 +1,29 @@
 -- From a store that was opened to what a run over it comes to.
-use Rattle.std.proofs.Common.{◌≡◌, ℕ, List, [], refl, sym, subst}
-use Rattle.std.specs.Prelude.{Err, IfErr, IfOk, Ok, OnOk, Option, Result, Some, None}
+use Rattle.std.proofs.Common.{◌≡◌, ℕ, ◌+◌, ◌≤◌, List, [], ◌∷◌, refl, sym, subst, arith}
+use Rattle.std.specs.Prelude.{Err, IfErr, Ok, OnOk, Option, Result, Some, slice_get}
 use Rattle.s38_base.specs.Faults.{Rose}
 use Rattle.s38_base.specs.declared.fault.NoMemory.{NoMemory as Fault}
 use Rattle.s38_keeping.specs.declared.fault.KeepFault.{KeepFault}
 use Rattle.s38_keeping.specs.declared.fault.KeepFault.TheVariants as closes
 use Rattle.s38_code.specs.declared.deck.Deck.{Deck}
+use Rattle.s38_code.specs.declared.deck.Job.{Job}
 use Rattle.s38_code.specs.declared.entry.Entry.{Entry}
+use Rattle.s38_code.specs.declared.made.CreateResult.{CreateResult}
+use Rattle.s38_code.specs.History.{entries_of}
 use Rattle.s38_disk.specs.Blocks.{State as Blocks}
-use Rattle.s38_disk.specs.Disk.{DiskView, IsAt}
+use Rattle.s38_disk.specs.Disk.{DiskView, IsAt, moment_of}
 use Rattle.s38_objects.specs.Lawful.{IsLawful}
 use Rattle.s38_openings.specs.Closing.{CanClose}
 use Rattle.s38_openings.specs.Opening.{IsOpening}
 use Rattle.s38_openings.proofs.CloseLaws.{end_closes}
-use Rattle.s38_pages.specs.Vaults.{PageStore, page_holds}
+use Rattle.s38_kept_laws.specs.Beginning.{cleaned, durable_in}
+use Rattle.s38_pages.specs.Vaults.{PageStore, page_holds, page_view}
+use Rattle.s38_pages.specs.Watched.{WatchedStore}
 use Rattle.s38_rules.specs.Held.{Held}
-use Rattle.s38_rules.specs.Legal.{Leads}
+use Rattle.s38_rules.specs.Legal.{AreMoments, Leads}
+use Rattle.s38_rules.specs.Room.{Room}
 use Rattle.s38_rules.specs.State.{State}
-use Rattle.s38_stores.specs.Crashes.{KeepsRestarting}
-use Rattle.s38_stores.specs.Opened.{HoldsCleaned, IsFaultless}
+use Rattle.s38_stored_machine.specs.Seen.{StoredView}
 use Rattle.s38_stores.specs.Refusals.{IsRefusal}
 use Rattle.s38_stores.specs.Stores.{IsFullOf, Keeps, Restarts}
 use Rattle.s38_stores.specs.declared.fault.StoreRefusal.{StoreRefusal}
@@ -31,15 +36,14 @@ use Rattle.s38_top.specs.declared.outcome.Outcome.TheVariants.{BadWords, BadDeck
 use Rattle.s38_top.specs.declared.outcome.RunEnd.{RunEnd}
 use Rattle.s38_top.specs.declared.outcome.RunEnd.TheVariants as ends
 use Rattle.s38_top.specs.declared.outcome.Whole.{Whole}
-use Rattle.s38_top.specs.declared.start.Started.{Started}
 use Rattle.s38_command.specs.declared.turns.Turns.{Turns}
-use Rattle.s38_top.specs.Begun.{IsStarted, IsWholeOf, held_of}
-use Rattle.s38_top.specs.Decks.{AreMarks, IsRunOf, checked_of, opened, order_of}
-use Rattle.s38_top.specs.Ends.{CameFrom, IsDecided, IsEnd, IsEndOf, IsReadFrom, IsReady, IsRunBehind, end_of}
-use Rattle.s38_top.specs.Outcome.{OfText, refused}
+use Rattle.s38_top.specs.Decks.{AreStoreMarks, IsFrontOfJob, IsRunOfJob, checked_of, opened, order_of}
+use Rattle.s38_top.specs.Ends.{CameFrom, IsDecided, IsReadFrom, IsReady, IsRunBehind, IsRunEnded, IsRunStopped, end_of}
+use Rattle.s38_top.specs.Outcome.{CameToEnd, CameToRun, CameToStop, OfText, refused}
 use Rattle.s38_top.specs.Outside.{outside}
 use Rattle.s38_top.proofs.TopLaws.{source_holds, text_comes}
-use Rattle.s38_top.specs.Runs.{EndsWith, LeavesBehind, kept_of}
+use Rattle.s38_top.specs.Runs.{EndsWith, LeavesBehind, LeavesBy, kept_of}
+use Rattle.s38_top.specs.Stored.{vault_of}
 use Rattle.s38_vault.specs.Content.{Content}
 
 -- what a store that was kept leaves
@@ -47,85 +51,125 @@ pub leaves_of : (v : PageStore) (new : DiskView) (e : State) (r : Result (Unit {
     → OnOk r ((m : Content) → page_holds v m → (t : Blocks) → IsAt new.past t → Keeps new.size t.now (kept_of e))
     → ((needed free : ℕ) → r ≡ Err (closes.Full needed free) → (m : Content) → page_holds v m → (t : Blocks) → IsAt new.past t → IsFullOf new.size t.now (kept_of e) needed free)
     → IfErr r (λ fault. fault ≡ closes.Failed → Rose v.start new.faults)
-    → LeavesBehind v new e end
-leaves_of v new e (Ok done) end is kept full failed = subst (LeavesBehind v new e) (kept_is end is) kept
+    → LeavesBy v new e end
+leaves_of v new e (Ok done) end is kept full failed = subst (LeavesBy v new e) (kept_is end is) kept
   where
     kept_is : (x : RunEnd) → Some x ≡ Some ends.Kept → ends.Kept ≡ x
     kept_is x g = cc
-leaves_of v new e (Err (closes.Full needed free)) end is kept full failed = subst (LeavesBehind v new e) (full_is end is) (full needed free refl)
+leaves_of v new e (Err (closes.Full needed free)) end is kept full failed = subst (LeavesBy v new e) (full_is end is) (full needed free refl)
   where
     full_is : (x : RunEnd) → Some x ≡ Some (ends.Full needed free) → ends.Full needed free ≡ x
     full_is x g = cc
-leaves_of v new e (Err closes.Failed) end is kept full failed = subst (LeavesBehind v new e) (failed_is end is) (failed refl)
+leaves_of v new e (Err closes.Failed) end is kept full failed = subst (LeavesBy v new e) (failed_is end is) (failed refl)
   where
     failed_is : (x : RunEnd) → Some x ≡ Some ends.Failed → ends.Failed ≡ x
     failed_is x g = cc
 leaves_of v new e (Err closes.NoMemory) end is kept full failed = cc
+
+-- a run that was kept, or is not, was made to its end
+pub kept_end : (r : Result (Unit {0}) KeepFault) (end : RunEnd) → Some end ≡ end_of r → end ≡ ends.Stopped → ⊥
+kept_end (Ok done) end is stopped = cc
+kept_end (Err (closes.Full needed free)) end is stopped = cc
+kept_end (Err closes.Failed) end is stopped = cc
+kept_end (Err closes.NoMemory) end is stopped = cc
 
 -- the same of a state that is told otherwise
 pub leaves_at : {e e' : State} → e ≡ e' → (v : PageStore) (new : DiskView) (r : Result (Unit {0}) KeepFault) (end : RunEnd) → Some end ≡ end_of r
     → OnOk r ((m : Content) → page_holds v m → (t : Blocks) → IsAt new.past t → Keeps new.size t.now (kept_of e))
     → ((needed free : ℕ) → r ≡ Err (closes.Full needed free) → (m : Content) → page_holds v m → (t : Blocks) → IsAt new.past t → IsFullOf new.size t.now (kept_of e) needed free)
     → IfErr r (λ fault. fault ≡ closes.Failed → Rose v.start new.faults)
-    → LeavesBehind v new e' end
-leaves_at {e} same v new r end is kept full failed = subst (λ s. LeavesBehind v new s end) same (leaves_of v new e r end is kept full failed)
+    → LeavesBy v new e' end
+leaves_at {e} same v new r end is kept full failed = subst (λ s. LeavesBy v new s end) same (leaves_of v new e r end is kept full failed)
 
--- what a run from some objects comes to, by what it left
-pub end_came : (turns : Turns) (held : Held) (deck : Deck) (v : PageStore) (new : DiskView) (whole : Whole) (o : Outcome) → whole.deck ≡ deck
-    → (run : IsRunOf held (order_of turns) deck whole.history.items) × (run.state ≡ whole.state) → AreMarks whole.marks.items whole.history.items
-    → IsEnd turns whole v new o → CameFrom turns held deck v new o
-end_came turns held deck v new whole (Ran x ran end) deck_is run marks is =
-    let here = subst (λ d. (r : IsRunOf held (order_of turns) d whole.history.items) × (r.state ≡ whole.state)) (sym deck_is) run in
-    let behind : LeavesBehind v new here.0.state end = subst (λ e. LeavesBehind v new e end) (sym here.1) is.1.1 in
-    let came : IsRunBehind turns held deck v new whole end = record { deck_is = deck_is; run = here.0; marks = marks; behind = behind } in
-    (is.0, subst (λ w. IsRunBehind turns held deck v new w end) (sym is.1.0) came)
-end_came turns held deck v new whole NoMemory deck_is run marks is = tt
-end_came turns held deck v new whole BadWords deck_is run marks is = absurd is
-end_came turns held deck v new whole (BadDeck line code) deck_is run marks is = absurd is
-end_came turns held deck v new whole DeckFault deck_is run marks is = absurd is
-end_came turns held deck v new whole (Refused bad) deck_is run marks is = absurd is
-end_came turns held deck v new whole DiskFault deck_is run marks is = absurd is
-end_came turns held deck v new whole (Checked checked) deck_is run marks is = absurd is
-end_came turns held deck v new whole (Demonstrated size ran) deck_is run marks is = absurd is
-end_came turns held deck v new whole Installed deck_is run marks is = absurd is
-end_came turns held deck v new whole (Listed objects) deck_is run marks is = absurd is
-
--- a run from an opening can be closed
-pub run_closes : (held : Held) (Order : State → List Entry → Type 0) (deck : Deck) (history : List Entry) (e : State) → IsOpening held → (run : IsRunOf held Order deck history) × (run.state ≡ e) → IsLawful e.held → CanClose e
-run_closes held Order deck history e opening run lawful =
-    end_closes None held (checked_of deck) deck.jobs history e opening (subst (λ s. Leads (opened held deck) [] history s) run.1 run.0.legal) lawful
+-- ---- what a run over the store of a disk comes to
 
 -- what is behind in a vault is behind on its disk
-ends_behind : (old new : DiskView) (v : PageStore) (e : State) (end : RunEnd) → HoldsCleaned old v → IsFaultless old v → LeavesBehind v new e end → EndsWith old new e end
-ends_behind old new v e ends.Kept cleaned faultless behind = λ s t at is. behind _ (cleaned s at).1.1 t is
-ends_behind old new v e ends.Failed cleaned faultless behind = subst (λ n. Rose n new.faults) faultless.start behind
-ends_behind old new v e (ends.Full needed free) cleaned faultless behind = λ s t at is. behind _ (cleaned s at).1.1 t is
+ends_behind : (old new : DiskView) (deck : Deck) (made : List CreateResult) (x : StoredView WatchedStore) (e : State) (end : RunEnd) → IsReady old deck made x → LeavesBehind (vault_of x) x.machine.origin new e end → EndsWith old new e end
+ends_behind old new deck made x e ends.Kept ready behind = λ s t at is. let was = ready.content s at in let one = ready.holds s at was.0 was.1 in behind (cleaned was.0) (durable_in was.0) one.0 one.1 t is
+ends_behind old new deck made x e ends.Failed ready behind = subst (λ n. Rose n new.faults) ready.faultless.start behind
+ends_behind old new deck made x e (ends.Full needed free) ready behind = λ s t at is. let was = ready.content s at in let one = ready.holds s at was.0 was.1 in behind (cleaned was.0) (durable_in was.0) one.0 one.1 t is
+ends_behind old new deck made x e ends.Stopped ready behind = subst (λ n. Rose n new.faults) ready.faultless.start behind
 
--- what a run over the store of a disk comes to
-pub opened_ends : (turns : Turns) (old new : DiskView) (held : Held) (text : List ℕ) (deck : Deck) (v : PageStore) (o : Outcome) → Spells text deck → IsOpening held
-    → ((s : Blocks) → IsAt old.past s → Restarts old.size s.now held) → HoldsCleaned old v → IsFaultless old v → CameFrom turns held deck v new o → OfText (Jobs turns) text old new o
-opened_ends turns old new held text deck v (Ran x whole end) spelled opening restarts cleaned faultless came =
-    subst (λ m. OfText (Jobs turns) text old new (Ran m whole end)) (sym came.0) (
-      refl,
-      (
-        subst (λ d. Spells text d) (sym came.1.deck_is) spelled,
-        record {
-          ran = record { held = held; opening = opening; restarts = restarts; run = came.1.run };
-          marks = came.1.marks;
-          ends = ends_behind old new v came.1.run.state end cleaned faultless came.1.behind;
-        },
-      ),
-    )
-opened_ends turns old new held text deck v NoMemory spelled opening restarts cleaned faultless came = tt
-opened_ends turns old new held text deck v BadWords spelled opening restarts cleaned faultless came = absurd came
-opened_ends turns old new held text deck v (BadDeck line code) spelled opening restarts cleaned faultless came = absurd came
-opened_ends turns old new held text deck v DeckFault spelled opening restarts cleaned faultless came = absurd came
-opened_ends turns old new held text deck v (Refused bad) spelled opening restarts cleaned faultless came = absurd came
-opened_ends turns old new held text deck v DiskFault spelled opening restarts cleaned faultless came = absurd came
-opened_ends turns old new held text deck v (Checked checked) spelled opening restarts cleaned faultless came = absurd came
-opened_ends turns old new held text deck v (Demonstrated size ran) spelled opening restarts cleaned faultless came = absurd came
-opened_ends turns old new held text deck v Installed spelled opening restarts cleaned faultless came = absurd came
-opened_ends turns old new held text deck v (Listed objects) spelled opening restarts cleaned faultless came = absurd came
+marks_from : (first later last : ℕ) (marks : List ℕ) (history : List Entry) → first ≤ later → AreStoreMarks later last marks history → AreStoreMarks first last marks history
+marks_from first later last marks history le are = record { count = are.count; moments = from marks are.moments }
+  where
+    from : (ms : List ℕ) → AreMoments later ms last → AreMoments first ms last
+    from [] all = omega (arith, le, all)
+    from (m ∷ ms) all = let low = all.0 in (omega (arith, le, low), all.1)
+
+module _ (turns : Turns) (old new : DiskView) (deck : Deck) (made : List CreateResult) (x : StoredView WatchedStore) (ready : IsReady old deck made x) where
+  abbrev s : State
+  s = x.machine.origin
+
+  came_end : (whole : Whole) (end : RunEnd) → IsRunBehind turns deck (vault_of x) s new whole end → CameToEnd turns old new whole end
+  came_end whole end behind = record {
+    ran = record {
+      held = s.held;
+      room = ready.room;
+      begins = ready.begins;
+      run = record {
+        state = behind.run.state;
+        legal = subst (λ (r : Option Room). Leads (opened r s.held whole.deck) [] whole.history.items behind.run.state) ready.has (subst (λ (d : Deck). Leads (opened s.room s.held d) [] whole.history.items behind.run.state) (sym behind.deck_is) behind.run.legal);
+        order = subst (λ (r : Option Room). order_of turns (opened r s.held whole.deck) whole.history.items) ready.has (subst (λ (d : Deck). order_of turns (opened s.room s.held d) whole.history.items) (sym behind.deck_is) behind.run.order);
+        each = subst (λ (d : Deck). (k : ℕ) (job : Job) → slice_get d.jobs k ≡ Some job → IsRunOfJob d job (entries_of (k + 1) whole.history.items)) (sym behind.deck_is) behind.run.each;
+      };
+    };
+    marks = marks_from (moment_of old.past) (page_view (vault_of x)).moment (moment_of new.past) whole.marks.items whole.history.items ready.goes.later behind.marks;
+    ends = ends_behind old new deck made x behind.run.state end ready behind.behind;
+  }
+
+  came_stop : (whole : Whole) → IsRunStopped turns deck (vault_of x) s new whole → CameToStop turns old new whole
+  came_stop whole stopped = record {
+    ran = record {
+      held = s.held;
+      room = ready.room;
+      begins = ready.begins;
+      run = record {
+        state = stopped.run.state;
+        legal = subst (λ (r : Option Room). Leads (opened r s.held whole.deck) [] whole.history.items stopped.run.state) ready.has (subst (λ (d : Deck). Leads (opened s.room s.held d) [] whole.history.items stopped.run.state) (sym stopped.deck_is) stopped.run.legal);
+        order = subst (λ (r : Option Room). order_of turns (opened r s.held whole.deck) whole.history.items) ready.has (subst (λ (d : Deck). order_of turns (opened s.room s.held d) whole.history.items) (sym stopped.deck_is) stopped.run.order);
+        each = subst (λ (d : Deck). (k : ℕ) (job : Job) → slice_get d.jobs k ≡ Some job → IsFrontOfJob d job (entries_of (k + 1) whole.history.items)) (sym stopped.deck_is) stopped.run.each;
+      };
+    };
+    marks = marks_from (moment_of old.past) (page_view (vault_of x)).moment (moment_of new.past) whole.marks.items whole.history.items ready.goes.later stopped.marks;
+    failed = subst (λ (n : ℕ). Rose n new.faults) ready.faultless.start stopped.failed;
+  }
+
+  came_run : (whole : Whole) (end : RunEnd) → IsRunEnded turns deck (vault_of x) s new whole end → CameToRun turns old new whole end
+  came_run whole ends.Kept ended = came_end whole ends.Kept ended
+  came_run whole ends.Failed ended = came_end whole ends.Failed ended
+  came_run whole (ends.Full needed free) ended = came_end whole (ends.Full needed free) ended
+  came_run whole ends.Stopped ended = came_stop whole ended
+
+  deck_of_run : (whole : Whole) (end : RunEnd) → IsRunEnded turns deck (vault_of x) s new whole end → whole.deck ≡ deck
+  deck_of_run whole ends.Kept ended = ended.deck_is
+  deck_of_run whole ends.Failed ended = ended.deck_is
+  deck_of_run whole (ends.Full needed free) ended = ended.deck_is
+  deck_of_run whole ends.Stopped ended = ended.deck_is
+
+  -- what a run over the store of a disk comes to
+  opened_ends : (text : List ℕ) (o : Outcome) → Spells text deck → CameFrom turns deck (vault_of x) s new o → OfText (Jobs turns) text old new o
+  opened_ends text (Ran y whole end) spelled came =
+      subst (λ m. OfText (Jobs turns) text old new (Ran m whole end)) (sym came.0)
+      (refl, (subst (λ d. Spells text d) (sym (deck_of_run whole end came.1)) spelled, came_run whole end came.1))
+  opened_ends text NoMemory spelled came = tt
+  opened_ends text BadWords spelled came = absurd came
+  opened_ends text (BadDeck line code) spelled came = absurd came
+  opened_ends text DeckFault spelled came = absurd came
+  opened_ends text (Refused bad) spelled came = absurd came
+  opened_ends text DiskFault spelled came = absurd came
+  opened_ends text (Checked checked) spelled came = absurd came
+  opened_ends text (Demonstrated size ran) spelled came = absurd came
+  opened_ends text Installed spelled came = absurd came
+  opened_ends text (Listed objects) spelled came = absurd came
+
+  -- what a run that was prepared comes to has its cause
+  pub ready_decided : (asked : Option Command) (left left' : Option (List ℕ)) (taken taken' : ℕ) (o : Outcome) → asked ≡ Some (Jobs turns) → IsReadFrom left left' deck → CameFrom turns deck (vault_of x) s new o
+      → IsDecided asked left left' taken taken' old new o
+  ready_decided asked left left' taken taken' o is reads came written written' put put' =
+      let text : List ℕ = reads.0 in
+      source_holds asked (outside left taken written put old) (outside left' taken' written' put' new) (Jobs turns) o is refl
+      (text_comes (Jobs turns) left left' taken taken' old new text o reads.1.0 (opened_ends text o reads.1.1 came))
 
 -- a store that is refused for a run
 pub refused_run : (turns : Turns) (old new : DiskView) (text : List ℕ) (refusal : StoreRefusal) → ((s : Blocks) → IsAt old.past s → IsRefusal old.size s.now refusal)
@@ -133,36 +177,3 @@ pub refused_run : (turns : Turns) (old new : DiskView) (text : List ℕ) (refusa
 refused_run turns old new text (refusals.Bad bad) is cause = (turns, (refl, is))
 refused_run turns old new text refusals.Failed is cause = (turns, (refl, cause refl))
 refused_run turns old new text refusals.NoMemory is cause = tt
-
--- a whole run from an opening can be closed
-pub whole_closes : (held : Held) (Order : State → List Entry → Type 0) (deck : Deck) (r : Result Whole Fault) → IsOpening held → IfOk r (λ whole. IsWholeOf held Order deck whole) → IfOk r (λ whole. CanClose whole.state)
-whole_closes held Order deck (Ok whole) opening w = run_closes held Order deck whole.history.items whole.state opening (w.run, w.state_is) w.lawful
-whole_closes held Order deck (Err fault) opening w = tt
-
--- what a run that was made comes to
-pub run_came : (turns : Turns) (held : Held) (deck : Deck) (v : PageStore) (new : DiskView) (r : Result Whole Fault) (o : Outcome)
-    → IfOk r (λ whole. IsWholeOf held (order_of turns) deck whole) → IsEndOf turns r v new o → CameFrom turns held deck v new o
-run_came turns held deck v new (Ok whole) o w is = end_came turns held deck v new whole o w.deck_is (w.run, w.state_is) w.marks is
-run_came turns held deck v new (Err fault) o w is = subst (λ (x : Outcome). CameFrom turns held deck v new x) (sym is) tt
-
--- what a run that was prepared comes to has its cause
-pub ready_decided : (asked : Option Command) (turns : Turns) (left left' : Option (List ℕ)) (taken taken' : ℕ) (old new : DiskView) (started : Started) (v : PageStore) (o : Outcome)
-    → asked ≡ Some (Jobs turns) → IsReadFrom left left' started.deck → IsReady old started v → CameFrom turns (held_of started) started.deck v new o
-    → IsDecided asked left left' taken taken' old new o
-ready_decided asked turns left left' taken taken' old new started v o is reads ready came written written' put put' =
-    let text : List ℕ = reads.0 in
-    let ends : OfText (Jobs turns) text old new o = opened_ends turns old new (held_of started) text started.deck v o reads.1.1 ready.opening ready.restarts ready.holds ready.faultless came in
-    source_holds asked (outside left taken written put old) (outside left' taken' written' put' new) (Jobs turns) o is refl
-    (text_comes (Jobs turns) left left' taken taken' old new text o reads.1.0 ends)
-
--- what is known of a run that was prepared over a store that was opened
-pub ready_of : (old : DiskView) (held : Held) (started : Started) (v : PageStore) → held_of started ≡ held → IsStarted started → IsOpening held
-    → ((s : Blocks) → IsAt old.past s → Restarts old.size s.now held) → HoldsCleaned old v → IsFaultless old v → KeepsRestarting old v.disk → IsReady old started v
-ready_of old held started v same begins opening restarts holds faultless during = record {
-  begins = begins;
-  opening = subst IsOpening (sym same) opening;
-  restarts = subst (λ (h : Held). (s : Blocks) → IsAt old.past s → Restarts old.size s.now h) (sym same) restarts;
-  holds = holds;
-  faultless = faultless;
-  during = during;
-}

@@ -32,7 +32,7 @@ use Rattle.s38_command.specs.declared.command.Command.{Command}
 use Rattle.s38_command.specs.declared.command.Command.TheVariants.{Jobs, Check, Demo, Install, List as Listing}
 use Rattle.s38_top.specs.declared.outcome.Outcome.{Outcome}
 use Rattle.s38_top.specs.declared.outcome.Outcome.TheVariants.{BadWords, BadDeck, DeckFault, NoMemory, Ran, Checked, Demonstrated, Installed, Listed, Refused, DiskFault}
-use Rattle.s38_top.specs.declared.outcome.RunEnd.TheVariants.{Kept, Failed, Full}
+use Rattle.s38_top.specs.declared.outcome.RunEnd.TheVariants.{Kept, Failed, Full, Stopped}
 use Rattle.s38_command.specs.Commands.{reads_deck}
 use Rattle.s38_objects.specs.Lawful.{IsLawful}
 use Rattle.s38_top.specs.declared.outcome.CheckedDeck.{CheckedDeck}
@@ -41,14 +41,14 @@ use Rattle.s38_top.specs.declared.start.Started.{Started}
 use Rattle.s38_command.specs.declared.turns.Turns.{Turns}
 use Rattle.s38_command.specs.declared.turns.Turns.TheVariants.{Serial}
 use Rattle.s38_top.specs.Begun.{IsStarted, IsWholeOf, held_of}
-use Rattle.s38_top.specs.Crash.{IsSafe}
+use Rattle.s38_top.specs.Crash.{IsSafe, KeepsRun}
 use Rattle.s38_top.specs.Decks.{AreMarks, IsRunOf, IsUnstored, checked_of, made_for, opened, order_of}
 use Rattle.s38_top.proofs.KeepLaws.{run_keeps}
-use Rattle.s38_top.specs.Ends.{IsDecided, IsReadFrom, ReadsFrom}
-use Rattle.s38_top.specs.Outcome.{CameToRun, Ends, FromText, HasBadStore, HasDeck, Holds, IsAnswered, IsChecked, IsComplete, IsDemonstrated, IsGood, IsGoodDeck, IsGoodFor, IsGoodStore, IsInstalled, IsListed, IsServedBy, OfStore, OfText, RanGenerated, ReadOut, Serves, Takes, Tells, checked_text, faulted, history_of, marks_of, most, status_of, text_of}
+use Rattle.s38_top.specs.Ends.{IsDecided, IsReadFrom, IsSafeOf, ReadsFrom}
+use Rattle.s38_top.specs.Outcome.{CameToEnd, Ends, FromText, HasBadStore, HasDeck, Holds, IsAnswered, IsChecked, IsComplete, IsDemonstrated, IsGood, IsGoodDeck, IsGoodFor, IsGoodStore, IsInstalled, IsListed, IsServedBy, OfStore, OfText, RanGenerated, ReadOut, Serves, Takes, Tells, checked_text, faulted, history_of, marks_of, most, status_of, text_of}
 use Rattle.s38_top.specs.Outside.{Outside, Unread, outside}
 
-there_is : {A : Type 0} (xs : List A) (k : ℕ) → k < length xs → (x : A) × (slice_get xs k ≡ Some x)
+pub there_is : {A : Type 0} (xs : List A) (k : ℕ) → k < length xs → (x : A) × (slice_get xs k ≡ Some x)
 there_is [] k h = absurd (omega arith)
 there_is (x ∷ xs) zero h = (x, refl)
 there_is (x ∷ xs) (suc k) h = there_is xs k (omega arith)
@@ -59,7 +59,7 @@ pub run_of : (held : Held) (Order : State → List Entry → Type 0) (deck : Dec
     → ((k : ℕ) (job : Job) (one : CreateResult) → slice_get deck.jobs k ≡ Some job → slice_get made k ≡ Some one → made_for deck job ≡ Some one)
     → ts ≡ checked_of deck → begun_by ≡ begun no_moment (state_of held ts deck.jobs)
     → IsSound m → m.origin ≡ state_of begun_by.state.held begun_by.state.templates deck.jobs → Order m.origin m.history → AllRan made deck.jobs m.history
-    → (run : IsRunOf held Order deck m.history) × (run.state ≡ m.state)
+    → (run : IsRunOf None held Order deck m.history) × (run.state ≡ m.state)
 run_of held Order deck made ts begun_by m count each checked begins sound origin order ran =
     let first : m.origin ≡ state_of held ts deck.jobs = origin ∙ ap (λ (r : Run). state_of r.state.held r.state.templates deck.jobs) begins in (
       record {
@@ -85,10 +85,10 @@ marks_of_run held deck ts begun_by m history marks begins sound still h k =
     }
 
 -- a machine that was just started has begun the jobs
-pub started_of : (held : Held) (deck : Deck) (ts : List CheckedTemplate) (m : Run) → m ≡ begun no_moment (state_of held ts deck.jobs) → ts ≡ checked_of deck → m ≡ begun no_moment (opened m.state.held deck)
+pub started_of : (held : Held) (deck : Deck) (ts : List CheckedTemplate) (m : Run) → m ≡ begun no_moment (state_of held ts deck.jobs) → ts ≡ checked_of deck → m ≡ begun no_moment (opened None m.state.held deck)
 started_of held deck ts m e is =
     let here : m.state.held ≡ held = ap (λ (r : Run). r.state.held) e in
-    e ∙ (ap (λ (xs : List CheckedTemplate). begun no_moment (state_of held xs deck.jobs)) is ∙ ap (λ (h : Held). begun no_moment (opened h deck)) (sym here))
+    e ∙ (ap (λ (xs : List CheckedTemplate). begun no_moment (state_of held xs deck.jobs)) is ∙ ap (λ (h : Held). begun no_moment (opened None h deck)) (sym here))
 
 templates_of : (started : Started) → IsStarted started → started.machine.state.templates ≡ checked_of started.deck
 templates_of started is = ap (λ (r : Run). r.state.templates) is.begins
@@ -123,7 +123,7 @@ whole_of_run started Order m whole jobs made is jobs_is made_is sound origin sti
     let run = run_of (held_of started) Order started.deck started.made.items started.machine.state.templates started.machine m is.count is.each (templates_of started is) begins sound
     (origin ∙ ap (λ (js : List Job). state_of (held_of started) started.machine.state.templates js) jobs_is) order
     (subst (λ (js : List Job). AllRan started.made.items js m.history) jobs_is (subst (λ (xs : List CreateResult). AllRan xs jobs m.history) made_is ran)) in
-    let here = subst (λ (es : List Entry). (r : IsRunOf (held_of started) Order started.deck es) × (r.state ≡ m.state)) (sym history_is) run in
+    let here = subst (λ (es : List Entry). (r : IsRunOf None (held_of started) Order started.deck es) × (r.state ≡ m.state)) (sym history_is) run in
     record {
       deck_is = deck_is;
       run = here.0;
@@ -145,7 +145,7 @@ demonstrated_of size text deck whole disk spelled w = (
   refl,
   (
     subst (λ (d : Deck). Spells text d) (sym w.deck_is) spelled,
-    (subst (λ (d : Deck). IsRunOf held_installed (order_of (Serial size)) d whole.history.items) (sym w.deck_is) w.run, (w.marks, refl)),
+    (subst (λ (d : Deck). IsRunOf None held_installed (order_of (Serial size)) d whole.history.items) (sym w.deck_is) w.run, (w.marks, refl)),
   ),
 )
 
@@ -335,16 +335,17 @@ serves_by asked old new (Refused bad) history holds told s h = absurd (omega ari
 serves_by asked old new DiskFault history holds told s h = absurd (omega arith)
 serves_by asked old new (Ran turns whole Failed) history holds told s h = absurd (omega arith)
 serves_by asked old new (Ran turns whole (Full needed free)) history holds told s h = absurd (omega arith)
+serves_by asked old new (Ran turns whole Stopped) history holds told s h = absurd (omega arith)
 serves_by asked old new (Ran turns whole Kept) history holds told s h =
     let read : ReadsAll most old.left new.left holds.text = subst (λ (c : Command). Takes c old new holds.text) holds.comes.0 holds.takes in
     let taken_is : HasDeck old new whole.deck = record { text = holds.text; read = read; is = holds.comes.1.0 } in
-    let came : CameToRun turns old.disk new.disk whole Kept = holds.comes.1.1 in
+    let came : CameToEnd turns old.disk new.disk whole Kept = holds.comes.1.1 in
     let complete : IsComplete turns old new history =
     subst (λ (es : List Entry). IsComplete turns old new es) (sym h) (record {
       deck = whole.deck;
       taken = taken_is;
       ran = came.ran;
-      laws = run_keeps came.ran.held _ whole.deck whole.history.items came.ran.opening came.ran.run;
+      laws = run_keeps (Some came.ran.room) came.ran.held _ whole.deck whole.history.items came.ran.begins.opening came.ran.run;
       kept = came.ends;
       told = told;
       finished = read_out old new whole.deck taken_is;
@@ -369,7 +370,7 @@ serves_by asked old new (Demonstrated size whole) history holds told s h =
     subst (λ (es : List Entry). IsDemonstrated size old new es) (sym h) (record {
       deck = whole.deck;
       ran = ran;
-      laws = run_keeps held_installed _ whole.deck whole.history.items installed_opening ran.run;
+      laws = run_keeps None held_installed _ whole.deck whole.history.items installed_opening ran.run;
       told = told;
       unread = made.0;
       untouched = holds.comes.1.1.1.1;
@@ -440,6 +441,7 @@ good_by asked old new DiskFault good holds = elim holds as (λ _. IsServedBy 4) 
 good_by asked old new (Ran turns whole Kept) good holds = inl refl
 good_by asked old new (Ran turns whole Failed) good holds = absurd (good.disk holds.comes.1.1.ends)
 good_by asked old new (Ran turns whole (Full needed free)) good holds = inr (inr refl)
+good_by asked old new (Ran turns whole Stopped) good holds = absurd (good.disk holds.comes.1.1.failed)
 good_by asked old new (Checked checked) good holds = inl refl
 good_by asked old new (Demonstrated size whole) good holds = inl refl
 good_by asked old new Installed good holds = inl refl
@@ -469,8 +471,42 @@ pub turns_by_call : {R E : Type 0} (r : Result R E) (turns_of : R → Turns) (P 
 turns_by_call (Ok x) turns_of P turns is h = subst P (sym h) is
 turns_by_call (Err d) turns_of P turns is h = tt
 
+-- ---- whenever a crash comes
+
+-- want of memory has one status
+wanted : (whole : Bool) (o : Outcome) (status : ℕ) → o ≡ NoMemory → status ≡ (if whole then status_of o else faulted o) → status ≡ 7
+wanted true o status is s = s ∙ ap status_of is
+wanted false o status is s = s ∙ ap faulted is
+
+run_told : (turns : Turns) (old new : DiskView) (whole : Bool) (o o' : Outcome) (status : ℕ) (history : List Entry) (marks : List ℕ) → (o' ≡ o) ⊎ (o' ≡ NoMemory)
+    → status ≡ (if whole then status_of o' else faulted o') → history ≡ history_of o' → marks ≡ marks_of o'
+    → KeepsRun turns old new (o ≡ NoMemory) (history_of o) (marks_of o) → KeepsRun turns old new (status ≡ 7) history marks
+run_told turns old new whole o o' status history marks (inl same) s h n run = record {
+  entries = run.entries;
+  marks_made = run.marks_made;
+  made = run.made;
+  reported = λ not. let told = run.reported (λ is. not (wanted whole o' status (same ∙ is) s)) in (h ∙ ap history_of same ∙ told.0, n ∙ ap marks_of same ∙ told.1);
+}
+run_told turns old new whole o o' status history marks (inr none) s h n run = record {
+  entries = run.entries;
+  marks_made = run.marks_made;
+  made = run.made;
+  reported = λ not. absurd (not (wanted whole o' status none s));
+}
+
+pub safe_told : (asked : Option Command) (old new : DiskView) (whole : Bool) (o o' : Outcome) (status : ℕ) (history : List Entry) (marks : List ℕ) → (o' ≡ o) ⊎ (o' ≡ NoMemory)
+    → status ≡ (if whole then status_of o' else faulted o') → history ≡ history_of o' → marks ≡ marks_of o' → IsSafeOf asked old new o → IsSafe asked old new (status ≡ 7) history marks
+safe_told None old new whole o o' status history marks same s h n safe = safe
+safe_told (Some (Jobs turns)) old new whole o o' status history marks same s h n (inl keeps) = inl keeps
+safe_told (Some (Jobs turns)) old new whole o o' status history marks same s h n (inr run) = inr (run_told turns old new whole o o' status history marks same s h n run)
+safe_told (Some Check) old new whole o o' status history marks same s h n safe = safe
+safe_told (Some (Demo size)) old new whole o o' status history marks same s h n safe = safe
+safe_told (Some Install) old new whole o o' status history marks same s h n safe = safe
+safe_told (Some Listing) old new whole o o' status history marks same s h n safe = safe
+
 -- all that is said of a call
-pub answered_of : (asked : Option Command) (old new : Outside) (status : ℕ) (history : List Entry) (marks : List ℕ) → Ends asked old new status history marks → IsSafe asked old.disk new.disk → IsAnswered asked old new status history marks
+pub answered_of : (asked : Option Command) (old new : Outside) (status : ℕ) (history : List Entry) (marks : List ℕ) → Ends asked old new status history marks → IsSafe asked old.disk new.disk (status ≡ 7) history marks
+    → IsAnswered asked old new status history marks
 answered_of asked old new status history marks ends safe = record {
   ends = ends;
   serves = serves_of asked old new status history marks ends;

@@ -1,5 +1,5 @@
 -- Machines that have begun the jobs of a deck, and whole runs from there.
-use Rattle.std.specs.Prelude.{◌≡◌, ◌≤◌, ℕ, List, Some, length, slice_get}
+use Rattle.std.specs.Prelude.{◌≡◌, ◌≤◌, ℕ, List, None, Some, length, slice_get}
 use Rattle.s38_code.specs.declared.deck.Deck.{Deck}
 use Rattle.s38_code.specs.declared.deck.Job.{Job}
 use Rattle.s38_code.specs.declared.entry.Entry.{Entry}
@@ -18,7 +18,7 @@ held_of started = started.machine.state.held
 
 -- the machine has begun the jobs of the deck, and beside it stands what creation makes of the template of each
 pub record IsStarted (started : Started) : Type 0 where
-  pub begins : started.machine ≡ begun no_moment (opened (held_of started) started.deck)
+  pub begins : started.machine ≡ begun no_moment (opened None (held_of started) started.deck)
   pub few : length started.deck.jobs ≤ 256
   pub count : length started.made.items ≡ length started.deck.jobs
   pub each : (k : ℕ) (job : Job) (one : CreateResult) → slice_get started.deck.jobs k ≡ Some job
@@ -27,7 +27,7 @@ pub record IsStarted (started : Started) : Type 0 where
 -- the jobs of a deck ran whole from some objects, their entries are in this order, and this is what they came to
 pub record IsWholeOf (held : Held) (Order : State → List Entry → Type 0) (deck : Deck) (whole : Whole) : Type 0 where
   pub deck_is : whole.deck ≡ deck
-  pub run : IsRunOf held Order deck whole.history.items
+  pub run : IsRunOf None held Order deck whole.history.items
   pub state_is : run.state ≡ whole.state
   pub marks : AreMarks whole.marks.items whole.history.items
   pub lawful : IsLawful whole.state.held

@@ -1,68 +1,90 @@
 -- What a crash leaves at each moment of a call.
-use Rattle.std.specs.Prelude.{◌⊎◌, ℕ, List, Option, Some, None, Result, Ok, Err}
-use Rattle.s38_base.specs.declared.fault.NoMemory.{NoMemory as Fault}
+use Rattle.std.specs.Prelude.{◌≡◌, ◌⊎◌, ◌+◌, ◌<◌, ◌≤◌, ℕ, List, [], length, take, Option, Some, None}
 use Rattle.s38_blocks.specs.Store.{Stands}
 use Rattle.s38_code.specs.declared.deck.Deck.{Deck}
 use Rattle.s38_code.specs.declared.entry.Entry.{Entry}
 use Rattle.s38_command.specs.declared.command.Command.{Command}
 use Rattle.s38_command.specs.declared.command.Command.TheVariants.{Jobs, Check, Demo, Install, List as Listing}
 use Rattle.s38_command.specs.declared.turns.Turns.{Turns}
-use Rattle.s38_disk.specs.Disk.{DiskView}
+use Rattle.s38_disk.specs.Disk.{DiskView, Leaves, moment_of}
 use Rattle.s38_disk.specs.declared.block.Block.{Block}
-use Rattle.s38_groups.specs.Groups.{removals}
+use Rattle.s38_durable.specs.Durable.{Durable, durable}
+use Rattle.s38_durable.specs.Stands.{Stands as IsOfDurable}
+use Rattle.s38_kept_laws.specs.Beginning.{durable_in}
+use Rattle.s38_kept_laws.specs.Crashes.{IsKeptPrefix, led}
 use Rattle.s38_pages.specs.Mounts.{layout_of}
-use Rattle.s38_pages.specs.Vaults.{PageStore, page_holds}
-use Rattle.s38_restart.specs.Parts.{all_parts}
-use Rattle.s38_rules.specs.Held.{Held}
-use Rattle.s38_stores.specs.Crashes.{AtRest, DuringCall, IsBetween, IsNoneOrInstalled, IsPartlyCleaned, KeepsRestarting}
-use Rattle.s38_top.specs.Decks.{IsRunOf, order_of}
-use Rattle.s38_top.specs.Runs.{RanOver, kept_of}
-use Rattle.s38_top.specs.declared.outcome.Whole.{Whole}
-use Rattle.s38_vault.specs.Content.{Content, changed}
+use Rattle.s38_rules.specs.Legal.{Leads}
+use Rattle.s38_rules.specs.State.{State}
+use Rattle.s38_stored_machine.specs.Puts.{AllOnePut}
+use Rattle.s38_stores.specs.Crashes.{AtRest, DuringCall, GoesOn, IsBetween, IsNoneOrInstalled, IsPartlyCleaned, KeepsRestarting}
+use Rattle.s38_top.specs.Decks.{AreStoreMarks, opened}
+use Rattle.s38_top.specs.Runs.{RanTo, kept_of}
+use Rattle.s38_vault.specs.Content.{Content}
+use Rattle.s38_vault.specs.Vaults.{most_changes}
 
--- ---- while what a run left is kept
+-- ---- while a run goes on
 
--- Of a run that came to a state, what it left is kept in a vault: some of the puts were made. Where memory was wanted no
--- time passed.
-abbrev pub IsRunLeft : Result Whole Fault → ℕ → Content → (ℕ → Block) → Type 0
-IsRunLeft (Ok whole) size m g = IsBetween size m (kept_of whole.state) g
-IsRunLeft (Err fault) size m g = ⊥
+-- These are the entries of a run, and behind them at most that of the call that failed: all are the one-thread machine's.
+pub record ArePlanned (s : State) (entries planned : List Entry) : Type 0 where
+  pub begins : take (length entries) planned ≡ entries
+  pub most : length planned ≤ length entries + 1
+  pub legal : Leads s [] planned (led s planned)
 
--- no time passed behind the opening of a store
-abbrev pub NoneWasKept : PageStore → DiskView → Type 0
-NoneWasKept v new = (m : Content) → page_holds v m → DuringCall v.disk new (λ _. ⊥)
+-- The blocks are a store of what is durable behind the entries that were answered by a moment, or behind one entry more, of
+-- which at least the ceiling may be there.
+pub record IsLeftAt (size : ℕ) (d : Durable) (s : State) (entries : List Entry) (marks : List ℕ) (moment : ℕ) (g : ℕ → Block) : Type 0 where
+  pub content : Content
+  pub stands : Stands (layout_of size) g content
+  pub kept : IsKeptPrefix d s entries marks moment content
 
--- what a run of a deck left was kept
-pub record RunWasKept (turns : Turns) (held : Held) (deck : Deck) (v : PageStore) (new : DiskView) : Type 0 where
-  pub history : List Entry
-  pub run : IsRunOf held (order_of turns) deck history
-  pub during : (m : Content) → page_holds v m → DuringCall v.disk new (IsBetween new.size m (kept_of run.state))
+-- The blocks are a store of what stands behind some of the puts that keep what the run left, from what was durable behind
+-- all of its entries; where one put takes all changes, of what was there before or of all that the run left.
+pub record IsClosing (size : ℕ) (d : Durable) (e : State) (g : ℕ → Block) : Type 0 where
+  pub begun : Content
+  pub stands : IsOfDurable begun d
+  pub between : IsBetween size begun (kept_of e) g
 
-abbrev pub WasLeft : Turns → Held → Deck → PageStore → DiskView → Type 0
-WasLeft turns held deck v new = NoneWasKept v new ⊎ RunWasKept turns held deck v new
+-- from one moment of the disk on, and up to another, each image is so
+abbrev pub Between : ℕ → ℕ → DiskView → (ℕ → (ℕ → Block) → Type 0) → Type 0
+Between low high new P = (t : ℕ) (g : ℕ → Block) → low < t → t ≤ high → Leaves new.past t g → P t g
+
+-- Over the store of the disk a run was made of these entries, with these marks.
+pub record MadeRun (turns : Turns) (old new : DiskView) (entries : List Entry) (marks : List ℕ) : Type 0 where
+  pub deck : Deck
+  pub ran : RanTo turns old deck entries
+  pub planned : List Entry
+  pub plans : ArePlanned (opened (Some ran.room) ran.held deck) entries planned
+  -- the moments at which the run began, and ended
+  pub first : ℕ
+  pub last : ℕ
+  pub goes : GoesOn old new
+  pub began : moment_of old.past ≤ first
+  pub marked : AreStoreMarks first last marks entries
+  pub ended : last ≤ moment_of new.past
+  -- while the store was opened, parts that belong to nothing may have gone
+  pub opening : AtRest old (λ f. (m : Content) → Stands (layout_of old.size) f m → Between (moment_of old.past) first new (λ t g. IsPartlyCleaned new.size m g))
+  -- while the run was made, if each step is kept by one put
+  pub running : AtRest old (λ f. (m : Content) → Stands (layout_of old.size) f m → AllOnePut most_changes (durable_in m) (opened (Some ran.room) ran.held deck) planned
+      → Between first last new (λ t g. IsLeftAt new.size (durable_in m) (opened (Some ran.room) ran.held deck) planned marks t g))
+  -- while what it left was kept
+  pub closing : AtRest old (λ f. (m : Content) → Stands (layout_of old.size) f m
+      → Between last (moment_of new.past) new (λ t g. IsClosing new.size (durable (durable_in m) (opened (Some ran.room) ran.held deck) entries) ran.run.state g))
+
+-- A run was made. It is the one that is reported, but that where memory was wanted nothing of it is.
+pub record KeepsRun (turns : Turns) (old new : DiskView) (wanting : Type 0) (history : List Entry) (marks : List ℕ) : Type 0 where
+  pub entries : List Entry
+  pub marks_made : List ℕ
+  pub made : MadeRun turns old new entries marks_made
+  pub reported : (wanting → ⊥) → (history ≡ entries) × (marks ≡ marks_made)
 
 -- ---- of a whole call
 
--- the content of a store without the parts that belong to nothing
-abbrev pub cleaned : Content → Content
-cleaned m = changed m (removals (all_parts m))
-
--- Over the store of the disk a deck was run. Each image is a store of what the disk had, of which parts that belong to
--- nothing may be gone, or of what stands behind some of the puts that keep what the run left; where one put takes all of
--- them, of what was there before or of all that the run left.
-pub record KeepsRun (turns : Turns) (old new : DiskView) : Type 0 where
-  pub deck : Deck
-  pub history : List Entry
-  pub ran : RanOver turns old deck history
-  pub during : AtRest old (λ f. (m : Content) × (Stands (layout_of old.size) f m
-      × DuringCall old new (λ g. IsPartlyCleaned new.size m g ⊎ IsBetween new.size (cleaned m) (kept_of ran.run.state) g)))
-
--- A store keeps what it has, and restarts to the same objects, unless a run is kept in it; where a store is made, there is
+-- A store keeps what it has, and restarts to the same objects, unless a run is made over it; where a store is made, there is
 -- none or the whole.
-abbrev pub IsSafe : Option Command → DiskView → DiskView → Type 0
-IsSafe None old new = KeepsRestarting old new
-IsSafe (Some (Jobs turns)) old new = KeepsRestarting old new ⊎ KeepsRun turns old new
-IsSafe (Some Check) old new = KeepsRestarting old new
-IsSafe (Some (Demo size)) old new = KeepsRestarting old new
-IsSafe (Some Install) old new = AtRest old (λ f. DuringCall old new (IsNoneOrInstalled new.size))
-IsSafe (Some Listing) old new = KeepsRestarting old new
+abbrev pub IsSafe : Option Command → DiskView → DiskView → Type 0 → List Entry → List ℕ → Type 0
+IsSafe None old new wanting history marks = KeepsRestarting old new
+IsSafe (Some (Jobs turns)) old new wanting history marks = KeepsRestarting old new ⊎ KeepsRun turns old new wanting history marks
+IsSafe (Some Check) old new wanting history marks = KeepsRestarting old new
+IsSafe (Some (Demo size)) old new wanting history marks = KeepsRestarting old new
+IsSafe (Some Install) old new wanting history marks = AtRest old (λ f. DuringCall old new (IsNoneOrInstalled new.size))
+IsSafe (Some Listing) old new wanting history marks = KeepsRestarting old new

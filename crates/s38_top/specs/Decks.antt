@@ -11,11 +11,12 @@ use Rattle.s38_code.specs.declared.made.CreateResult.TheVariants.{Refused}
 use Rattle.s38_confinement.specs.Confined.{AllWithin, NeverUsed, StaysClosed}
 use Rattle.s38_confinement.specs.NoWay.{NoWay}
 use Rattle.s38_create.specs.Checked.{made_of}
+use Rattle.s38_owner_laws.specs.Beginnings.{state_over}
 use Rattle.s38_rules.specs.State.{State}
-use Rattle.s38_rules.specs.Legal.{Leads, no_moment}
+use Rattle.s38_rules.specs.Legal.{AreMoments, Leads, no_moment}
 use Rattle.s38_rules.specs.Held.{Held}
-use Rattle.s38_rules.specs.Opening.{state_of}
-use Rattle.s38_process.specs.Process.{ProcessState, fresh}
+use Rattle.s38_rules.specs.Room.{Room}
+use Rattle.s38_process.specs.Process.{ProcessState, RanFrom, fresh}
 use Rattle.s38_run.specs.Picked.{Picked}
 use Rattle.s38_run.specs.Pickers.{number_after, number_answer, picks_of}
 use Rattle.s38_run.specs.Whole.{RanWhole}
@@ -46,9 +47,10 @@ pub record IsRunOfJob (deck : Deck) (job : Job) (entries : List Entry) : Type 0 
 abbrev pub picks_by : ℕ → ℕ → List ℕ
 picks_by pick count = picks_of number_answer number_after count pick
 
--- the state in which the jobs of a deck find a machine of these objects, with the deck's templates
-abbrev pub opened : Held → Deck → State
-opened held deck = state_of held (checked_of deck) deck.jobs
+-- the state in which the jobs of a deck find a machine of these objects, with the deck's templates; over a store, with its
+-- room
+abbrev pub opened : Option Room → Held → Deck → State
+opened room held deck = state_over room held (checked_of deck) deck.jobs
 
 -- on one thread each entry is that of a job, made by the process that its pick chooses of those that are ready
 abbrev pub turns_by : {P : Type 0} → (P → ℕ) → (P → P) → P → State → List Entry → Type 0
@@ -62,11 +64,24 @@ order_of (Workers count) s history = Unit {0}
 
 -- the history is the one-thread machine's, from these objects with the deck's templates, for the whole runs of all
 -- jobs of the deck, and its entries are in this order
-pub record IsRunOf (held : Held) (Order : State → List Entry → Type 0) (deck : Deck) (history : List Entry) : Type 0 where
+pub record IsRunOf (room : Option Room) (held : Held) (Order : State → List Entry → Type 0) (deck : Deck) (history : List Entry) : Type 0 where
   pub state : State
-  pub legal : Leads (opened held deck) [] history state
-  pub order : Order (opened held deck) history
+  pub legal : Leads (opened room held deck) [] history state
+  pub order : Order (opened room held deck) history
   pub each : (k : ℕ) (job : Job) → slice_get deck.jobs k ≡ Some job → IsRunOfJob deck job (entries_of (k + 1) history)
+
+-- the entries are the first ones of a job of the deck
+pub record IsFrontOfJob (deck : Deck) (job : Job) (entries : List Entry) : Type 0 where
+  pub made : CreateResult
+  pub is : made_for deck job ≡ Some made
+  pub ran : RanFrom (fresh made job.budget) entries
+
+-- the same of a run that was not made to its end
+pub record IsRunTo (room : Option Room) (held : Held) (Order : State → List Entry → Type 0) (deck : Deck) (history : List Entry) : Type 0 where
+  pub state : State
+  pub legal : Leads (opened room held deck) [] history state
+  pub order : Order (opened room held deck) history
+  pub each : (k : ℕ) (job : Job) → slice_get deck.jobs k ≡ Some job → IsFrontOfJob deck job (entries_of (k + 1) history)
 
 -- ---- confinement
 
@@ -83,10 +98,10 @@ processes_of deck = map (process_of deck) deck.jobs
 
 -- where no way to a right on an object is open for users at the beginning, and they alone act, the right is never used,
 -- and no way is open at the end
-abbrev pub IsConfined : Held → Deck → List Entry → State → Type 0
-IsConfined held deck history end =
-    (users : List ℕ) (o r : ℕ) → o ≢ 0 → NoWay held users o r → AllWithin users (opened held deck) history
-    → NeverUsed (opened held deck) history o r × StaysClosed (processes_of deck) history end users o r
+abbrev pub IsConfined : Option Room → Held → Deck → List Entry → State → Type 0
+IsConfined room held deck history end =
+    (users : List ℕ) (o r : ℕ) → o ≢ 0 → NoWay held users o r → AllWithin users (opened room held deck) history
+    → NeverUsed (opened room held deck) history o r × StaysClosed (processes_of deck) history end users o r
 
 -- the mark of an entry that was answered without a store
 abbrev pub IsUnstored : ℕ → Type 0
@@ -96,6 +111,11 @@ IsUnstored mark = mark ≡ no_moment
 pub record AreMarks (marks : List ℕ) (history : List Entry) : Type 0 where
   pub count : length marks ≡ length history
   pub stamped : All IsUnstored marks
+
+-- each entry has a mark: a moment of the store, in order, from one on to another
+pub record AreStoreMarks (first last : ℕ) (marks : List ℕ) (history : List Entry) : Type 0 where
+  pub count : length marks ≡ length history
+  pub moments : AreMoments first marks last
 
 -- ---- on the way there
 

@@ -1,34 +1,44 @@
 -- On the way to an outcome: what is read of a source, what is known before a run, and what a run over an opened store comes
 -- to.
-use Rattle.std.specs.Prelude.{◌≡◌, ℕ, List, Option, Some, None, Result, Ok, Err}
+use Rattle.std.specs.Prelude.{◌≡◌, ◌≤◌, ℕ, List, Option, Some, None, Result, Ok, Err}
 use Rattle.s38_base.specs.Faults.{Rose}
-use Rattle.s38_base.specs.declared.fault.NoMemory.{NoMemory as Fault}
+use Rattle.s38_blocks.specs.Store.{Stands}
 use Rattle.s38_keeping.specs.declared.fault.KeepFault.{KeepFault}
 use Rattle.s38_keeping.specs.declared.fault.KeepFault.TheVariants as closes
 use Rattle.s38_code.specs.declared.deck.Deck.{Deck}
-use Rattle.s38_disk.specs.Blocks.{State as Blocks}
-use Rattle.s38_disk.specs.Disk.{DiskView, IsAt}
-use Rattle.s38_io.specs.Source.{ReadsAll}
-use Rattle.s38_openings.specs.Opening.{IsOpening}
-use Rattle.s38_pages.specs.Vaults.{PageStore}
-use Rattle.s38_rules.specs.Held.{Held}
-use Rattle.s38_stores.specs.Crashes.{KeepsRestarting}
-use Rattle.s38_stores.specs.Opened.{HoldsCleaned, IsFaultless}
-use Rattle.s38_stores.specs.Stores.{Restarts}
-use Rattle.s38_template.specs.Grammar.{Spells}
+use Rattle.s38_code.specs.declared.entry.Entry.{Entry}
+use Rattle.s38_code.specs.declared.made.CreateResult.{CreateResult}
 use Rattle.s38_command.specs.declared.command.Command.{Command}
+use Rattle.s38_command.specs.declared.turns.Turns.{Turns}
+use Rattle.s38_disk.specs.Blocks.{State as Blocks}
+use Rattle.s38_disk.specs.Disk.{DiskView, IsAt, moment_of}
+use Rattle.s38_durable.specs.Durable.{Durable, durable}
+use Rattle.s38_io.specs.Source.{ReadsAll}
+use Rattle.s38_kept_laws.specs.Beginning.{cleaned, durable_in}
+use Rattle.s38_pages.specs.Mounts.{layout_of}
+use Rattle.s38_pages.specs.Vaults.{PageStore, page_holds, page_view}
+use Rattle.s38_pages.specs.Watched.{WatchedStore}
+use Rattle.s38_rules.specs.Room.{Room}
+use Rattle.s38_rules.specs.State.{State}
+use Rattle.s38_stored_machine.specs.Puts.{AllOnePut}
+use Rattle.s38_stored_machine.specs.Seen.{StoredView}
+use Rattle.s38_stored_machine.specs.Sound.{IsOf}
+use Rattle.s38_stores.specs.Crashes.{GoesOn, KeepsRestarting}
+use Rattle.s38_stores.specs.Opened.{IsFaultless}
+use Rattle.s38_template.specs.Grammar.{Spells}
 use Rattle.s38_top.specs.declared.outcome.Outcome.{Outcome}
 use Rattle.s38_top.specs.declared.outcome.Outcome.TheVariants.{DeckFault, NoMemory, Ran}
 use Rattle.s38_top.specs.declared.outcome.RunEnd.{RunEnd}
 use Rattle.s38_top.specs.declared.outcome.RunEnd.TheVariants as ends
 use Rattle.s38_top.specs.declared.outcome.Whole.{Whole}
-use Rattle.s38_top.specs.declared.start.Started.{Started}
-use Rattle.s38_command.specs.declared.turns.Turns.{Turns}
-use Rattle.s38_top.specs.Begun.{IsStarted, held_of}
-use Rattle.s38_top.specs.Decks.{AreMarks, IsRunOf, order_of}
-use Rattle.s38_top.specs.Outcome.{Holds, OfText, most}
+use Rattle.s38_top.specs.Crash.{ArePlanned, Between, IsClosing, IsLeftAt, IsSafe}
+use Rattle.s38_top.specs.Decks.{AreStoreMarks, IsRunOf, IsRunTo, order_of}
+use Rattle.s38_top.specs.Outcome.{Holds, OfText, history_of, marks_of, most}
 use Rattle.s38_top.specs.Outside.{outside}
-use Rattle.s38_top.specs.Runs.{LeavesBehind}
+use Rattle.s38_top.specs.Runs.{BeginsWith, LeavesBehind, LeavesBy}
+use Rattle.s38_top.specs.Stored.{IsBegunOver, vault_of}
+use Rattle.s38_vault.specs.Content.{Content}
+use Rattle.s38_vault.specs.Vaults.{most_changes}
 
 -- how a run ended by what became of what it left; none for want of memory
 abbrev pub end_of : Result (Unit {0}) KeepFault → Option RunEnd
@@ -39,26 +49,52 @@ end_of (Err closes.NoMemory) = None
 
 -- what it left is behind on the disk, or memory was wanted
 abbrev pub IsEnd : Turns → Whole → PageStore → DiskView → Outcome → Type 0
-IsEnd turns whole v new (Ran x ran end) = (x ≡ turns) × ((ran ≡ whole) × LeavesBehind v new whole.state end)
+IsEnd turns whole v new (Ran x ran end) = (x ≡ turns) × ((ran ≡ whole) × ((end ≡ ends.Stopped → ⊥) × LeavesBy v new whole.state end))
 IsEnd turns whole v new NoMemory = Unit {0}
 IsEnd turns whole v new _ = ⊥
 
--- the same where memory may have been wanted for the run
-abbrev pub IsEndOf : Turns → Result Whole Fault → PageStore → DiskView → Outcome → Type 0
-IsEndOf turns (Ok whole) v new o = IsEnd turns whole v new o
-IsEndOf turns (Err fault) v new o = o ≡ NoMemory
+-- ---- over a vault
 
--- a deck was run from some objects, and what it left is behind on the disk, or memory was wanted
-pub record IsRunBehind (turns : Turns) (held : Held) (deck : Deck) (v : PageStore) (new : DiskView) (whole : Whole) (end : RunEnd) : Type 0 where
+-- a deck was run over a vault from a state, and what it left is behind on the disk
+pub record IsRunBehind (turns : Turns) (deck : Deck) (v : PageStore) (s : State) (new : DiskView) (whole : Whole) (end : RunEnd) : Type 0 where
   pub deck_is : whole.deck ≡ deck
-  pub run : IsRunOf held (order_of turns) whole.deck whole.history.items
-  pub marks : AreMarks whole.marks.items whole.history.items
-  pub behind : LeavesBehind v new run.state end
+  pub run : IsRunOf s.room s.held (order_of turns) deck whole.history.items
+  pub marks : AreStoreMarks (page_view v).moment (moment_of new.past) whole.marks.items whole.history.items
+  pub behind : LeavesBehind v s new run.state end
 
-abbrev pub CameFrom : Turns → Held → Deck → PageStore → DiskView → Outcome → Type 0
-CameFrom turns held deck v new (Ran x whole end) = (x ≡ turns) × IsRunBehind turns held deck v new whole end
-CameFrom turns held deck v new NoMemory = Unit {0}
-CameFrom turns held deck v new _ = ⊥
+-- it was run up to where the disk failed
+pub record IsRunStopped (turns : Turns) (deck : Deck) (v : PageStore) (s : State) (new : DiskView) (whole : Whole) : Type 0 where
+  pub deck_is : whole.deck ≡ deck
+  pub run : IsRunTo s.room s.held (order_of turns) deck whole.history.items
+  pub marks : AreStoreMarks (page_view v).moment (moment_of new.past) whole.marks.items whole.history.items
+  pub failed : Rose v.start new.faults
+
+abbrev pub IsRunEnded : Turns → Deck → PageStore → State → DiskView → Whole → RunEnd → Type 0
+IsRunEnded turns deck v s new whole ends.Kept = IsRunBehind turns deck v s new whole ends.Kept
+IsRunEnded turns deck v s new whole ends.Failed = IsRunBehind turns deck v s new whole ends.Failed
+IsRunEnded turns deck v s new whole (ends.Full needed free) = IsRunBehind turns deck v s new whole (ends.Full needed free)
+IsRunEnded turns deck v s new whole ends.Stopped = IsRunStopped turns deck v s new whole
+
+-- what a run over a vault comes to; or memory was wanted
+abbrev pub CameFrom : Turns → Deck → PageStore → State → DiskView → Outcome → Type 0
+CameFrom turns deck v s new (Ran x whole end) = (x ≡ turns) × IsRunEnded turns deck v s new whole end
+CameFrom turns deck v s new NoMemory = Unit {0}
+CameFrom turns deck v s new _ = ⊥
+
+-- what a crash leaves of it at each moment
+pub record LeftOver (turns : Turns) (deck : Deck) (v : PageStore) (s : State) (new : DiskView) (o : Outcome) : Type 0 where
+  pub entries : List Entry
+  pub marks : List ℕ
+  pub planned : List Entry
+  pub plans : ArePlanned s entries planned
+  pub run : IsRunTo s.room s.held (order_of turns) deck entries
+  pub last : ℕ
+  pub goes : GoesOn v.disk new
+  pub marked : AreStoreMarks (page_view v).moment last marks entries
+  pub ended : last ≤ moment_of new.past
+  pub running : (m : Content) (d : Durable) → page_holds v m → IsOf m d s → AllOnePut most_changes d s planned → Between (page_view v).moment last new (λ t g. IsLeftAt new.size d s planned marks t g)
+  pub closing : (m : Content) (d : Durable) → page_holds v m → IsOf m d s → Between last (moment_of new.past) new (λ t g. IsClosing new.size (durable d s entries) run.state g)
+  pub reported : (o ≡ NoMemory → ⊥) → (history_of o ≡ entries) × (marks_of o ≡ marks)
 
 -- the text of a source comes to it, or the source failed
 abbrev pub ReadsFrom : Command → Option (List ℕ) → Option (List ℕ) → ℕ → ℕ → DiskView → DiskView → Outcome → Type 0
@@ -76,15 +112,23 @@ IsSpelled deck = (text : List ℕ) × Spells text deck
 abbrev pub IsReadFrom : Option (List ℕ) → Option (List ℕ) → Deck → Type 0
 IsReadFrom left left' deck = (text : List ℕ) × (ReadsAll most left left' text × Spells text deck)
 
--- a machine has begun jobs with the objects to which the store of a disk is restarted, and the vault is over that store
-pub record IsReady (old : DiskView) (started : Started) (v : PageStore) : Type 0 where
-  pub begins : IsStarted started
-  pub opening : IsOpening (held_of started)
-  pub restarts : (s : Blocks) → IsAt old.past s → Restarts old.size s.now (held_of started)
-  pub holds : HoldsCleaned old v
-  pub faultless : IsFaultless old v
+-- A machine has begun the jobs of a deck over the store of a disk: with the objects to which it is restarted, and its room.
+pub record IsReady (old : DiskView) (deck : Deck) (made : List CreateResult) (x : StoredView WatchedStore) : Type 0 where
+  pub begun : IsBegunOver deck made x
+  pub room : Room
+  pub has : x.machine.origin.room ≡ Some room
+  pub begins : BeginsWith old x.machine.origin.held room
+  -- what the vault held is what stood on the disk, without the parts that belong to nothing
+  pub holds : (s : Blocks) → IsAt old.past s → (m : Content) → Stands (layout_of old.size) s.now m → page_holds (vault_of x) (cleaned m) × IsOf (cleaned m) (durable_in m) x.machine.origin
+  pub content : (s : Blocks) → IsAt old.past s → (m : Content) × Stands (layout_of old.size) s.now m
+  pub faultless : IsFaultless old (vault_of x)
+  pub goes : GoesOn old (vault_of x).disk
   -- while the store was opened a crash left it as it is
-  pub during : KeepsRestarting old v.disk
+  pub during : KeepsRestarting old (vault_of x).disk
+
+-- whenever a crash comes, the store is whole, where a call comes to an outcome
+abbrev pub IsSafeOf : Option Command → DiskView → DiskView → Outcome → Type 0
+IsSafeOf asked old new o = IsSafe asked old new (o ≡ NoMemory) (history_of o) (marks_of o)
 
 -- the outcome has its cause, whatever is written
 abbrev pub IsDecided : Option Command → Option (List ℕ) → Option (List ℕ) → ℕ → ℕ → DiskView → DiskView → Outcome → Type 0

@@ -3,6 +3,7 @@ pub mod Begun
 pub mod Crash
 pub mod Outside
 pub mod Runs
+pub mod Stored
 pub mod Lines
 pub mod Laws
 pub mod Outcome

@@ -4,7 +4,7 @@ use Rattle.std.specs.Io.KnownBytes.{Appends}
 use Rattle.s38_base.specs.Faults.{Rose}
 use Rattle.s38_blocks.specs.Coding.{is_label}
 use Rattle.s38_disk.specs.Blocks.{State as Blocks}
-use Rattle.s38_disk.specs.Disk.{DiskView, IsAt}
+use Rattle.s38_disk.specs.Disk.{DiskView, IsAt, moment_of}
 use Rattle.s38_io.specs.Source.{ReadsAll}
 use Rattle.s38_io.specs.Sink.{AppendsFront}
 use Rattle.s38_code.specs.declared.deck.Deck.{Deck}
@@ -29,18 +29,18 @@ use Rattle.s38_command.specs.declared.command.Command.{Command}
 use Rattle.s38_command.specs.declared.command.Command.TheVariants.{Jobs, Check, Demo, Install, List as Listing}
 use Rattle.s38_top.specs.declared.outcome.Outcome.{Outcome}
 use Rattle.s38_top.specs.declared.outcome.RunEnd.{RunEnd}
-use Rattle.s38_top.specs.declared.outcome.RunEnd.TheVariants.{Kept, Failed, Full}
+use Rattle.s38_top.specs.declared.outcome.RunEnd.TheVariants.{Kept, Failed, Full, Stopped}
 use Rattle.s38_top.specs.declared.outcome.Whole.{Whole}
 use Rattle.s38_top.specs.declared.outcome.Outcome.TheVariants.{BadWords, BadDeck, DeckFault, NoMemory, Ran, Checked, Demonstrated, Installed, Listed, Refused, DiskFault}
 use Rattle.s38_command.specs.declared.turns.Turns.{Turns}
 use Rattle.s38_command.specs.declared.turns.Turns.TheVariants.{Serial}
 use Rattle.s38_command.specs.Commands.{reads_deck}
 use Rattle.s38_top.specs.Crash.{IsSafe}
-use Rattle.s38_top.specs.Decks.{AreMarks, IsRunOf, checked_of, order_of}
+use Rattle.s38_top.specs.Decks.{AreMarks, AreStoreMarks, IsRunOf, checked_of, order_of}
 use Rattle.s38_top.specs.Laws.{KeepsLaws}
 use Rattle.s38_top.specs.Lines.{bad_store_line, disk_fault_line, full_line, line}
 use Rattle.s38_top.specs.Outside.{Outside, Unread, Untouched}
-use Rattle.s38_top.specs.Runs.{EndsWith, RanOver, kept_of}
+use Rattle.s38_top.specs.Runs.{EndsWith, RanOver, RanTo, kept_of}
 
 -- how many bytes of a deck are taken at most
 abbrev pub most : ℕ
@@ -53,11 +53,13 @@ abbrev pub end_line : ℕ → RunEnd → List ℕ
 end_line count Kept = last_line count
 end_line count Failed = disk_fault_line
 end_line count (Full needed free) = full_line needed free
+end_line count Stopped = disk_fault_line
 
 abbrev pub end_status : RunEnd → ℕ
 end_status Kept = 0
 end_status Failed = 4
 end_status (Full needed free) = 8
+end_status Stopped = 4
 
 -- the log of the run, and the last line
 abbrev pub run_text : Deck → List Entry → RunEnd → List ℕ
@@ -134,13 +136,25 @@ pub record HasDeck (old new : Outside) (deck : Deck) : Type 0 where
 -- number of its postings
 pub record RanGenerated (size : ℕ) (deck : Deck) (history : List Entry) : Type 0 where
   pub is : Spells (deck_of size) deck
-  pub run : IsRunOf held_installed (order_of (Serial size)) deck history
+  pub run : IsRunOf None held_installed (order_of (Serial size)) deck history
 
--- a run over the store of a disk, its marks, and what it left on the disk
-pub record CameToRun (turns : Turns) (old new : DiskView) (whole : Whole) (end : RunEnd) : Type 0 where
+-- a whole run over the store of a disk, its marks, and what it left on the disk
+pub record CameToEnd (turns : Turns) (old new : DiskView) (whole : Whole) (end : RunEnd) : Type 0 where
   pub ran : RanOver turns old whole.deck whole.history.items
-  pub marks : AreMarks whole.marks.items whole.history.items
+  pub marks : AreStoreMarks (moment_of old.past) (moment_of new.past) whole.marks.items whole.history.items
   pub ends : EndsWith old new ran.run.state end
+
+-- a run over the store of a disk up to where the disk failed, and its marks
+pub record CameToStop (turns : Turns) (old new : DiskView) (whole : Whole) : Type 0 where
+  pub ran : RanTo turns old whole.deck whole.history.items
+  pub marks : AreStoreMarks (moment_of old.past) (moment_of new.past) whole.marks.items whole.history.items
+  pub failed : Rose old.faults new.faults
+
+abbrev pub CameToRun : Turns → DiskView → DiskView → Whole → RunEnd → Type 0
+CameToRun turns old new whole Kept = CameToEnd turns old new whole Kept
+CameToRun turns old new whole Failed = CameToEnd turns old new whole Failed
+CameToRun turns old new whole (Full needed free) = CameToEnd turns old new whole (Full needed free)
+CameToRun turns old new whole Stopped = CameToStop turns old new whole
 
 -- something is wrong with the store on a disk
 abbrev pub HasBadStore : DiskView → BadStore → Type 0
@@ -166,7 +180,7 @@ OfText command text old new (Refused bad) = (turns : Turns) × ((command ≡ Job
 OfText command text old new DiskFault = (turns : Turns) × ((command ≡ Jobs turns) × Rose old.faults new.faults)
 OfText command text old new (Checked checked) = (command ≡ Check) × (Spells text checked.deck × ((checked.templates ≡ checked_of checked.deck) × (new ≡ old)))
 OfText command text old new (Demonstrated size whole) =
-    (command ≡ Demo size) × (Spells text whole.deck × (IsRunOf held_installed (order_of (Serial size)) whole.deck whole.history.items × (AreMarks whole.marks.items whole.history.items × (new ≡ old))))
+    (command ≡ Demo size) × (Spells text whole.deck × (IsRunOf None held_installed (order_of (Serial size)) whole.deck whole.history.items × (AreMarks whole.marks.items whole.history.items × (new ≡ old))))
 OfText command text old new Installed = ⊥
 OfText command text old new (Listed objects) = ⊥
 
@@ -265,7 +279,7 @@ pub record IsComplete (turns : Turns) (old new : Outside) (history : List Entry)
   pub deck : Deck
   pub taken : HasDeck old new deck
   pub ran : RanOver turns old.disk deck history
-  pub laws : KeepsLaws ran.held deck history ran.run.state
+  pub laws : KeepsLaws (Some ran.room) ran.held deck history ran.run.state
   pub kept : Leaves old.disk new.disk (λ f g. Keeps new.disk.size g (kept_of ran.run.state))
   pub told : Appends old.written new.written (run_text deck history Kept)
   pub finished : ReadOut old new
@@ -285,7 +299,7 @@ pub record IsChecked (old new : Outside) (history : List Entry) : Type 0 where
 pub record IsDemonstrated (size : ℕ) (old new : Outside) (history : List Entry) : Type 0 where
   pub deck : Deck
   pub ran : RanGenerated size deck history
-  pub laws : KeepsLaws held_installed deck history ran.run.state
+  pub laws : KeepsLaws None held_installed deck history ran.run.state
   pub told : Appends old.written new.written (demo_text size history)
   pub unread : Unread old new
   pub untouched : Untouched old new
@@ -358,4 +372,4 @@ pub record IsAnswered (asked : Option Command) (old new : Outside) (status : ℕ
   pub ends : Ends asked old new status history marks
   pub serves : status ≡ 0 → Serves asked old new history
   pub good : IsGood asked old new → IsServedBy status
-  pub safe : IsSafe asked old.disk new.disk
+  pub safe : IsSafe asked old.disk new.disk (status ≡ 7) history marks

@@ -1,27 +1,30 @@
 //! What the words, a source and a disk come to: where a run was prepared it is made, and what it leaves is kept.
-ghost use Rattle.std.specs.Prelude.{◌≡◌, ℕ, IfOk, false, map, true};
+ghost use Rattle.std.specs.Prelude.{◌≡◌, ℕ, false, map, true};
+ghost use Rattle.s38_base.specs.Faults.{Rose};
 ghost use Rattle.s38_openings.specs.Closing.{CanClose};
-ghost use Rattle.s38_openings.specs.Opening.{IsOpening};
+ghost use Rattle.s38_pages.specs.Mounts.{layout_of};
 ghost use Rattle.s38_pages.specs.Vaults.{page_holds, page_view};
-ghost use Rattle.s38_stores.specs.Crashes.{DuringCall, IsBetween};
-ghost use Rattle.s38_top.specs.Begun.{IsStarted, held_of};
+ghost use Rattle.s38_stores.specs.Crashes.{DuringCall, GoesOn, IsBetween};
 ghost use Rattle.s38_command.specs.Commands.{AreTurnsOn, command_on};
-ghost use Rattle.s38_top.specs.Crash.{IsRunLeft, IsSafe, WasLeft};
 ghost use Rattle.s38_top.specs.Runs.{kept_of};
+ghost use Rattle.s38_top.specs.Stored.{IsBegunOver, WentOver, vault_of};
 ghost use Rattle.s38_vault.specs.Content.{Content};
-ghost use Rattle.s38_top.specs.Ends.{CameFrom, IsDecided, IsEnd, IsEndOf, end_of};
+ghost use Rattle.s38_top.specs.Ends.{CameFrom, IsDecided, IsEnd, IsSafeOf, LeftOver, end_of};
+ghost use Rattle.s38_top.specs.declared.outcome.Outcome.{Outcome};
+ghost use Rattle.s38_top.specs.declared.outcome.RunEnd.{RunEnd};
 
 use crate::outcome::{Outcome, RunEnd, Whole};
 use crate::prepare::{ReadyRun, prepare};
-use crate::run::{run_picked, run_shared};
 use crate::store::Decided;
-use s38_base::NoMemory;
+use crate::stored::{StoredRun, run_over, run_shared_over};
 use s38_command::Turns;
 use s38_disk::Disk;
 use s38_io::Source;
 use s38_keeping::KeepFault;
 use s38_pages::PageVault;
+use s38_stored_machine::StoredEnd;
 use s38_stores::{Kept, keep};
+use s38_vault::Vault;
 use std::alloc::Global;
 use std::sync::Wait;
 use std::thread::Threads;
@@ -38,12 +41,14 @@ fn run_end(end: Result<(), KeepFault>) -> Option<RunEnd>
     }
 }
 
-/// What a run left is kept in the store that it began with.
+/// What a run left is kept in the store over which it was made.
 fn of_whole<D: Disk>(alloc: Global, turns: Turns, whole: Whole, vault: PageVault<D>) -> Decided<D>
     requires end { CanClose whole.state }
     requires faultless { (page_view vault).faults ≡ vault.start }
     ensures end { IsEnd turns whole vault (D.view result.disk) result.outcome }
     ensures during { (m : Content) → page_holds vault m → DuringCall vault.disk (D.view result.disk) (IsBetween (D.view result.disk).size m (kept_of whole.state)) }
+    ensures goes { GoesOn vault.disk (D.view result.disk) }
+    ensures placed { vault.layout ≡ layout_of (D.view result.disk).size }
 {
     let Kept { disk, end } = keep(alloc, vault, &whole.state.objects, &whole.state.units);
     match run_end(end) {
@@ -58,75 +63,92 @@ fn of_whole<D: Disk>(alloc: Global, turns: Turns, whole: Whole, vault: PageVault
     }
 }
 
-/// What a run left is kept in the store that it began with; where it wanted memory the store is as it was.
-fn finish<D: Disk>(
-    alloc: Global,
-    turns: Turns,
-    run: Result<Whole, NoMemory>,
-    vault: PageVault<D>,
-) -> Decided<D>
-    requires end { IfOk run (λ whole. CanClose whole.state) }
-    requires faultless { (page_view vault).faults ≡ vault.start }
-    ensures end { IsEndOf turns run vault (D.view result.disk) result.outcome }
-    ensures during { (m : Content) → page_holds vault m → DuringCall vault.disk (D.view result.disk) (IsRunLeft run (D.view result.disk).size m) }
+/// What a run that the disk broke off comes to.
+fn of_stopped<D: Disk>(turns: Turns, whole: Whole, vault: PageVault<D>) -> Decided<D>
+    ensures outcome { result.outcome ≡ Outcome.Ran turns whole RunEnd.Stopped }
+    ensures disk { D.view result.disk ≡ vault.disk }
+    ensures placed { vault.layout ≡ layout_of (D.view result.disk).size }
+    ensures cause { Rose vault.start (page_view vault).faults → Rose vault.start (D.view result.disk).faults }
 {
-    match run {
-        Err(_) => Decided {
+    Decided {
+        outcome: Outcome::Ran {
+            turns,
+            whole,
+            end: RunEnd::Stopped,
+        },
+        disk: vault.release(),
+    }
+}
+
+/// What a run over a store comes to: where each job ran to its end, what it left is kept.
+fn finish<D: Disk>(alloc: Global, turns: Turns, run: StoredRun<D>) -> Decided<D>
+    requires { WentOver turns run.deck run.machine run.end }
+    ensures came { CameFrom turns run.deck (vault_of run.machine) run.machine.machine.origin (D.view result.disk) result.outcome }
+    ensures left { LeftOver turns run.deck (vault_of run.machine) run.machine.machine.origin (D.view result.disk) result.outcome }
+{
+    let StoredRun { deck, machine, end } = run;
+    let StoredEnd {
+        vault,
+        history,
+        marks,
+        state,
+    } = machine.end();
+    // Their contracts say that the objects are lawful, and how many changes a put takes.
+    let _objects = state.objects.len();
+    let _most = vault.most();
+    let vault = vault.end();
+    let whole = Whole {
+        deck,
+        history,
+        marks,
+        state,
+    };
+    match end {
+        s38_run::RunEnd::Complete => of_whole(alloc, turns, whole, vault),
+        s38_run::RunEnd::Stopped => of_stopped(turns, whole, vault),
+        s38_run::RunEnd::NoMemory => Decided {
             outcome: Outcome::NoMemory,
             disk: vault.release(),
         },
-        Ok(whole) => of_whole(alloc, turns, whole, vault),
     }
 }
 
 /// Makes a run on one thread, and keeps what it leaves.
-fn run_alone<D: Disk>(alloc: Global, ready: ReadyRun<D>) -> Decided<D>
+fn run_alone<D: Disk + Drop>(alloc: Global, ready: ReadyRun<D>) -> Decided<D>
     requires turns { AreTurnsOn false ready.turns }
-    requires started { IsStarted ready.started }
-    requires opening { IsOpening (held_of ready.started) }
-    requires faultless { (page_view ready.vault).faults ≡ ready.vault.start }
-    ensures came { CameFrom ready.turns (held_of ready.started) ready.started.deck ready.vault (D.view result.disk) result.outcome }
-    ensures left { WasLeft ready.turns (held_of ready.started) ready.started.deck ready.vault (D.view result.disk) }
+    requires begun { IsBegunOver ready.started.deck ready.started.made.items ready.started.machine }
+    ensures came { CameFrom ready.turns ready.started.deck (vault_of ready.started.machine) ready.started.machine.machine.origin (D.view result.disk) result.outcome }
+    ensures left { LeftOver ready.turns ready.started.deck (vault_of ready.started.machine) ready.started.machine.machine.origin (D.view result.disk) result.outcome }
 {
-    let ReadyRun {
-        turns,
-        started,
-        vault,
-    } = ready;
+    let ReadyRun { turns, started } = ready;
     let Turns::Serial { pick } = turns else {
         unreachable!()
     };
-    let run = run_picked(alloc, started, pick);
-    finish(alloc, turns, run, vault)
+    let run = run_over(alloc, started, pick);
+    finish(alloc, turns, run)
 }
 
 /// Makes a run on threads, and keeps what it leaves.
-fn run_on_threads<R: Threads + Wait + Sync, D: Disk>(
+fn run_on_threads<R: Threads + Wait + Sync, D: Disk + Drop + Send>(
     rt: &R,
     alloc: Global,
     ready: ReadyRun<D>,
 ) -> Decided<D>
     requires turns { AreTurnsOn true ready.turns }
-    requires started { IsStarted ready.started }
-    requires opening { IsOpening (held_of ready.started) }
-    requires faultless { (page_view ready.vault).faults ≡ ready.vault.start }
-    ensures came { CameFrom ready.turns (held_of ready.started) ready.started.deck ready.vault (D.view result.disk) result.outcome }
-    ensures left { WasLeft ready.turns (held_of ready.started) ready.started.deck ready.vault (D.view result.disk) }
+    requires begun { IsBegunOver ready.started.deck ready.started.made.items ready.started.machine }
+    ensures came { CameFrom ready.turns ready.started.deck (vault_of ready.started.machine) ready.started.machine.machine.origin (D.view result.disk) result.outcome }
+    ensures left { LeftOver ready.turns ready.started.deck (vault_of ready.started.machine) ready.started.machine.machine.origin (D.view result.disk) result.outcome }
 {
-    let ReadyRun {
-        turns,
-        started,
-        vault,
-    } = ready;
+    let ReadyRun { turns, started } = ready;
     let Turns::Workers { count } = turns else {
         unreachable!()
     };
-    let run = run_shared(rt, alloc, started, count);
-    finish(alloc, turns, run, vault)
+    let run = run_shared_over(rt, alloc, started, count);
+    finish(alloc, turns, run)
 }
 
 /// What the words, a source and a disk come to in a call that starts no thread.
-pub fn decide_alone<S: Source, D: Disk>(
+pub fn decide_alone<S: Source, D: Disk + Drop>(
     alloc: Global,
     words: &[&str],
     source: &mut S,
@@ -134,7 +156,7 @@ pub fn decide_alone<S: Source, D: Disk>(
 ) -> Decided<D>
     ensures decided { IsDecided (command_on false (map (λ w. w.now) words.now)) (S.left source.old) (S.left source.new) (S.faults source.old) (S.faults source.new)
         (D.view disk) (D.view result.disk) result.outcome }
-    ensures safe { IsSafe (command_on false (map (λ w. w.now) words.now)) (D.view disk) (D.view result.disk) }
+    ensures safe { IsSafeOf (command_on false (map (λ w. w.now) words.now)) (D.view disk) (D.view result.disk) result.outcome }
 {
     match prepare(alloc, false, words, source, disk) {
         Err(decided) => decided,
@@ -143,7 +165,7 @@ pub fn decide_alone<S: Source, D: Disk>(
 }
 
 /// What the words, a source and a disk come to in a call that starts threads.
-pub fn decide_on_threads<R: Threads + Wait + Sync, S: Source, D: Disk>(
+pub fn decide_on_threads<R: Threads + Wait + Sync, S: Source, D: Disk + Drop + Send>(
     rt: &R,
     alloc: Global,
     words: &[&str],
@@ -152,7 +174,7 @@ pub fn decide_on_threads<R: Threads + Wait + Sync, S: Source, D: Disk>(
 ) -> Decided<D>
     ensures decided { IsDecided (command_on true (map (λ w. w.now) words.now)) (S.left source.old) (S.left source.new) (S.faults source.old) (S.faults source.new)
         (D.view disk) (D.view result.disk) result.outcome }
-    ensures safe { IsSafe (command_on true (map (λ w. w.now) words.now)) (D.view disk) (D.view result.disk) }
+    ensures safe { IsSafeOf (command_on true (map (λ w. w.now) words.now)) (D.view disk) (D.view result.disk) result.outcome }
 {
     match prepare(alloc, true, words, source, disk) {
         Err(decided) => decided,

@@ -9,6 +9,7 @@ mod report;
 mod run;
 mod start;
 mod store;
+mod stored;
 mod tell;
 mod templates;
 mod top;

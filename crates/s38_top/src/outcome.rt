@@ -7,7 +7,8 @@ use s38_machine::State;
 use s38_objects::Objects;
 use s38_stores::BadStore;
 
-/// A run that ended: the deck, the history, a mark for each of its entries, and what the machine came to.
+/// A run: the deck, the history, a mark for each of its entries, and what the machine came to, which says nothing where the
+/// disk failed in the midst of the run.
 #[derive(Drop)]
 pub struct Whole {
     pub deck: Deck,
@@ -30,8 +31,10 @@ pub enum RunEnd {
     Kept,
     /// The disk failed.
     Failed,
-    /// The store has too few free parts, and is as it was.
+    /// The store has too few free parts, and is as it was behind the run.
     Full { needed: u64, free: u32 },
+    /// The disk failed in the midst of the run.
+    Stopped,
 }
 
 /// What the program came to.
@@ -48,7 +51,7 @@ pub enum Outcome {
     DeckFault,
     /// Memory was refused.
     NoMemory,
-    /// Each job ran to its end over the store, in these turns.
+    /// The jobs were run over the store, in these turns: each to its end, unless the disk failed.
     Ran {
         turns: Turns,
         whole: Whole,
@@ -85,7 +88,7 @@ impl RunEnd {
     {
         match self {
             RunEnd::Kept => 0,
-            RunEnd::Failed => DISK_FAULT,
+            RunEnd::Failed | RunEnd::Stopped => DISK_FAULT,
             RunEnd::Full { .. } => 8,
         }
     }

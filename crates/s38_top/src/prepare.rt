@@ -8,35 +8,32 @@ ghost use Rattle.s38_command.specs.declared.command.Command.{Command};
 ghost use Rattle.s38_command.specs.declared.turns.Turns.{Turns};
 ghost use Rattle.s38_command.specs.Commands.{AreTurnsOn, command_on};
 ghost use Rattle.s38_stores.specs.Crashes.{KeepsRestarting};
-ghost use Rattle.s38_top.specs.Crash.{IsSafe};
 ghost use Rattle.s38_top.specs.Decks.{checked_of};
-ghost use Rattle.s38_top.specs.Ends.{IsDecided, IsReady, IsReadFrom, IsSpelled, ReadsFrom};
+ghost use Rattle.s38_top.specs.Ends.{IsDecided, IsReady, IsReadFrom, IsSafeOf, IsSpelled, ReadsFrom};
 ghost use Rattle.s38_top.specs.Outcome.{OfText};
 
 use crate::outcome::{CheckedDeck, Outcome};
 use crate::run::run_deck;
-use crate::start::{Started, start};
 use crate::store::{Decided, of_install, of_list, refused};
+use crate::stored::{StoredStart, start_over};
 use crate::templates::checked_templates;
 use s38_command::{Command, Turns, command_on};
 use s38_demo::deck_of;
 use s38_disk::Disk;
 use s38_io::{ReadFault, Source, read_to_end};
 use s38_machine::installed;
-use s38_pages::PageVault;
 use s38_run::NumberPicker;
-use s38_stores::{OpenStore, open};
+use s38_stores::open;
 use s38_template::{DeckFault, each_job_has_its_template, read_deck};
 use std::alloc::Global;
 
 /// How many bytes of a deck are taken at most: with them the line that passes 4,194,304 bytes is decided.
 const MOST: usize = 4_194_560;
 
-/// A run that is to be made: its turns, the machine that has begun it, and the store in which what it leaves is kept.
+/// A run that is to be made: its turns, and the machine over the store that has begun it.
 pub struct ReadyRun<D: Disk> {
     pub turns: Turns,
-    pub started: Started,
-    pub vault: PageVault<D>,
+    pub started: StoredStart<D>,
 }
 
 /// The deck of a text, and what creation makes of each of its templates; or what a text without one comes to.
@@ -128,15 +125,11 @@ fn ready_on<D: Disk>(
     requires checked { checked.templates ≡ checked_of checked.deck }
     ensures turns { IfOk result (λ ready. ready.turns ≡ turns) }
     ensures deck { IfOk result (λ ready. ready.started.deck ≡ checked.deck) }
-    ensures ready { IfOk result (λ ready. IsReady (D.view disk) ready.started ready.vault) }
+    ensures ready { IfOk result (λ ready. IsReady (D.view disk) ready.started.deck ready.started.made.items ready.started.machine) }
     ensures cause { IfErr result (λ decided. (text : List ℕ) → OfText (Command.Jobs turns) text (D.view disk) (D.view decided.disk) decided.outcome) }
     ensures safe { IfErr result (λ decided. KeepsRestarting (D.view disk) (D.view decided.disk)) }
 {
-    let OpenStore {
-        vault,
-        objects,
-        room: _room,
-    } = match open(alloc, disk) {
+    let store = match open(alloc, disk) {
         Err((disk, refusal)) => {
             return Err(Decided {
                 outcome: refused(refusal),
@@ -147,16 +140,12 @@ fn ready_on<D: Disk>(
     };
     each_job_has_its_template();
     let CheckedDeck { deck, templates } = checked;
-    match start(alloc, objects, deck, templates) {
-        Err(_) => Err(Decided {
+    match start_over(alloc, store, deck, templates) {
+        Err(disk) => Err(Decided {
             outcome: Outcome::NoMemory,
-            disk: vault.release(),
+            disk,
         }),
-        Ok(started) => Ok(ReadyRun {
-            turns,
-            started,
-            vault,
-        }),
+        Ok(started) => Ok(ReadyRun { turns, started }),
     }
 }
 
@@ -169,7 +158,7 @@ fn ready_run<S: Source, D: Disk>(
 ) -> Result<ReadyRun<D>, Decided<D>>
     ensures turns { IfOk result (λ ready. ready.turns ≡ turns) }
     ensures read { IfOk result (λ ready. IsReadFrom (S.left source.old) (S.left source.new) ready.started.deck) }
-    ensures ready { IfOk result (λ ready. IsReady (D.view disk) ready.started ready.vault) }
+    ensures ready { IfOk result (λ ready. IsReady (D.view disk) ready.started.deck ready.started.made.items ready.started.machine) }
     ensures cause { IfErr result (λ decided. ReadsFrom (Command.Jobs turns) (S.left source.old) (S.left source.new) (S.faults source.old) (S.faults source.new)
         (D.view disk) (D.view decided.disk) decided.outcome) }
     ensures safe { IfErr result (λ decided. KeepsRestarting (D.view disk) (D.view decided.disk)) }
@@ -209,10 +198,10 @@ pub fn prepare<S: Source, D: Disk>(
     ensures asked { IfOk result (λ ready. command_on threads (map (λ w. w.now) words.now) ≡ Some (Command.Jobs ready.turns)) }
     ensures turns { IfOk result (λ ready. AreTurnsOn threads ready.turns) }
     ensures read { IfOk result (λ ready. IsReadFrom (S.left source.old) (S.left source.new) ready.started.deck) }
-    ensures ready { IfOk result (λ ready. IsReady (D.view disk) ready.started ready.vault) }
+    ensures ready { IfOk result (λ ready. IsReady (D.view disk) ready.started.deck ready.started.made.items ready.started.machine) }
     ensures decided { IfErr result (λ decided. IsDecided (command_on threads (map (λ w. w.now) words.now)) (S.left source.old) (S.left source.new) (S.faults source.old) (S.faults source.new)
         (D.view disk) (D.view decided.disk) decided.outcome) }
-    ensures safe { IfErr result (λ decided. IsSafe (command_on threads (map (λ w. w.now) words.now)) (D.view disk) (D.view decided.disk)) }
+    ensures safe { IfErr result (λ decided. IsSafeOf (command_on threads (map (λ w. w.now) words.now)) (D.view disk) (D.view decided.disk) decided.outcome) }
 {
     let command = match asked(alloc, threads, words) {
         Err(outcome) => return Err(Decided { outcome, disk }),

@@ -1,24 +1,20 @@
-//! Runs of the jobs of a deck, on one thread or on several.
+//! Runs of the jobs of a deck on a machine without a store.
 ghost use Rattle.std.specs.Prelude.{◌≡◌, ◌≤◌, ℕ, IfOk, Some, length, slice_get};
 ghost use Rattle.s38_code.specs.declared.deck.Job.{Job};
 ghost use Rattle.s38_objects.specs.Lawful.{IsLawful};
 ghost use Rattle.s38_rules.specs.Kept.{CanBeKept};
 ghost use Rattle.s38_template.specs.Places.{HasTemplate};
 ghost use Rattle.s38_top.specs.Begun.{IsStarted, IsWholeOf, held_of};
-ghost use Rattle.s38_top.specs.Decks.{checked_of, order_of, turns_by};
+ghost use Rattle.s38_top.specs.Decks.{checked_of, turns_by};
 
 use crate::outcome::Whole;
 use crate::start::{Started, start};
 use s38_base::NoMemory;
 use s38_code::{Checked, Deck};
-use s38_command::Turns;
 use s38_machine::Machine;
 use s38_objects::Objects;
-use s38_run::{NumberPicker, Picker, RunEnd, serial};
-use s38_workers::{NoGate, run_machine};
+use s38_run::{Picker, RunEnd, serial};
 use std::alloc::Global;
-use std::sync::Wait;
-use std::thread::Threads;
 
 /// What a machine that ran the jobs of a deck came to.
 fn whole_of(deck: Deck, machine: Machine) -> Whole
@@ -60,43 +56,6 @@ fn run_serial<P: Picker>(alloc: Global, started: Started, picker: &mut P) -> Res
         RunEnd::Complete => Ok(whole_of(deck, machine)),
         _ => Err(NoMemory),
     }
-}
-
-/// Runs the jobs that a machine has begun on one thread; the picker begins at this number.
-pub fn run_picked(alloc: Global, started: Started, pick: u32) -> Result<Whole, NoMemory>
-    requires { IsStarted started }
-    ensures { IfOk result (λ whole. IsWholeOf (held_of started) (order_of (Turns.Serial pick)) started.deck whole) }
-{
-    let mut picker = NumberPicker::new(u64::from(pick));
-    run_serial(alloc, started, &mut picker)
-}
-
-/// Runs the jobs that a machine has begun on so many threads, which share it.
-pub fn run_shared<R: Threads + Wait + Sync>(
-    rt: &R,
-    alloc: Global,
-    started: Started,
-    count: u32,
-) -> Result<Whole, NoMemory>
-    requires started { IsStarted started }
-    requires some { 1 ≤ count }
-    ensures { IfOk result (λ whole. IsWholeOf (held_of started) (order_of (Turns.Workers count)) started.deck whole) }
-{
-    let Started {
-        deck,
-        made,
-        machine,
-    } = started;
-    let machine = run_machine(
-        rt,
-        alloc,
-        machine,
-        deck.jobs.as_slice(),
-        made.as_slice(),
-        count,
-        &NoGate,
-    )?;
-    Ok(whole_of(deck, machine))
 }
 
 /// Runs the jobs of a deck whose templates were checked on one thread, from these objects, in turns that a picker chooses.

@@ -1,6 +1,6 @@
 //! The commands that are about a store alone.
 ghost use Rattle.std.specs.Prelude.{◌≡◌, Some};
-ghost use Rattle.s38_top.specs.Crash.{IsSafe};
+ghost use Rattle.s38_top.specs.Ends.{IsSafeOf};
 ghost use Rattle.s38_top.specs.Outcome.{OfStore, refused};
 
 use crate::outcome::Outcome;
@@ -31,7 +31,7 @@ pub fn refused(refusal: StoreRefusal) -> Outcome
 /// A store is made.
 pub fn of_install<D: Disk>(alloc: Global, disk: D) -> Decided<D>
     ensures comes { OfStore Command.Install (D.view disk) (D.view result.disk) result.outcome }
-    ensures safe { IsSafe (Some Command.Install) (D.view disk) (D.view result.disk) }
+    ensures safe { IsSafeOf (Some Command.Install) (D.view disk) (D.view result.disk) result.outcome }
 {
     let Ok(objects) = installed(alloc) else {
         return Decided {
@@ -54,7 +54,7 @@ pub fn of_install<D: Disk>(alloc: Global, disk: D) -> Decided<D>
 /// The objects of a store are listed.
 pub fn of_list<D: Disk>(alloc: Global, disk: D) -> Decided<D>
     ensures comes { OfStore Command.List (D.view disk) (D.view result.disk) result.outcome }
-    ensures safe { IsSafe (Some Command.List) (D.view disk) (D.view result.disk) }
+    ensures safe { IsSafeOf (Some Command.List) (D.view disk) (D.view result.disk) result.outcome }
 {
     match open(alloc, disk) {
         Ok(

@@ -40,7 +40,7 @@ fn end_line(alloc: Global, count: usize, end: RunEnd) -> Result<Vec<u8>, NoMemor
 {
     match end {
         RunEnd::Kept => last_line(alloc, count as u64),
-        RunEnd::Failed => {
+        RunEnd::Failed | RunEnd::Stopped => {
             let mut line = Vec::new(alloc);
             line.extend_from_slice(b"DISK FAULT\n")?;
             Ok(line)

@@ -17,7 +17,7 @@ use std::thread::Threads;
 /// line for each of its templates is written: what creation makes of it. Under `demo n` the generated deck of n postings is
 /// run from the objects of a store that was installed, and n and the total are written. `check` and `demo` leave the disk as
 /// it is. `run` is no command here. The disk comes back.
-pub fn plain_top<D: Disk, I: Source, O: Sink>(
+pub fn plain_top<D: Disk + Drop, I: Source, O: Sink>(
     alloc: Global,
     words: &[&str],
     deck: &mut I,
@@ -37,7 +37,7 @@ pub fn plain_top<D: Disk, I: Source, O: Sink>(
 
 /// Serves `run` and `run --workers n`; other words are no command here. The jobs of the deck are run as under `serial`, on so
 /// many threads, which share the machine. The disk comes back. How long a job waits for others is not promised.
-pub fn run_top<R: Threads + Wait + Sync, D: Disk, I: Source, O: Sink>(
+pub fn run_top<R: Threads + Wait + Sync, D: Disk + Drop + Send, I: Source, O: Sink>(
     rt: &R,
     alloc: Global,
     words: &[&str],

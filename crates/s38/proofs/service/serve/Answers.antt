@@ -6,7 +6,7 @@ use Rattle.s38_top.specs.declared.outcome.Outcome.TheVariants as outcomes
 use Rattle.s38_command.specs.Commands.{command_of}
 use Rattle.s38_top.specs.Outcome.{IsAnswered, IsTold}
 use Rattle.s38_top.specs.Outside.{Outside, outside}
-use Rattle.s38_top.proofs.SafeLaws.{safe_none}
+use Rattle.s38_top.proofs.SafeLaws.{safe_still}
 use Rattle.s38.specs.CommandLine.{EndsSomehow}
 use Rattle.s38.proofs.service.serve.Goals as goal
 
@@ -21,7 +21,7 @@ no_memory words old written put status told = record {
     ends = record { outcome = outcomes.NoMemory; holds = tt; tells = told; kept = refl; marked = refl };
     serves = λ is. absurd (other status (seven told) is);
     good = λ good. inr (inl (seven told));
-    safe = safe_none (command_of words) old.disk;
+    safe = safe_still (command_of words) old.disk (status ≡ 7) [] [];
   };
 }
   where

@@ -1,18 +1,76 @@
-use Rattle.std.proofs.Common.{subst, sym}
-use Rattle.std.specs.Prelude.{Result}
-use Rattle.s38_base.specs.declared.fault.NoMemory.{NoMemory}
+use Rattle.std.proofs.Common.{◌≡◌, ◌∙◌, ℕ, ap, arith, refl, subst, sym}
+use Rattle.s38_disk.specs.Disk.{DiskView, moment_of}
+use Rattle.s38_objects.specs.Lawful.{IsLawful}
+use Rattle.s38_openings.specs.Closing.{CanClose}
+use Rattle.s38_pages.specs.Mounts.{layout_of}
 use Rattle.s38_pages.specs.Vaults.{page_holds}
-use Rattle.s38_stores.specs.Crashes.{DuringCall}
-use Rattle.s38_top.proofs.SafeLaws.{given_back}
-use Rattle.s38_top.specs.declared.outcome.Whole.{Whole}
-use Rattle.s38_top.specs.Crash.{IsRunLeft}
+use Rattle.s38_rules.specs.State.{State}
+use Rattle.s38_stores.specs.Crashes.{DuringCall, IsBetween}
 use Rattle.s38_vault.specs.Content.{Content}
+use Rattle.s38_top.proofs.OverLaws.{came_kept, came_stopped, closes, given_back, going_faultless, left_kept, left_off, reported_kept, reported_stopped, stopped_rose}
+use Rattle.s38_top.specs.Runs.{kept_of}
+use Rattle.s38_top.specs.declared.outcome.Outcome.TheVariants.{NoMemory}
+use Rattle.s38_top.specs.declared.outcome.Whole.{Whole}
 use Rattle.s38_top.proofs.decide.finish.Goals as goal
 
-pub returns-in-Err-clause-during : goal.returns-in-Err-clause-during
-returns-in-Err-clause-during g c = λ m holds. given_back c.args.vault.disk (g.D.Disk.view c.release.result) c.args.run _ m c.in-Err.is c.release.ensures.disk
+pub of_whole-requires-clause-end : goal.of_whole-requires-clause-end
+of_whole-requires-clause-end g c =
+    let x = c.args.run.machine in
+    let given = given_back x c.end-vault.result.vault c.end-vault-2.result c.end-vault.ensures.vault c.end-vault-2.ensures.vault c.end-vault-2.ensures.watched c.most-most.ensures.limits in
+    subst CanClose (sym c.end-vault.ensures.state)
+    (closes c.args.turns c.args.run.deck x c.args.run.end c.requires c.end-vault-2.result given (subst (λ (s : State). IsLawful s.held) (c.state.view_is ∙ c.end-vault.ensures.state) c.len-objects.ensures.lawful))
 
-pub returns-in-Ok-clause-during : goal.returns-in-Ok-clause-during
-returns-in-Ok-clause-during g c =
-    subst (λ (r : Result Whole NoMemory). (m : Content) → page_holds c.args.vault m → DuringCall c.args.vault.disk (g.D.Disk.view c.of_whole.result.disk) (IsRunLeft r (g.D.Disk.view c.of_whole.result.disk).size m))
-    (sym c.in-Ok.is) c.of_whole.ensures.during
+pub of_whole-requires-clause-faultless : goal.of_whole-requires-clause-faultless
+of_whole-requires-clause-faultless g c =
+    let x = c.args.run.machine in
+    let given = given_back x c.end-vault.result.vault c.end-vault-2.result c.end-vault.ensures.vault c.end-vault-2.ensures.vault c.end-vault-2.ensures.watched c.most-most.ensures.limits in
+    going_faultless c.args.turns c.args.run.deck x c.args.run.end c.requires c.end-vault-2.result given (c.requires.going c.in-Complete.is)
+
+pub returns-in-Complete-clause-came : goal.returns-in-Complete-clause-came
+returns-in-Complete-clause-came g c =
+    let x = c.args.run.machine in
+    let left : Whole = record { deck = c.args.run.deck; history = c.end-vault.result.history; marks = c.end-vault.result.marks; state = c.end-vault.result.state } in
+    let given = given_back x c.end-vault.result.vault c.end-vault-2.result c.end-vault.ensures.vault c.end-vault-2.ensures.vault c.end-vault-2.ensures.watched c.most-most.ensures.limits in
+    came_kept c.args.turns c.args.run.deck x c.args.run.end c.requires c.end-vault-2.result given (g.D.Disk.view c.of_whole.result.disk) c.of_whole.ensures.placed left
+    refl c.end-vault.ensures.history c.end-vault.ensures.marks c.in-Complete.is c.end-vault.ensures.state c.of_whole.ensures.goes c.of_whole.result.outcome c.of_whole.ensures.end
+
+pub returns-in-Complete-clause-left : goal.returns-in-Complete-clause-left
+returns-in-Complete-clause-left g c =
+    let x = c.args.run.machine in
+    let left : Whole = record { deck = c.args.run.deck; history = c.end-vault.result.history; marks = c.end-vault.result.marks; state = c.end-vault.result.state } in
+    let new = g.D.Disk.view c.of_whole.result.disk in
+    let given = given_back x c.end-vault.result.vault c.end-vault-2.result c.end-vault.ensures.vault c.end-vault-2.ensures.vault c.end-vault-2.ensures.watched c.most-most.ensures.limits in
+    left_kept c.args.turns c.args.run.deck x c.args.run.end c.requires c.end-vault-2.result given new c.of_whole.ensures.placed c.of_whole.result.outcome
+    (reported_kept c.args.turns c.args.run.deck x c.args.run.end c.requires c.end-vault-2.result given new c.of_whole.ensures.placed left refl c.end-vault.ensures.history c.end-vault.ensures.marks c.in-Complete.is c.end-vault.ensures.state
+    c.of_whole.ensures.goes c.of_whole.result.outcome c.of_whole.ensures.end)
+    c.in-Complete.is c.of_whole.ensures.goes
+    (λ m holds. subst (λ (s : State). DuringCall c.end-vault-2.result.disk new (IsBetween new.size m (kept_of s))) c.end-vault.ensures.state (c.of_whole.ensures.during m holds))
+
+pub returns-in-Stopped-clause-came : goal.returns-in-Stopped-clause-came
+returns-in-Stopped-clause-came g c =
+    let x = c.args.run.machine in
+    let left : Whole = record { deck = c.args.run.deck; history = c.end-vault.result.history; marks = c.end-vault.result.marks; state = c.end-vault.result.state } in
+    let new = g.D.Disk.view c.of_stopped.result.disk in
+    let same : new ≡ c.end-vault-2.result.disk = c.of_stopped.ensures.disk in
+    let here = ap (λ (d : DiskView). moment_of d.past) same in
+    let given = given_back x c.end-vault.result.vault c.end-vault-2.result c.end-vault.ensures.vault c.end-vault-2.ensures.vault c.end-vault-2.ensures.watched c.most-most.ensures.limits in
+    came_stopped c.args.turns c.args.run.deck x c.args.run.end c.requires c.end-vault-2.result given new c.of_stopped.ensures.placed left refl c.end-vault.ensures.history c.end-vault.ensures.marks c.of_stopped.result.outcome
+    c.of_stopped.ensures.outcome (omega (arith, here))
+    (c.of_stopped.ensures.cause (stopped_rose c.args.turns c.args.run.deck x c.args.run.end c.requires c.end-vault-2.result given (c.requires.stopped c.in-Stopped.is)))
+
+pub returns-in-Stopped-clause-left : goal.returns-in-Stopped-clause-left
+returns-in-Stopped-clause-left g c =
+    let x = c.args.run.machine in
+    let left : Whole = record { deck = c.args.run.deck; history = c.end-vault.result.history; marks = c.end-vault.result.marks; state = c.end-vault.result.state } in
+    let new = g.D.Disk.view c.of_stopped.result.disk in
+    let given = given_back x c.end-vault.result.vault c.end-vault-2.result c.end-vault.ensures.vault c.end-vault-2.ensures.vault c.end-vault-2.ensures.watched c.most-most.ensures.limits in
+    left_off c.args.turns c.args.run.deck x c.args.run.end c.requires c.end-vault-2.result given new c.of_stopped.ensures.placed c.of_stopped.result.outcome
+    (λ not. reported_stopped c.args.turns c.args.run.deck x c.args.run.end c.requires c.end-vault-2.result given new c.of_stopped.ensures.placed left refl c.end-vault.ensures.history c.end-vault.ensures.marks
+    c.of_stopped.result.outcome c.of_stopped.ensures.outcome)
+    c.of_stopped.ensures.disk
+
+pub returns-in-NoMemory-clause-left : goal.returns-in-NoMemory-clause-left
+returns-in-NoMemory-clause-left g c =
+    let x = c.args.run.machine in
+    let given = given_back x c.end-vault.result.vault c.end-vault-2.result c.end-vault.ensures.vault c.end-vault-2.ensures.vault c.end-vault-2.ensures.watched c.most-most.ensures.limits in
+    left_off c.args.turns c.args.run.deck x c.args.run.end c.requires c.end-vault-2.result given (g.D.Disk.view c.release.result) c.release.ensures.layout NoMemory (λ not. absurd (not refl)) c.release.ensures.disk

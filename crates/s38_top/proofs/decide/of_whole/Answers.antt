@@ -4,7 +4,7 @@ use Rattle.s38_openings.specs.Opening.{IsNumbered}
 use Rattle.s38_rules.specs.Storable.{IsStorable}
 use Rattle.s38_top.specs.declared.outcome.Whole.{Whole}
 use Rattle.s38_top.proofs.SafeLaws.{kept_at}
-use Rattle.s38_top.proofs.StoreLaws.{leaves_at}
+use Rattle.s38_top.proofs.StoreLaws.{kept_end, leaves_at}
 use Rattle.s38_top.proofs.decide.of_whole.Goals as goal
 
 pub keep-disk-requires-clause-storable : goal.keep-disk-requires-clause-storable
@@ -19,7 +19,7 @@ keep-disk-requires-clause-numbers g c = subst (λ (w : Whole). All IsNumbered w.
 pub returns-in-Some-clause-end : goal.returns-in-Some-clause-end
 returns-in-Some-clause-end g c =
     let same = ap (λ (w : Whole). w.state) c.whole.view_is in
-    (refl, (refl, leaves_at same c.args.vault (g.D.Disk.view c.keep-disk.result.disk) c.keep-disk.result.end c.in-Some.end (sym c.in-Some.is ∙ c.run_end.ensures) c.keep-disk.ensures.kept c.keep-disk.ensures.full c.keep-disk.ensures.cause))
+    (refl, (refl, (kept_end c.keep-disk.result.end c.in-Some.end (sym c.in-Some.is ∙ c.run_end.ensures), leaves_at same c.args.vault (g.D.Disk.view c.keep-disk.result.disk) c.keep-disk.result.end c.in-Some.end (sym c.in-Some.is ∙ c.run_end.ensures) c.keep-disk.ensures.kept c.keep-disk.ensures.full c.keep-disk.ensures.cause)))
 
 pub returns-in-Some-clause-during : goal.returns-in-Some-clause-during
 returns-in-Some-clause-during g c = λ m holds.

@@ -1,25 +1,24 @@
 use Rattle.std.proofs.Common.{subst, sym}
+use Rattle.s38_code.specs.declared.deck.Deck.{Deck}
 use Rattle.s38_command.specs.declared.turns.Turns.{Turns}
 use Rattle.s38_command.specs.declared.turns.Turns.TheVariants.{Workers}
-use Rattle.s38_top.specs.Begun.{held_of}
-use Rattle.s38_top.specs.Crash.{WasLeft}
-use Rattle.s38_top.specs.Decks.{order_of}
-use Rattle.s38_top.specs.Ends.{CameFrom}
-use Rattle.s38_top.proofs.SafeLaws.{run_left}
-use Rattle.s38_top.proofs.StoreLaws.{run_came, whole_closes}
+use Rattle.s38_pages.specs.Watched.{WatchedStore}
+use Rattle.s38_stored_machine.specs.Seen.{StoredBeginning}
+use Rattle.s38_top.specs.Ends.{CameFrom, LeftOver}
+use Rattle.s38_top.specs.Stored.{WentOver}
 use Rattle.s38_top.proofs.decide.run_on_threads.Goals as goal
 
-pub finish-requires-clause-end : goal.finish-requires-clause-end
-finish-requires-clause-end g c =
-    whole_closes (held_of c.args.ready.started) (order_of (Workers c.in-Workers.count)) c.args.ready.started.deck c.run_shared-run.result c.requires.opening c.run_shared-run.ensures
+pub finish-requires : goal.finish-requires
+finish-requires g c = subst (λ (d : Deck). WentOver (Workers c.in-Workers.count) d c.run_shared_over-run.result.machine c.run_shared_over-run.result.end) (sym c.run_shared_over-run.ensures.deck) c.run_shared_over-run.ensures.went
 
 pub returns-clause-came : goal.returns-clause-came
 returns-clause-came g c =
-    subst (λ (t : Turns). CameFrom t (held_of c.args.ready.started) c.args.ready.started.deck c.args.ready.vault (g.D.Disk.view c.finish.result.disk) c.finish.result.outcome) (sym c.in-Workers.is)
-    (run_came (Workers c.in-Workers.count) (held_of c.args.ready.started) c.args.ready.started.deck c.args.ready.vault (g.D.Disk.view c.finish.result.disk) c.run_shared-run.result c.finish.result.outcome
-    c.run_shared-run.ensures c.finish.ensures.end)
+    subst (λ (t : Turns). CameFrom t c.args.ready.started.deck c.args.ready.started.machine.first.now c.args.ready.started.machine.machine.origin (g.D.Disk.view c.finish.result.disk) c.finish.result.outcome) (sym c.in-Workers.is)
+    (subst (λ (b : StoredBeginning WatchedStore). CameFrom (Workers c.in-Workers.count) c.args.ready.started.deck b.vault.now b.state (g.D.Disk.view c.finish.result.disk) c.finish.result.outcome) c.run_shared_over-run.ensures.beginning
+    (subst (λ (d : Deck). CameFrom (Workers c.in-Workers.count) d c.run_shared_over-run.result.machine.first.now c.run_shared_over-run.result.machine.machine.origin (g.D.Disk.view c.finish.result.disk) c.finish.result.outcome) c.run_shared_over-run.ensures.deck c.finish.ensures.came))
 
 pub returns-clause-left : goal.returns-clause-left
 returns-clause-left g c =
-    subst (λ (t : Turns). WasLeft t (held_of c.args.ready.started) c.args.ready.started.deck c.args.ready.vault (g.D.Disk.view c.finish.result.disk)) (sym c.in-Workers.is)
-    (run_left (Workers c.in-Workers.count) (held_of c.args.ready.started) c.args.ready.started.deck c.args.ready.vault (g.D.Disk.view c.finish.result.disk) c.run_shared-run.result c.run_shared-run.ensures c.finish.ensures.during)
+    subst (λ (t : Turns). LeftOver t c.args.ready.started.deck c.args.ready.started.machine.first.now c.args.ready.started.machine.machine.origin (g.D.Disk.view c.finish.result.disk) c.finish.result.outcome) (sym c.in-Workers.is)
+    (subst (λ (b : StoredBeginning WatchedStore). LeftOver (Workers c.in-Workers.count) c.args.ready.started.deck b.vault.now b.state (g.D.Disk.view c.finish.result.disk) c.finish.result.outcome) c.run_shared_over-run.ensures.beginning
+    (subst (λ (d : Deck). LeftOver (Workers c.in-Workers.count) d c.run_shared_over-run.result.machine.first.now c.run_shared_over-run.result.machine.machine.origin (g.D.Disk.view c.finish.result.disk) c.finish.result.outcome) c.run_shared_over-run.ensures.deck c.finish.ensures.left))

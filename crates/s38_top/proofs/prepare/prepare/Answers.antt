@@ -55,22 +55,23 @@ pub returns-in-Err-clause-decided : goal.returns-in-Err-clause-decided
 returns-in-Err-clause-decided g c = c.in-Err.ensures.cause (g.S.Source.left c.args.source.now) (g.S.Source.faults c.args.source.now) (g.D.Disk.view c.args.disk)
 
 pub returns-in-Err-clause-safe : goal.returns-in-Err-clause-safe
-returns-in-Err-clause-safe g c = safe_none (command_on c.args.threads (map {A = Bor (List ℕ)} {B = List ℕ} (λ w. w.now) c.args.words.now)) (g.D.Disk.view c.args.disk)
+returns-in-Err-clause-safe g c = safe_none (command_on c.args.threads (map {A = Bor (List ℕ)} {B = List ℕ} (λ w. w.now) c.args.words.now)) (g.D.Disk.view c.args.disk) c.in-Err.outcome
 
 pub returns-in-Jobs-clause-safe : goal.returns-in-Jobs-clause-safe
 returns-in-Jobs-clause-safe g c =
-    unprepared_safe c.ready_run.result (λ d. g.D.Disk.view d.disk) (command_on c.args.threads (map {A = Bor (List ℕ)} {B = List ℕ} (λ w. w.now) c.args.words.now)) c.in-Jobs.turns (g.D.Disk.view c.args.disk) (c.in-Ok.ensures.command ∙ ap Some c.in-Jobs.is) c.ready_run.ensures.safe
+    unprepared_safe c.ready_run.result (λ d. g.D.Disk.view d.disk) (λ d. d.outcome) (command_on c.args.threads (map {A = Bor (List ℕ)} {B = List ℕ} (λ w. w.now) c.args.words.now)) c.in-Jobs.turns (g.D.Disk.view c.args.disk) (c.in-Ok.ensures.command ∙ ap Some c.in-Jobs.is) c.ready_run.ensures.safe
 
 pub returns-in-Check-clause-safe : goal.returns-in-Check-clause-safe
-returns-in-Check-clause-safe g c = safe_none (command_on c.args.threads (map {A = Bor (List ℕ)} {B = List ℕ} (λ w. w.now) c.args.words.now)) (g.D.Disk.view c.args.disk)
+returns-in-Check-clause-safe g c = safe_none (command_on c.args.threads (map {A = Bor (List ℕ)} {B = List ℕ} (λ w. w.now) c.args.words.now)) (g.D.Disk.view c.args.disk) c.of_check.result
 
 pub returns-in-Demo-clause-safe : goal.returns-in-Demo-clause-safe
-returns-in-Demo-clause-safe g c = safe_none (command_on c.args.threads (map {A = Bor (List ℕ)} {B = List ℕ} (λ w. w.now) c.args.words.now)) (g.D.Disk.view c.args.disk)
+returns-in-Demo-clause-safe g c = safe_none (command_on c.args.threads (map {A = Bor (List ℕ)} {B = List ℕ} (λ w. w.now) c.args.words.now)) (g.D.Disk.view c.args.disk) c.of_generated.result
 
 pub returns-in-Install-clause-safe : goal.returns-in-Install-clause-safe
 returns-in-Install-clause-safe g c =
-    safe_of (command_on c.args.threads (map {A = Bor (List ℕ)} {B = List ℕ} (λ w. w.now) c.args.words.now)) Install (g.D.Disk.view c.args.disk) (g.D.Disk.view c.of_install.result.disk) (c.in-Ok.ensures.command ∙ ap Some c.in-Install.is) c.of_install.ensures.safe
+    safe_of (command_on c.args.threads (map {A = Bor (List ℕ)} {B = List ℕ} (λ w. w.now) c.args.words.now)) Install (g.D.Disk.view c.args.disk) (g.D.Disk.view c.of_install.result.disk) c.of_install.result.outcome (c.in-Ok.ensures.command ∙ ap Some c.in-Install.is)
+    c.of_install.ensures.safe
 
 pub returns-in-List-clause-safe : goal.returns-in-List-clause-safe
 returns-in-List-clause-safe g c =
-    safe_of (command_on c.args.threads (map {A = Bor (List ℕ)} {B = List ℕ} (λ w. w.now) c.args.words.now)) Listing (g.D.Disk.view c.args.disk) (g.D.Disk.view c.of_list.result.disk) (c.in-Ok.ensures.command ∙ ap Some c.in-List.is) c.of_list.ensures.safe
+    safe_of (command_on c.args.threads (map {A = Bor (List ℕ)} {B = List ℕ} (λ w. w.now) c.args.words.now)) Listing (g.D.Disk.view c.args.disk) (g.D.Disk.view c.of_list.result.disk) c.of_list.result.outcome (c.in-Ok.ensures.command ∙ ap Some c.in-List.is) c.of_list.ensures.safe

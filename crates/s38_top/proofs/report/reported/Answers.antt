@@ -1,5 +1,5 @@
 use Rattle.s38_top.specs.Outside.{outside}
-use Rattle.s38_top.proofs.TopLaws.{answered_of, ends_of}
+use Rattle.s38_top.proofs.TopLaws.{answered_of, ends_of, safe_told}
 use Rattle.s38_top.proofs.report.reported.Goals as goal
 
 pub returns-clause-answered : goal.returns-clause-answered
@@ -9,4 +9,5 @@ returns-clause-answered g c = λ asked left left' taken taken' old new decided s
     answered_of asked before behind c.report_of.result.status c.report_of.result.history.items c.report_of.result.marks.items
     (ends_of asked before behind c.args.decided.outcome c.tell-told.result.outcome c.tell-told.result.written c.report_of.result.status c.report_of.result.history.items c.report_of.result.marks.items
     (decided _ _ _ _) c.tell-told.ensures.outcome c.tell-told.ensures.told c.report_of.ensures.status c.report_of.ensures.history c.report_of.ensures.marks)
-    safe
+    (safe_told asked old new c.tell-told.result.written c.args.decided.outcome c.tell-told.result.outcome c.report_of.result.status c.report_of.result.history.items c.report_of.result.marks.items
+    c.tell-told.ensures.outcome c.report_of.ensures.status c.report_of.ensures.history c.report_of.ensures.marks safe)
