@@ -43,13 +43,6 @@ def codes():
     return {code: Code(*said) for code, *said in ENTRY.findall(page("CODES.md"))}
 
 
-@functools.lru_cache(maxsize=None)
-def not_built():
-    """Each code that no instruction signals today, with its name and its meaning."""
-    rows = re.findall(r"^\| ([0-9A-F]{4}) \| (.+) \| (.+) \|$", section("CODES.md", "Not built"), re.M)
-    return {code: (name, meaning) for code, name, meaning in rows}
-
-
 # ---- instructions
 
 @functools.lru_cache(maxsize=None)

@@ -12,9 +12,6 @@ from .log import LISTED
 from .program import PROGRAM
 
 SECONDS = 60
-# Whether a run puts before its end, as ENSOBJ, COMMIT and a new ceiling ask for it. As long as it does not, it has one put at
-# most, and a number that it gave to what is not kept may be given again, also where the text of a run that failed told it.
-IN_THE_MIDST = False
 BLOCK, FIRST_HOME = stores.BLOCK, stores.FIRST_HOME
 GATE, UP = 1, 0x4F
 FIRST_STORE_GAVE = 5
@@ -68,7 +65,7 @@ class State:
 
     def fault(self, path, told=""):
         """What is odd about a store that has its parts, or nothing, where a text was told of the run."""
-        text, given = call(path, ["serial"], PROBE), max([self.given, *(given_in(told) if IN_THE_MIDST else ())])
+        text, given = call(path, ["serial"], PROBE), max([self.given, *given_in(told)])
         if max(given_in(text), default=0) <= given:
             return f"a number is given again, of 1 to {given}: {text!r}"
         if text != self.probe or parts_of(path) != self.probed:
@@ -121,10 +118,8 @@ class Run:
             self.states.append((moment, state))
             given = max([given, *state.numbers()])
         self.states[-1][1].given = max([given, *given_in(self.log)])
-        if not IN_THE_MIDST and len(self.puts) > 1:
-            raise Odd(f"{self.name}: {len(self.puts)} puts, where there should be one")
         for (_, state), (_, later) in zip(self.states, self.states[1:]):
-            if IN_THE_MIDST and max(given_in(state.probe)) <= max(later.numbers()):
+            if max(given_in(state.probe)) <= max(later.numbers()):
                 raise Odd(f"{self.name}: what was given before a put is given again")
 
     def allowed(self, moment):

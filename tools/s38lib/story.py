@@ -94,7 +94,7 @@ class Story:
     def refusal(self, step):
         words = step.entry.words
         code = words[0]
-        name = pages.codes()[code].name if code in pages.codes() else pages.not_built().get(code, ("a code of the program's own",))[0]
+        name = pages.codes()[code].name if code in pages.codes() else "a code of the program's own"
         said = f"{code} {name}"
         if len(words) > 1 and words[1] != "0":
             said += f" at operand {words[1]}" + self.operand(step, words[1])
