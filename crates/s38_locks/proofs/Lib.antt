@@ -1,2 +1,3 @@
 pub mod OrderLaws
+mod SearchLaws
 pub mod TableLaws

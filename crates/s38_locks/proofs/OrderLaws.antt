@@ -2,11 +2,9 @@
 use Rattle.std.proofs.Common.{◌≡◌, ℕ, ◌+◌, ◌≤◌, Bool, true, false, cond, not, List, [], ◌∷◌, ◌++◌, length, suc, refl, sym, ◌∙◌, ap, arith, subst}
 use Rattle.std.proofs.lemmas.Bool.Decides.{nat_tests}
 use Rattle.std.proofs.lemmas.List.Folds.{find-append}
-use Rattle.std.proofs.lemmas.List.Sums.{prefix_len-le-length}
 use Rattle.std.proofs.lemmas.Option.{cond_some}
 use Rattle.std.specs.Prelude.{◌==◌, nat_lt, Option, Some, None, IfSome, OnOk, OnErr, filter, find, insert, position, remove}
 use Rattle.std.specs.List.{AllByRecursion, position_or_len}
-use Rattle.std.specs.Option.{unwrap_or}
 use Rattle.std.specs.declared.result.Result.{Result}
 use Rattle.std.specs.declared.result.Result.TheVariants.{Ok, Err}
 use Rattle.s38_base.specs.declared.words.LockState.{LockState}
@@ -20,15 +18,6 @@ use Rattle.s38_locks.specs.Refusals.{in_the_way, transfer_refusal}
 one_more : (n : ℕ) → 1 + n ≡ suc n
 one_more n = omega arith
 
-place_or_length : (p : Lock → Bool) (xs : List Lock) → unwrap_or (position p xs) (length xs) ≡ position_or_len p xs
-place_or_length p xs =
-    let n = position_or_len p xs in
-    let low : n ≤ length xs = prefix_len-le-length (λ x. not (p x)) xs in
-    elim (nat_lt n (length xs)) as (λ b. nat_lt n (length xs) ≡ b → unwrap_or (cond b (Some n) None) (length xs) ≡ n) [
-      | true ↦ λ e. refl
-      | false ↦ λ e. grind (arith, nat_tests)
-    ] refl
-
 inserted : (l : Lock) (xs : List Lock) → insert xs (position_or_len (comes_later l) xs) l ≡ with_lock l xs
 inserted l [] = refl
 inserted l (x ∷ xs) =
@@ -39,8 +28,8 @@ inserted l (x ∷ xs) =
       | false ↦ rw (one_more n) (ap (λ (ys : List Lock). x ∷ ys) rest)
     ]
 
-pub inserted_at : (l : Lock) (xs : List Lock) (i : ℕ) → i ≡ unwrap_or (position (comes_later l) xs) (length xs) → insert xs i l ≡ with_lock l xs
-inserted_at l xs i e = ap (λ (n : ℕ). insert xs n l) (e ∙ place_or_length (comes_later l) xs) ∙ inserted l xs
+pub inserted_at : (l : Lock) (xs : List Lock) (i : ℕ) → i ≡ position_or_len (comes_later l) xs → insert xs i l ≡ with_lock l xs
+inserted_at l xs i e = ap (λ (n : ℕ). insert xs n l) e ∙ inserted l xs
 
 removed : (l : Lock) (xs : List Lock) → remove xs (position_or_len (is_same l) xs) ≡ without_lock l xs
 removed l [] = refl

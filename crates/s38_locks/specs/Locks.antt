@@ -1,6 +1,7 @@
 -- The locks of one object, in order of process and state, each as often as it is held.
-use Rattle.std.specs.Prelude.{◌≡◌, ℕ, ◌+◌, ◌*◌, ◌≤◌, ◌==◌, Bool, true, false, not, ◌&&◌, nat_lt, Option, List, [], ◌∷◌, filter, find, if◌then◌else◌, is_some, position}
-use Rattle.std.specs.List.{AllByRecursion}
+use Rattle.std.specs.Prelude.{◌≡◌, ℕ, ◌+◌, ◌*◌, ◌≤◌, ◌==◌, Bool, true, false, not, ◌&&◌, nat_lt, Option, Some, None, List, [], ◌∷◌, drop, filter, find, if◌then◌else◌, is_some, position}
+use Rattle.std.specs.List.{AllByRecursion, position_or_len}
+use Rattle.std.specs.List.Sorted.{IsNonDecreasingBy}
 use Rattle.s38_base.specs.declared.words.Category.{Category}
 use Rattle.s38_base.specs.declared.words.LockState.{LockState}
 use Rattle.s38_locks.specs.States.{are_compatible, blocks, rank}
@@ -44,6 +45,15 @@ is_locked (lock ∷ locks) = true
 abbrev pub comes_later : Lock → Lock → Bool
 comes_later lock other = nat_lt (place lock) (place other)
 
+-- the locks that come later than one, where these stand in order
+abbrev pub later_than : Lock → List Lock → List Lock
+later_than lock locks = drop (position_or_len (comes_later lock) locks) locks
+
+-- whether there is a lock, and it is such a one
+abbrev pub is_at : Lock → Option Lock → Bool
+is_at lock None = false
+is_at lock (Some other) = is_same lock other
+
 -- one more lock, in its place
 abbrev pub with_lock : Lock → List Lock → List Lock
 with_lock lock [] = lock ∷ []
@@ -56,6 +66,10 @@ without_lock lock (other ∷ locks) = if is_same lock other then locks else othe
 
 abbrev pub without_process : ℕ → List Lock → List Lock
 without_process process locks = filter (λ lock. not (lock.0 == process)) locks
+
+-- the locks stand in order of process and state
+abbrev pub IsInOrder : List Lock → Type 0
+IsInOrder locks = IsNonDecreasingBy place locks
 
 -- two locks in their order, which two processes may hold at once
 pub record GoesBefore (lock other : Lock) : Type 0 where

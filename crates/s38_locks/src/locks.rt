@@ -1,7 +1,8 @@
-ghost use Rattle.std.specs.Prelude.{◌≡◌, ◌<◌, OnOk, OnErr, IsOk, IsTrue, position};
+ghost use Rattle.std.specs.Prelude.{◌≡◌, ◌<◌, ◌≤◌, OnOk, OnErr, IsOk, IsTrue, length, not, position, slice_get};
+ghost use Rattle.std.specs.List.{position_or_len};
 ghost use Rattle.std.specs.Option.{option_copied};
 ghost use Rattle.std.specs.Vec.{vec_capacity, vec_len};
-ghost use Rattle.s38_locks.specs.Locks.{blocker, comes_later, hinders, hindrance, is_held, is_same, place, with_lock, without_lock, without_process};
+ghost use Rattle.s38_locks.specs.Locks.{IsInOrder, IsOrderly, blocker, comes_later, hinders, hindrance, is_at, is_blocker, is_held, is_same, later_than, place, with_lock, without_lock, without_process};
 
 use crate::states::{are_compatible, blocks, rank};
 use s38_base::{Category, LockState, NoMemory};
@@ -21,44 +22,101 @@ fn hinders(lock: Lock, process: u32, state: LockState) -> bool
     lock.0 != process && !are_compatible(lock.1, state)
 }
 
-/// The least lock that is in the way of a state that a process asks for.
-pub fn hindrance(locks: &[Lock], process: u32, state: LockState) -> Option<&Lock>
-    ensures { option_copied result ≡ hindrance process state locks.now }
+fn is_blocker(lock: Lock, process: u32, category: Category) -> bool
+    ensures { result ≡ is_blocker process category lock }
 {
-    locks.iter().find(|lock| hinders(**lock, process, state))
+    lock.0 != process && blocks(lock.1, category)
 }
 
-/// The least lock of another process that blocks such a use.
+/// Where the first lock stands that comes later than one, or how many locks there are.
+fn first_later(locks: &[Lock], lock: Lock) -> usize
+    requires { IsInOrder locks.now }
+    ensures value { result ≡ position_or_len (comes_later lock) locks.now }
+    ensures bound { result ≤ length locks.now }
+{
+    let at = place(lock);
+    locks.partition_point(|other| place(*other) <= at)
+}
+
+/// The locks that come later than one.
+fn later_than(locks: &[Lock], lock: Lock) -> &[Lock]
+    requires { IsInOrder locks.now }
+    ensures { result.now ≡ later_than lock locks.now }
+{
+    &locks[first_later(locks, lock)..]
+}
+
+/// The least lock that is in the way of a state that a process asks for. Of equal locks it looks at one.
+pub fn hindrance(locks: &[Lock], process: u32, state: LockState) -> Option<&Lock>
+    requires { IsInOrder locks.now }
+    ensures { option_copied result ≡ hindrance process state locks.now }
+{
+    let mut rest = locks;
+    while let Some(lock) = rest.first() {
+        if hinders(*lock, process, state) {
+            return Some(lock);
+        }
+        rest = later_than(rest, *lock);
+    }
+    None
+}
+
+/// The least lock of another process that blocks such a use. Of equal locks it looks at one.
 pub fn blocker(locks: &[Lock], process: u32, category: Category) -> Option<&Lock>
+    requires { IsInOrder locks.now }
     ensures { option_copied result ≡ blocker process category locks.now }
 {
-    locks
-        .iter()
-        .find(|lock| lock.0 != process && blocks(lock.1, category))
+    let mut rest = locks;
+    while let Some(lock) = rest.first() {
+        if is_blocker(*lock, process, category) {
+            return Some(lock);
+        }
+        rest = later_than(rest, *lock);
+    }
+    None
+}
+
+/// Where the first lock stands that does not come before one, or how many locks there are.
+fn first_not_before(locks: &[Lock], lock: Lock) -> usize
+    requires { IsInOrder locks.now }
+    ensures value { result ≡ position_or_len (λ other. not (comes_later other lock)) locks.now }
+    ensures bound { result ≤ length locks.now }
+{
+    let at = place(lock);
+    locks.partition_point(|other| place(*other) < at)
+}
+
+/// Whether such a lock stands there.
+fn is_at(locks: &[Lock], at: usize, lock: Lock) -> bool
+    ensures { result ≡ is_at lock (slice_get locks.now at) }
+{
+    match locks.get(at) {
+        Some(other) => place(*other) == place(lock),
+        None => false,
+    }
 }
 
 /// Where such a lock stands first.
 pub fn place_of(locks: &[Lock], lock: Lock) -> Option<usize>
+    requires { IsInOrder locks.now }
     ensures { result ≡ position (is_same lock) locks.now }
 {
-    let at = place(lock);
-    locks.iter().position(|other| place(*other) == at)
-}
-
-fn first_later(locks: &[Lock], lock: Lock) -> Option<usize>
-    ensures { result ≡ position (comes_later lock) locks.now }
-{
-    let at = place(lock);
-    locks.iter().position(|other| at < place(*other))
+    let at = first_not_before(locks, lock);
+    if is_at(locks, at, lock) {
+        Some(at)
+    } else {
+        None
+    }
 }
 
 /// Adds a lock in its place. It takes no memory where there is room.
 pub fn add(locks: &mut Vec<Lock>, lock: Lock) -> Result<(), NoMemory>
+    requires { IsInOrder locks.old.items }
     ensures ok { OnOk result (locks.new.items ≡ with_lock lock locks.old.items) }
     ensures err { OnErr result (locks.new.items ≡ locks.old.items) }
     ensures room { vec_len locks.old < vec_capacity locks.old → IsOk result }
 {
-    let at = first_later(locks, lock).unwrap_or(locks.len());
+    let at = first_later(locks, lock);
     match locks.insert(at, lock) {
         Ok(()) => Ok(()),
         Err(_) => Err(NoMemory),
@@ -67,7 +125,8 @@ pub fn add(locks: &mut Vec<Lock>, lock: Lock) -> Result<(), NoMemory>
 
 /// Takes one such lock out, which leaves room for another.
 pub fn remove(locks: &mut Vec<Lock>, lock: Lock)
-    requires { IsTrue (is_held lock locks.old.items) }
+    requires order { IsInOrder locks.old.items }
+    requires held { IsTrue (is_held lock locks.old.items) }
     ensures items { locks.new.items ≡ without_lock lock locks.old.items }
     ensures room { vec_len locks.new < vec_capacity locks.new }
 {
@@ -78,7 +137,8 @@ pub fn remove(locks: &mut Vec<Lock>, lock: Lock)
 
 /// Puts one lock in the place of another, without memory.
 pub fn exchange(locks: &mut Vec<Lock>, from: Lock, to: Lock)
-    requires { IsTrue (is_held from locks.old.items) }
+    requires order { IsOrderly locks.old.items }
+    requires held { IsTrue (is_held from locks.old.items) }
     ensures { locks.new.items ≡ with_lock to (without_lock from locks.old.items) }
 {
     remove(locks, from);

@@ -2,6 +2,7 @@ use Rattle.std.proofs.Common.{◌≡◌, ◌∙◌, List, ap, subst}
 use Rattle.s38_locks.specs.Locks.{IsOrderly, Lock, hinders, without_lock}
 use Rattle.s38_locks.specs.Table.{Table, locks_of}
 use Rattle.s38_locks.proofs.OrderLaws.{least_if, orderly_without}
+use Rattle.s38_locks.proofs.SearchLaws.{in_order}
 use Rattle.s38_locks.proofs.table.LockTable.can_transfer.Goals as goal
 
 pub returns-in-Some-clause-least : goal.returns-in-Some-clause-least
@@ -11,3 +12,6 @@ returns-in-Some-clause-least c =
     let orderly = subst (λ (xs : List Lock). IsOrderly xs) same c.locks_of-locks.ensures.orderly in
     least_if (hinders c.args.to c.args.state) (without_lock (c.args.from, c.args.state) (locks_of c.args.self.now object))
     (orderly_without (c.args.from, c.args.state) (locks_of c.args.self.now object) orderly)
+
+pub transfer_refusal-requires : goal.transfer_refusal-requires
+transfer_refusal-requires c = in_order _ c.locks_of-locks.ensures.orderly

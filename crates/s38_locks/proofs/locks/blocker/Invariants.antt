@@ -1,0 +1,10 @@
+use Rattle.std.proofs.Common.{◌≡◌, length}
+use Rattle.std.specs.Prelude.{find}
+use Rattle.s38_locks.specs.Locks.{IsInOrder, is_blocker}
+use Rattle.s38_locks.proofs.locks.blocker.Given as goal
+
+abbrev pub invariant-loop-lock : goal.invariant-loop-lock
+invariant-loop-lock l = IsInOrder l.rest × (find (is_blocker l.process l.category) l.rest ≡ find (is_blocker l.process l.category) l.locks)
+
+abbrev pub decreases-loop-lock : goal.decreases-loop-lock
+decreases-loop-lock l = length l.rest

@@ -1,0 +1,14 @@
+use Rattle.std.proofs.Common.{rules}
+use Rattle.std.proofs.lemmas.List.Sorted.{IsPartitionedBy-ltb, IsPartitionPoint-from_clause}
+use Rattle.std.specs.Prelude.{nat_lt}
+use Rattle.s38_locks.specs.Locks.{place}
+use Rattle.s38_locks.proofs.SearchLaws.{not_before_found}
+use Rattle.s38_locks.proofs.locks.first_not_before.Goals as goal
+
+pub returns-clause-value : goal.returns-clause-value
+returns-clause-value c =
+    let lock = c.args.lock in
+    let xs = c.args.locks.now in
+    let n = c.partition_point.result in
+    not_before_found lock xs n c.partition_point.ensures.bound
+    (IsPartitionPoint-from_clause (λ other. nat_lt (place other) (place lock)) xs n c.partition_point.ensures.partitioned (IsPartitionedBy-ltb place xs (place lock) c.requires) (λ a r q k. search rules))
