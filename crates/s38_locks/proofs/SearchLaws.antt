@@ -1,5 +1,5 @@
 -- What the searches find in locks that stand in order.
-use Rattle.std.proofs.Common.{◌≡◌, ℕ, ◌+◌, ◌≤◌, ◌<◌, Bool, true, false, cond, not, List, [], ◌∷◌, drop, get_or, length, length-drop, zero, suc, refl, sym, ◌∙◌, ap, arith, subst, ⊎_elim}
+use Rattle.std.proofs.Common.{◌≡◌, ℕ, ◌+◌, ◌≤◌, ◌<◌, Bool, true, false, cond, not, List, [], ◌∷◌, drop, get_or, length, length-drop, zero, suc, refl, take, sym, ◌∙◌, ap, arith, subst, ⊎_elim}
 use Rattle.std.proofs.lemmas.Bool.Decides.{nat_tests}
 use Rattle.std.proofs.lemmas.List.Sums.{fails_before_first, passes_at_first, position_or_len_is}
 use Rattle.std.proofs.lemmas.Option.{get_or_from_slice_get, slice_get_cases}
@@ -83,6 +83,14 @@ not_before_found l xs n in_list point =
     sym (position_or_len_is (λ y. not (comes_later y l)) xs n l in_list
     (λ k low. ap not (point.0 k l (omega arith) low))
     (λ low. ap not (point.1 n l (omega arith) low)))
+
+-- a lock that passes a test tells that the first one that does stands no further on
+pub enough_before : (p : Lock → Bool) (x : Lock) (xs : List Lock) (k : ℕ) → k < length xs → x ≡ get_or xs k x → p x ≡ true → position_or_len p (take k xs) ≡ position_or_len p xs
+enough_before p x [] k low is e = absurd (nothing_below low)
+enough_before p x (y ∷ ys) zero low is e =
+    let passes : p y ≡ true = ap p (sym is) ∙ e in
+    rw passes refl
+enough_before p x (y ∷ ys) (suc k) low is e = ap (λ (n : ℕ). cond (not (p y)) (1 + n) 0) (enough_before p x ys k (omega arith) is e)
 
 -- ---- a run of equal locks is passed over
 

@@ -1,4 +1,4 @@
-ghost use Rattle.std.specs.Prelude.{◌≡◌, ◌<◌, ◌≤◌, OnOk, OnErr, IsOk, IsTrue, length, not, position, slice_get};
+ghost use Rattle.std.specs.Prelude.{◌≡◌, ◌<◌, ◌≤◌, OnOk, OnErr, IsOk, IsTrue, length, not, position, slice_get, take};
 ghost use Rattle.std.specs.List.{position_or_len};
 ghost use Rattle.std.specs.Option.{option_copied};
 ghost use Rattle.std.specs.Vec.{vec_capacity, vec_len};
@@ -38,12 +38,30 @@ fn first_later(locks: &[Lock], lock: Lock) -> usize
     locks.partition_point(|other| place(*other) <= at)
 }
 
+/// How many locks from the front on are enough to find the first later one. The number is doubled until they are, so
+/// that a short run is passed over in few steps.
+fn enough(locks: &[Lock], lock: Lock) -> usize
+    ensures bound { result ≤ length locks.now }
+    ensures found { position_or_len (comes_later lock) (take result locks.now) ≡ position_or_len (comes_later lock) locks.now }
+{
+    let at = place(lock);
+    let mut end = 1;
+    while let Some(other) = locks.get(end) {
+        if at < place(*other) {
+            return end;
+        }
+        end += end;
+    }
+    locks.len()
+}
+
 /// The locks that come later than one.
 fn later_than(locks: &[Lock], lock: Lock) -> &[Lock]
     requires { IsInOrder locks.now }
     ensures { result.now ≡ later_than lock locks.now }
 {
-    &locks[first_later(locks, lock)..]
+    let front = &locks[..enough(locks, lock)];
+    &locks[first_later(front, lock)..]
 }
 
 /// The least lock that is in the way of a state that a process asks for. Of equal locks it looks at one.
