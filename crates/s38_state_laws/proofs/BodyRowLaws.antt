@@ -27,7 +27,6 @@ use Rattle.s38_indexes.proofs.IndexLaws.{short_with, short_without, size-with}
 use Rattle.s38_indexes.proofs.OrderLaws.{rising_with, rising_without}
 use Rattle.s38_indexes.specs.Entries as indexes
 use Rattle.s38_indexes.specs.Entries.{EntryIndex, with_entry, without_entry}
-use Rattle.s38_journals.specs.Entries.{Entry}
 use Rattle.s38_memory.specs.Tagged.{resized}
 use Rattle.s38_memory.specs.declared.cell.Cell.{Cell}
 use Rattle.s38_openings.specs.Bodies.{IsIndex, IsMessageOf, IsQueue, IsShortTable, IsSpace}

@@ -1,5 +1,5 @@
 -- Step by step objects, users and locks stay in order, and so over a history from an opening.
-use Rattle.std.proofs.Common.{◌++◌, ◌-◌, ◌≤◌, ◌==◌, ◌∙◌, ◌∷◌, ◌≡◌, ◌≢◌, ◌&&◌, Bool, List, [], ap, arith, cond, false, refl, subst, suc, sym, true, zero, ℕ}
+use Rattle.std.proofs.Common.{◌++◌, ◌-◌, ◌==◌, ◌∙◌, ◌∷◌, ◌≡◌, ◌≢◌, ◌&&◌, Bool, List, [], ap, arith, cond, false, refl, subst, suc, sym, true, zero, ℕ}
 use Rattle.std.proofs.lemmas.Bool.Decides.{nat_tests}
 use Rattle.std.proofs.lemmas.List.Elements.{All-cons, All-head, All-nil, All-tail}
 use Rattle.std.proofs.lemmas.Option.{slice_get-map}
