@@ -114,6 +114,9 @@ fn the_last_ordinal_that_fits_is_made_again(rt: HostRuntime) -> Result<(), Fail>
     let journal = journal_of(rt.alloc(), LAST)?;
     let mut space = image(rt.alloc())?;
     redo(rt.alloc(), &mut space, SPACE, 0, &journal)?;
-    assert_eq!(rt; (space.ordinals(), byte_at(&space, 524_275)), (524_275, b'n'));
+    assert_eq!(rt;
+        (space.ordinals(), byte_at(&space, 524_275)),
+        (524_275, b'n')
+    );
     Ok(())
 }
