@@ -1,6 +1,7 @@
 -- Step by step what journal spaces tell and what is kept goes on.
 use Rattle.std.proofs.Common.{◌≡◌, ◌+◌, ◌≤◌, Bool, true, false, refl, sym, subst, ℕ}
 use Rattle.std.specs.Prelude.{None, Option, Some}
+use Rattle.s38_base.specs.Limits.{body_limit}
 use Rattle.s38_base.specs.Pointers.{start_of, target_of}
 use Rattle.s38_code.specs.Operations.{family_of}
 use Rattle.s38_code.specs.declared.event.Event.TheVariants.{Act, Finish, Start}
@@ -68,7 +69,7 @@ finish_going : (s : State) (p : ℕ) (x : Option ProcessEntry) (d : Durable) (an
 finish_going s p None d anew going = going
 finish_going s p (Some x) d anew going = all_going s.units s p d anew going.right.rising (all_stand s.units going.right.rising) going
 
-event_going : (s : State) (p : ℕ) (e : Event) (d : Durable) (anew : ℕ → Bool) → s.limit ≤ 16777216 → awake_verdict s p e ≡ Permit → Covers anew (forced s p e) → IsGoing s.held s.units d anew
+event_going : (s : State) (p : ℕ) (e : Event) (d : Durable) (anew : ℕ → Bool) → s.limit ≤ body_limit → awake_verdict s p e ≡ Permit → Covers anew (forced s p e) → IsGoing s.held s.units d anew
     → IsGoing (effect_of s p e).state.held (effect_of s p e).state.units d anew
 unfolding effect_of effect ruled_verdict forced
 event_going s p Start d anew limit may cover going = start_going s p (process_entry s p) d anew going
@@ -85,13 +86,13 @@ stored_going s p e t d anew going =
     subst (λ (units : UnitMap). IsGoing (stored s p e t).held units d anew) (sym (stored_beside s p e t).units)
     (stored_holds (λ (h : Held). IsGoing h t.units d anew) (λ h n so_far. still_going h _ t.units d anew (still_journal h n journals.forced (λ j. refl)) (forced_right h t.units n so_far.right) so_far) s p e t going)
 
-verdict_going : (s : State) (p : ℕ) (e : Event) (v : Verdict) (d : Durable) (anew : ℕ → Bool) → s.limit ≤ 16777216 → awake_verdict s p e ≡ v → Covers anew (forced s p e) → IsGoing s.held s.units d anew
+verdict_going : (s : State) (p : ℕ) (e : Event) (v : Verdict) (d : Durable) (anew : ℕ → Bool) → s.limit ≤ body_limit → awake_verdict s p e ≡ v → Covers anew (forced s p e) → IsGoing s.held s.units d anew
     → IsGoing (by_verdict s p e v).state.held (by_verdict s p e v).state.units d anew
 verdict_going s p e Permit d anew limit is cover going = stored_going s p e (effect_of s p e).state d anew (event_going s p e d anew limit is cover going)
 verdict_going s p e Wait d anew limit is cover going = going
 verdict_going s p e (Refuse x) d anew limit is cover going = going
 
-pub step_going : (s : State) (p : ℕ) (e : Event) (d : Durable) (anew : ℕ → Bool) → s.limit ≤ 16777216 → Covers anew (forced s p e) → IsGoing s.held s.units d anew
+pub step_going : (s : State) (p : ℕ) (e : Event) (d : Durable) (anew : ℕ → Bool) → s.limit ≤ body_limit → Covers anew (forced s p e) → IsGoing s.held s.units d anew
     → IsGoing (step s p e).state.held (step s p e).state.units d anew
 unfolding step
 step_going s p e d anew limit cover going = by (waits s p)

@@ -1,7 +1,8 @@
 -- A machine begins as it goes on, where it is a restart of what is durable in order.
-use Rattle.std.proofs.Common.{◌≡◌, ◌∙◌, ◌+◌, ◌<◌, ℕ, Bool, true, false, cond, List, [], ◌∷◌, ◌++◌, length, refl, sym, ap, subst, arith}
+use Rattle.std.proofs.Common.{◌≡◌, ◌∙◌, ◌+◌, ◌<◌, ◌≤◌, ℕ, Bool, true, false, cond, List, [], ◌∷◌, ◌++◌, length, refl, sym, ap, subst, arith}
 use Rattle.std.specs.Option.{option_map, unwrap_or}
 use Rattle.std.specs.Prelude.{None, Option, Some, is_some}
+use Rattle.s38_base.specs.Limits.{body_limit}
 use Rattle.s38_base.specs.declared.attr.Attr.{Attr}
 use Rattle.s38_base.specs.declared.page.Change.{Change}
 use Rattle.s38_commits.specs.Unit.{CommitUnit}
@@ -219,8 +220,9 @@ module _ (d : Durable) where
           by (Some x) found = own x found (data_of x.object.body) refl (sym (ap is_some (data_seen n x found)) ∙ there)
 
 -- so it begins
-pub begins_sound : (s : State) (d : Durable) → s.held ≡ restart_of d → s.units ≡ [] → IsRight s → AreWell s → IsInOrder d → AreSound s d
-begins_sound s d held none right well order = record {
+pub begins_sound : (s : State) (d : Durable) → s.held ≡ restart_of d → s.units ≡ [] → s.limit ≤ body_limit → IsRight s → AreWell s → IsInOrder d → AreSound s d
+begins_sound s d held none limit right well order = record {
+  limit = limit;
   right = right;
   well = well;
   linked = subst AreLinked (sym held) order.linked;

@@ -1,8 +1,9 @@
 -- Step by step a state and what is durable of it stay as a machine leaves them; and what a unit committed is found by the
 -- restart of each longer history.
-use Rattle.std.proofs.Common.{◌≡◌, ◌∙◌, ◌==◌, ◌++◌, ◌∷◌, Bool, true, false, cond, List, [], ap, refl, sym, subst, ℕ}
+use Rattle.std.proofs.Common.{◌≡◌, ◌≤◌, ◌∙◌, ◌==◌, ◌++◌, ◌∷◌, Bool, true, false, cond, List, [], ap, refl, sym, subst, ℕ}
 use Rattle.std.specs.List.{list_any}
 use Rattle.std.specs.Prelude.{None, Option, Some, is_some}
+use Rattle.s38_base.specs.Limits.{body_limit}
 use Rattle.s38_code.specs.declared.entry.Entry.{Entry}
 use Rattle.s38_code.specs.declared.event.Event.TheVariants.{Act}
 use Rattle.s38_code.specs.declared.event.Event.{Event}
@@ -18,8 +19,9 @@ use Rattle.s38_dataspaces.specs.Entries.{entry_at}
 use Rattle.s38_dataspaces.specs.Table.{DataTable}
 use Rattle.s38_durable.specs.Durable.{Durable, after_reply, durable, durable_after}
 use Rattle.s38_journals.specs.declared.entry.EntryKind.TheVariants.{Commit}
-use Rattle.s38_object_laws.proofs.EventLaws.{step_well}
+use Rattle.s38_object_laws.proofs.EventLaws.{effect_beside, step_well}
 use Rattle.s38_object_laws.specs.Well.{AreWell}
+use Rattle.s38_rules.proofs.StoreLaws.{stored_beside}
 use Rattle.s38_rules.specs.Changes.{Changes, Committed, done}
 use Rattle.s38_rules.specs.Computing.{receiver_at, shift_at}
 use Rattle.s38_rules.specs.Effect.{effect, effect_of}
@@ -66,12 +68,30 @@ abbrev anew_by : State → Entry → ℕ → Bool
 anew_by s e n = list_any (is_whole n) (forced s e.process e.event)
 
 behind : (s : State) (d : Durable) (e : Entry) → AreSound s d → IsGoing (step s e.process e.event).state.held (step s e.process e.event).state.units d (anew_by s e)
-behind s d e sound = step_going s e.process e.event d (anew_by s e) sound.well.limit (λ n is. is) (going_of s d (anew_by s e) sound)
+behind s d e sound = step_going s e.process e.event d (anew_by s e) sound.limit (λ n is. is) (going_of s d (anew_by s e) sound)
+
+-- the limit of a body stays
+verdict_limit : (s : State) (p : ℕ) (e : Event) (v : Verdict) → (by_verdict s p e v).state.limit ≡ s.limit
+verdict_limit s p e Permit = (stored_beside s p e (effect_of s p e).state).limit ∙ (effect_beside s p e).limit
+verdict_limit s p e Wait = refl
+verdict_limit s p e (Refuse x) = refl
+
+step_limit : (s : State) (p : ℕ) (e : Event) → (step s p e).state.limit ≡ s.limit
+unfolding step
+step_limit s p e = by (waits s p)
+  where
+    by : (b : Bool) → (by_waiting b s p e).state.limit ≡ s.limit
+    by true = refl
+    by false = verdict_limit s p e (awake_verdict s p e)
+
+limit_behind : (s : State) (p : ℕ) (e : Event) → s.limit ≤ body_limit → (step s p e).state.limit ≤ body_limit
+limit_behind s p e limit = subst (λ (n : ℕ). n ≤ body_limit) (sym (step_limit s p e)) limit
 
 done_sound : (s : State) (d : Durable) (e : Entry) → AreSound s d → AreSound (step s e.process e.event).state (durable_after (forced s e.process e.event) d (step s e.process e.event).state)
 done_sound s d e sound =
     let going = behind s d e sound in
     record {
+      limit = limit_behind s e.process e.event sound.limit;
       right = going.right;
       well = step_well s e.process e.event sound.well;
       linked = going.linked;
@@ -101,8 +121,9 @@ unmoved s p e = by (waits s p)
     by true not = record { held = refl; units = refl }
     by false not = unmoved_by s p e (awake_verdict s p e) not
 
-stayed_sound : (s t : State) (d : Durable) → Stayed s t → AreWell t → AreSound s d → AreSound t d
-stayed_sound s t d stayed well sound = record {
+stayed_sound : (s t : State) (d : Durable) → Stayed s t → t.limit ≤ body_limit → AreWell t → AreSound s d → AreSound t d
+stayed_sound s t d stayed limit well sound = record {
+  limit = limit;
   right = subst (λ (h : Held). AreRight h t.units) (sym stayed.held) (subst (λ (u : UnitMap). AreRight s.held u) (sym stayed.units) sound.right);
   well = well;
   linked = subst (λ (h : Held). AreLinked h) (sym stayed.held) sound.linked;
@@ -115,8 +136,8 @@ step_sound s d e before entry sound = by e.reply entry.reply
   where
     by : (r : Reply) → (step s e.process e.event).reply ≡ r → AreSound (step s e.process e.event).state (after_reply d s e r)
     by (Done values) is = done_sound s d e sound
-    by (Signal x) is = stayed_sound s (step s e.process e.event).state d (unmoved s e.process e.event (λ done. subst (λ (r : Reply). IsDone r) is done)) (step_well s e.process e.event sound.well) sound
-    by MustWait is = stayed_sound s (step s e.process e.event).state d (unmoved s e.process e.event (λ done. subst (λ (r : Reply). IsDone r) is done)) (step_well s e.process e.event sound.well) sound
+    by (Signal x) is = stayed_sound s (step s e.process e.event).state d (unmoved s e.process e.event (λ done. subst (λ (r : Reply). IsDone r) is done)) (limit_behind s e.process e.event sound.limit) (step_well s e.process e.event sound.well) sound
+    by MustWait is = stayed_sound s (step s e.process e.event).state d (unmoved s e.process e.event (λ done. subst (λ (r : Reply). IsDone r) is done)) (limit_behind s e.process e.event sound.limit) (step_well s e.process e.event sound.well) sound
 
 pub history_sound : (s : State) (d : Durable) (before history : List Entry) (end : State) → AreSound s d → Leads s before history end → AreSound end (durable d s history)
 history_sound s d before [] end sound leads = subst (λ (t : State). AreSound t d) leads sound
@@ -131,7 +152,7 @@ module _ (n at journal : ℕ) (x : spaces.Entry) where
       → IsStanding (by_verdict s p e v).state.held (by_verdict s p e v).state.units n at journal x
   verdict_stands s p e Permit d sound is off stands =
       let anew : ℕ → Bool = λ m. list_any (is_whole m) (forced s p e) in
-      stored_stands n at journal x s p e (effect_of s p e).state (event_stands n at journal x s p e d anew sound.well.limit is (λ m i. i) (going_of s d anew sound) off stands)
+      stored_stands n at journal x s p e (effect_of s p e).state (event_stands n at journal x s p e d anew sound.limit is (λ m i. i) (going_of s d anew sound) off stands)
   verdict_stands s p e Wait d sound is off stands = stands
   verdict_stands s p e (Refuse y) d sound is off stands = stands
 

@@ -2,6 +2,7 @@
 use Rattle.std.proofs.Common.{◌≡◌, ◌∙◌, ◌≤◌, ℕ, ◌+◌, ◌==◌, Bool, true, false, cond, List, [], ◌∷◌, ◌++◌, length, refl, sym, ap, subst, arith}
 use Rattle.std.specs.Option.{option_map, unwrap_or}
 use Rattle.std.specs.Prelude.{◌&&◌, ◌||◌, None, Option, Some, is_some}
+use Rattle.s38_base.specs.Limits.{body_limit}
 use Rattle.s38_base.specs.declared.attr.Attr.{Attr}
 use Rattle.s38_commits.proofs.MapLaws.{nat_itself, nat_same}
 use Rattle.s38_commits.specs.Changes.{has_change, is_of}
@@ -291,8 +292,8 @@ module _ (h : Held) (units : UnitMap) (block journal : ℕ) (unit : CommitUnit) 
     small_back : (n : ℕ) → IsSmall (table_at h n) → IsSmall (table_at back_held n)
     small_back n small =
         subst (λ (t : DataTable). IsSmall t) (sym (table_back n))
-        (subst (λ (f : List Attr). image_size f (length (table_at undone_held n).entries) ≤ 16777216) (sym (undone.fields n))
-        (subst (λ (c : ℕ). image_size (table_at h n).fields c ≤ 16777216) (sym (undone.count n)) small))
+        (subst (λ (f : List Attr). image_size f (length (table_at undone_held n).entries) ≤ body_limit) (sym (undone.fields n))
+        (subst (λ (c : ℕ). image_size (table_at h n).fields c ≤ body_limit) (sym (undone.count n)) small))
 
     pub back_told : AreTold h units → AreTold back_held left
     back_told told = ended_told back_held back_entry back_written refl (λ n. small_back n (told.small n))

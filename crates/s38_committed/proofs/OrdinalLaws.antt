@@ -5,6 +5,7 @@ use Rattle.std.proofs.lemmas.List.{length-append, length-set}
 use Rattle.std.proofs.lemmas.Nat.{mul-le}
 use Rattle.std.specs.Option.{option_flatten}
 use Rattle.std.specs.Prelude.{◌&&◌, Some, None, is_some, nat_le, slice_get}
+use Rattle.s38_base.specs.Limits.{body_limit}
 use Rattle.s38_base.specs.declared.attr.Attr.{Attr}
 use Rattle.s38_dataspaces.specs.Entries as spaces
 use Rattle.s38_dataspaces.specs.Entries.{entry_at, put_at}
@@ -115,42 +116,42 @@ restored_length t at x = by (may_restore t at x)
 
 -- ---- the image of a data space
 
-size_within : (fields : List Attr) (a b : ℕ) → a ≤ b → image_size fields b ≤ 16777216 → image_size fields a ≤ 16777216
+size_within : (fields : List Attr) (a b : ℕ) → a ≤ b → image_size fields b ≤ body_limit → image_size fields a ≤ body_limit
 size_within fields a b le small =
     let grows = mul-le a (1 + entry_len fields) b (1 + entry_len fields) le (omega arith) in
     omega (arith, grows, small)
 
-le_same : (a b : ℕ) → (a ≤ 16777216 → b ≤ 16777216) → (b ≤ 16777216 → a ≤ 16777216) → nat_le a 16777216 ≡ nat_le b 16777216
-le_same a b to from = by (nat_le a 16777216) (nat_le b 16777216) refl refl
+le_same : (a b : ℕ) → (a ≤ body_limit → b ≤ body_limit) → (b ≤ body_limit → a ≤ body_limit) → nat_le a body_limit ≡ nat_le b body_limit
+le_same a b to from = by (nat_le a body_limit) (nat_le b body_limit) refl refl
   where
-    tells : (n : ℕ) → nat_le n 16777216 ≡ true → n ≤ 16777216
+    tells : (n : ℕ) → nat_le n body_limit ≡ true → n ≤ body_limit
     tells n is = grind (arith, nat_tests, is)
 
-    holds : (n : ℕ) → n ≤ 16777216 → nat_le n 16777216 ≡ true
+    holds : (n : ℕ) → n ≤ body_limit → nat_le n body_limit ≡ true
     holds n is = grind (arith, nat_tests, is)
 
-    by : (x y : Bool) → nat_le a 16777216 ≡ x → nat_le b 16777216 ≡ y → x ≡ y
+    by : (x y : Bool) → nat_le a body_limit ≡ x → nat_le b body_limit ≡ y → x ≡ y
     by true true p q = refl
     by false false p q = refl
     by true false p q = sym (holds b (to (tells a p))) ∙ q
     by false true p q = sym p ∙ holds a (from (tells b q))
 
 -- whether an entry may stand under an ordinal is seen by the ordinal alone
-size_same : (t : DataTable) (at : ℕ) → IsSmall t → nat_le (image_size t.fields (max at (length t.entries))) 16777216 ≡ nat_le (image_size t.fields at) 16777216
+size_same : (t : DataTable) (at : ℕ) → IsSmall t → nat_le (image_size t.fields (max at (length t.entries))) body_limit ≡ nat_le (image_size t.fields at) body_limit
 size_same t at small = by (nat_le at (length t.entries)) refl
   where
     n : ℕ
     n = length t.entries
 
-    by : (b : Bool) → nat_le at n ≡ b → nat_le (image_size t.fields (max at n)) 16777216 ≡ nat_le (image_size t.fields at) 16777216
+    by : (b : Bool) → nat_le at n ≡ b → nat_le (image_size t.fields (max at n)) body_limit ≡ nat_le (image_size t.fields at) body_limit
     by true le =
         let below : at ≤ n = grind (arith, nat_tests, le) in
         let most : max at n ≡ n = omega (arith, below) in
-        le_same (image_size t.fields (max at n)) (image_size t.fields at) (λ h. size_within t.fields at n below small) (λ h. subst (λ (m : ℕ). image_size t.fields m ≤ 16777216) (sym most) small)
+        le_same (image_size t.fields (max at n)) (image_size t.fields at) (λ h. size_within t.fields at n below small) (λ h. subst (λ (m : ℕ). image_size t.fields m ≤ body_limit) (sym most) small)
     by false le =
         let above : n ≤ at = grind (arith, nat_tests, le) in
         let most : max at n ≡ at = omega (arith, above) in
-        ap (λ (m : ℕ). nat_le (image_size t.fields m) 16777216) most
+        ap (λ (m : ℕ). nat_le (image_size t.fields m) body_limit) most
 
 -- ---- one entry
 
@@ -159,13 +160,13 @@ reaches : (t : DataTable) (at : ℕ) → at ≤ length (with_deleted t (at - len
 reaches t at = omega (arith, deleted_length t (at - length t.entries))
 
 insert_here : (t : DataTable) (at : ℕ) (after : List ℕ) → IsSmall t → entry_at (insert_redone t at after).entries at ≡ inserted_at t.fields at after (entry_at t.entries at)
-insert_here t at after small = by (is_entry_of t.fields (Some after)) refl (nat_le (image_size t.fields (max at (length t.entries))) 16777216) (nat_le 1 at) refl
+insert_here t at after small = by (is_entry_of t.fields (Some after)) refl (nat_le (image_size t.fields (max at (length t.entries))) body_limit) (nat_le 1 at) refl
   where
     u : DataTable
     u = with_deleted t (at - length t.entries)
 
     s : Bool
-    s = nat_le (image_size t.fields at) 16777216
+    s = nat_le (image_size t.fields at) body_limit
 
     fills : nat_le at (length u.entries) ≡ true
     fills = let le = reaches t at in grind (arith, nat_tests, le)
@@ -196,10 +197,10 @@ insert_here t at after small = by (is_entry_of t.fields (Some after)) refl (nat_
     end false false true entry size one = refl
     end false false false entry size one = refl
 
-    by : (e : Bool) → is_entry_of t.fields (Some after) ≡ e → (b o : Bool) → nat_le (image_size t.fields (max at (length t.entries))) 16777216 ≡ b
+    by : (e : Bool) → is_entry_of t.fields (Some after) ≡ e → (b o : Bool) → nat_le (image_size t.fields (max at (length t.entries))) body_limit ≡ b
         → entry_at (insert_redone t at after).entries at ≡ inserted_at t.fields at after (entry_at t.entries at)
     by e entry b o is =
-        ap (λ (c : Bool). entry_at (cond (c && nat_le (image_size t.fields (max at (length t.entries))) 16777216) (restored u at (Some after)) t).entries at) entry
+        ap (λ (c : Bool). entry_at (cond (c && nat_le (image_size t.fields (max at (length t.entries))) body_limit) (restored u at (Some after)) t).entries at) entry
         ∙ ap (λ (c : Bool). entry_at (cond (e && c) (restored u at (Some after)) t).entries at) (size_same t at small)
         ∙ end e s (nat_le 1 at) entry refl refl
         ∙ ap (λ (c : Bool). cond ((nat_le 1 at && s) && c) (Some after) (entry_at t.entries at)) (sym entry)
@@ -302,16 +303,16 @@ insert_small t at after small = by (may_stand_at t at after) refl
 
     by : (b : Bool) → may_stand_at t at after ≡ b → IsSmall (cond b (restored u at (Some after)) t)
     by true may =
-        let within : image_size t.fields (max at (length t.entries)) ≤ 16777216 = grind (arith, nat_tests, size (is_entry_of t.fields (Some after)) _ may) in
+        let within : image_size t.fields (max at (length t.entries)) ≤ body_limit = grind (arith, nat_tests, size (is_entry_of t.fields (Some after)) _ may) in
         let count : length (restored u at (Some after)).entries ≡ max at (length t.entries) = omega (arith, restored_length u at (Some after), deleted_length t (at - length t.entries)) in
-        subst (λ (f : List Attr). image_size f (length (restored u at (Some after)).entries) ≤ 16777216) (sym (restored_fields u at (Some after) ∙ deleted_fields t (at - length t.entries)))
-        (subst (λ (n : ℕ). image_size t.fields n ≤ 16777216) (sym count) within)
+        subst (λ (f : List Attr). image_size f (length (restored u at (Some after)).entries) ≤ body_limit) (sym (restored_fields u at (Some after) ∙ deleted_fields t (at - length t.entries)))
+        (subst (λ (n : ℕ). image_size t.fields n ≤ body_limit) (sym count) within)
     by false may = small
 
 restored_small : (t : DataTable) (at : ℕ) (x : spaces.Entry) (b : Bool) → IsSmall t → IsSmall (cond b (restored t at x) t)
 restored_small t at x true small =
-    subst (λ (f : List Attr). image_size f (length (restored t at x).entries) ≤ 16777216) (sym (restored_fields t at x))
-    (subst (λ (n : ℕ). image_size t.fields n ≤ 16777216) (sym (restored_length t at x)) small)
+    subst (λ (f : List Attr). image_size f (length (restored t at x).entries) ≤ body_limit) (sym (restored_fields t at x))
+    (subst (λ (n : ℕ). image_size t.fields n ≤ body_limit) (sym (restored_length t at x)) small)
 restored_small t at x false small = small
 
 change_small : (kind : EntryKind) (t : DataTable) (at : ℕ) (after : List ℕ) → IsSmall t → IsSmall (change_redone kind t at after)

@@ -8,6 +8,7 @@ use Rattle.std.specs.Option.{option_flatten, option_map, unwrap_or}
 use Rattle.std.specs.Ordering.{nat_cmp}
 use Rattle.std.specs.Prelude.{None, Option, Some, is_some, slice_get}
 use Rattle.std.specs.declared.cmp.Ordering.TheVariants.{Less}
+use Rattle.s38_base.specs.Limits.{body_limit}
 use Rattle.s38_base.specs.declared.id.ObjNum.{ObjNum}
 use Rattle.s38_commits.proofs.MapLaws.{nat_same}
 use Rattle.s38_commits.specs.Changes.{has_change}
@@ -261,7 +262,7 @@ module _ (all : List Forced) (d : Durable) (s : State) (rising : AreRising s.hel
   taken : (n : ℕ) (x : DataBody) → part_at data_part s.held n ≡ Some x → IsTaken s.units (table_at s.held n) n (settled_table s.units n x.space)
   taken n x is = record {
     fields = ap (λ r. (table_in r).fields) (sym is);
-    small = subst (λ (c : ℕ). image_size x.space.fields c ≤ 16777216) (sym (settled_count s.units n 1 x.space.entries)) (subst (λ r. IsSmall (table_in r)) is (told.small n));
+    small = subst (λ (c : ℕ). image_size x.space.fields c ≤ body_limit) (sym (settled_count s.units n 1 x.space.entries)) (subst (λ r. IsSmall (table_in r)) is (told.small n));
     free = λ at settled. settled_free s.units n at x.space.entries right.rising settled ∙ ap (λ r. entry_at (table_in r).entries at) (sym is);
     held = λ at block unit c found first. ap (λ r. entry_at (settled_entries s.units n 1 (table_in r).entries) at) (sym is) ∙ settled_held s.held s.units n at block unit c right found first;
   }

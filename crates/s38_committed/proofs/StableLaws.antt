@@ -5,6 +5,7 @@ use Rattle.std.proofs.lemmas.Bool.{cond_both}
 use Rattle.std.proofs.lemmas.List.Elements.{All-head, All-tail}
 use Rattle.std.specs.Prelude.{◌||◌, All, None, Option, Some, is_some}
 use Rattle.s38_base.specs.Ids.{same_kind}
+use Rattle.s38_base.specs.Limits.{body_limit}
 use Rattle.s38_base.specs.Pointers.{start_of, target_of}
 use Rattle.s38_base.specs.declared.id.Id.{Id}
 use Rattle.s38_base.specs.declared.id.Kind.TheVariants as kinds
@@ -384,7 +385,7 @@ module _ (n at journal : ℕ) (x : spaces.Entry) where
   finish_stands s p None d anew going stands = stands
   finish_stands s p (Some y) d anew going stands = all_stands s.units s p d anew going.right.rising (all_stand s.units going.right.rising) going stands
 
-  pub event_stands : (s : State) (p : ℕ) (e : Event) (d : Durable) (anew : ℕ → Bool) → s.limit ≤ 16777216 → awake_verdict s p e ≡ Permit → Covers anew (forced s p e) → IsGoing s.held s.units d anew → touched_by n at s p e ≡ false
+  pub event_stands : (s : State) (p : ℕ) (e : Event) (d : Durable) (anew : ℕ → Bool) → s.limit ≤ body_limit → awake_verdict s p e ≡ Permit → Covers anew (forced s p e) → IsGoing s.held s.units d anew → touched_by n at s p e ≡ false
       → IsStanding s.held s.units n at journal x → IsStanding (effect_of s p e).state.held (effect_of s p e).state.units n at journal x
   unfolding effect_of effect ruled_verdict forced
   event_stands s p Start d anew limit may cover going off stands = start_stands s p (process_entry s p) stands

@@ -7,6 +7,7 @@ use Rattle.std.proofs.lemmas.Option.{slice_get_past}
 use Rattle.std.specs.List.{list_all, list_any}
 use Rattle.std.specs.Option.{option_flatten, option_map}
 use Rattle.std.specs.Prelude.{◌&&◌, ◌||◌, None, Option, Some, is_none, is_some, nat_le, nat_lt, slice_get}
+use Rattle.s38_base.specs.Limits.{body_limit}
 use Rattle.s38_base.specs.declared.attr.Attr.TheVariants as attrs
 use Rattle.s38_base.specs.declared.attr.Attr.{Attr}
 use Rattle.s38_base.specs.declared.id.ObjNum.{ObjNum}
@@ -189,11 +190,11 @@ none_small : IsSmall (table_in None)
 none_small = omega arith
 
 -- one entry more has its place
-inserted_small : (bytes : List ℕ) (x : Option DataBody) → image_size (table_in x).fields (length (table_in x).entries + 1) ≤ 16777216 → IsSmall (table_in (option_map (over_table (with_inserted bytes)) x))
+inserted_small : (bytes : List ℕ) (x : Option DataBody) → image_size (table_in x).fields (length (table_in x).entries + 1) ≤ body_limit → IsSmall (table_in (option_map (over_table (with_inserted bytes)) x))
 inserted_small bytes None fits = none_small
 inserted_small bytes (Some d) fits =
     let count : length (d.space.entries ++ Some bytes ∷ []) ≡ length d.space.entries + 1 = length-append d.space.entries (Some bytes ∷ []) in
-    subst (λ (n : ℕ). image_size d.space.fields n ≤ 16777216) (sym count) fits
+    subst (λ (n : ℕ). image_size d.space.fields n ≤ body_limit) (sym count) fits
 
 inserted_after : (bytes : List ℕ) (x : Option DataBody) → is_some x ≡ true → entry_at (table_in (option_map (over_table (with_inserted bytes)) x)).entries (next_ordinal (table_in x)) ≡ Some bytes
 inserted_after bytes None there = absurd (let e : false ≡ true = there in cc)
@@ -205,13 +206,13 @@ inserted_others bytes None i off = refl
 inserted_others bytes (Some d) i off = beside_last d.space.entries (Some bytes) i off
 
 -- the journal makes the same of it
-inserted_redone : (fields : List Attr) (at : ℕ) (bytes : List ℕ) → 1 ≤ at → image_size fields at ≤ 16777216 → is_entry_of fields (Some bytes) ≡ true
+inserted_redone : (fields : List Attr) (at : ℕ) (bytes : List ℕ) → 1 ≤ at → image_size fields at ≤ body_limit → is_entry_of fields (Some bytes) ≡ true
     → change_redone_at (kind_between None (Some bytes)) fields at (bytes_or_none (Some bytes)) None ≡ Some bytes
 inserted_redone fields at bytes first fits entry = ap (λ (b : Bool). cond b (Some bytes) None) may
   where
     may : may_stand_under fields at bytes ≡ true
-    may = ap (λ (b : Bool). (b && nat_le (image_size fields at) 16777216) && is_entry_of fields (Some bytes)) (le_holds 1 at first)
-        ∙ ap (λ (b : Bool). (true && b) && is_entry_of fields (Some bytes)) (le_holds (image_size fields at) 16777216 fits) ∙ entry
+    may = ap (λ (b : Bool). (b && nat_le (image_size fields at) body_limit) && is_entry_of fields (Some bytes)) (le_holds 1 at first)
+        ∙ ap (λ (b : Bool). (true && b) && is_entry_of fields (Some bytes)) (le_holds (image_size fields at) body_limit fits) ∙ entry
 
 entry_of : (fields : List Attr) (h : Held) (ops : List Operand) → entry_rule fields h ops ≡ None → is_entry_of fields (Some (bytes_at h ops 2)) ≡ true
 entry_of fields h ops rule =
@@ -225,9 +226,9 @@ entry_of fields h ops rule =
 
 -- where no rule refuses an instruction, its changes meet what they must
 abbrev pub TellRow : Instruction → Type 0
-TellRow i = (s : State) (p d : ℕ) (t : Request) → IsRight s → s.limit ≤ 16777216 → refused_by i s p d t ≡ None → MayTell s p (i.changes s p d t)
+TellRow i = (s : State) (p d : ℕ) (t : Request) → IsRight s → s.limit ≤ body_limit → refused_by i s p d t ≡ None → MayTell s p (i.changes s p d t)
 
-insdsen_tells : (s : State) (p d : ℕ) (t : Request) → IsRight s → s.limit ≤ 16777216 → refused_by insdsen s p d t ≡ None
+insdsen_tells : (s : State) (p d : ℕ) (t : Request) → IsRight s → s.limit ≤ body_limit → refused_by insdsen s p d t ≡ None
     → TellsEntry s (cursor_of s.held t.operands 1).block.0 (insertion s.held t.operands) (with_inserted (bytes_at s.held t.operands 2))
 unfolding insdsen_fails
 insdsen_tells s p d t right limit e =
@@ -240,7 +241,7 @@ insdsen_tells s p d t right limit e =
     let limits = (first_none (change_rules s p cursor at) (insertion_limits s ops) rule.1).1 in
     let room = (first_none (room_rule s.limit (table_of s.held ops 1)) _ limits).0 in
     let least : image_size (table_of s.held ops 1).fields (length (table_of s.held ops 1).entries + 1) ≤ s.limit = le_tells _ s.limit (fails_none _ _ _ room) in
-    let fits : image_size (table_of s.held ops 1).fields (length (table_of s.held ops 1).entries + 1) ≤ 16777216 = omega (arith, least, limit) in
+    let fits : image_size (table_of s.held ops 1).fields (length (table_of s.held ops 1).entries + 1) ≤ body_limit = omega (arith, least, limit) in
     record {
       may = insdsen_may s p d t right e;
       small = λ _. inserted_small bytes x fits;
@@ -254,7 +255,7 @@ insdsen_tells s p d t right limit e =
 
 changed_small : (at : ℕ) (entry : spaces.Entry) (x : Option DataBody) → IsSmall (table_in x) → IsSmall (table_in (option_map (over_table (with_changed at entry)) x))
 changed_small at entry None small = none_small
-changed_small at entry (Some d) small = subst (λ (n : ℕ). image_size d.space.fields n ≤ 16777216) (sym (length-set d.space.entries (at - 1) entry)) small
+changed_small at entry (Some d) small = subst (λ (n : ℕ). image_size d.space.fields n ≤ body_limit) (sym (length-set d.space.entries (at - 1) entry)) small
 
 changed_after : (at : ℕ) (entry : spaces.Entry) (x : Option DataBody) → 1 ≤ at → at ≤ length (table_in x).entries → entry_at (table_in (option_map (over_table (with_changed at entry)) x)).entries at ≡ entry
 changed_after at entry None first last = absurd (omega (arith, first, last))
@@ -297,14 +298,14 @@ current_tells s p ops entry is e may =
       redone = λ _. changed_redone (table_in x).fields cursor.position (entry_at (table_in x).entries cursor.position) entry stands is;
     }
 
-updsen_tells : (s : State) (p d : ℕ) (t : Request) → IsRight s → s.limit ≤ 16777216 → refused_by updsen s p d t ≡ None
+updsen_tells : (s : State) (p d : ℕ) (t : Request) → IsRight s → s.limit ≤ body_limit → refused_by updsen s p d t ≡ None
     → TellsEntry s (cursor_of s.held t.operands 1).block.0 (change_at s.held t.operands (Some (bytes_at s.held t.operands 2))) (with_changed (cursor_of s.held t.operands 1).position (Some (bytes_at s.held t.operands 2)))
 unfolding updsen_fails
 updsen_tells s p d t right limit e =
     let rule = first_none (entry_rule (table_of s.held t.operands 1).fields s.held t.operands) _ (rule_met updsen s p d t e) in
     current_tells s p t.operands (Some (bytes_at s.held t.operands 2)) (entry_of (table_of s.held t.operands 1).fields s.held t.operands rule.0) rule.1 (updsen_may s p d t right e)
 
-deldsen_tells : (s : State) (p d : ℕ) (t : Request) → IsRight s → s.limit ≤ 16777216 → refused_by deldsen s p d t ≡ None
+deldsen_tells : (s : State) (p d : ℕ) (t : Request) → IsRight s → s.limit ≤ body_limit → refused_by deldsen s p d t ≡ None
     → TellsEntry s (cursor_of s.held t.operands 1).block.0 (change_at s.held t.operands None) (with_changed (cursor_of s.held t.operands 1).position None)
 deldsen_tells s p d t right limit e = current_tells s p t.operands None refl (rule_met deldsen s p d t e) (deldsen_may s p d t right e)
 
@@ -324,7 +325,7 @@ few_fields fields fit =
     let few = (and_parts (nat_le (length fields) 256) (nat_le (entry_len fields) 4096) more.1).0 in
     grind (arith, nat_tests, few)
 
-empty_small : (fields : List Attr) → length fields ≤ 256 → image_size fields 0 ≤ 16777216
+empty_small : (fields : List Attr) → length fields ≤ 256 → image_size fields 0 ≤ body_limit
 empty_small fields few = omega (arith, few)
 
 new_small : (ops : List Operand) → IsSmall (new_data_space ops).space

@@ -16,6 +16,6 @@ pub record IsInOrder (d : Durable) : Type 0 where
   pub linked : AreLinked (restart_of d)
   -- no journal space has an entry of a unit that begins later
   pub journals : (n u : ℕ) (x : Stored) (j : JournalList) → kept d.objects n ≡ Some x → journal_of x.object.body ≡ Some j → length j.entries < u → has_unit u j.entries ≡ false
-  -- each image has no more bytes than it may have, and counts in no more entries than there are
+  -- the image of each data space is no longer than the limit of a body, and counts in no more entries than there are
   pub small : (n : ℕ) (x : Stored) (held : DataBody) → kept d.objects n ≡ Some x → data_of x.object.body ≡ Some held → IsSmall held.space
   pub within : (n journal : ℕ) (x : Stored) → kept d.objects n ≡ Some x → journal_for (restart_of d) n ≡ Some journal → x.sequence ≤ length (entries_at (restart_of d) journal)

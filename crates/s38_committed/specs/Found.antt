@@ -1,5 +1,6 @@
 -- What a restart finds of an entry; and when a state, and what is durable of it, are as a machine leaves them.
-use Rattle.std.specs.Prelude.{◌≡◌, ◌+◌, ℕ, false, List, Some}
+use Rattle.std.specs.Prelude.{◌≡◌, ◌+◌, ◌≤◌, ℕ, false, List, Some}
+use Rattle.s38_base.specs.Limits.{body_limit}
 use Rattle.s38_code.specs.declared.entry.Entry.{Entry}
 use Rattle.s38_code.specs.declared.event.Event.TheVariants.{Act}
 use Rattle.s38_code.specs.declared.event.Request.{Request}
@@ -38,6 +39,8 @@ abbrev pub entry_now : State → ℕ → ℕ → spaces.Entry
 entry_now s n at = entry_at (table_at s.held n).entries at
 
 pub record AreSound (s : State) (d : Durable) : Type 0 where
+  -- what an instruction makes is no longer than what a restart may make again
+  pub limit : s.limit ≤ body_limit
   pub right : IsRight s
   pub well : AreWell s
   pub linked : AreLinked s.held

@@ -1,5 +1,6 @@
 -- What stands under one ordinal of a data space, once its image is followed by the entries of its journal space.
 use Rattle.std.specs.Prelude.{ℕ, ◌+◌, ◌==◌, Bool, ◌&&◌, List, [], ◌∷◌, Some, None, nat_le, if◌then◌else◌}
+use Rattle.s38_base.specs.Limits.{body_limit}
 use Rattle.s38_base.specs.declared.attr.Attr.{Attr}
 use Rattle.s38_dataspaces.specs.Entries as spaces
 use Rattle.s38_dataspaces.specs.Table.{image_size, is_entry_of}
@@ -10,10 +11,10 @@ use Rattle.s38_restart.specs.Redo.{counts}
 
 -- ---- one entry
 
--- an entry of the fields may stand under an ordinal from 1 on, up to which the image of the data space has no more bytes
--- than it may have
+-- an entry of the fields may stand under an ordinal from 1 on, up to which the image of the data space is no longer than the
+-- limit of a body
 abbrev pub may_stand_under : List Attr → ℕ → List ℕ → Bool
-may_stand_under fields at after = (nat_le 1 at && nat_le (image_size fields at) 16777216) && is_entry_of fields (Some after)
+may_stand_under fields at after = (nat_le 1 at && nat_le (image_size fields at) body_limit) && is_entry_of fields (Some after)
 
 abbrev pub inserted_at : List Attr → ℕ → List ℕ → spaces.Entry → spaces.Entry
 inserted_at fields at after x = if may_stand_under fields at after then Some after else x

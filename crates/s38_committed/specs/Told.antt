@@ -1,6 +1,7 @@
 -- What the journal spaces of a state tell of its units of changes, and what an image and its journal space make of a data
 -- space.
 use Rattle.std.specs.Prelude.{◌≡◌, ◌<◌, ◌≤◌, ℕ, false, List, Option, Some, find, length}
+use Rattle.s38_base.specs.Limits.{body_limit}
 use Rattle.s38_commits.specs.Changes.{has_change, is_of}
 use Rattle.s38_commits.specs.Unit.{CommitUnit}
 use Rattle.s38_commits.specs.Units.{UnitMap, changes_entry, unit_of}
@@ -23,9 +24,9 @@ entries_at h journal = (journal_at h journal).entries
 abbrev pub first_in : ℕ → ℕ → List UnitChange → Option UnitChange
 first_in space at changes = find (is_of space at) changes
 
--- the image of a data space has no more bytes than it may have
+-- the image of a data space is no longer than the limit of a body
 abbrev pub IsSmall : DataTable → Type 0
-IsSmall t = image_size t.fields (length t.entries) ≤ 16777216
+IsSmall t = image_size t.fields (length t.entries) ≤ body_limit
 
 -- ---- what a journal space tells of a unit
 

@@ -1,5 +1,6 @@
 //! With what a machine begins.
-ghost use Rattle.std.specs.Prelude.{◌≡◌, ℕ, List, []};
+ghost use Rattle.std.specs.Prelude.{◌≡◌, ◌≤◌, ℕ, List, []};
+ghost use Rattle.s38_base.specs.Limits.{body_limit};
 ghost use Rattle.s38_base.specs.declared.page.Change.{Change};
 ghost use Rattle.s38_commitment_laws.specs.Right.{IsRight};
 ghost use Rattle.s38_committed.specs.Begun.{IsInOrder};
@@ -10,10 +11,10 @@ ghost use Rattle.s38_object_laws.specs.Well.{AreWell};
 ghost use Rattle.s38_restart.specs.Restarted.{restarted};
 ghost use Rattle.s38_rules.specs.State.{State};
 
-/// A machine that begins with the restart of what is durable, in order, and without a unit, begins with a state that is
-/// sound with it.
+/// A machine that begins with the restart of what is durable, in order, without a unit, and with the limit of a body or a
+/// lower one, begins with a state that is sound with it.
 pub fn a_restart_begins_sound()
-    ensures { (s : State) (d : Durable) → s.held ≡ restart_of d → s.units ≡ [] → IsRight s → AreWell s → IsInOrder d → AreSound s d }
+    ensures { (s : State) (d : Durable) → s.held ≡ restart_of d → s.units ≡ [] → s.limit ≤ body_limit → IsRight s → AreWell s → IsInOrder d → AreSound s d }
 {}
 
 /// A store whose parts hold what is durable is restarted to what the restart of what is durable is.

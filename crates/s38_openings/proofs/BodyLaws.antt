@@ -189,15 +189,12 @@ space_body cs tags (suc n) h long = absurd h
 abbrev printed_data : Option DataParts → List ℕ
 printed_data x = print_by (all_by data_space) x
 
-data_body : (d : DataBody) (sequence : ℕ) → FitsCase (λ x. data_space.fits x ≡ true) (data_in sequence (bodies.DataSpace d)) → IsShort kinds.DataSpace (bodies.DataSpace d) sequence → IsTable d.space → IsShortTable d.space
-data_body d sequence h long is = by (d.space.spare == 0) h (higher _ long)
+data_body : (d : DataBody) (sequence : ℕ) → FitsCase (λ x. data_space.fits x ≡ true) (data_in sequence (bodies.DataSpace d)) → IsShort kinds.DataSpace (bodies.DataSpace d) sequence → IsTable d.space → IsShortTable body_limit d.space
+data_body d sequence h long is = by (d.space.spare == 0) h long
   where
-    higher : (n : ℕ) → n ≤ body_limit → n ≤ 16777216
-    higher n low = omega (arith, low)
-
     by : (b : Bool) → FitsCase (λ x. data_space.fits x ≡ true) (cond b (Some (d.port.0, (sequence, (d.space.fields, d.space.entries)))) None)
-        → length (printed_data (cond b (Some (d.port.0, (sequence, (d.space.fields, d.space.entries)))) None)) ≤ 16777216 → IsShortTable d.space
-    by true fits short = subst (λ (n : ℕ). n ≤ 16777216) (data_long d.port.0 sequence d.space is) short
+        → length (printed_data (cond b (Some (d.port.0, (sequence, (d.space.fields, d.space.entries)))) None)) ≤ body_limit → IsShortTable body_limit d.space
+    by true fits short = subst (λ (n : ℕ). n ≤ body_limit) (data_long d.port.0 sequence d.space is) short
     by false fits short = absurd fits
 
 abbrev printed_entries : Option (List journaled.Entry) → List ℕ

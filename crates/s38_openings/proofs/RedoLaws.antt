@@ -1,4 +1,5 @@
--- A data space that is followed by a journal space has a table of its fields, as before, and its image is not too long.
+-- A data space that is followed by a journal space has a table of its fields, as before, and its image is no longer than the
+-- limit of a body.
 use Rattle.std.proofs.Common.{◌≡◌, ◌≤◌, ℕ, true, zero, suc, ◌+◌, ◌-◌, List, [], ◌∷◌, length, length-append, length-set, refl, subst, sym, arith}
 use Rattle.std.proofs.lemmas.Bool.Decides.{nat_tests}
 use Rattle.std.proofs.lemmas.Bool.{cond_both}
@@ -13,6 +14,7 @@ use Rattle.s38_journals.specs.declared.entry.EntryKind.{EntryKind}
 use Rattle.s38_journals.specs.declared.entry.EntryKind.TheVariants.{Insert, Update, Delete, Commit, Decommit}
 use Rattle.s38_dataspaces.specs.Entries.{entry_at}
 use Rattle.std.specs.Prelude.{is_some}
+use Rattle.s38_base.specs.Limits.{body_limit}
 use Rattle.s38_base.specs.declared.attr.Attr.{Attr}
 use Rattle.s38_openings.specs.Bodies.{IsShortTable}
 use Rattle.s38_restart.specs.Redo.{change_redone, delete_redone, entry_redone, insert_redone, is_redone, may_stand_at, redone, redone_from, update_redone, with_deleted}
@@ -65,8 +67,8 @@ record HasOrdinals (fs : List Attr) (n : ℕ) (t : DataTable) : Type 0 where
   pub fields : t.fields ≡ fs
   pub ordinals : length t.entries ≡ n
 
-short_by : (fields : List Attr) (n : ℕ) (t : DataTable) → HasOrdinals fields n t → image_size fields n ≤ 16777216 → IsShortTable t
-short_by fields n t has short = subst (λ (k : ℕ). image_size t.fields k ≤ 16777216) (sym has.ordinals) (subst (λ (fs : List Attr). image_size fs n ≤ 16777216) (sym has.fields) short)
+short_by : (fields : List Attr) (n : ℕ) (t : DataTable) → HasOrdinals fields n t → image_size fields n ≤ body_limit → IsShortTable body_limit t
+short_by fields n t has short = subst (λ (k : ℕ). image_size t.fields k ≤ body_limit) (sym has.ordinals) (subst (λ (fs : List Attr). image_size fs n ≤ body_limit) (sym has.fields) short)
 
 deleted_has : (n : ℕ) (t : DataTable) → HasOrdinals t.fields (length t.entries + n) (with_deleted t n)
 unfolding with_deleted
@@ -81,16 +83,16 @@ restored_has t at entry =
     (λ may. record { fields = refl; ordinals = length-set t.entries (at - 1) entry })
     (λ not. record { fields = refl; ordinals = refl })
 
-restored_short : (t : DataTable) (at : ℕ) (entry : spaces.Entry) → IsShortTable t → IsShortTable (restored t at entry)
+restored_short : (t : DataTable) (at : ℕ) (entry : spaces.Entry) → IsShortTable body_limit t → IsShortTable body_limit (restored t at entry)
 restored_short t at entry is = short_by t.fields (length t.entries) (restored t at entry) (restored_has t at entry) is
 
-inserted_short : (t : DataTable) (at : ℕ) (after : List ℕ) → IsShortTable t → IsShortTable (insert_redone t at after)
+inserted_short : (t : DataTable) (at : ℕ) (after : List ℕ) → IsShortTable body_limit t → IsShortTable body_limit (insert_redone t at after)
 inserted_short t at after is =
     let n = at - length t.entries in
     let longer = with_deleted t n in
-    cond_both (may_stand_at t at after) (restored longer at (Some after)) t IsShortTable
+    cond_both (may_stand_at t at after) (restored longer at (Some after)) t (IsShortTable body_limit)
     (λ may. restored_short longer at (Some after) (short_by t.fields (length t.entries + n) longer (deleted_has n t)
-    (subst (λ (k : ℕ). image_size t.fields k ≤ 16777216) (most at (length t.entries)) (within (both_true (is_entry_of t.fields (Some after)) _ may).1))))
+    (subst (λ (k : ℕ). image_size t.fields k ≤ body_limit) (most at (length t.entries)) (within (both_true (is_entry_of t.fields (Some after)) _ may).1))))
     (λ not. is)
   where
     most : (a b : ℕ) → max a b ≡ b + (a - b)
@@ -99,25 +101,25 @@ inserted_short t at after is =
     within : {a b : ℕ} → nat_le a b ≡ true → a ≤ b
     within h = grind (arith, nat_tests)
 
-updated_short : (t : DataTable) (at : ℕ) (after : List ℕ) → IsShortTable t → IsShortTable (update_redone t at after)
-updated_short t at after is = cond_both (is_some (entry_at t.entries at)) (restored t at (Some after)) t IsShortTable (λ there. restored_short t at (Some after) is) (λ gone. is)
+updated_short : (t : DataTable) (at : ℕ) (after : List ℕ) → IsShortTable body_limit t → IsShortTable body_limit (update_redone t at after)
+updated_short t at after is = cond_both (is_some (entry_at t.entries at)) (restored t at (Some after)) t (IsShortTable body_limit) (λ there. restored_short t at (Some after) is) (λ gone. is)
 
-cleared_short : (t : DataTable) (at : ℕ) → IsShortTable t → IsShortTable (delete_redone t at)
-cleared_short t at is = cond_both (is_some (entry_at t.entries at)) (restored t at None) t IsShortTable (λ there. restored_short t at None is) (λ gone. is)
+cleared_short : (t : DataTable) (at : ℕ) → IsShortTable body_limit t → IsShortTable body_limit (delete_redone t at)
+cleared_short t at is = cond_both (is_some (entry_at t.entries at)) (restored t at None) t (IsShortTable body_limit) (λ there. restored_short t at None is) (λ gone. is)
 
-change_short : (k : EntryKind) (t : DataTable) (at : ℕ) (after : List ℕ) → IsShortTable t → IsShortTable (change_redone k t at after)
+change_short : (k : EntryKind) (t : DataTable) (at : ℕ) (after : List ℕ) → IsShortTable body_limit t → IsShortTable body_limit (change_redone k t at after)
 change_short Insert t at after is = inserted_short t at after is
 change_short Update t at after is = updated_short t at after is
 change_short Delete t at after is = cleared_short t at is
 change_short Commit t at after is = is
 change_short Decommit t at after is = is
 
-from_short : (number image sequence : ℕ) (all es : List Entry) (t : DataTable) → IsShortTable t → IsShortTable (redone_from number image all sequence es t)
+from_short : (number image sequence : ℕ) (all es : List Entry) (t : DataTable) → IsShortTable body_limit t → IsShortTable body_limit (redone_from number image all sequence es t)
 unfolding redone_from
 from_short number image sequence all [] t is = is
 from_short number image sequence all (e ∷ es) t is =
     from_short number image (sequence + 1) all es (entry_redone number image all sequence e t)
-    (cond_both (is_redone number image all sequence e) (change_redone e.kind t e.ordinal e.after) t IsShortTable (λ own. change_short e.kind t e.ordinal e.after is) (λ other. is))
+    (cond_both (is_redone number image all sequence e) (change_redone e.kind t e.ordinal e.after) t (IsShortTable body_limit) (λ own. change_short e.kind t e.ordinal e.after is) (λ other. is))
 
-pub redone_short : (number image : ℕ) (all : List Entry) (t : DataTable) → IsShortTable t → IsShortTable (redone number image all t)
+pub redone_short : (number image : ℕ) (all : List Entry) (t : DataTable) → IsShortTable body_limit t → IsShortTable body_limit (redone number image all t)
 redone_short number image all t is = from_short number image 1 all all t is

@@ -66,7 +66,7 @@ behind_table : (number image : ℕ) (journal : Option JournalList) (t : DataTabl
 behind_table number image None t is = is
 behind_table number image (Some journal) t is = redone_table number image journal.entries t is
 
-behind_short : (number image : ℕ) (journal : Option JournalList) (t : DataTable) → IsShortTable t → IsShortTable (table_behind number image journal t)
+behind_short : (number image : ℕ) (journal : Option JournalList) (t : DataTable) → IsShortTable body_limit t → IsShortTable body_limit (table_behind number image journal t)
 behind_short number image None t is = is
 behind_short number image (Some journal) t is = redone_short number image journal.entries t is
 

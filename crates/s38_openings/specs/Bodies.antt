@@ -1,7 +1,6 @@
 -- What the bodies of objects keep to: the messages of queues and the entries of indexes, and how long an image may be. That of
--- a queue, an index or a space is no longer than the limit of a body. Data spaces, which a restart makes again of their journal
--- entries, and journal spaces have at most 16,777,216 bytes. How long the text of a program is, is said where it can be kept;
--- other bodies have a few bytes.
+-- a queue, an index, a space or a data space is no longer than the limit of a body; journal spaces have at most 16,777,216
+-- bytes. How long the text of a program is, is said where it can be kept; other bodies have a few bytes.
 use Rattle.std.specs.Prelude.{◌≡◌, ◌+◌, ◌*◌, ◌≤◌, ℕ, All, List, length}
 use Rattle.s38_base.specs.Limits.{cell_bytes, furthest, longest_message}
 use Rattle.s38_dataspaces.specs.Table as tables
@@ -44,8 +43,8 @@ pub record IsSpace (limit : ℕ) (cells : List Cell) : Type 0 where
   pub image : cell_bytes * length cells ≤ limit
 
 -- the image of a data space: its fields and all its ordinals
-abbrev pub IsShortTable : DataTable → Type 0
-IsShortTable table = tables.image_size table.fields (length table.entries) ≤ furthest
+abbrev pub IsShortTable : ℕ → DataTable → Type 0
+IsShortTable limit table = tables.image_size table.fields (length table.entries) ≤ limit
 
 -- the entries of a journal space, with the room that it keeps for further ones
 abbrev pub IsShortJournal : JournalList → Type 0
@@ -56,7 +55,7 @@ abbrev pub IsBody : ℕ → Body → Type 0
 IsBody limit (bodies.Queue q) = IsQueue limit q
 IsBody limit (bodies.Index index) = IsIndex limit index
 IsBody limit (bodies.Space cells) = IsSpace limit cells
-IsBody limit (bodies.DataSpace d) = IsShortTable d.space
+IsBody limit (bodies.DataSpace d) = IsShortTable limit d.space
 IsBody limit (bodies.Journal journal) = IsShortJournal journal
 IsBody limit _ = Unit {0}
 

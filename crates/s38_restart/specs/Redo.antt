@@ -1,5 +1,6 @@
 -- A data space is made again of its image and of the entries of its journal space.
 use Rattle.std.specs.Prelude.{ℕ, zero, suc, ◌+◌, ◌-◌, ◌==◌, Bool, true, false, ◌&&◌, ◌||◌, List, [], ◌∷◌, length, max, Some, None, is_some, nat_le, nat_lt, if◌then◌else◌}
+use Rattle.s38_base.specs.Limits.{body_limit}
 use Rattle.s38_dataspaces.specs.Entries.{entry_at}
 use Rattle.s38_dataspaces.specs.Table.{DataTable, image_size, inserted_deleted, is_entry_of, restored}
 use Rattle.s38_journals.specs.Entries.{Entry}
@@ -13,10 +14,10 @@ unfoldable pub with_deleted : DataTable → ℕ → DataTable
 with_deleted t zero = t
 with_deleted t (suc n) = with_deleted (inserted_deleted t) n
 
--- an entry may stand under an ordinal: it is one of the fields, and the image of a data space with that ordinal has no
--- more bytes than it may have
+-- an entry may stand under an ordinal: it is one of the fields, and the image of a data space with that ordinal is no
+-- longer than the limit of a body
 abbrev pub may_stand_at : DataTable → ℕ → List ℕ → Bool
-may_stand_at t at after = is_entry_of t.fields (Some after) && nat_le (image_size t.fields (max at (length t.entries))) 16777216
+may_stand_at t at after = is_entry_of t.fields (Some after) && nat_le (image_size t.fields (max at (length t.entries))) body_limit
 
 -- an insert: the ordinals before it that are not there yet are deleted ones
 abbrev pub insert_redone : DataTable → ℕ → List ℕ → DataTable

@@ -5,11 +5,9 @@ ghost use Rattle.s38_journals.specs.Entries.{entered};
 ghost use Rattle.s38_restart.specs.Redo.{change_redone, delete_redone, insert_redone, may_stand_at, update_redone, with_deleted};
 
 use s38_base::NoMemory;
+use s38_base::limits::BODY_LIMIT;
 use s38_dataspaces::{DataSpace, have_values};
 use s38_journals::{EntryKind, JournalEntry};
-
-/// The longest image of a data space, in bytes.
-const LARGEST: u64 = 16_777_216;
 
 /// Whether bytes are an entry of the fields.
 fn is_entry(space: &DataSpace, entry: &[u8]) -> bool
@@ -27,11 +25,12 @@ fn image_len(space: &DataSpace, ordinals: u32) -> u64
     22 + 3 * fields + u64::from(ordinals) * slot
 }
 
-/// Whether an entry may stand under an ordinal.
+/// Whether an entry may stand under an ordinal: it is one of the fields, and the image with that ordinal is no longer than
+/// the limit of a body.
 fn may_stand_at(space: &DataSpace, at: u32, entry: &[u8]) -> bool
     ensures { result ≡ may_stand_at space.now at entry.now }
 {
-    is_entry(space, entry) && image_len(space, at.max(space.ordinals())) <= LARGEST
+    is_entry(space, entry) && image_len(space, at.max(space.ordinals())) <= u64::from(BODY_LIMIT)
 }
 
 /// Adds ordinals up to this one, whose entries are deleted.

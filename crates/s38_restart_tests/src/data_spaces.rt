@@ -32,14 +32,19 @@ const ALONE: &[Told] = &[
     (0, EntryKind::Update, OTHER, 2, b"z"),
 ];
 
-/// What does not fit: ordinal 0, two bytes, an update and a delete where no entry stands.
+/// What does not fit: ordinal 0, two bytes, an update and a delete where no entry stands, and an ordinal for which the limit
+/// of a body has no room.
 const MISFITS: &[Told] = &[
     (0, EntryKind::Insert, SPACE, 0, b"n"),
     (0, EntryKind::Insert, SPACE, 3, b"no"),
     (0, EntryKind::Update, SPACE, 7, b"n"),
     (0, EntryKind::Delete, SPACE, 7, b""),
-    (0, EntryKind::Insert, SPACE, 20_000_000, b"n"),
+    (0, EntryKind::Insert, SPACE, 524_276, b"n"),
 ];
+
+/// An insert under the last ordinal for which the limit of a body has room: the image takes 25 bytes, and two for each
+/// ordinal.
+const LAST: &[Told] = &[(0, EntryKind::Insert, SPACE, 524_275, b"n")];
 
 /// The sequence of the image, the entries, and what stands then: a byte an ordinal, and a point where none stands.
 const CASES: &[(u64, &[Told], &[u8])] = &[
@@ -101,5 +106,17 @@ fn data_spaces_are_made_again(rt: HostRuntime) -> Result<(), Fail> {
             assert_eq!(rt; byte_at(&space, k as u32 + 1), *byte);
         }
     }
+    Ok(())
+}
+
+#[test]
+fn the_last_ordinal_that_fits_is_made_again(rt: HostRuntime) -> Result<(), Fail> {
+    let journal = journal_of(rt.alloc(), LAST)?;
+    let mut space = image(rt.alloc())?;
+    redo(rt.alloc(), &mut space, SPACE, 0, &journal)?;
+    assert_eq!(rt;
+        (space.ordinals(), byte_at(&space, 524_275)),
+        (524_275, b'n')
+    );
     Ok(())
 }

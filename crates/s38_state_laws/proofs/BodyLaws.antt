@@ -95,7 +95,7 @@ module _ (limit : ℕ) where
       as_long cells is = record { some = omega (arith, is.some, same cells); image = omega (arith, is.image, same cells) }
 
   -- a data space with as many ordinals
-  table_hold : (h : Held) (n : ℕ) (f : DataTable → DataTable) → ((t : DataTable) → IsShortTable t → IsShortTable (f t)) → Hold h → Hold (over_part data_part h n (over_table f))
+  table_hold : (h : Held) (n : ℕ) (f : DataTable → DataTable) → ((t : DataTable) → IsShortTable limit t → IsShortTable limit (f t)) → Hold h → Hold (over_part data_part h n (over_table f))
   table_hold h n f next all = part_hold data_part data_lawful h n (over_table f) (λ d at is. next d.space is) all
 
   -- a journal space
@@ -206,10 +206,10 @@ module _ (limit : ℕ) where
   end_hold h None entry all = all
   end_hold h (Some journal) entry all = journal_hold h journal (with_last entry) (λ j at is. written_short j entry is) all
 
-  restored_short : (change : UnitChange) (t : DataTable) → IsShortTable t → IsShortTable (put_back change t)
+  restored_short : (change : UnitChange) (t : DataTable) → IsShortTable limit t → IsShortTable limit (put_back change t)
   restored_short change t is =
-      cond_both (may_restore t change.at change.before) (changed t change.at change.before) t IsShortTable
-      (λ may. subst (λ (n : ℕ). image_size t.fields n ≤ 16777216) (sym (length-set t.entries (change.at - 1) change.before)) is) (λ not. is)
+      cond_both (may_restore t change.at change.before) (changed t change.at change.before) t (IsShortTable limit)
+      (λ may. subst (λ (n : ℕ). image_size t.fields n ≤ limit) (sym (length-set t.entries (change.at - 1) change.before)) is) (λ not. is)
 
   undone_hold : (changes : List UnitChange) (h : Held) → Hold h → Hold (all_undone h changes)
   unfolding all_undone

@@ -1,6 +1,6 @@
 -- Bodies keep to their limits in each step: one clause for each instruction that makes a body or changes how long one is.
 use Rattle.s38_base.specs.Exceptions as exceptions
-use Rattle.s38_base.specs.Limits.{furthest, longest_message, page_bytes}
+use Rattle.s38_base.specs.Limits.{body_limit, longest_message}
 use Rattle.s38_base.specs.Pointers.{target_of}
 use Rattle.s38_base.specs.declared.attr.Attr.TheVariants as attrs
 use Rattle.s38_base.specs.declared.attr.Attr.{Attr}
@@ -27,7 +27,6 @@ use Rattle.s38_indexes.proofs.IndexLaws.{short_with, short_without, size-with}
 use Rattle.s38_indexes.proofs.OrderLaws.{rising_with, rising_without}
 use Rattle.s38_indexes.specs.Entries as indexes
 use Rattle.s38_indexes.specs.Entries.{EntryIndex, with_entry, without_entry}
-use Rattle.s38_journals.specs.Entries.{Entry}
 use Rattle.s38_memory.specs.Tagged.{resized}
 use Rattle.s38_memory.specs.declared.cell.Cell.{Cell}
 use Rattle.s38_openings.specs.Bodies.{IsIndex, IsMessageOf, IsQueue, IsShortTable, IsSpace}
@@ -80,10 +79,9 @@ use Rattle.std.specs.Prelude.{All, None, Option, Some, is_some, max, min, nat_le
 
 -- ---- queues
 
--- a limit of bodies: a page at least, and no longer than a space may reach
-pub record IsLimit (limit : ℕ) : Type 0 where
-  pub some : page_bytes ≤ limit
-  pub most : limit ≤ furthest
+-- the limit of a body, under which a body that is made new is short
+abbrev pub IsLimit : ℕ → Type 0
+IsLimit limit = limit ≡ body_limit
 
 abbrev pub MayRow : Instruction → Type 0
 MayRow i = (s : State) (p d : ℕ) (t : Request) → IsLimit s.limit → refused_by i s p d t ≡ None → May s.limit s p (i.changes s p d t)
@@ -97,7 +95,7 @@ new_queue_so limit ops is = record {
   some = some longest_message (whole_at ops 7);
   most = most longest_message (whole_at ops 7) (omega arith);
   messages = All-nil (IsMessageOf (new_queue ops).key_len (new_queue ops).longest);
-  image = omega (arith, is.some);
+  image = omega (arith, is);
 }
   where
     low : (a b : ℕ) → min a b ≤ a
@@ -110,7 +108,7 @@ new_queue_so limit ops is = record {
     most a b one = grind (arith, nat_tests, one)
 
 new_index_so : (limit : ℕ) (ops : List Operand) → IsLimit limit → IsIndex limit (new_index ops)
-new_index_so limit ops is = record { some = some longest_entry (whole_at ops 5); most = most longest_entry (whole_at ops 5) (omega arith); short = tt; rising = tt; image = omega (arith, is.some) }
+new_index_so limit ops is = record { some = some longest_entry (whole_at ops 5); most = most longest_entry (whole_at ops 5) (omega arith); short = tt; rising = tt; image = omega (arith, is) }
   where
     some : (a b : ℕ) → 1 ≤ max 1 (min a b)
     some a b = grind (arith, nat_tests)
@@ -296,8 +294,8 @@ few_fields attributes = by (are_fields attributes) refl
         within n h = grind (arith, nat_tests)
     by false is = omega arith
 
-new_table_so : (ops : List Operand) → IsShortTable (new_data_space ops).space
-new_table_so ops = omega (arith, few_fields (attributes_of (place ops 5)))
+new_table_so : (limit : ℕ) (ops : List Operand) → IsLimit limit → IsShortTable limit (new_data_space ops).space
+new_table_so limit ops is = omega (arith, is, few_fields (attributes_of (place ops 5)))
 
 -- the rules of a change see to the room in its journal space
 room_met : (s : State) (block : ℕ) (change : UnitChange) (journal : Option ℕ) → journal_rule s block (journal_bytes change) journal ≡ None → HasRoom s.limit s block change journal
@@ -313,13 +311,13 @@ room_met s block change (Some journal) met =
     none None h = refl
     none (Some x) h = cc
 
-inserted_so : (s : State) (ops : List Operand) → s.limit ≤ furthest → room_rule s.limit (table_of s.held ops 1) ≡ None → KeepsPart s.limit data_part s.held (cursor_of s.held ops 1).space.0 (over_table (with_inserted (bytes_at s.held ops 2)))
-inserted_so s ops small met d at is = by (subst (λ (r : Option DataBody). room_rule s.limit (table_in r) ≡ None) at met)
+inserted_so : (s : State) (ops : List Operand) → room_rule s.limit (table_of s.held ops 1) ≡ None → KeepsPart s.limit data_part s.held (cursor_of s.held ops 1).space.0 (over_table (with_inserted (bytes_at s.held ops 2)))
+inserted_so s ops met d at is = by (subst (λ (r : Option DataBody). room_rule s.limit (table_in r) ≡ None) at met)
   where
-    by : room_rule s.limit d.space ≡ None → IsShortTable (with_inserted (bytes_at s.held ops 2) d.space)
+    by : room_rule s.limit d.space ≡ None → IsShortTable s.limit (with_inserted (bytes_at s.held ops 2) d.space)
     by met =
         let short = under s.limit (image_size d.space.fields (length d.space.entries + 1)) (fails_none _ exceptions.limit_exceeded 0 met) in
-        subst (λ (n : ℕ). image_size d.space.fields n ≤ 16777216) (sym (length-append d.space.entries (Some (bytes_at s.held ops 2) ∷ []))) (omega (arith, short, small))
+        subst (λ (n : ℕ). image_size d.space.fields n ≤ s.limit) (sym (length-append d.space.entries (Some (bytes_at s.held ops 2) ∷ []))) (omega (arith, short))
 
 insdsen_may : (s : State) (p d : ℕ) (t : Request) → IsLimit s.limit → refused_by insdsen s p d t ≡ None
     → MayEnter s.limit s (cursor_of s.held t.operands 1).block.0 (insertion s.held t.operands) (with_inserted (bytes_at s.held t.operands 2))
@@ -327,17 +325,17 @@ unfolding insdsen_fails
 insdsen_may s p d t small e =
     let ops = t.operands in
     let limits = first_none (room_rule s.limit (table_of s.held ops 1)) _ (first_none _ (insertion_limits s ops) (first_none _ _ (rule_met insdsen s p d t e)).1).1 in
-    (room_met s (cursor_of s.held ops 1).block.0 (insertion s.held ops) _ limits.1, inserted_so s ops small.most limits.0)
+    (room_met s (cursor_of s.held ops 1).block.0 (insertion s.held ops) _ limits.1, inserted_so s ops limits.0)
 
-changed_so : (at : ℕ) (entry : spaces.Entry) (t : DataTable) → IsShortTable t → IsShortTable (with_changed at entry t)
-changed_so at entry t is = subst (λ (n : ℕ). image_size t.fields n ≤ 16777216) (sym (length-set t.entries (at - 1) entry)) is
+changed_so : (limit at : ℕ) (entry : spaces.Entry) (t : DataTable) → IsShortTable limit t → IsShortTable limit (with_changed at entry t)
+changed_so limit at entry t is = subst (λ (n : ℕ). image_size t.fields n ≤ limit) (sym (length-set t.entries (at - 1) entry)) is
 
 current_may : (s : State) (p : ℕ) (ops : List Operand) (entry : spaces.Entry) → current_fails s p ops entry ≡ None
     → MayEnter s.limit s (cursor_of s.held ops 1).block.0 (change_at s.held ops entry) (with_changed (cursor_of s.held ops 1).position entry)
 unfolding current_fails
 current_may s p ops entry met =
     let rule = first_none _ _ (first_none _ _ met).1 in
-    (room_met s (cursor_of s.held ops 1).block.0 (change_at s.held ops entry) _ rule.1, λ d at is. changed_so (cursor_of s.held ops 1).position entry d.space is)
+    (room_met s (cursor_of s.held ops 1).block.0 (change_at s.held ops entry) _ rule.1, λ d at is. changed_so s.limit (cursor_of s.held ops 1).position entry d.space is)
 
 updsen_may : MayRow updsen
 unfolding updsen_fails
@@ -348,7 +346,7 @@ deldsen_may s p d t small e = current_may s p t.operands None (rule_met deldsen 
 
 data_spaces_may : (op : Op) → MayRow (data_spaces_row op)
 unfolding data_spaces_row
-data_spaces_may Crtds = λ s p d t small e. new_table_so t.operands
+data_spaces_may Crtds = λ s p d t small e. new_table_so s.limit t.operands small
 data_spaces_may Insdsen = λ s p d t small e. (insdsen_may s p d t small e, tt)
 data_spaces_may Updsen = updsen_may
 data_spaces_may Deldsen = deldsen_may

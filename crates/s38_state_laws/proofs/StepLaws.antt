@@ -1,12 +1,12 @@
 -- Step by step objects, users and locks stay in order, and so over a history from an opening.
-use Rattle.std.proofs.Common.{◌++◌, ◌-◌, ◌≤◌, ◌==◌, ◌∙◌, ◌∷◌, ◌≡◌, ◌≢◌, ◌&&◌, Bool, List, [], ap, arith, cond, false, refl, subst, suc, sym, true, zero, ℕ}
+use Rattle.std.proofs.Common.{◌++◌, ◌-◌, ◌==◌, ◌∙◌, ◌∷◌, ◌≡◌, ◌≢◌, ◌&&◌, Bool, List, [], ap, arith, cond, false, refl, subst, suc, sym, true, zero, ℕ}
 use Rattle.std.proofs.lemmas.Bool.Decides.{nat_tests}
 use Rattle.std.proofs.lemmas.List.Elements.{All-cons, All-head, All-nil, All-tail}
 use Rattle.std.proofs.lemmas.Option.{slice_get-map}
 use Rattle.std.specs.Option.{option_map, unwrap_or}
 use Rattle.std.specs.Prelude.{All, None, Option, Some, slice_get, slice_set}
 use Rattle.s38_base.specs.Ids.{same_id, same_kind}
-use Rattle.s38_base.specs.Limits.{machine_context, page_bytes}
+use Rattle.s38_base.specs.Limits.{body_limit, machine_context}
 use Rattle.s38_base.specs.declared.exception.Exception.{Exception}
 use Rattle.s38_base.specs.declared.id.Id.{Id}
 use Rattle.s38_base.specs.declared.id.Kind.TheVariants as kinds
@@ -282,7 +282,7 @@ step_limit s p e = by (waits s p)
     by true = refl
     by false = verdict_limit s p e (awake_verdict s p e)
 
-is_in_order : (s : State) → page_bytes ≤ s.limit → Ordered s → Hold s.limit s.held → AreInOrder s
+is_in_order : (s : State) → s.limit ≡ body_limit → Ordered s → Hold s.limit s.held → AreInOrder s
 is_in_order s limit ordered bodies =
     let all = unseen (IsUsed s.processes) s.held ordered.fits in
     record {
@@ -300,8 +300,8 @@ pub step_in_order : (s : State) (p : ℕ) (e : Event) → AreWell s → AreInOrd
 step_in_order s p e well order =
     let t = (step s p e).state in
     let same = step_limit s p e in
-    let bodies = step_hold s p e (record { some = order.limit; most = well.limit }) order.bodies in
-    is_in_order t (subst (λ (n : ℕ). page_bytes ≤ n) (sym same) order.limit) (step_ordered s p e well (ordered_from s order)) (subst (λ (n : ℕ). Hold n t.held) (sym same) bodies)
+    let bodies = step_hold s p e order.limit order.bodies in
+    is_in_order t (same ∙ order.limit) (step_ordered s p e well (ordered_from s order)) (subst (λ (n : ℕ). Hold n t.held) (sym same) bodies)
 
 history_in_order : (s : State) (before history : List Entry) (end : State) → AreWell s → AreInOrder s → Leads s before history end → AllInOrder s history × AreInOrder end
 history_in_order s before [] end well order leads = (order, subst AreInOrder leads order)
@@ -321,7 +321,7 @@ opening_in_order room held templates jobs is = record {
   lawful = is.lawful;
   numbered = is.numbered;
   fit = is.fit;
-  limit = omega arith;
+  limit = refl;
   bodies = is.bodies;
   users = none_started held jobs;
   rising = ordered_none;

@@ -3,7 +3,7 @@ use Rattle.std.specs.Prelude.{◌≡◌, ◌<◌, ◌≤◌, ℕ, false, All, Is
 use Rattle.std.specs.List.Sorted.{IsStrictlySortedBy}
 use Rattle.std.specs.Map.{keys_of}
 use Rattle.std.specs.Ordering.{nat_cmp}
-use Rattle.s38_base.specs.Limits.{most_rows, page_bytes}
+use Rattle.s38_base.specs.Limits.{body_limit, most_rows}
 use Rattle.s38_code.specs.declared.entry.Entry.{Entry}
 use Rattle.s38_locks.specs.Locks.{IsOrderly, Lock, is_locked}
 use Rattle.s38_objects.specs.Lawful.{IsLawful}
@@ -35,8 +35,8 @@ pub record AreInOrder (s : State) : Type 0 where
   pub numbered : All IsNumbered s.held.objects
   -- each object has an owner who is there, and stands in a context or in none
   pub fit : FitTogether s.held
-  -- bodies keep to their limits, which let them have a page
-  pub limit : page_bytes ≤ s.limit
+  -- bodies keep to their limits, and the limit of a body stays what it is
+  pub limit : s.limit ≡ body_limit
   pub bodies : All (HoldsBody s.limit) s.held.objects
   pub users : All (HasUser s.held) s.processes
   -- objects with locks rise by number
