@@ -19,7 +19,7 @@ use Rattle.s38_base.specs.declared.op.Op.TheVariants.{Crtcb, Crtcr, Crtctx, Crtd
 use Rattle.s38_base.specs.declared.op.Op.{Op}
 use Rattle.s38_base.specs.declared.pointer.Pointer.TheVariants as pointers
 use Rattle.s38_base.specs.declared.pointer.Pointer.{Pointer}
-use Rattle.s38_code.specs.Operations.{family_of}
+use Rattle.s38_code.specs.Operations.{classes, family_of, made_kind}
 use Rattle.s38_code.specs.declared.event.Request.{Request}
 use Rattle.s38_code.specs.declared.operand.Operand.{Operand}
 use Rattle.s38_code.specs.declared.program.Program.{Program}
@@ -234,7 +234,7 @@ program_lessens h owner made (Some program) o r given = creation_lessens h owner
 -- those that make an object or a pointer, destroy a user, or change who may do what
 others_shut : (op : Op) (s : State) (p d : ℕ) (t : Request) (o r : ℕ) → (not (makes_pointer op) && is_plain ((row op).changes s p d t)) ≡ false → NoWay s.held (acting s p d) o r
     → All (OfOperand (IsHarmless o r)) t.operands → refused_by (row op) s p d t ≡ None → Lessens s.held (done s p ((row op).changes s p d t)).held o r × IfSome ((row op).gives s p d t) (OfVal (IsHarmless o r))
-unfolding row_in family_of contexts_row profiles_row grants_row resolving_row programs_row spaces_row queues_row indexes_row data_spaces_row journals_row locks_row setspfp_gives
+unfolding row_in family_of classes made_kind contexts_row profiles_row grants_row resolving_row programs_row spaces_row queues_row indexes_row data_spaces_row journals_row locks_row setspfp_gives
 others_shut Crtctx s p d t o r other closed asked e = (creation_lessens s.held _ _ _ o r closed.given refl tt, created_harmless s.held _ o r)
 others_shut Crtpg s p d t o r other closed asked e = (program_lessens s.held _ _ (program_in (template_at s t.operands)) o r closed.given, created_harmless s.held _ o r)
 others_shut Crts s p d t o r other closed asked e =

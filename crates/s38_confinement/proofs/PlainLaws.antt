@@ -14,7 +14,7 @@ use Rattle.s38_base.specs.declared.id.ObjNum.{ObjNum}
 use Rattle.s38_base.specs.declared.op.Op.TheVariants.{Callx, Cpybwp, Crtctx, Crtinx, Crtq, Crtup, Grant, Insdsen, Jrnlobj, Lock, Rslvsp, Setdp, Setspfp, Setsppfp, Xctl}
 use Rattle.s38_base.specs.declared.op.Op.{Op}
 use Rattle.s38_base.specs.declared.pointer.Pointer.{Pointer}
-use Rattle.s38_code.specs.Operations.{family_of}
+use Rattle.s38_code.specs.Operations.{classes, family_of, made_kind}
 use Rattle.s38_code.specs.declared.event.EndCause.{EndCause}
 use Rattle.s38_code.specs.declared.event.Event.TheVariants.{Finish, Start}
 use Rattle.s38_code.specs.declared.event.Request.{Request}
@@ -303,7 +303,7 @@ computing_plain q closed s p d t of asked =
     (tt, computed_kept q closed t.op t.round (of_operands s.held t.operands) (pointer_kept q s.held t.operands 2 of asked))
 
 resolving_plain : (q : Pointer → Type 0) (op : Op) → makes_pointer op ≡ false → PlainRow q (resolving_row op)
-unfolding resolving_row
+unfolding resolving_row classes family_of made_kind
 resolving_plain q Rslvsp other = cc
 resolving_plain q Setspfp other = cc
 resolving_plain q _ other = λ s p d t of asked. (tt, tt)
@@ -324,7 +324,7 @@ copied_of q true cells of = tt
 copied_of q false cells of = first_kept q cells of
 
 spaces_plain : (q : Pointer → Type 0) (op : Op) → makes_pointer op ≡ false → PlainRow q (spaces_row op)
-unfolding spaces_row cpybwp_gives
+unfolding spaces_row cpybwp_gives classes family_of made_kind
 spaces_plain q Setsppfp other = cc
 spaces_plain q Setdp other = cc
 spaces_plain q Cpybwp other = λ s p d t of asked.

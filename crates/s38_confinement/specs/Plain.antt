@@ -1,12 +1,16 @@
 -- When what an instruction does is plain: it makes no object, changes nothing of who may do what with one, destroys no
 -- user, and brings no pointer that did not stand in a space and was not asked with.
-use Rattle.std.specs.Prelude.{◌≡◌, ◌&&◌, ℕ, Bool, true, false, not, Option, Some, None}
+use Rattle.std.specs.Prelude.{◌≡◌, ◌&&◌, ◌||◌, ℕ, Bool, true, false, not, List, ◌∷◌, Option, Some, None, is_some}
 use Rattle.s38_base.specs.Ids.{same_kind}
 use Rattle.s38_base.specs.declared.id.Kind.TheVariants as kinds
 use Rattle.s38_base.specs.declared.op.Op.{Op}
-use Rattle.s38_base.specs.declared.op.Op.TheVariants.{Rslvsp, Setsppfp, Setspfp, Setdp}
 use Rattle.s38_base.specs.declared.pointer.Pointer.{Pointer}
+use Rattle.s38_code.specs.Operations.{classes, family_of, made_kind}
+use Rattle.s38_code.specs.declared.class.Class.{Class}
+use Rattle.s38_code.specs.declared.class.Class.TheVariants.{PointerReceiver}
 use Rattle.s38_code.specs.declared.event.Request.{Request}
+use Rattle.s38_code.specs.declared.family.Family.{Family}
+use Rattle.s38_code.specs.declared.family.Family.TheVariants.{Computing}
 use Rattle.s38_rules.specs.declared.object.Object.{Object}
 use Rattle.s38_rules.specs.Authority.{is_profile}
 use Rattle.s38_rules.specs.Changes.{Changes, Gone, Made, Profiled, Stands, Then}
@@ -27,13 +31,19 @@ is_plain (Gone kind n) = not (same_kind kind kinds.Profile)
 is_plain (Then a b) = is_plain a && is_plain b
 is_plain _ = true
 
--- the instructions that make a pointer to what is there
+-- the first operand receives a pointer
+abbrev pub receives_pointer : List Class → Bool
+receives_pointer (PointerReceiver ∷ more) = true
+receives_pointer _ = false
+
+-- a computation gives no pointer but a space pointer that it has, with another offset
+abbrev pub is_computation : Family → Bool
+is_computation Computing = true
+is_computation _ = false
+
+-- an instruction makes a pointer to what is there if it receives one, though it makes no object and is no computation
 abbrev pub makes_pointer : Op → Bool
-makes_pointer Rslvsp = true
-makes_pointer Setspfp = true
-makes_pointer Setsppfp = true
-makes_pointer Setdp = true
-makes_pointer _ = false
+makes_pointer op = receives_pointer (classes op) && not (is_some (made_kind op) || is_computation (family_of op))
 
 -- what is asked makes no pointer, and its change is plain
 abbrev pub asks_plainly : State → ℕ → ℕ → Request → Bool
