@@ -136,6 +136,6 @@ module _ (h : Held) (us : UnitMap) (m : Content) (d : Durable) (s : State) (p : 
       let number : x.object.number ≡ o.number = λ i. record { 0 = own i } in
       let kind : o.id.kind ≡ kinds.Journal = sym storable.kind ∙ ap kind_of body in
       let last = last_in h (journal_for h n) in
-      journal_differs m d o (whole_of us h o) x journal len k p.stands low was.is was.said has.fits has.rows number (p.kinds n o x (found there) was.is ∙ kind) kind (p.grows n o x journal (found there) was.is body)
+      journal_differs m d o (whole_of us h o) x journal len k p.stands low was.is was.said has number (p.kinds n o x (found there) was.is ∙ kind) kind (p.grows n o x journal (found there) was.is body)
       (ap (λ (b : Body). record o { on_disk = true; body = settled_body us n b }) body) (ap (λ (b : Body). settled_sequence last b) body)
       (header_long (header_with o (entries_len journal.entries)) named) storable.rows short within

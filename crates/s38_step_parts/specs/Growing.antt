@@ -8,20 +8,14 @@ use Rattle.s38_image.specs.Pages.{needed, stream_parts}
 use Rattle.s38_image.specs.declared.stored.Stored.{Stored}
 use Rattle.s38_journals.specs.Entries.{Entry}
 use Rattle.s38_journals.specs.Journals.{JournalList, journal_image}
-use Rattle.s38_rules.specs.declared.object.Body.{Body}
 use Rattle.s38_rules.specs.declared.object.Body.TheVariants as bodies
-
--- the body of a journal space with these entries, all forced
-abbrev pub journal_of : List Entry → Body
-journal_of entries = bodies.Journal (record { spare = 0; unforced = 0; entries = entries })
 
 -- what is kept of a journal space is a beginning of it
 pub record IsBeginning (x : Stored) (journal : JournalList) : Type 0 where
-  pub entries : List Entry
+  pub old : JournalList
   pub more : List Entry
-  pub body : x.object.body ≡ journal_of entries
-  pub sequence : x.sequence ≡ 0
-  pub grown : journal.entries ≡ entries ++ more
+  pub body : x.object.body ≡ bodies.Journal old
+  pub grown : journal.entries ≡ old.entries ++ more
 
 -- the parts of a body of so many bytes from a page on
 abbrev pub tail_range : ℕ → ℕ → ℕ → PartRange

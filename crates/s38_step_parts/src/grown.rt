@@ -36,7 +36,7 @@ use std::alloc::Global;
 
 /// The parts of a body of so many bytes from a page on.
 fn tail_range(number: u64, first: u32, len: u32) -> PartRange
-    requires { len ≤ 16777216 }
+    requires small { len ≤ 16777216 }
     requires within { 512 * first ≤ len }
     ensures { result ≡ tail_range number first len }
 {
@@ -58,12 +58,10 @@ fn tail_parts(
     ensures parts { IfOk result (λ parts. parts.items ≡ tail_parts number.0 first journal.now.entries) }
     ensures wanted { IfOk result (λ parts. IsWanted (tail_range number.0 first (entries_len journal.now.entries)) parts.items) }
 {
-    // Its contract says how many bytes there are.
-    let _len = journal.len();
-    let (_kept, tail) = journal
-        .image()
-        .split_at(PAGE_BYTES as usize * first as usize);
-    let len = tail.len() as u32;
+    let whole = journal.len();
+    let at = PAGE_BYTES * first;
+    let len = whole - at;
+    let (_kept, tail) = journal.image().split_at(at as usize);
     let parts = Vec::with_capacity(alloc, needed(len) as usize)?;
     let mut writer = PageWriter::new(parts, number.0, BODY_PART + first, len);
     writer.put(tail);
