@@ -1,0 +1,3 @@
+pub mod TempLaws
+pub mod LongerLaws
+pub mod TrailLaws
