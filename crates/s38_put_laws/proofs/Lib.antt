@@ -1,3 +1,6 @@
 pub mod TempLaws
 pub mod LongerLaws
 pub mod TrailLaws
+pub mod DifferLaws
+pub mod TailLaws
+pub mod PrintLaws
