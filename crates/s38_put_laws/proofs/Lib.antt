@@ -4,3 +4,5 @@ pub mod TrailLaws
 pub mod DifferLaws
 pub mod TailLaws
 pub mod PrintLaws
+pub mod RowLaws
+pub mod ShapeLaws
