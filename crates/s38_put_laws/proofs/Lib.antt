@@ -1,8 +1,10 @@
-pub mod TempLaws
 pub mod LongerLaws
 pub mod TrailLaws
+pub mod RowLaws
+pub mod LowLaws
+pub mod ShapeLaws
 pub mod DifferLaws
 pub mod TailLaws
 pub mod PrintLaws
-pub mod RowLaws
-pub mod ShapeLaws
+pub mod ObjectLaws
+pub mod OneLaws

@@ -49,8 +49,8 @@ use Rattle.s38_rules.specs.declared.data_body.DataBody.{DataBody}
 use Rattle.s38_rules.specs.declared.object.Body.{Body}
 use Rattle.s38_rules.specs.declared.object.Object.{Object}
 use Rattle.s38_rules.specs.declared.process.ProcessEntry.{ProcessEntry}
+use Rattle.s38_commitment_laws.proofs.HeldLaws.{part_over, part_without}
 use Rattle.s38_put_laws.specs.Lengthening.{AreLonger, IsLonger, Lengthens}
-use Rattle.s38_put_laws.proofs.TempLaws.{part_over, part_without}
 
 -- ---- one journal
 

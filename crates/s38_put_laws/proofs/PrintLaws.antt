@@ -15,3 +15,8 @@ printed_from (e ∷ es) fs k =
 
 pub printed_more : (es fs : List Entry) → (more : List ℕ) × (journal.print (es ++ fs) ≡ journal.print es ++ more)
 printed_more es fs = printed_from es fs 1
+
+-- no entry has no byte
+pub printed_none : journal.print [] ≡ []
+unfolding print_from
+printed_none = refl

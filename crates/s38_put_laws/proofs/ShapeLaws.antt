@@ -43,10 +43,10 @@ use Rattle.s38_rules.specs.DataSpaces.{data_spaces_row}
 use Rattle.s38_rules.specs.Effect.{effect, effect_of}
 use Rattle.s38_rules.specs.Forcing.{Ceiling, Forced, Header, Removed, Whole, commit_forces, creation_forces, followed, forced, forced_by, is_whole, overdue, removed, whole_if}
 use Rattle.s38_rules.specs.Grants.{grants_row}
-use Rattle.s38_rules.specs.Held.{Held, change, ensured, is_on_disk, kept_on_disk, object}
+use Rattle.s38_rules.specs.Held.{Held, change, disk_in, ensured, is_on_disk, kept_on_disk, object}
 use Rattle.s38_rules.specs.Indexes.{indexes_row}
 use Rattle.s38_rules.specs.Instruction.{Instruction}
-use Rattle.s38_rules.specs.Journaling.{data_port_in, journal_behind, journal_for, journal_for_block, journal_named, open_behind}
+use Rattle.s38_rules.specs.Journaling.{data_port, is_journal, journal_behind, journal_for, journal_for_block, journal_named, open_behind}
 use Rattle.s38_rules.specs.Journals.{journals_row}
 use Rattle.s38_rules.specs.Locking.{locks_row}
 use Rattle.s38_rules.specs.Operands.{delivered, put_value}
@@ -61,8 +61,10 @@ use Rattle.s38_rules.specs.State.{State}
 use Rattle.s38_rules.specs.Units.{committed, end_entry, end_written, with_entry}
 use Rattle.s38_rules.specs.declared.data_body.DataBody.{DataBody}
 use Rattle.s38_rules.specs.declared.object.Object.{Object}
+use Rattle.s38_rules.specs.declared.port.Port.{Port}
 use Rattle.s38_rules.specs.declared.rows.PrivateRow.{PrivateRow}
-use Rattle.s38_put_laws.proofs.TempLaws.{part_over}
+use Rattle.s38_commitment_laws.proofs.HeldLaws.{part_over}
+use Rattle.s38_kept_laws.proofs.SameLaws.{seen_same}
 
 -- ---- one number at most
 
@@ -217,7 +219,8 @@ pub record ForcesBoth (h k : Held) (all : List Forced) : Type 0 where
   pub space : ℕ
   pub journal : ℕ
   pub is : all ≡ Whole space ∷ Whole journal ∷ []
-  pub there : is_some (part_at data_part h space) ≡ true
+  pub there : is_some (part_at journal_part h journal) ≡ true
+  pub disk : (n : ℕ) → (space == n) ≡ false → is_on_disk k n ≡ is_on_disk h n
   pub journals : (n : ℕ) → part_at journal_part k n ≡ part_at journal_part h n
   pub rows : (n : ℕ) → rows_at k n ≡ rows_at h n
 
@@ -226,16 +229,8 @@ ForcesFew h k all = ForcesOne h k all ⊎ ForcesBoth h k all
 
 -- ---- an object is another one
 
-seen : {A : Type 0} (g : Option Object → A) (h : Held) (n m : ℕ) (f : Object → Object) → KeepsNumber f → ((x : Object) → g (Some (f x)) ≡ g (Some x)) → g (object (change h n f) m) ≡ g (object h m)
-seen g h n m f keeps same = ap g (object_changed n m f h.objects keeps) ∙ by (n == m) (object h m)
-  where
-    by : (b : Bool) (x : Option Object) → g (cond b (option_map f x) x) ≡ g x
-    by true None = refl
-    by true (Some x) = same x
-    by false x = refl
-
 part_rows : {T : Type 0} (p : Part T) (h : Held) (n m : ℕ) (f : T → T) → rows_at (over_part p h n f) m ≡ rows_at h m
-part_rows p h n m f = seen rows_in h n m (over_object p f) (λ x. refl) (λ x. refl)
+part_rows p h n m f = seen_same rows_in h n m (over_object p f) (λ x. refl) (λ x. refl)
 
 other_journal : {T : Type 0} (p : Part T) → IsPart T p → ((x : T) → journal_of (p.make x) ≡ None) → (h : Held) (n m : ℕ) (f : T → T) → part_at journal_part (over_part p h n f) m ≡ part_at journal_part h m
 other_journal p lawful other h n m f = part_apart journal_part p f (λ b. over_same p lawful journal_of None other f b (p.of b) refl) h n m
@@ -243,8 +238,22 @@ other_journal p lawful other h n m f = part_apart journal_part p f (λ b. over_s
 data_journal : (h : Held) (n m : ℕ) (f : DataBody → DataBody) → part_at journal_part (on_data h n f) m ≡ part_at journal_part h m
 data_journal h n m f = other_journal data_part data_lawful (λ x. refl) h n m f
 
-space_journal : (h : Held) (n m : ℕ) (f : List Cell → List Cell) → part_at journal_part (on_space h n f) m ≡ part_at journal_part h m
-space_journal h n m f = other_journal space_part space_lawful (λ x. refl) h n m f
+-- journal spaces, rows, and what is on disk stay
+pub record SameBeside (h k : Held) : Type 0 where
+  pub journals : (n : ℕ) → part_at journal_part k n ≡ part_at journal_part h n
+  pub rows : (n : ℕ) → rows_at k n ≡ rows_at h n
+  pub disk : (n : ℕ) → is_on_disk k n ≡ is_on_disk h n
+
+same_beside : (h : Held) → SameBeside h h
+same_beside h = record { journals = λ n. refl; rows = λ n. refl; disk = λ n. refl }
+
+-- what an object of another kind holds is something else
+other_beside : {T : Type 0} (p : Part T) → IsPart T p → ((x : T) → journal_of (p.make x) ≡ None) → (h : Held) (n : ℕ) (f : T → T) → SameBeside h (over_part p h n f)
+other_beside p lawful other h n f = record {
+  journals = λ m. other_journal p lawful other h n m f;
+  rows = λ m. part_rows p h n m f;
+  disk = λ m. seen_same disk_in h n m (over_object p f) (λ x. refl) (λ x. refl);
+}
 
 -- ---- how much longer
 
@@ -339,46 +348,53 @@ committed_one s p block (Some unit) = by (journal_for_block s.held block)
 
 -- ---- an object is ensured
 
--- what is journaled is there
-there_for : (h : Held) (n journal : ℕ) → object h 0 ≡ None → journal_for h n ≡ Some journal → is_some (part_at data_part h n) ≡ true
-there_for h n journal none to = by (part_at data_part h n) to
+-- what is behind a port is a journal space
+behind_is : (h : Held) (port journal : ℕ) → journal_behind h port ≡ Some journal → is_journal h journal ≡ true
+behind_is h port journal to = by (part_at port_part h port) to
   where
-    by : (x : Option DataBody) → journal_behind h (data_port_in x) ≡ Some journal → is_some x ≡ true
-    by None is = absurd (let e : None ≡ Some journal = sym (ap (λ r. journal_named h (part_in port_part r)) none) ∙ is in cc)
-    by (Some d) is = refl
+    there : (b : Bool) (n : ℕ) → is_journal h n ≡ b → cond b (Some n) None ≡ Some journal → is_journal h journal ≡ true
+    there true n at e = let same : n ≡ journal = cc in subst (λ (m : ℕ). is_journal h m ≡ true) same at
+    there false n at e = cc
 
--- from objects that differ from these at most in the port of the data space
-ensured_few : (h j : Held) (n : ℕ) → object j 0 ≡ None → ((m : ℕ) → part_at journal_part j m ≡ part_at journal_part h m) → ((m : ℕ) → rows_at j m ≡ rows_at h m) → is_some (part_at data_part j n) ≡ is_some (part_at data_part h n)
-    → ForcesFew h (ensured j n) (Whole n ∷ whole_if (journal_for j n))
-ensured_few h j n none journals rows there = by (journal_for j n) refl
+    by : (x : Option Port) → journal_named h x ≡ Some journal → is_journal h journal ≡ true
+    by None to = cc
+    by (Some p) to = there (is_journal h p.journal.0) p.journal.0 refl to
+
+-- from objects that differ from these at most in the port of a data space
+ensured_few : (h j : Held) (n : ℕ) → SameBeside h j → ForcesFew h (ensured j n) (Whole n ∷ whole_if (journal_for j n))
+ensured_few h j n same = by (journal_for j n) refl
   where
     still : (m : ℕ) → part_at journal_part (ensured j n) m ≡ part_at journal_part h m
-    still m = seen (part_in journal_part) j n m kept_on_disk (λ x. refl) (λ x. refl) ∙ journals m
+    still m = seen_same (part_in journal_part) j n m kept_on_disk (λ x. refl) (λ x. refl) ∙ same.journals m
+
+    beside : (m : ℕ) → (n == m) ≡ false → is_on_disk (ensured j n) m ≡ is_on_disk j m
+    beside m off = ap disk_in (object_changed n m kept_on_disk j.objects (λ x. refl)) ∙ ap (λ b. disk_in (cond b (option_map kept_on_disk (object j m)) (object j m))) off
 
     by : (r : Option ℕ) → journal_for j n ≡ r → ForcesFew h (ensured j n) (Whole n ∷ whole_if r)
-    by None to = inl (record { one = single (Whole n); grows = λ m less is. let same = ap unforced_in (still m) in omega (arith, same) })
+    by None to = inl (record { one = single (Whole n); grows = λ m less is. let kept = ap unforced_in (still m) in omega (arith, kept) })
     by (Some journal) to = inr (record {
       space = n;
       journal = journal;
       is = refl;
-      there = sym there ∙ there_for j n journal none to;
+      there = sym (ap is_some (same.journals journal)) ∙ behind_is j (data_port j n) journal to;
+      disk = λ m off. beside m off ∙ same.disk m;
       journals = still;
-      rows = λ m. seen rows_in j n m kept_on_disk (λ x. refl) (λ x. refl) ∙ rows m;
+      rows = λ m. seen_same rows_in j n m kept_on_disk (λ x. refl) (λ x. refl) ∙ same.rows m;
     })
 
 -- ---- each word of change
 
-pub done_few : (x : Changes) (s : State) (p : ℕ) → object s.held 0 ≡ None → IsPlain x → ForcesFew s.held (done s p x).held (forced_by s p x)
-done_few (Entered block change f) s p none plain = inl (entered_one s p block change f)
-done_few (Stands n f) s p none plain = inl (followed_one s.held (done s p (Stands n f)).held n)
-done_few (Profiled n special limit) s p none plain = inl (followed_one s.held (done s p (Profiled n special limit)).held n)
-done_few (Named n id) s p none plain = inl (followed_one s.held (done s p (Named n id)).held n)
-done_few (Moved n context) s p none plain = inl (followed_one s.held (done s p (Moved n context)).held n)
-done_few (Ensured n) s p none plain = ensured_few s.held s.held n none (λ m. refl) (λ m. refl) refl
-done_few (Made owner made body) s p none plain = inl (made_one s.held (made_by s.held owner made body))
-done_few (Gone kind n) s p none plain = inl (gone_one s.held (done s p (Gone kind n)).held kind n)
-done_few (Committed block) s p none plain = inl (committed_one s p block (unit_of s.units block))
-done_few (Then (Entered block change f) (OnCursor n g)) s p none plain = inl (record {
+pub done_few : (x : Changes) (s : State) (p : ℕ) → IsPlain x → ForcesFew s.held (done s p x).held (forced_by s p x)
+done_few (Entered block change f) s p plain = inl (entered_one s p block change f)
+done_few (Stands n f) s p plain = inl (followed_one s.held (done s p (Stands n f)).held n)
+done_few (Profiled n special limit) s p plain = inl (followed_one s.held (done s p (Profiled n special limit)).held n)
+done_few (Named n id) s p plain = inl (followed_one s.held (done s p (Named n id)).held n)
+done_few (Moved n context) s p plain = inl (followed_one s.held (done s p (Moved n context)).held n)
+done_few (Ensured n) s p plain = ensured_few s.held s.held n (same_beside s.held)
+done_few (Made owner made body) s p plain = inl (made_one s.held (made_by s.held owner made body))
+done_few (Gone kind n) s p plain = inl (gone_one s.held (done s p (Gone kind n)).held kind n)
+done_few (Committed block) s p plain = inl (committed_one s p block (unit_of s.units block))
+done_few (Then (Entered block change f) (OnCursor n g)) s p plain = inl (record {
   one = subst IsOneForced (sym (append-nil (forced_by s p (Entered block change f)))) one.one;
   grows = λ m less is.
       let few = one.grows m less (subst (λ (all : List Forced). list_any (is_whole m) all ≡ true) (append-nil (forced_by s p (Entered block change f))) is) in
@@ -388,36 +404,15 @@ done_few (Then (Entered block change f) (OnCursor n g)) s p none plain = inl (re
   where
     one : ForcesOne s.held (done s p (Entered block change f)).held (forced_by s p (Entered block change f))
     one = entered_one s p block change f
-done_few (Then (Journaled n port) (Ensured m)) s p none plain =
-    ensured_few s.held (on_data s.held n (through_port port)) m (gone (n == 0) (object_changed n 0 (over_object data_part (through_port port)) s.held.objects (λ x. refl)))
-    (λ i. data_journal s.held n i (through_port port)) (λ i. part_rows data_part s.held n i (through_port port))
-    (ap is_some (part_over data_part data_lawful s.held n m (through_port port)) ∙ there (n == m) (part_at data_part s.held m))
-  where
-    gone : (b : Bool) → object (on_data s.held n (through_port port)) 0 ≡ cond b (option_map (over_object data_part (through_port port)) (object s.held 0)) (object s.held 0) → object (on_data s.held n (through_port port)) 0 ≡ None
-    gone b is = is ∙ ap (λ (x : Option Object). cond b (option_map (over_object data_part (through_port port)) x) x) none ∙ nothing b
-      where
-        nothing : (b : Bool) → ◌≡◌ {A = Option Object} (cond b None None) None
-        nothing true = refl
-        nothing false = refl
-
-    there : (b : Bool) (x : Option DataBody) → is_some (cond b (option_map (through_port port) x) x) ≡ is_some x
-    there true None = refl
-    there true (Some d) = refl
-    there false x = refl
-done_few (Then a b) s p none plain = absurd plain
-done_few x s p none plain = inl (none_one s.held (done s p x).held)
+done_few (Then (Journaled n port) (Ensured m)) s p plain =
+    ensured_few s.held (on_data s.held n (through_port port)) m (other_beside data_part data_lawful (λ x. refl) s.held n (through_port port))
+done_few (Then a b) s p plain = absurd plain
+done_few x s p plain = inl (none_one s.held (done s p x).held)
 
 -- ---- an event
 
-pub record SameBeside (h k : Held) : Type 0 where
-  pub journals : (n : ℕ) → part_at journal_part k n ≡ part_at journal_part h n
-  pub rows : (n : ℕ) → rows_at k n ≡ rows_at h n
-
-same_beside : (h : Held) → SameBeside h h
-same_beside h = record { journals = λ n. refl; rows = λ n. refl }
-
 space_beside : (h : Held) (n : ℕ) (f : List Cell → List Cell) → SameBeside h (on_space h n f)
-space_beside h n f = record { journals = λ m. space_journal h n m f; rows = λ m. part_rows space_part h n m f }
+space_beside h n f = other_beside space_part space_lawful (λ x. refl) h n f
 
 value_beside : (h : Held) (n at : ℕ) (v : Val) → SameBeside h (put_value h n at v)
 value_beside h n at (vals.Bytes bytes) = space_beside h n (with_bytes at bytes)
@@ -432,13 +427,13 @@ delivered_beside s shift _ (Some v) = same_beside s.held
 few_beside : (h j k : Held) (all : List Forced) → SameBeside j k → ForcesFew h j all → ForcesFew h k all
 few_beside h j k all same (inl one) = inl (record { one = one.one; grows = λ n less is. let few = one.grows n less is in let still = ap unforced_in (same.journals n) in omega (arith, few, still) })
 few_beside h j k all same (inr both) =
-    inr (record { space = both.space; journal = both.journal; is = both.is; there = both.there; journals = λ n. same.journals n ∙ both.journals n; rows = λ n. same.rows n ∙ both.rows n })
+    inr (record { space = both.space; journal = both.journal; is = both.is; there = both.there; disk = λ n off. same.disk n ∙ both.disk n off; journals = λ n. same.journals n ∙ both.journals n; rows = λ n. same.rows n ∙ both.rows n })
 
-pub event_few : (s : State) (p : ℕ) (e : Event) → object s.held 0 ≡ None → ForcesFew s.held (effect_of s p e).state.held (forced s p e)
+pub event_few : (s : State) (p : ℕ) (e : Event) → ForcesFew s.held (effect_of s p e).state.held (forced s p e)
 unfolding effect_of effect forced
-event_few s p Start none = inl (none_one s.held _)
-event_few s p (Act d t) none =
+event_few s p Start = inl (none_one s.held _)
+event_few s p (Act d t) =
     let x = (row t.op).changes s p d t in
     few_beside s.held (done s p x).held _ (forced_by s p x) (delivered_beside (done s p x) (shift_at s.held t.op t.operands) (receiver_at t.op t.operands) ((row t.op).gives s p d t))
-    (done_few x s p none (row_plain (family_of t.op) t.op s p d t))
-event_few s p (Finish cause) none = inl (none_one s.held _)
+    (done_few x s p (row_plain (family_of t.op) t.op s p d t))
+event_few s p (Finish cause) = inl (none_one s.held _)

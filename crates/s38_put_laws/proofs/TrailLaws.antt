@@ -25,10 +25,11 @@ use Rattle.s38_rules.specs.Storing.{all_kept, stored, stored_in}
 use Rattle.s38_rules.specs.declared.object.Body.TheVariants as bodies
 use Rattle.s38_rules.specs.declared.object.Body.{Body}
 use Rattle.s38_rules.specs.declared.object.Object.{Object}
+use Rattle.s38_commitment_laws.proofs.HeldLaws.{part_over}
+use Rattle.s38_step_parts.proofs.AfterLaws.{kept_behind_step, kept_one}
 use Rattle.s38_put_laws.specs.Lengthening.{AreLonger, IsLonger, Lengthens}
 use Rattle.s38_put_laws.specs.Trails.{AreTrailing, IsTrailing}
 use Rattle.s38_put_laws.proofs.LongerLaws.{append_none}
-use Rattle.s38_put_laws.proofs.TempLaws.{kept_behind_step, kept_one, part_over}
 
 -- ---- what the store keeps of a step changes a journal space alone that it keeps whole
 
@@ -75,13 +76,13 @@ trails_on front x y is longer = record {
       omega (arith, some, more, all);
 }
 
-trails_at : (front : List Entry) (x : Option JournalList) (y : JournalList) → IsTrailing front (unwrap_or x no_journal) → Lengthens x (Some y) → IsTrailing front y
+pub trails_at : (front : List Entry) (x : Option JournalList) (y : JournalList) → IsTrailing front (unwrap_or x no_journal) → Lengthens x (Some y) → IsTrailing front y
 trails_at front None y is longer = absurd longer
 trails_at front (Some x) y is longer = trails_on front x y is longer
 
 -- ---- what is kept of it behind a step
 
-journal_kind : (b c : Body) (i : JournalList) → kind_of c ≡ kind_of b → journal_of c ≡ Some i → (j : JournalList) × (journal_of b ≡ Some j)
+pub journal_kind : (b c : Body) (i : JournalList) → kind_of c ≡ kind_of b → journal_of c ≡ Some i → (j : JournalList) × (journal_of b ≡ Some j)
 journal_kind (bodies.Journal j) c i same is = (j, refl)
 journal_kind b (bodies.Journal x) i same is = absurd (let e : kinds.Journal ≡ kind_of b = same in cc)
 journal_kind b c i same is = absurd (let e : None ≡ Some i = is in cc)
@@ -92,7 +93,7 @@ whole_trail units n (bodies.Journal j) i is = let same : settled_journal j ≡ i
 whole_trail units n (bodies.DataSpace d) i is = cc
 whole_trail units n _ i is = cc
 
-followed_journal : (b old : Body) (i : JournalList) → journal_of (body_behind b old) ≡ Some i → journal_of old ≡ Some i
+pub followed_journal : (b old : Body) (i : JournalList) → journal_of (body_behind b old) ≡ Some i → journal_of old ≡ Some i
 followed_journal (bodies.Profile special limit) old i is = cc
 followed_journal _ old i is = is
 

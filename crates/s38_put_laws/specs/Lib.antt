@@ -1,3 +1,4 @@
 pub mod Trails
 pub mod Lengthening
 pub mod Unforced
+pub mod OnePut
