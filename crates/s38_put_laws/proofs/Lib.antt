@@ -8,3 +8,4 @@ pub mod TailLaws
 pub mod PrintLaws
 pub mod ObjectLaws
 pub mod OneLaws
+pub mod StepLaws

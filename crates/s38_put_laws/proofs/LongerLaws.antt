@@ -264,7 +264,7 @@ done_longer (Then a b) s p = all_then s.held (done s p a).held _ (done_longer a 
 
 -- ---- an event
 
-value_longer : (h : Held) (n at : ℕ) (v : Val) → AreLonger h (put_value h n at v)
+pub value_longer : (h : Held) (n at : ℕ) (v : Val) → AreLonger h (put_value h n at v)
 value_longer h n at (vals.Bytes bytes) = space_longer h n (with_bytes at bytes)
 value_longer h n at (vals.Ptr p) = space_longer h n (with_pointer at p)
 value_longer h n at _ = all_same h

@@ -65,7 +65,7 @@ leads_then : (h j k : Held) → Leads h j → Leads j k → Leads h k
 leads_then h j k a b block n to = a block n (b block n to)
 
 -- so no more are open in a journal space
-few_open : (h k : Held) (units : UnitMap) (n : ℕ) → Leads h k → open_units k units n ≤ open_units h units n
+pub few_open : (h k : Held) (units : UnitMap) (n : ℕ) → Leads h k → open_units k units n ≤ open_units h units n
 few_open h k [] n leads = omega arith
 few_open h k (e ∷ es) n leads =
     let rest = few_open h k es n leads in
@@ -102,7 +102,7 @@ leads_by h k blocks ports journals block = ap (λ (x : Option Block). journal_be
 data_leads : (h : Held) (n : ℕ) (f : DataBody → DataBody) (block : ℕ) → journal_for_block (on_data h n f) block ≡ journal_for_block h block
 data_leads h n f block = leads_by h (on_data h n f) (λ m. block_by_data h n m f) (λ m. port_by_data h n m f) (λ m. ap is_some (journal_by_data h n m f)) block
 
-journal_leads : (h : Held) (n : ℕ) (f : JournalList → JournalList) (block : ℕ) → journal_for_block (on_journal h n f) block ≡ journal_for_block h block
+pub journal_leads : (h : Held) (n : ℕ) (f : JournalList → JournalList) (block : ℕ) → journal_for_block (on_journal h n f) block ≡ journal_for_block h block
 journal_leads h n f block = leads_by h (on_journal h n f) (λ m. block_by_journal h n m f) (λ m. port_by_journal h n m f) (λ m. ap is_some (part_over journal_part journal_lawful h n m f) ∙ there (n == m) (part_at journal_part h m)) block
   where
     there : (b : Bool) (x : Option JournalList) → is_some (cond b (option_map f x) x) ≡ is_some x
@@ -110,7 +110,7 @@ journal_leads h n f block = leads_by h (on_journal h n f) (λ m. block_by_journa
     there true (Some j) = refl
     there false x = refl
 
-same_leads : (h k : Held) → ((block : ℕ) → journal_for_block k block ≡ journal_for_block h block) → Leads h k
+pub same_leads : (h k : Held) → ((block : ℕ) → journal_for_block k block ≡ journal_for_block h block) → Leads h k
 same_leads h k same block n to = sym (same block) ∙ to
 
 -- ---- what is unforced
@@ -184,7 +184,7 @@ module _ (P : ℕ → Type 0) (anew : ℕ → Bool) where
     changes = all_by (LastsAt h k) e.1.changes (λ c. stays_last (part_at data_part h c.space.0) (part_at data_part k c.space.0) (carries.each c.space.0).space);
   }
 
-  carried_low : (h k : Held) (units : UnitMap) → AreRight h units → Carries h k → AreLonger h k → AreLowBut h units → AreLowBut k units
+  pub carried_low : (h k : Held) (units : UnitMap) → AreRight h units → Carries h k → AreLonger h k → AreLowBut h units → AreLowBut k units
   carried_low h k units right carries longer low = low_stays h k units (record {
     next = longer.next;
     opened = λ n. let same = open_kept h k units n right.each (all_by (Spares h k) units (spared h k carries)) in omega (arith, same);

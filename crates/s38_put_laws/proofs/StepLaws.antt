@@ -1,0 +1,242 @@
+-- Step by step what is kept of journal spaces stays their beginning, few bytes are unforced, and what is forced fits in one
+-- put.
+use Rattle.std.proofs.Common.{◌≡◌, ◌∙◌, ℕ, ◌+◌, ◌*◌, ◌<◌, ◌≤◌, ◌==◌, Bool, true, false, cond, List, [], ◌∷◌, ◌++◌, length, refl, sym, ap, subst, arith}
+use Rattle.std.specs.FinMap.{get}
+use Rattle.std.specs.List.{list_any}
+use Rattle.std.specs.Option.{option_map, unwrap_or}
+use Rattle.std.specs.Prelude.{◌||◌, None, Option, Some, is_some}
+use Rattle.s38_base.specs.Pointers.{start_of, target_of}
+use Rattle.s38_code.specs.Operations.{family_of}
+use Rattle.s38_code.specs.declared.entry.Entry.{Entry}
+use Rattle.s38_code.specs.declared.event.Event.TheVariants.{Act, Finish, Start}
+use Rattle.s38_code.specs.declared.event.Event.{Event}
+use Rattle.s38_code.specs.declared.operand.Operand.TheVariants as operands
+use Rattle.s38_code.specs.declared.operand.Operand.{Operand}
+use Rattle.s38_code.specs.declared.reply.Reply.TheVariants.{Done, MustWait, Signal}
+use Rattle.s38_code.specs.declared.reply.Reply.{Reply}
+use Rattle.s38_code.specs.declared.reply.Val.{Val}
+use Rattle.s38_commitment_laws.proofs.HeldLaws.{part_over}
+use Rattle.s38_commitment_laws.proofs.RowLaws.{done_right, row_may, value_carries}
+use Rattle.s38_commitment_laws.proofs.UnitLaws.{all_stand}
+use Rattle.s38_commitment_laws.specs.Right.{IsRight}
+use Rattle.s38_commits.specs.Units.{UnitMap}
+use Rattle.s38_durable.specs.Durable.{Durable, after_reply, durable, durable_after, kept}
+use Rattle.s38_durable.specs.Following.{Follows, Header}
+use Rattle.s38_durable.specs.Stands.{Stands, parts_end}
+use Rattle.s38_image.specs.Faults.{ceiling_key}
+use Rattle.s38_image.specs.declared.stored.Stored.{Stored}
+use Rattle.s38_journals.specs.Journals as journals
+use Rattle.s38_journals.specs.Journals.{JournalList}
+use Rattle.s38_kept_laws.proofs.FoundLaws.{IsThere, found_all, kept_there, there_kept}
+use Rattle.s38_kept_laws.proofs.GoesLaws.{Goes, object_given}
+use Rattle.s38_kept_laws.proofs.KeepLaws.{DurableLaws, done_kept, entry_kept, forced_low, goes, not_done, same_kinds}
+use Rattle.s38_kept_laws.proofs.SameLaws.{seen_same}
+use Rattle.s38_kept_laws.proofs.SizeLaws.{body_low}
+use Rattle.s38_kept_laws.proofs.StepLaws.{IsDone, Stayed, TakesEffect, stayed, step_goes, step_room, stored_same, takes_effect, follows_room}
+use Rattle.s38_kept_laws.specs.Kept.{AreNumbered, IsKeptOf}
+use Rattle.s38_object_laws.specs.Well.{AreWell, IsWell}
+use Rattle.s38_rules.proofs.RoomLaws.{permitted_by_rules}
+use Rattle.s38_rules.proofs.StoreLaws.{stored_beside, stored_holds}
+use Rattle.s38_rules.proofs.VerdictLaws.{permitted_none}
+use Rattle.s38_rules.specs.Changes.{done}
+use Rattle.s38_rules.specs.Changing.{most_units}
+use Rattle.s38_rules.specs.Computing.{receiver_at, shift_at}
+use Rattle.s38_rules.specs.Effect.{effect, effect_of, end_at, start_at}
+use Rattle.s38_rules.specs.Forcing.{Ceiling, Forced, Header as HeaderOf, Removed, Whole, forced, is_whole}
+use Rattle.s38_rules.specs.Held.{Held, disk_in, is_on_disk, kind_of, object}
+use Rattle.s38_rules.specs.Journaling.{open_units}
+use Rattle.s38_rules.specs.Legal.{Leads}
+use Rattle.s38_rules.specs.Operands.{delivered, put_value}
+use Rattle.s38_rules.specs.Parts.{journal_at, journal_lawful, journal_of, journal_part, no_journal, on_journal, over_object, part_at, part_in}
+use Rattle.s38_rules.specs.Room.{Room, image_len, pages_begun}
+use Rattle.s38_rules.specs.Rows.{row}
+use Rattle.s38_rules.specs.State.{State, process_entry}
+use Rattle.s38_rules.specs.Step.{awake_verdict, step}
+use Rattle.s38_rules.specs.Storing.{all_kept, stored, stored_in}
+use Rattle.s38_rules.specs.Verdict.{refused_by, ruled_verdict}
+use Rattle.s38_rules.specs.declared.object.Object.{Object}
+use Rattle.s38_rules.specs.declared.process.ProcessEntry.{ProcessEntry}
+use Rattle.s38_rules.specs.declared.verdict.Verdict.TheVariants.{Permit}
+use Rattle.s38_step_parts.specs.Numbers.{numbered}
+use Rattle.s38_step_parts.specs.Stepping.{HaveHeaders, object_changes}
+use Rattle.s38_vault.specs.Content.{Content}
+use Rattle.s38_vault.specs.Vaults.{most_changes}
+use Rattle.s38_put_laws.specs.OnePut.{AreShortBetween}
+use Rattle.s38_put_laws.specs.Trails.{AreTrailing, IsTrailOf}
+use Rattle.s38_put_laws.specs.Unforced.{AreLow, most_trailing}
+use Rattle.s38_put_laws.proofs.LongerLaws.{event_longer, value_longer}
+use Rattle.s38_put_laws.proofs.LowLaws.{AreLowBut, Covers, all_low, carried_low, done_low, few_open, journal_leads, same_leads}
+use Rattle.s38_put_laws.proofs.OneLaws.{IsLed, SameEntries, step_put}
+use Rattle.s38_put_laws.proofs.RowLaws.{row_open}
+use Rattle.s38_put_laws.proofs.ShapeLaws.{event_few, rows_at, rows_in, unforced_in}
+use Rattle.s38_put_laws.proofs.TrailLaws.{journal_kind, stored_other, trails_behind}
+
+-- ---- few bytes are unforced behind an event
+
+module _ (P : ℕ → Type 0) (anew : ℕ → Bool) where
+  value_low : (s : State) (shift : ℕ) (receiver : Option Operand) (v : Option Val) → IsRight s → AreLowBut P anew s.held s.units
+      → AreLowBut P anew (delivered s shift receiver v).state.held (delivered s shift receiver v).state.units
+  value_low s shift receiver None right low = low
+  value_low s shift (Some (operands.InSpace base offset attr)) (Some v) right low =
+      carried_low P anew s.held _ s.units right (value_carries s.held (target_of base) (start_of base offset + shift) v) (value_longer s.held (target_of base) (start_of base offset + shift) v) low
+  value_low s shift _ (Some v) right low = low
+
+  start_low : (s : State) (p : ℕ) (x : Option ProcessEntry) → AreLowBut P anew s.held s.units → AreLowBut P anew (start_at s p x).held (start_at s p x).units
+  start_low s p None low = low
+  start_low s p (Some x) low = low
+
+  finish_low : (s : State) (p : ℕ) (x : Option ProcessEntry) → IsRight s → AreLowBut P anew s.held s.units → AreLowBut P anew (end_at s p x).held (end_at s p x).units
+  finish_low s p None right low = low
+  finish_low s p (Some x) right low = all_low P anew s.units s p right.rising right.rising (all_stand s.units right.rising) low
+
+  event_low : (s : State) (p : ℕ) (e : Event) → IsRight s → awake_verdict s p e ≡ Permit → Covers anew (forced s p e) → AreLowBut P anew s.held s.units
+      → AreLowBut P anew (effect_of s p e).state.held (effect_of s p e).state.units
+  unfolding effect_of effect ruled_verdict forced
+  event_low s p Start right may cover low = start_low s p (process_entry s p) low
+  event_low s p (Act d t) right may cover low =
+      let x = (row t.op).changes s p d t in
+      let met = permitted_none s p t (refused_by (row t.op) s p d t) (permitted_by_rules s p (Act d t) may) in
+      let meets = row_may (family_of t.op) t.op s p d t right met in
+      value_low (done s p x) (shift_at s.held t.op t.operands) (receiver_at t.op t.operands) ((row t.op).gives s p d t) (done_right x s p right meets)
+      (done_low P anew x s p right meets (row_open (family_of t.op) t.op s p d t met) cover low)
+  event_low s p (Finish cause) right may cover low = finish_low s p (process_entry s p) right low
+
+-- ---- what the store keeps of it
+
+zero_stays : (h : Held) (m n : ℕ) → (journal_at h n).unforced ≡ 0 → (journal_at (on_journal h m journals.forced) n).unforced ≡ 0
+zero_stays h m n none = ap unforced_in (part_over journal_part journal_lawful h m n journals.forced) ∙ by (m == n) (part_at journal_part h n) none
+  where
+    by : (b : Bool) (x : Option JournalList) → unforced_in x ≡ 0 → unforced_in (cond b (option_map journals.forced x) x) ≡ 0
+    by true None e = refl
+    by true (Some j) e = refl
+    by false x e = e
+
+zero_kept : (all : List Forced) (h : Held) (n : ℕ) → (journal_at h n).unforced ≡ 0 → (journal_at (all_kept h all) n).unforced ≡ 0
+unfolding all_kept
+zero_kept [] h n none = none
+zero_kept (Ceiling ∷ more) h n none = zero_kept more h n none
+zero_kept (HeaderOf m ∷ more) h n none = zero_kept more h n none
+zero_kept (Whole m ∷ more) h n none = zero_kept more (on_journal h m journals.forced) n (zero_stays h m n none)
+zero_kept (Removed m ∷ more) h n none = zero_kept more h n none
+
+kept_zero : (all : List Forced) (h : Held) (n : ℕ) → list_any (is_whole n) all ≡ true → (journal_at (all_kept h all) n).unforced ≡ 0
+unfolding all_kept
+kept_zero [] h n anew = cc
+kept_zero (Ceiling ∷ more) h n anew = kept_zero more h n anew
+kept_zero (HeaderOf m ∷ more) h n anew = kept_zero more h n anew
+kept_zero (Removed m ∷ more) h n anew = kept_zero more h n anew
+kept_zero (Whole m ∷ more) h n anew = by (m == n) refl anew (kept_zero more (on_journal h m journals.forced) n)
+  where
+    none : (x : Option JournalList) → unforced_in (option_map journals.forced x) ≡ 0
+    none None = refl
+    none (Some j) = refl
+
+    by : (b : Bool) → (m == n) ≡ b → (b || list_any (is_whole n) more) ≡ true → (list_any (is_whole n) more ≡ true → (journal_at (all_kept (on_journal h m journals.forced) more) n).unforced ≡ 0)
+        → (journal_at (all_kept (on_journal h m journals.forced) more) n).unforced ≡ 0
+    by true is anew rest =
+        zero_kept more (on_journal h m journals.forced) n
+        (ap unforced_in (part_over journal_part journal_lawful h m n journals.forced) ∙ ap (λ b. unforced_in (cond b (option_map journals.forced (part_at journal_part h n)) (part_at journal_part h n))) is ∙ none (part_at journal_part h n))
+    by false off anew rest = rest anew
+
+stored_in_zero : (o : Option Room) (all : List Forced) (t : State) (n : ℕ) → is_some o ≡ true → list_any (is_whole n) all ≡ true → (journal_at (stored_in o all t).held n).unforced ≡ 0
+stored_in_zero None all t n some anew = absurd (let e : false ≡ true = some in cc)
+stored_in_zero (Some room) all t n some anew = kept_zero all t.held n anew
+
+stored_zero : (s : State) (p : ℕ) (e : Event) (t : State) (n : ℕ) → is_some s.room ≡ true → list_any (is_whole n) (forced s p e) ≡ true → (journal_at (stored s p e t).held n).unforced ≡ 0
+unfolding stored
+stored_zero s p e t n some anew = stored_in_zero s.room (forced s p e) t n some anew
+
+entries_forced : (h : Held) (m n : ℕ) → SameEntries (part_at journal_part h n) (part_at journal_part (on_journal h m journals.forced) n)
+entries_forced h m n = subst (SameEntries (part_at journal_part h n)) (sym (part_over journal_part journal_lawful h m n journals.forced)) (by (m == n) (part_at journal_part h n))
+  where
+    by : (b : Bool) (x : Option JournalList) → SameEntries x (cond b (option_map journals.forced x) x)
+    by true None = tt
+    by true (Some j) = refl
+    by false None = tt
+    by false (Some j) = refl
+
+entries_then : (x y z : Option JournalList) → SameEntries x y → SameEntries y z → SameEntries x z
+entries_then None None None a b = tt
+entries_then None None (Some z) a b = b
+entries_then None (Some y) z a b = absurd a
+entries_then (Some x) None z a b = absurd a
+entries_then (Some x) (Some y) None a b = b
+entries_then (Some x) (Some y) (Some z) a b = b ∙ a
+
+entries_same : (x : Option JournalList) → SameEntries x x
+entries_same None = tt
+entries_same (Some j) = refl
+
+stored_entries : (s : State) (p : ℕ) (e : Event) (t : State) (n : ℕ) → SameEntries (part_at journal_part t.held n) (part_at journal_part (stored s p e t).held n)
+stored_entries s p e t n =
+    stored_holds (λ (h : Held). SameEntries (part_at journal_part t.held n) (part_at journal_part h n))
+    (λ h m so_far. entries_then (part_at journal_part t.held n) (part_at journal_part h n) _ so_far (entries_forced h m n)) s p e t (entries_same (part_at journal_part t.held n))
+
+stored_rows : (s : State) (p : ℕ) (e : Event) (t : State) (n : ℕ) → rows_at (stored s p e t).held n ≡ rows_at t.held n
+stored_rows s p e t n =
+    stored_holds (λ (h : Held). rows_at h n ≡ rows_at t.held n) (λ h m so_far. seen_same rows_in h m n (over_object journal_part journals.forced) (λ x. refl) (λ x. refl) ∙ so_far) s p e t refl
+
+stored_open : (s : State) (p : ℕ) (e : Event) (t : State) (n : ℕ) → open_units (stored s p e t).held t.units n ≤ open_units t.held t.units n
+stored_open s p e t n =
+    stored_holds (λ (h : Held). open_units h t.units n ≤ open_units t.held t.units n)
+    (λ h m so_far. let few = few_open h (on_journal h m journals.forced) t.units n (same_leads h (on_journal h m journals.forced) (journal_leads h m journals.forced)) in omega (arith, few, so_far)) s p e t (omega arith)
+
+-- ---- a step that takes effect
+
+disk_given : (h : Held) (n : ℕ) → AreNumbered h → is_on_disk h n ≡ true → n < h.next
+disk_given h n are on = by (object h n) refl on
+  where
+    by : (x : Option Object) → object h n ≡ x → disk_in x ≡ true → n < h.next
+    by None is on = absurd (let e : false ≡ true = on in cc)
+    by (Some o) is on = object_given h n o are is
+
+module _ (s : State) (p : ℕ) (e : Event) (right : IsRight s) (numbered_are : AreNumbered s.held) (some : is_some s.room ≡ true) (low : AreLow s.held s.units) (does : IsDone (step s p e).reply) where
+  abbrev t : State
+  t = (step s p e).state
+
+  abbrev between : State
+  between = (effect_of s p e).state
+
+  abbrev behind : State
+  behind = stored s p e between
+
+  abbrev anew : ℕ → Bool
+  anew n = list_any (is_whole n) (forced s p e)
+
+  abbrev WasOnDisk : ℕ → Type 0
+  WasOnDisk n = is_on_disk s.held n ≡ true
+
+  takes : TakesEffect s t p e
+  takes = takes_effect s p e does
+
+  but : AreLowBut WasOnDisk anew between.held between.units
+  but = event_low WasOnDisk anew s p e right takes.permit (λ n is. is) (record {
+    given = λ n on. disk_given s.held n numbered_are on;
+    opened = low.opened;
+    bytes = λ n on old. low.bytes n on;
+  })
+
+  behind_low : ((n : ℕ) → anew n ≡ false → is_on_disk behind.held n ≡ true → is_on_disk s.held n ≡ true) → AreLow behind.held between.units
+  behind_low disk = record {
+    opened = λ n. let one = but.opened n in let two = stored_open s p e between n in omega (arith, one, two);
+    bytes = λ n on. by n on (anew n) refl;
+  }
+    where
+      by : (n : ℕ) → is_on_disk behind.held n ≡ true → (b : Bool) → anew n ≡ b → (journal_at behind.held n).unforced + 41 * open_units behind.held between.units n ≤ most_trailing
+      by n on true is =
+          let none = stored_zero s p e between n some is in
+          let one = but.opened n in
+          let two = stored_open s p e between n in
+          omega (arith, none, one, two)
+      by n on false is =
+          let same = ap unforced_in (stored_other s p e between n is) in
+          let one = but.bytes n (disk n is on) is in
+          let two = stored_open s p e between n in
+          omega (arith, same, one, two)
+
+  pub step_low : AreLow t.held t.units
+  step_low =
+      let goes_on = step_goes s p e numbered_are does in
+      let held : AreLow t.held between.units =
+      subst (λ (h : Held). AreLow h between.units) (sym takes.held) (behind_low (λ n old on. goes_on.disk n old (ap (λ (h : Held). is_on_disk h n) takes.held ∙ on))) in
+      subst (λ (us : UnitMap). AreLow t.held us) (sym (takes.units ∙ (stored_beside s p e between).units)) held
