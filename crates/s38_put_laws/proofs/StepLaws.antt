@@ -61,6 +61,7 @@ use Rattle.s38_step_parts.specs.Numbers.{numbered}
 use Rattle.s38_step_parts.specs.Stepping.{HaveHeaders, object_changes}
 use Rattle.s38_vault.specs.Content.{Content}
 use Rattle.s38_vault.specs.Vaults.{most_changes}
+use Rattle.s38_put_laws.specs.Lengthening.{Lengthens}
 use Rattle.s38_put_laws.specs.OnePut.{AreShortBetween}
 use Rattle.s38_put_laws.specs.Trails.{AreTrailing, IsTrailOf}
 use Rattle.s38_put_laws.specs.Unforced.{AreLow, most_trailing}
@@ -240,3 +241,136 @@ module _ (s : State) (p : ℕ) (e : Event) (right : IsRight s) (numbered_are : A
       let held : AreLow t.held between.units =
       subst (λ (h : Held). AreLow h between.units) (sym takes.held) (behind_low (λ n old on. goes_on.disk n old (ap (λ (h : Held). is_on_disk h n) takes.held ∙ on))) in
       subst (λ (us : UnitMap). AreLow t.held us) (sym (takes.units ∙ (stored_beside s p e between).units)) held
+
+-- ---- with what is durable
+
+module _ (laws : DurableLaws) (s : State) (p : ℕ) (e : Event) (d : Durable) (is : IsKeptOf s d) (does : IsDone (step s p e).reply) where
+  abbrev now : State
+  now = (step s p e).state
+
+  abbrev all : List Forced
+  all = forced s p e
+
+  abbrev new : Durable
+  new = durable_after all d now
+
+  abbrev effected : State
+  effected = (effect_of s p e).state
+
+  takes_it : TakesEffect s now p e
+  takes_it = takes_effect s p e does
+
+  then_kept : IsKeptOf now new
+  then_kept = done_kept laws s p e d is does
+
+  there : (n : ℕ) (x : Stored) → kept d.objects n ≡ Some x → IsThere s.held n x
+  there n x found = there_kept s.held d n x is.follows found
+
+  given : (n : ℕ) (x : Stored) → kept d.objects n ≡ Some x → n < s.held.next
+  given n x found = let at = there n x found in object_given s.held n at.object is.numbered at.found
+
+  storable_kind : (u : State) (n : ℕ) (o : Object) → AreWell u → object u.held n ≡ Some o → kind_of o.body ≡ o.id.kind
+  storable_kind u n o well found = (found_all IsWell u.held.objects n o well.objects found).storable.kind
+
+  kinds_on : (n : ℕ) (o : Object) (x : Stored) → object now.held n ≡ Some o → kept d.objects n ≡ Some x → kind_of x.object.body ≡ kind_of o.body
+  kinds_on n o x found at = is.bodies n x at ∙ same_kinds laws s p e d is does n o x found at ∙ sym (storable_kind now n o then_kept.well found)
+
+  -- what is kept is of the kind of what was there
+  old_kind : (n : ℕ) (x : Stored) (at : kept d.objects n ≡ Some x) → kind_of x.object.body ≡ kind_of (there n x at).object.body
+  old_kind n x at =
+      let q = there n x at in
+      is.bodies n x at ∙ ap (λ (h : Header). h.id.kind) q.header ∙ sym (storable_kind s n q.object is.well q.found)
+
+  on_disk : (n : ℕ) (x : Stored) → kept d.objects n ≡ Some x → is_on_disk s.held n ≡ true
+  on_disk n x at = let q = there n x at in ap disk_in q.found ∙ q.disk
+
+  off_disk : (n : ℕ) → kept d.objects n ≡ None → is_on_disk s.held n ≡ false
+  off_disk n none = by (object s.held n) refl
+    where
+      at : (o : Object) → object s.held n ≡ Some o → (b : Bool) → o.on_disk ≡ b → b ≡ false
+      at o found true on = absurd (let x = kept_there s.held d n o is.follows found on in let f : None ≡ Some x.0 = sym none ∙ x.1 in cc)
+      at o found false off = refl
+
+      by : (x : Option Object) → object s.held n ≡ x → disk_in x ≡ false
+      by None found = refl
+      by (Some o) found = at o found o.on_disk refl
+
+  old_rows : (n : ℕ) (x : Stored) → kept d.objects n ≡ Some x → x.object.rows ≡ rows_at s.held n
+  old_rows n x at = let q = there n x at in ap (λ (h : Header). h.standing.rows) q.header ∙ sym (ap rows_in q.found)
+
+  old_kinds : (n : ℕ) (x : Stored) → kept d.objects n ≡ Some x → is_some (part_at journal_part s.held n) ≡ true → is_some (journal_of x.object.body) ≡ true
+  old_kinds n x at some = by (journal_of (there n x at).object.body) refl (sym (ap (λ (r : Option Object). is_some (part_in journal_part r)) (there n x at).found) ∙ some)
+    where
+      by : (r : Option JournalList) → journal_of (there n x at).object.body ≡ r → is_some r ≡ true → is_some (journal_of x.object.body) ≡ true
+      by None of h = absurd (let f : false ≡ true = h in cc)
+      by (Some j) of h = ap is_some (journal_kind x.object.body (there n x at).object.body j (sym (old_kind n x at)) of).1
+
+  -- what is kept of journal spaces is their beginning
+  pub trail_on : AreTrailing s.held d → AreTrailing now.held new
+  trail_on trails = trails_behind all d s.held now (record {
+    rising = then_kept.numbered.rising;
+    longer = λ n less not.
+        subst (λ (r : Option JournalList). Lengthens (part_at journal_part s.held n) r)
+        (sym (ap (λ (h : Held). part_at journal_part h n) takes_it.held ∙ stored_other s p e effected n not)) ((event_longer s p e).each n less);
+    given = given;
+    kinds = kinds_on;
+  }) trails
+
+  -- a step over a store
+  pub done_trail : IsTrailOf s d → IsTrailOf now new
+  done_trail trail = record {
+    stored = ap is_some (step_room s p e does) ∙ by s.room trail.stored;
+    trailing = trail_on trail.trailing;
+    low = step_low s p e is.right is.numbered trail.stored trail.low does;
+  }
+    where
+      by : (r : Option Room) → is_some r ≡ true → is_some (follows_room r all now.held.objects) ≡ true
+      by None some = some
+      by (Some room) some = refl
+
+  -- what it forces fits in one put
+  pub done_put : (m : Content) → IsTrailOf s d → HaveHeaders d → HaveHeaders new → AreShortBetween d new → Stands m d → length (object_changes (numbered all) (get m) new) ≤ most_changes
+  done_put m trail headers then_headers short stands =
+      step_put all d s now effected.held (record {
+        rising = then_kept.numbered.rising;
+        own = is.bodies;
+        then_own = then_kept.bodies;
+        kinds = kinds_on;
+        given = given;
+        on_disk = on_disk;
+        off_disk = off_disk;
+        old_rows = old_rows;
+        old_kinds = old_kinds;
+        longer = event_longer s p e;
+        entries = λ n. subst (λ (h : Held). SameEntries (part_at journal_part effected.held n) (part_at journal_part h n)) (sym takes_it.held) (stored_entries s p e effected n);
+        rows = λ n. ap (λ (h : Held). rows_at h n) takes_it.held ∙ stored_rows s p e effected n;
+        disk = λ n. ap (λ (h : Held). is_on_disk h n) takes_it.held ∙ (stored_same s p e effected).disk n;
+        few = event_few s p e;
+        trails = trail.trailing;
+        low = trail.low;
+        headers = headers;
+        then_headers = then_headers;
+        ends = λ n x at. body_low x (then_headers n x at);
+        short = short;
+      }) m stands (forced_low laws s p e d is does)
+
+-- ---- a step that takes no effect, and a history
+
+pub other_trail : (s : State) (p : ℕ) (e : Event) (d : Durable) → (IsDone (step s p e).reply → ⊥) → IsTrailOf s d → IsTrailOf (step s p e).state d
+other_trail s p e d not trail =
+    let stays = stayed s p e not in
+    record {
+      stored = ap is_some stays.room ∙ trail.stored;
+      trailing = subst (λ (h : Held). AreTrailing h d) (sym stays.held) trail.trailing;
+      low = subst (λ (h : Held). AreLow h (step s p e).state.units) (sym stays.held) (subst (λ (us : UnitMap). AreLow s.held us) (sym stays.units) trail.low);
+    }
+
+pub entry_trail : DurableLaws → (s : State) (e : Entry) (d : Durable) (r : Reply) → (step s e.process e.event).reply ≡ r → IsKeptOf s d → IsTrailOf s d → IsTrailOf (step s e.process e.event).state (after_reply d s e r)
+entry_trail laws s e d (Done values) same is trail = done_trail laws s e.process e.event d is (subst IsDone (sym same) tt) trail
+entry_trail laws s e d (Signal x) same is trail = other_trail s e.process e.event d (not_done (Signal x) (step s e.process e.event).reply same (λ h. h)) trail
+entry_trail laws s e d MustWait same is trail = other_trail s e.process e.event d (not_done MustWait (step s e.process e.event).reply same (λ h. h)) trail
+
+pub history_trail : DurableLaws → (s : State) (d : Durable) (before history : List Entry) (end : State) → IsKeptOf s d → IsTrailOf s d → Leads s before history end → IsTrailOf end (durable d s history)
+history_trail laws s d before [] end is trail leads = subst (λ (t : State). IsTrailOf t d) leads trail
+history_trail laws s d before (e ∷ es) end is trail leads =
+    history_trail laws (step s e.process e.event).state (after_reply d s e e.reply) (before ++ e ∷ []) es end (entry_kept laws s e d e.reply leads.0.reply is) (entry_trail laws s e d e.reply leads.0.reply is trail) leads.1
