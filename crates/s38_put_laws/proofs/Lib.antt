@@ -9,3 +9,4 @@ pub mod PrintLaws
 pub mod ObjectLaws
 pub mod OneLaws
 pub mod StepLaws
+pub mod BeginLaws
