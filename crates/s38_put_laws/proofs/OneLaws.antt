@@ -45,7 +45,7 @@ use Rattle.s38_step_parts.specs.Stepping.{HasHeader, HaveHeaders, object_changes
 use Rattle.s38_vault.specs.Content.{Content}
 use Rattle.s38_vault.specs.Vaults.{most_changes}
 use Rattle.s38_put_laws.specs.Lengthening.{AreLonger, Lengthens}
-use Rattle.s38_put_laws.specs.OnePut.{AreShortBetween}
+use Rattle.s38_put_laws.specs.OnePut.{AreShort, AreSpacesShort}
 use Rattle.s38_put_laws.specs.Trails.{AreTrailing, IsTrailing}
 use Rattle.s38_put_laws.specs.Unforced.{AreLow, most_trailing}
 use Rattle.s38_put_laws.proofs.DifferLaws.{differ, none_differ}
@@ -126,7 +126,9 @@ module _ (all : List Forced) (d : Durable) (s t : State) (k : Held) where
     pub headers : HaveHeaders d
     pub then_headers : HaveHeaders new
     pub ends : (n : ℕ) (x : Stored) → kept new.objects n ≡ Some x → 128 + pages_begun (image_len x.object.body) ≤ parts_end
-    pub short : AreShortBetween d new
+    pub short : AreShort d
+    pub then_short : AreShort new
+    pub spaces : AreSpacesShort d new
 
   module _ (led : IsLed) where
     -- how many parts of a number differ
@@ -291,15 +293,23 @@ module _ (all : List Forced) (d : Durable) (s t : State) (k : Held) where
       where
         kept_kind : (x y : Stored) → kept d.objects n ≡ Some x → kept new.objects n ≡ Some y → (r : Option JournalList) → journal_of x.object.body ≡ r → (b : Bool) → list_any (is_whole n) all ≡ b → Small n (Some x) (Some y) 2176
         kept_kind x y was is None body b anew =
-            others_few n (Some x) (Some y) was is (page_limit (image_len x.object.body) (led.short.before n x was body))
-            (page_limit (image_len y.object.body) (led.short.behind n y is (not_journal x.object.body y.object.body (same_kind n x y was is) body)))
+            others_few n (Some x) (Some y) was is (page_limit (image_len x.object.body) (led.short n x was body))
+            (page_limit (image_len y.object.body) (led.then_short n y is (not_journal x.object.body y.object.body (same_kind n x y was is) body)))
         kept_kind x y was is (Some i) body true anew = grown_few n x y i was is body anew (grows (led.given n x was) anew)
         kept_kind x y was is (Some i) body false not = followed_few n x y i was is body not
 
+        first : (y : Stored) → kept d.objects n ≡ None → kept new.objects n ≡ Some y → (r : Option JournalList) → journal_of y.object.body ≡ r → image_len y.object.body ≤ body_limit
+        first y was is None body = led.then_short n y is body
+        first y was is (Some j) body = led.spaces.first n y j was is body
+
+        last : (x : Stored) → kept d.objects n ≡ Some x → kept new.objects n ≡ None → (r : Option JournalList) → journal_of x.object.body ≡ r → image_len x.object.body ≤ body_limit
+        last x was is None body = led.short n x was body
+        last x was is (Some j) body = led.spaces.last n x j was is body
+
         by : (r : Option Stored) → kept d.objects n ≡ r → (q : Option Stored) → kept new.objects n ≡ q → Small n r q 2176
         by None was None is = others_few n None None was is (omega arith) (omega arith)
-        by None was (Some y) is = others_few n None (Some y) was is (omega arith) (page_limit (image_len y.object.body) (led.short.first n y was is))
-        by (Some x) was None is = others_few n (Some x) None was is (page_limit (image_len x.object.body) (led.short.last n x was is)) (omega arith)
+        by None was (Some y) is = others_few n None (Some y) was is (omega arith) (page_limit (image_len y.object.body) (first y was is (journal_of y.object.body) refl))
+        by (Some x) was None is = others_few n (Some x) None was is (page_limit (image_len x.object.body) (last x was is (journal_of x.object.body) refl)) (omega arith)
         by (Some x) was (Some y) is = kept_kind x y was is (journal_of x.object.body) refl (list_any (is_whole n) all) refl
 
     -- ---- a data space and its journal space

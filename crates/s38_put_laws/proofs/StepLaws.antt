@@ -29,11 +29,12 @@ use Rattle.s38_journals.specs.Journals as journals
 use Rattle.s38_journals.specs.Journals.{JournalList}
 use Rattle.s38_kept_laws.proofs.FoundLaws.{IsThere, found_all, kept_there, there_kept}
 use Rattle.s38_kept_laws.proofs.GoesLaws.{Goes, object_given}
-use Rattle.s38_kept_laws.proofs.KeepLaws.{DurableLaws, done_kept, entry_kept, forced_low, goes, not_done, same_kinds}
+use Rattle.s38_kept_laws.proofs.ImageLaws.{image_header}
+use Rattle.s38_kept_laws.proofs.KeepLaws.{DurableLaws, done_kept, entry_kept, forced_low, images_behind, not_done, same_kinds}
 use Rattle.s38_kept_laws.proofs.SameLaws.{seen_same}
 use Rattle.s38_kept_laws.proofs.SizeLaws.{body_low}
 use Rattle.s38_kept_laws.proofs.StepLaws.{IsDone, Stayed, TakesEffect, stayed, step_goes, step_room, stored_same, takes_effect, follows_room}
-use Rattle.s38_kept_laws.specs.Kept.{AreNumbered, IsKeptOf}
+use Rattle.s38_kept_laws.specs.Kept.{AllReadable, AreImages, AreNumbered, IsKeptOf, IsReadableBehind}
 use Rattle.s38_object_laws.specs.Well.{AreWell, IsWell}
 use Rattle.s38_rules.proofs.RoomLaws.{permitted_by_rules}
 use Rattle.s38_rules.proofs.StoreLaws.{stored_beside, stored_holds}
@@ -62,9 +63,11 @@ use Rattle.s38_step_parts.specs.Stepping.{HaveHeaders, object_changes}
 use Rattle.s38_vault.specs.Content.{Content}
 use Rattle.s38_vault.specs.Vaults.{most_changes}
 use Rattle.s38_put_laws.specs.Lengthening.{Lengthens}
-use Rattle.s38_put_laws.specs.OnePut.{AreShortBetween}
+use Rattle.s38_put_laws.specs.OnePut.{AllSpacesShort, AreShort, AreSpacesShort, IsShortBy}
+use Rattle.s38_put_laws.specs.Puts.{AllOnePut, IsOnePutBy}
 use Rattle.s38_put_laws.specs.Trails.{AreTrailing, IsTrailOf}
 use Rattle.s38_put_laws.specs.Unforced.{AreLow, most_trailing}
+use Rattle.s38_put_laws.proofs.BeginLaws.{image_short}
 use Rattle.s38_put_laws.proofs.LongerLaws.{event_longer, value_longer}
 use Rattle.s38_put_laws.proofs.LowLaws.{AreLowBut, Covers, all_low, carried_low, done_low, few_open, journal_leads, same_leads}
 use Rattle.s38_put_laws.proofs.OneLaws.{IsLed, SameEntries, step_put}
@@ -329,8 +332,8 @@ module _ (laws : DurableLaws) (s : State) (p : ℕ) (e : Event) (d : Durable) (i
       by (Some room) some = refl
 
   -- what it forces fits in one put
-  pub done_put : (m : Content) → IsTrailOf s d → HaveHeaders d → HaveHeaders new → AreShortBetween d new → Stands m d → length (object_changes (numbered all) (get m) new) ≤ most_changes
-  done_put m trail headers then_headers short stands =
+  pub done_put : (m : Content) → IsTrailOf s d → HaveHeaders d → HaveHeaders new → AreShort d → AreShort new → AreSpacesShort d new → Stands m d → length (object_changes (numbered all) (get m) new) ≤ most_changes
+  done_put m trail headers then_headers short then_short spaces stands =
       step_put all d s now effected.held (record {
         rising = then_kept.numbered.rising;
         own = is.bodies;
@@ -352,6 +355,8 @@ module _ (laws : DurableLaws) (s : State) (p : ℕ) (e : Event) (d : Durable) (i
         then_headers = then_headers;
         ends = λ n x at. body_low x (then_headers n x at);
         short = short;
+        then_short = then_short;
+        spaces = spaces;
       }) m stands (forced_low laws s p e d is does)
 
 -- ---- a step that takes no effect, and a history
@@ -374,3 +379,36 @@ pub history_trail : DurableLaws → (s : State) (d : Durable) (before history : 
 history_trail laws s d before [] end is trail leads = subst (λ (t : State). IsTrailOf t d) leads trail
 history_trail laws s d before (e ∷ es) end is trail leads =
     history_trail laws (step s e.process e.event).state (after_reply d s e e.reply) (before ++ e ∷ []) es end (entry_kept laws s e d e.reply leads.0.reply is) (entry_trail laws s e d e.reply leads.0.reply is trail) leads.1
+
+-- ---- what each step of a history forces fits in one put
+
+pub images_headers : (d : Durable) → AreImages d → HaveHeaders d
+images_headers d images n x at = image_header x (images n x at)
+
+pub images_short : (s : State) (d : Durable) → IsKeptOf s d → AreImages d → AreShort d
+images_short s d is images n x at none = image_short x (images n x at) (is.bodies n x at) none
+
+entry_images : DurableLaws → (s : State) (e : Entry) (d : Durable) (r : Reply) → (step s e.process e.event).reply ≡ r → IsKeptOf s d → AreImages d → IsReadableBehind s e r → AreImages (after_reply d s e r)
+entry_images laws s e d (Done values) same is images readable = images_behind laws s e.process e.event d is (subst IsDone (sym same) tt) images readable
+entry_images laws s e d (Signal x) same is images readable = images
+entry_images laws s e d MustWait same is images readable = images
+
+entry_put : DurableLaws → (s : State) (e : Entry) (d : Durable) (r : Reply) → (step s e.process e.event).reply ≡ r → IsKeptOf s d → IsTrailOf s d → AreImages d → IsReadableBehind s e r → IsShortBy d s e r → IsOnePutBy most_changes d s e r
+entry_put laws s e d (Done values) same is trail images readable spaces =
+    let does = subst IsDone (sym same) tt in
+    let new_durable : Durable = durable_after (forced s e.process e.event) d (step s e.process e.event).state in
+    let behind = images_behind laws s e.process e.event d is does images readable in
+    let next = done_kept laws s e.process e.event d is does in
+    λ m stands. done_put laws s e.process e.event d is does m trail (images_headers d images) (images_headers new_durable behind) (images_short s d is images) (images_short (step s e.process e.event).state new_durable next behind) spaces stands
+entry_put laws s e d (Signal x) same is trail images readable spaces = tt
+entry_put laws s e d MustWait same is trail images readable spaces = tt
+
+pub history_put : DurableLaws → (s : State) (d : Durable) (before history : List Entry) (end : State) → IsKeptOf s d → IsTrailOf s d → AreImages d → AllReadable s history → AllSpacesShort d s history
+    → Leads s before history end → AllOnePut most_changes d s history
+history_put laws s d before [] end is trail images readable spaces leads = tt
+history_put laws s d before (e ∷ es) end is trail images readable spaces leads =
+    let same = leads.0.reply in (
+      entry_put laws s e d e.reply same is trail images readable.0 spaces.0,
+      history_put laws (step s e.process e.event).state (after_reply d s e e.reply) (before ++ e ∷ []) es end (entry_kept laws s e d e.reply same is) (entry_trail laws s e d e.reply same is trail)
+          (entry_images laws s e d e.reply same is images readable.0) readable.1 spaces.1 leads.1,
+    )

@@ -1,4 +1,5 @@
-pub mod Trails
 pub mod Lengthening
 pub mod Unforced
+pub mod Trails
 pub mod OnePut
+pub mod Puts
