@@ -1,5 +1,5 @@
 -- A run over a store begins with journal spaces that are kept whole, and what can be read again is short.
-use Rattle.std.proofs.Common.{◌≡◌, ◌∙◌, ℕ, ◌+◌, ◌*◌, ◌≤◌, ◌==◌, zero, suc, Bool, true, false, cond, List, [], ◌∷◌, ◌++◌, map, refl, sym, ap, subst, arith}
+use Rattle.std.proofs.Common.{◌≡◌, ◌∙◌, ℕ, ◌≤◌, ◌==◌, zero, suc, Bool, true, false, cond, List, [], ◌∷◌, map, refl, sym, ap, subst, arith}
 use Rattle.std.proofs.lemmas.Bool.{and_parts, eqb-true}
 use Rattle.std.proofs.lemmas.Bool.Decides.{nat_tests}
 use Rattle.std.specs.Option.{option_map, unwrap_or}
@@ -13,29 +13,26 @@ use Rattle.s38_codecs.specs.Formats.{FitsCase, fits_from}
 use Rattle.s38_commits.specs.Units.{UnitMap}
 use Rattle.s38_durable.specs.Durable.{Durable, kept}
 use Rattle.s38_groups.specs.Stores.{first_fault}
-use Rattle.s38_image.specs.Bodies.{BodyImage, body_tags}
+use Rattle.s38_image.specs.Bodies.{body_tags}
 use Rattle.s38_image.specs.Fitting.{FitsBody, IsImage}
-use Rattle.s38_image.specs.Headers.{is_within, longest_body}
+use Rattle.s38_image.specs.Headers.{longest_body}
 use Rattle.s38_image.specs.Images.{header_of, image_of}
 use Rattle.s38_image.specs.Journals.{entry}
 use Rattle.s38_image.specs.declared.stored.Stored.{Stored}
 use Rattle.s38_image_printing.proofs.KindLaws.{read_printable}
-use Rattle.s38_journals.specs.Entries.{Entry}
 use Rattle.s38_journals.specs.Journals.{JournalList}
 use Rattle.s38_kept_laws.proofs.ImageLaws.{image_header}
 use Rattle.s38_kept_laws.proofs.StandLaws.{read_images}
 use Rattle.s38_kept_laws.specs.Beginning.{durable_in, origin_of}
-use Rattle.s38_kept_laws.specs.Kept.{AreImages}
 use Rattle.s38_restart.specs.Parts.{AreParts, all_parts}
 use Rattle.s38_restart.specs.Restarted.{data_followed, followed, imaged, restarted}
-use Rattle.s38_rules.specs.Held.{Held, kind_of, object, object_in}
+use Rattle.s38_rules.specs.Held.{Held, kind_of, object_in}
 use Rattle.s38_rules.specs.Parts.{data_part, journal_at, journal_lawful, journal_of, journal_part, no_journal, over_body, part_at, part_in}
 use Rattle.s38_rules.specs.Room.{Room, image_len}
 use Rattle.s38_rules.specs.declared.data_body.DataBody.{DataBody}
 use Rattle.s38_rules.specs.declared.object.Body.TheVariants as bodies
 use Rattle.s38_rules.specs.declared.object.Body.{Body}
 use Rattle.s38_vault.specs.Content.{Content}
-use Rattle.s38_put_laws.specs.OnePut.{AreShort}
 use Rattle.s38_put_laws.specs.Trails.{AreTrailing, IsTrailOf, IsTrailing}
 use Rattle.s38_put_laws.specs.Unforced.{AreLow}
 use Rattle.s38_put_laws.proofs.LongerLaws.{append_none}

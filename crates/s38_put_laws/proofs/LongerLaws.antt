@@ -1,5 +1,5 @@
 -- Journal spaces become longer, or are there no more: one case for each word of change.
-use Rattle.std.proofs.Common.{◌≡◌, ◌∙◌, ℕ, ◌+◌, ◌<◌, ◌≤◌, ◌==◌, Bool, true, false, cond, List, [], ◌∷◌, ◌++◌, refl, sym, ap, subst, arith}
+use Rattle.std.proofs.Common.{◌≡◌, ◌∙◌, ℕ, ◌<◌, ◌==◌, Bool, true, false, cond, List, [], ◌∷◌, ◌++◌, refl, sym, ap, subst, arith}
 use Rattle.std.proofs.lemmas.Bool.{cond_both}
 use Rattle.std.proofs.lemmas.Bool.Decides.{nat_tests}
 use Rattle.std.proofs.lemmas.List.{append_assoc}
@@ -23,7 +23,7 @@ use Rattle.s38_commits.specs.Units.{UnitMap, unit_of}
 use Rattle.s38_commits.specs.declared.change.UnitChange.{UnitChange}
 use Rattle.s38_dataspaces.specs.Table.{DataTable}
 use Rattle.s38_journals.specs.Entries.{Entry, entry_len}
-use Rattle.s38_journals.specs.Journals.{JournalList, appended, can_write, entries_len, with_room, written}
+use Rattle.s38_journals.specs.Journals.{JournalList, appended, can_write, with_room, written}
 use Rattle.s38_journals.specs.declared.entry.EntryKind.TheVariants as entry_kinds
 use Rattle.s38_memory.specs.Tagged.{resized}
 use Rattle.s38_memory.specs.declared.cell.Cell.{Cell}
@@ -39,7 +39,7 @@ use Rattle.s38_rules.specs.Held.{Held, change, has_number, kept_on_disk, object,
 use Rattle.s38_rules.specs.Invocations.{restack_at}
 use Rattle.s38_rules.specs.Journaling.{journal_for, journal_for_block, open_behind}
 use Rattle.s38_rules.specs.Operands.{cells_put, delivered, put_value}
-use Rattle.s38_rules.specs.Parts.{IsPart, Part, cursor_lawful, cursor_part, data_lawful, data_part, index_lawful, index_part, journal_at, journal_lawful, journal_of, journal_part, on_data, on_journal, on_space, over_object, over_part, over_table, part_at, part_in, profile_lawful, profile_part, queue_lawful, queue_part, space_lawful, space_part}
+use Rattle.s38_rules.specs.Parts.{IsPart, Part, cursor_lawful, cursor_part, data_lawful, data_part, index_lawful, index_part, journal_at, journal_lawful, journal_of, journal_part, on_data, on_journal, on_space, over_part, over_table, part_at, part_in, profile_lawful, profile_part, queue_lawful, queue_part, space_lawful, space_part}
 use Rattle.s38_rules.specs.Rows.{row}
 use Rattle.s38_rules.specs.Standing.{standing_of, with_standing}
 use Rattle.s38_rules.specs.State.{State, process_entry}

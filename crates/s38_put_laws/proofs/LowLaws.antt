@@ -15,11 +15,11 @@ use Rattle.s38_code.specs.declared.operand.Operand.{Operand}
 use Rattle.s38_commits.proofs.MapLaws.{nat_itself, nat_same}
 use Rattle.s38_commits.specs.Changes.{journal_bytes}
 use Rattle.s38_commits.specs.Unit.{CommitUnit, noted}
-use Rattle.s38_commits.specs.Units.{IsRising, UnitMap, changed_at, ended, joined, unit_of}
+use Rattle.s38_commits.specs.Units.{IsRising, UnitMap, ended, joined, unit_of}
 use Rattle.s38_commits.specs.declared.change.UnitChange.{UnitChange}
 use Rattle.s38_dataspaces.specs.Table.{DataTable}
 use Rattle.s38_journals.specs.Entries.{Entry, entry_len}
-use Rattle.s38_journals.specs.Journals.{JournalList, appended, can_write, written}
+use Rattle.s38_journals.specs.Journals.{JournalList, appended, can_write}
 use Rattle.s38_journals.specs.declared.entry.EntryKind.TheVariants.{Commit, Decommit}
 use Rattle.s38_memory.specs.Tagged.{resized}
 use Rattle.s38_memory.specs.declared.cell.Cell.{Cell}
@@ -27,10 +27,10 @@ use Rattle.s38_rules.specs.Cells.{with_cells}
 use Rattle.s38_rules.specs.Changes.{Changes, CellsPut, Committed, Decommitted, Ensured, Entered, Framed, Gone, Journaled, Locked, Made, Moved, Named, OnCursor, OnIndex, OnQueue, Profiled, Resized, Stands, Stays, Then, done, made_by, renamed_by, through_port}
 use Rattle.s38_rules.specs.Changing.{are_units_full, change_entry, logged, logged_in, most_units, next_sequence, number_for, units_behind, with_change_logged}
 use Rattle.s38_rules.specs.Creation.{destroyed, is_of_kind}
-use Rattle.s38_rules.specs.Forcing.{Forced, Whole, commit_forces, forced_by, is_whole, most_unforced, overdue, whole_if}
+use Rattle.s38_rules.specs.Forcing.{Forced, Whole, forced_by, is_whole, most_unforced, overdue}
 use Rattle.s38_rules.specs.Held.{Held, kept_on_disk, object, without}
 use Rattle.s38_rules.specs.Invocations.{restack_at}
-use Rattle.s38_rules.specs.Journaling.{begins_unit, block_port, block_port_in, data_port, goes_to, is_journal, is_journaled_to, is_number, journal_behind, journal_for, journal_for_block, journal_named, open_behind, open_units}
+use Rattle.s38_rules.specs.Journaling.{begins_unit, block_port, block_port_in, data_port, goes_to, is_journal, is_number, journal_behind, journal_for, journal_for_block, journal_named, open_behind, open_units}
 use Rattle.s38_rules.specs.Operands.{cells_put}
 use Rattle.s38_rules.specs.Parts.{block_part, cursor_lawful, cursor_part, data_part, index_lawful, index_part, journal_at, journal_lawful, journal_part, no_journal, on_data, on_journal, on_space, on_table, over_table, part_at, part_in, port_part, profile_lawful, profile_part, queue_lawful, queue_part, space_lawful, space_part}
 use Rattle.s38_rules.specs.Standing.{standing_of, with_standing}
@@ -48,11 +48,11 @@ use Rattle.s38_commitment_laws.proofs.HeldLaws.{Carries, carries_same, creation_
 use Rattle.s38_commitment_laws.proofs.JoinLaws.{joined_more, joined_new, with_first}
 use Rattle.s38_commitment_laws.proofs.KeptLaws.{LastsAt, Spares, all_by, journal_number, open_kept, stays_grow, stays_last}
 use Rattle.s38_commitment_laws.proofs.RowLaws.{May, data_in, done_right}
-use Rattle.s38_commitment_laws.proofs.UnitLaws.{Both, StandsIn, all_stand, count_changed, count_ended, count_first, count_put_in, one_if, put_in, rising_ended, stand_ended, tail_of}
+use Rattle.s38_commitment_laws.proofs.UnitLaws.{Both, StandsIn, count_changed, count_ended, count_first, count_put_in, one_if, rising_ended, stand_ended, tail_of}
 use Rattle.s38_commitment_laws.specs.Right.{AreRight, IsData, IsRight}
 use Rattle.s38_put_laws.specs.Lengthening.{AreLonger, Lengthens}
-use Rattle.s38_put_laws.specs.Unforced.{AreLow, most_trailing}
-use Rattle.s38_put_laws.proofs.LongerLaws.{all_same, done_longer}
+use Rattle.s38_put_laws.specs.Unforced.{most_trailing}
+use Rattle.s38_put_laws.proofs.LongerLaws.{done_longer}
 use Rattle.s38_put_laws.proofs.RowLaws.{MayOpen}
 
 -- ---- where units go

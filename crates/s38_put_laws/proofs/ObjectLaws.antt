@@ -1,5 +1,5 @@
 -- How many parts of an object differ from those that are kept of it.
-use Rattle.std.proofs.Common.{◌≡◌, ◌∙◌, ℕ, zero, suc, ◌+◌, ◌-◌, ◌*◌, ◌/◌, ◌<◌, ◌≤◌, ◌==◌, Bool, true, false, cond, List, [], ◌∷◌, ◌++◌, length, lit≤, refl, sym, ap, subst, arith, length-append}
+use Rattle.std.proofs.Common.{◌≡◌, ◌∙◌, ℕ, zero, suc, ◌+◌, ◌/◌, ◌<◌, ◌≤◌, ◌==◌, Bool, true, false, cond, List, [], ◌∷◌, ◌++◌, length, lit≤, refl, sym, ap, subst, arith}
 use Rattle.std.proofs.lemmas.List.{append-nil}
 use Rattle.std.proofs.lemmas.List.Sums.{sum_by-append, sum_by-cons}
 use Rattle.std.specs.Prelude.{◌&&◌, None, Option, Some}
@@ -14,7 +14,7 @@ use Rattle.s38_durable.specs.Stands.{parts_in}
 use Rattle.s38_forcing.proofs.WalkLaws.{key_at}
 use Rattle.s38_forcing.specs.Differences.{wanted_at}
 use Rattle.s38_image.proofs.AgainLaws.{header_long}
-use Rattle.s38_image.specs.Bodies.{BodyImage, body, body_bytes, body_tags}
+use Rattle.s38_image.specs.Bodies.{body, body_bytes, body_tags}
 use Rattle.s38_image.specs.Headers.{header, rows}
 use Rattle.s38_image.specs.Images.{body_parts, header_of, header_parts, image_of, parts_of, rows_parts}
 use Rattle.s38_image.specs.Journals.{journal}

@@ -1,19 +1,18 @@
 -- What a step forces is no more parts than one put takes.
-use Rattle.std.proofs.Common.{◌≡◌, ◌∙◌, ◌⊎◌, ℕ, ◌+◌, ◌-◌, ◌*◌, ◌/◌, ◌<◌, ◌≤◌, ◌==◌, Bool, true, false, cond, inl, inr, List, [], ◌∷◌, ◌++◌, length, lit≤, refl, sym, ap, subst, arith, length-append}
+use Rattle.std.proofs.Common.{◌≡◌, ◌∙◌, ◌⊎◌, ℕ, ◌+◌, ◌-◌, ◌<◌, ◌≤◌, ◌==◌, Bool, true, false, cond, inl, inr, List, [], ◌∷◌, ◌++◌, length, lit≤, refl, sym, ap, subst, arith, length-append}
 use Rattle.std.proofs.lemmas.Bool.Decides.{nat_tests}
 use Rattle.std.specs.FinMap.{get}
 use Rattle.std.specs.List.{AllByRecursion, list_any}
-use Rattle.std.specs.Option.{option_map, unwrap_or}
+use Rattle.std.specs.Option.{unwrap_or}
 use Rattle.std.specs.Prelude.{◌||◌, None, Option, Some, is_some}
 use Rattle.s38_base.specs.Limits.{body_limit}
 use Rattle.s38_base.specs.declared.id.Kind.TheVariants as kinds
-use Rattle.s38_base.specs.declared.id.Kind.{Kind}
 use Rattle.s38_base.specs.declared.page.Change.{Change}
 use Rattle.s38_commits.proofs.MapLaws.{nat_itself, nat_same}
 use Rattle.s38_commits.specs.Units.{UnitMap}
 use Rattle.s38_durable.specs.Durable.{Durable, body_behind, durable_after, followed, kept, kept_after, kept_behind, whole}
 use Rattle.s38_durable.specs.Following.{AreRising}
-use Rattle.s38_durable.specs.Stands.{Stands, aim_of, aims_of, is_among, parts_at, parts_end, parts_in}
+use Rattle.s38_durable.specs.Stands.{Stands, aim_of, aims_of, is_among, parts_end, parts_in}
 use Rattle.s38_forcing.proofs.DifferenceLaws.{same_differences}
 use Rattle.s38_forcing.proofs.WalkLaws.{key_at}
 use Rattle.s38_forcing.specs.Aims.{all_differences}
@@ -28,20 +27,19 @@ use Rattle.s38_journals.specs.Entries.{Entry}
 use Rattle.s38_journals.specs.Journals.{JournalList, entries_len}
 use Rattle.s38_object_laws.specs.Outline.{is_forced, speaks_of}
 use Rattle.s38_rules.proofs.ChargeLaws.{found_number}
-use Rattle.s38_rules.specs.Forcing.{Forced, Whole, is_whole}
+use Rattle.s38_rules.specs.Forcing.{Forced, is_whole}
 use Rattle.s38_rules.specs.Held.{Held, disk_in, is_on_disk, kind_of, object}
-use Rattle.s38_rules.specs.Parts.{journal_at, journal_lawful, journal_of, journal_part, no_journal, part_at, part_in}
+use Rattle.s38_rules.specs.Parts.{journal_lawful, journal_of, journal_part, no_journal, part_at, part_in}
 use Rattle.s38_rules.specs.Room.{image_len, pages_begun}
 use Rattle.s38_rules.specs.State.{State}
 use Rattle.s38_rules.specs.declared.object.Body.TheVariants as bodies
 use Rattle.s38_rules.specs.declared.object.Body.{Body}
 use Rattle.s38_rules.specs.declared.object.Object.{Object}
-use Rattle.s38_rules.specs.declared.rows.PrivateRow.{PrivateRow}
 use Rattle.s38_step_parts.proofs.AfterLaws.{kept_behind_step, kept_one, parts_below}
 use Rattle.s38_step_parts.proofs.KeptLaws.{kept_number}
 use Rattle.s38_step_parts.proofs.NumberLaws.{AreAbove, Rise, numbers_are, numbers_rise}
 use Rattle.s38_step_parts.specs.Numbers.{is_numbered, numbered, numbers}
-use Rattle.s38_step_parts.specs.Stepping.{HasHeader, HaveHeaders, object_changes}
+use Rattle.s38_step_parts.specs.Stepping.{HaveHeaders, object_changes}
 use Rattle.s38_vault.specs.Content.{Content}
 use Rattle.s38_vault.specs.Vaults.{most_changes}
 use Rattle.s38_put_laws.specs.Lengthening.{AreLonger, Lengthens}
@@ -51,7 +49,7 @@ use Rattle.s38_put_laws.specs.Unforced.{AreLow, most_trailing}
 use Rattle.s38_put_laws.proofs.DifferLaws.{differ, none_differ}
 use Rattle.s38_put_laws.proofs.ObjectLaws.{IsOf, IsSpace, all_few, header_few, page_in, pages_in, same_few, space_few}
 use Rattle.s38_put_laws.proofs.ShapeLaws.{ForcesBoth, ForcesFew, ForcesOne, longest_entry, rows_at, rows_in, unforced_in}
-use Rattle.s38_put_laws.proofs.TrailLaws.{followed_journal, journal_kind, trails_at}
+use Rattle.s38_put_laws.proofs.TrailLaws.{journal_kind, trails_at}
 
 -- ---- one journal space on the way
 

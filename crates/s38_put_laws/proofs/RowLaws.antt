@@ -1,13 +1,12 @@
 -- Where no rule refuses an instruction, a change that begins a unit finds fewer units open in its journal space than may be.
-use Rattle.std.proofs.Common.{◌≡◌, ◌∙◌, ℕ, Bool, false, true, cond, refl, sym, ap}
-use Rattle.std.specs.Prelude.{◌||◌, None, Option, Some}
+use Rattle.std.proofs.Common.{◌≡◌, ◌∙◌, ℕ, Bool, false, true, refl, sym, ap}
+use Rattle.std.specs.Prelude.{◌||◌, None, Some}
 use Rattle.s38_base.specs.declared.op.Op.TheVariants.{Crtctx, Crtinx, Crtpg, Crtq, Crts, Crtup, Deldsen, Grant, Insdsen, Jrnlobj, Lock, Rslvsp, Updsen}
 use Rattle.s38_base.specs.declared.op.Op.{Op}
 use Rattle.s38_base.specs.Exceptions as exceptions
 use Rattle.s38_code.specs.declared.event.Request.{Request}
 use Rattle.s38_code.specs.declared.family.Family.TheVariants as families
 use Rattle.s38_code.specs.declared.family.Family.{Family}
-use Rattle.s38_code.specs.declared.operand.Operand.{Operand}
 use Rattle.s38_commits.specs.Changes.{journal_bytes}
 use Rattle.s38_commits.specs.declared.change.UnitChange.{UnitChange}
 use Rattle.s38_dataspaces.specs.Entries as spaces

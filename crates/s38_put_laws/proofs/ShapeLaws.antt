@@ -1,5 +1,5 @@
 -- What a step forces: of one object at most, or a data space that is ensured and its journal space.
-use Rattle.std.proofs.Common.{◌≡◌, ◌∙◌, ◌⊎◌, ℕ, ◌+◌, ◌*◌, ◌<◌, ◌≤◌, ◌==◌, Bool, true, false, cond, not, inl, inr, List, [], ◌∷◌, ◌++◌, length, refl, sym, ap, subst, arith}
+use Rattle.std.proofs.Common.{◌≡◌, ◌∙◌, ◌⊎◌, ℕ, ◌+◌, ◌<◌, ◌≤◌, ◌==◌, Bool, true, false, cond, not, inl, inr, List, [], ◌∷◌, ◌++◌, length, refl, sym, ap, subst, arith}
 use Rattle.std.proofs.lemmas.Bool.{and_parts}
 use Rattle.std.proofs.lemmas.Bool.Decides.{nat_tests}
 use Rattle.std.proofs.lemmas.List.{append-nil}
@@ -31,7 +31,7 @@ use Rattle.s38_journals.specs.Journals.{JournalList, appended, can_write, with_r
 use Rattle.s38_journals.specs.declared.entry.EntryKind.TheVariants.{Commit}
 use Rattle.s38_memory.specs.declared.cell.Cell.{Cell}
 use Rattle.s38_object_laws.specs.Outline.{is_forced, speaks_of}
-use Rattle.s38_rules.proofs.ChargeLaws.{KeepsNumber, object_changed}
+use Rattle.s38_rules.proofs.ChargeLaws.{object_changed}
 use Rattle.s38_rules.proofs.PartLaws.{over_same, part_apart}
 use Rattle.s38_rules.specs.Cells.{with_bytes, with_pointer}
 use Rattle.s38_rules.specs.Changes.{Changes, Committed, Ensured, Entered, Gone, Journaled, Made, Moved, Named, OnCursor, Profiled, Stands, Then, done, made_by, through_port}

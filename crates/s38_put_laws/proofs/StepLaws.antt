@@ -3,7 +3,7 @@
 use Rattle.std.proofs.Common.{◌≡◌, ◌∙◌, ℕ, ◌+◌, ◌*◌, ◌<◌, ◌≤◌, ◌==◌, Bool, true, false, cond, List, [], ◌∷◌, ◌++◌, length, refl, sym, ap, subst, arith}
 use Rattle.std.specs.FinMap.{get}
 use Rattle.std.specs.List.{list_any}
-use Rattle.std.specs.Option.{option_map, unwrap_or}
+use Rattle.std.specs.Option.{option_map}
 use Rattle.std.specs.Prelude.{◌||◌, None, Option, Some, is_some}
 use Rattle.s38_base.specs.Pointers.{start_of, target_of}
 use Rattle.s38_code.specs.Operations.{family_of}
@@ -21,35 +21,33 @@ use Rattle.s38_commitment_laws.proofs.UnitLaws.{all_stand}
 use Rattle.s38_commitment_laws.specs.Right.{IsRight}
 use Rattle.s38_commits.specs.Units.{UnitMap}
 use Rattle.s38_durable.specs.Durable.{Durable, after_reply, durable, durable_after, kept}
-use Rattle.s38_durable.specs.Following.{Follows, Header}
-use Rattle.s38_durable.specs.Stands.{Stands, parts_end}
-use Rattle.s38_image.specs.Faults.{ceiling_key}
+use Rattle.s38_durable.specs.Following.{Header}
+use Rattle.s38_durable.specs.Stands.{Stands}
 use Rattle.s38_image.specs.declared.stored.Stored.{Stored}
 use Rattle.s38_journals.specs.Journals as journals
 use Rattle.s38_journals.specs.Journals.{JournalList}
 use Rattle.s38_kept_laws.proofs.FoundLaws.{IsThere, found_all, kept_there, there_kept}
-use Rattle.s38_kept_laws.proofs.GoesLaws.{Goes, object_given}
+use Rattle.s38_kept_laws.proofs.GoesLaws.{object_given}
 use Rattle.s38_kept_laws.proofs.ImageLaws.{image_header}
 use Rattle.s38_kept_laws.proofs.KeepLaws.{DurableLaws, done_kept, entry_kept, forced_low, images_behind, not_done, same_kinds}
 use Rattle.s38_kept_laws.proofs.SameLaws.{seen_same}
 use Rattle.s38_kept_laws.proofs.SizeLaws.{body_low}
-use Rattle.s38_kept_laws.proofs.StepLaws.{IsDone, Stayed, TakesEffect, stayed, step_goes, step_room, stored_same, takes_effect, follows_room}
+use Rattle.s38_kept_laws.proofs.StepLaws.{IsDone, TakesEffect, stayed, step_goes, step_room, stored_same, takes_effect, follows_room}
 use Rattle.s38_kept_laws.specs.Kept.{AllReadable, AreImages, AreNumbered, IsKeptOf, IsReadableBehind}
 use Rattle.s38_object_laws.specs.Well.{AreWell, IsWell}
 use Rattle.s38_rules.proofs.RoomLaws.{permitted_by_rules}
 use Rattle.s38_rules.proofs.StoreLaws.{stored_beside, stored_holds}
 use Rattle.s38_rules.proofs.VerdictLaws.{permitted_none}
 use Rattle.s38_rules.specs.Changes.{done}
-use Rattle.s38_rules.specs.Changing.{most_units}
 use Rattle.s38_rules.specs.Computing.{receiver_at, shift_at}
 use Rattle.s38_rules.specs.Effect.{effect, effect_of, end_at, start_at}
 use Rattle.s38_rules.specs.Forcing.{Ceiling, Forced, Header as HeaderOf, Removed, Whole, forced, is_whole}
 use Rattle.s38_rules.specs.Held.{Held, disk_in, is_on_disk, kind_of, object}
 use Rattle.s38_rules.specs.Journaling.{open_units}
 use Rattle.s38_rules.specs.Legal.{Leads}
-use Rattle.s38_rules.specs.Operands.{delivered, put_value}
-use Rattle.s38_rules.specs.Parts.{journal_at, journal_lawful, journal_of, journal_part, no_journal, on_journal, over_object, part_at, part_in}
-use Rattle.s38_rules.specs.Room.{Room, image_len, pages_begun}
+use Rattle.s38_rules.specs.Operands.{delivered}
+use Rattle.s38_rules.specs.Parts.{journal_at, journal_lawful, journal_of, journal_part, on_journal, over_object, part_at, part_in}
+use Rattle.s38_rules.specs.Room.{Room}
 use Rattle.s38_rules.specs.Rows.{row}
 use Rattle.s38_rules.specs.State.{State, process_entry}
 use Rattle.s38_rules.specs.Step.{awake_verdict, step}
@@ -70,7 +68,7 @@ use Rattle.s38_put_laws.specs.Unforced.{AreLow, most_trailing}
 use Rattle.s38_put_laws.proofs.BeginLaws.{image_short}
 use Rattle.s38_put_laws.proofs.LongerLaws.{event_longer, value_longer}
 use Rattle.s38_put_laws.proofs.LowLaws.{AreLowBut, Covers, all_low, carried_low, done_low, few_open, journal_leads, same_leads}
-use Rattle.s38_put_laws.proofs.OneLaws.{IsLed, SameEntries, step_put}
+use Rattle.s38_put_laws.proofs.OneLaws.{SameEntries, step_put}
 use Rattle.s38_put_laws.proofs.RowLaws.{row_open}
 use Rattle.s38_put_laws.proofs.ShapeLaws.{event_few, rows_at, rows_in, unforced_in}
 use Rattle.s38_put_laws.proofs.TrailLaws.{journal_kind, stored_other, trails_behind}

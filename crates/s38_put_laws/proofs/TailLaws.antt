@@ -3,14 +3,12 @@ use Rattle.std.proofs.Common.{◌≡◌, ◌∙◌, ℕ, zero, suc, ◌+◌, ◌
 use Rattle.std.proofs.lemmas.Bool.Decides.{nat_tests}
 use Rattle.std.proofs.lemmas.List.{append_assoc, drop-append-le, length-drop, take-append-le}
 use Rattle.std.specs.Ordering.{eq_by_cmp}
-use Rattle.std.specs.Prelude.{Option, Some}
+use Rattle.std.specs.Prelude.{Some}
 use Rattle.s38_base.specs.declared.page.Change.{Change}
-use Rattle.s38_base.specs.declared.page.Key.{Key}
-use Rattle.s38_base.specs.declared.page.Page.{Page}
 use Rattle.s38_codecs.specs.Codec.{copies}
 use Rattle.s38_forcing.proofs.WalkLaws.{key_at, key_itself, not_above, part_below}
 use Rattle.s38_forcing.specs.Differences.{wanted_at}
-use Rattle.s38_image.specs.Pages.{cut, filled, needed, numbered, page_at, stream_parts}
+use Rattle.s38_image.specs.Pages.{cut, needed, numbered, page_at, stream_parts}
 use Rattle.s38_vault.specs.Keys.{key_cmp}
 
 -- the page of the first part, and those of later ones

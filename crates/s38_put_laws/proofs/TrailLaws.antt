@@ -1,5 +1,5 @@
 -- What is kept of a journal space stays the beginning of it.
-use Rattle.std.proofs.Common.{◌≡◌, ◌∙◌, ℕ, ◌+◌, ◌<◌, ◌≤◌, ◌==◌, Bool, true, false, cond, List, [], ◌∷◌, ◌++◌, refl, sym, ap, subst, arith}
+use Rattle.std.proofs.Common.{◌≡◌, ◌∙◌, ℕ, ◌<◌, ◌==◌, Bool, true, false, cond, List, [], ◌∷◌, ◌++◌, refl, sym, ap, subst, arith}
 use Rattle.std.proofs.lemmas.List.{append_assoc}
 use Rattle.std.proofs.lemmas.List.Sums.{sum_by-append}
 use Rattle.std.specs.List.{list_any}
@@ -27,7 +27,7 @@ use Rattle.s38_rules.specs.declared.object.Body.{Body}
 use Rattle.s38_rules.specs.declared.object.Object.{Object}
 use Rattle.s38_commitment_laws.proofs.HeldLaws.{part_over}
 use Rattle.s38_step_parts.proofs.AfterLaws.{kept_behind_step, kept_one}
-use Rattle.s38_put_laws.specs.Lengthening.{AreLonger, IsLonger, Lengthens}
+use Rattle.s38_put_laws.specs.Lengthening.{IsLonger, Lengthens}
 use Rattle.s38_put_laws.specs.Trails.{AreTrailing, IsTrailing}
 use Rattle.s38_put_laws.proofs.LongerLaws.{append_none}
 
@@ -62,7 +62,7 @@ stored_other s p e t n not = stored_in_other s.room (forced s p e) t n not
 
 -- all of it is kept
 all_trail : (j : JournalList) → IsTrailing j.entries j
-all_trail j = record { rest = [];    entries = append_none j.entries; bytes = omega arith }
+all_trail j = record { rest = []; entries = append_none j.entries; bytes = omega arith }
 
 -- it became longer
 trails_on : (front : List Entry) (x y : JournalList) → IsTrailing front x → IsLonger x y → IsTrailing front y
