@@ -10,3 +10,4 @@ pub mod ObjectLaws
 pub mod OneLaws
 pub mod StepLaws
 pub mod BeginLaws
+pub mod FreshLaws

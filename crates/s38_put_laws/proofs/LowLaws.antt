@@ -99,7 +99,7 @@ leads_by h k blocks ports journals block = ap (λ (x : Option Block). journal_be
     by None = refl
     by (Some p) = ap (λ b. cond b (Some p.journal.0) None) (journals p.journal.0)
 
-data_leads : (h : Held) (n : ℕ) (f : DataBody → DataBody) (block : ℕ) → journal_for_block (on_data h n f) block ≡ journal_for_block h block
+pub data_leads : (h : Held) (n : ℕ) (f : DataBody → DataBody) (block : ℕ) → journal_for_block (on_data h n f) block ≡ journal_for_block h block
 data_leads h n f block = leads_by h (on_data h n f) (λ m. block_by_data h n m f) (λ m. port_by_data h n m f) (λ m. ap is_some (journal_by_data h n m f)) block
 
 pub journal_leads : (h : Held) (n : ℕ) (f : JournalList → JournalList) (block : ℕ) → journal_for_block (on_journal h n f) block ≡ journal_for_block h block
@@ -322,7 +322,7 @@ module _ (P : ℕ → Type 0) (anew : ℕ → Bool) where
   undone_low [] h units low = low
   undone_low (change ∷ newer) h units low = data_low (all_undone h newer) units change.space.0 (over_table (put_back change)) (undone_low newer h units low)
 
-  undone_leads : (changes : List UnitChange) (h : Held) (block : ℕ) → journal_for_block (all_undone h changes) block ≡ journal_for_block h block
+  pub undone_leads : (changes : List UnitChange) (h : Held) (block : ℕ) → journal_for_block (all_undone h changes) block ≡ journal_for_block h block
   unfolding all_undone
   undone_leads [] h block = refl
   undone_leads (change ∷ newer) h block = data_leads (all_undone h newer) change.space.0 (over_table (put_back change)) block ∙ undone_leads newer h block

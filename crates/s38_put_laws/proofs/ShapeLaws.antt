@@ -8,7 +8,7 @@ use Rattle.std.specs.Option.{option_map, unwrap_or}
 use Rattle.std.specs.Prelude.{◌&&◌, ◌||◌, None, Option, Some, is_some, nat_le, nat_lt}
 use Rattle.s38_base.specs.Pointers.{target_of}
 use Rattle.s38_base.specs.declared.id.Kind.{Kind}
-use Rattle.s38_base.specs.declared.op.Op.TheVariants.{Crtctx, Crtinx, Crtpg, Crtq, Crts, Crtup, Grant, Insdsen, Jrnlobj, Lock, Rslvsp}
+use Rattle.s38_base.specs.declared.op.Op.TheVariants.{Crtctx, Crtinx, Crtjs, Crtpg, Crtq, Crts, Crtup, Grant, Insdsen, Jrnlobj, Lock, Rslvsp}
 use Rattle.s38_base.specs.declared.op.Op.{Op}
 use Rattle.s38_code.specs.Operations.{family_of}
 use Rattle.s38_code.specs.declared.event.Event.TheVariants.{Act, Finish, Start}
@@ -18,6 +18,7 @@ use Rattle.s38_code.specs.declared.family.Family.TheVariants as families
 use Rattle.s38_code.specs.declared.family.Family.{Family}
 use Rattle.s38_code.specs.declared.operand.Operand.TheVariants as operands
 use Rattle.s38_code.specs.declared.operand.Operand.{Operand}
+use Rattle.s38_code.specs.declared.program.Program.{Program}
 use Rattle.s38_code.specs.declared.reply.Val.TheVariants as vals
 use Rattle.s38_code.specs.declared.reply.Val.{Val}
 use Rattle.s38_commits.proofs.MapLaws.{nat_same}
@@ -52,7 +53,7 @@ use Rattle.s38_rules.specs.Locking.{locks_row}
 use Rattle.s38_rules.specs.Operands.{delivered, put_value}
 use Rattle.s38_rules.specs.Parts.{IsPart, Part, cursor_lawful, cursor_part, data_lawful, data_part, journal_at, journal_lawful, journal_of, journal_part, no_journal, on_data, on_journal, on_space, over_object, over_part, over_table, part_at, part_in, port_part, space_lawful, space_part}
 use Rattle.s38_rules.specs.Profiles.{profiles_row}
-use Rattle.s38_rules.specs.Programs.{programs_row}
+use Rattle.s38_rules.specs.Programs.{program_in, programs_row, template_at}
 use Rattle.s38_rules.specs.Queues.{queues_row}
 use Rattle.s38_rules.specs.Resolving.{resolving_row}
 use Rattle.s38_rules.specs.Rows.{row, row_in}
@@ -60,6 +61,8 @@ use Rattle.s38_rules.specs.Spaces.{spaces_row}
 use Rattle.s38_rules.specs.State.{State}
 use Rattle.s38_rules.specs.Units.{committed, end_entry, end_written, with_entry}
 use Rattle.s38_rules.specs.declared.data_body.DataBody.{DataBody}
+use Rattle.s38_rules.specs.declared.object.Body.TheVariants as bodies
+use Rattle.s38_rules.specs.declared.object.Body.{Body}
 use Rattle.s38_rules.specs.declared.object.Object.{Object}
 use Rattle.s38_rules.specs.declared.port.Port.{Port}
 use Rattle.s38_rules.specs.declared.rows.PrivateRow.{PrivateRow}
@@ -111,8 +114,15 @@ commit_one h block (Some unit) = whole_one (journal_for_block h block)
 
 -- ---- the words of each row
 
--- of the words that are one after another the second forces nothing, or the first
+-- a new journal space has no entry
+abbrev pub NewBody : Option Body → Type 0
+NewBody None = Unit {0}
+NewBody (Some (bodies.Journal j)) = j.entries ≡ []
+NewBody (Some _) = Unit {0}
+
+-- of the words that are one after another the second forces nothing, or the first; and what is made is new
 abbrev pub IsPlain : Changes → Type 0
+IsPlain (Made owner made body) = NewBody body
 IsPlain (Then (Entered block change f) (OnCursor n g)) = Unit {0}
 IsPlain (Then (Journaled n port) (Ensured m)) = Unit {0}
 IsPlain (Then a b) = ⊥
@@ -128,6 +138,7 @@ data_spaces_plain _ = λ s p d t. tt
 
 journals_plain : (op : Op) → PlainRow (journals_row op)
 unfolding journals_row
+journals_plain Crtjs = λ s p d t. refl
 journals_plain Jrnlobj = λ s p d t. tt
 journals_plain _ = λ s p d t. tt
 
@@ -146,9 +157,13 @@ unfolding grants_row
 grants_plain Grant = λ s p d t. tt
 grants_plain _ = λ s p d t. tt
 
+program_new : (program : Option Program) → NewBody (option_map bodies.Program program)
+program_new None = tt
+program_new (Some program) = tt
+
 programs_plain : (op : Op) → PlainRow (programs_row op)
 unfolding programs_row
-programs_plain Crtpg = λ s p d t. tt
+programs_plain Crtpg = λ s p d t. program_new (program_in (template_at s t.operands))
 programs_plain _ = λ s p d t. tt
 
 locks_plain : (op : Op) → PlainRow (locks_row op)
@@ -235,7 +250,7 @@ part_rows p h n m f = seen_same rows_in h n m (over_object p f) (λ x. refl) (λ
 other_journal : {T : Type 0} (p : Part T) → IsPart T p → ((x : T) → journal_of (p.make x) ≡ None) → (h : Held) (n m : ℕ) (f : T → T) → part_at journal_part (over_part p h n f) m ≡ part_at journal_part h m
 other_journal p lawful other h n m f = part_apart journal_part p f (λ b. over_same p lawful journal_of None other f b (p.of b) refl) h n m
 
-data_journal : (h : Held) (n m : ℕ) (f : DataBody → DataBody) → part_at journal_part (on_data h n f) m ≡ part_at journal_part h m
+pub data_journal : (h : Held) (n m : ℕ) (f : DataBody → DataBody) → part_at journal_part (on_data h n f) m ≡ part_at journal_part h m
 data_journal h n m f = other_journal data_part data_lawful (λ x. refl) h n m f
 
 -- journal spaces, rows, and what is on disk stay
@@ -244,11 +259,11 @@ pub record SameBeside (h k : Held) : Type 0 where
   pub rows : (n : ℕ) → rows_at k n ≡ rows_at h n
   pub disk : (n : ℕ) → is_on_disk k n ≡ is_on_disk h n
 
-same_beside : (h : Held) → SameBeside h h
+pub same_beside : (h : Held) → SameBeside h h
 same_beside h = record { journals = λ n. refl; rows = λ n. refl; disk = λ n. refl }
 
 -- what an object of another kind holds is something else
-other_beside : {T : Type 0} (p : Part T) → IsPart T p → ((x : T) → journal_of (p.make x) ≡ None) → (h : Held) (n : ℕ) (f : T → T) → SameBeside h (over_part p h n f)
+pub other_beside : {T : Type 0} (p : Part T) → IsPart T p → ((x : T) → journal_of (p.make x) ≡ None) → (h : Held) (n : ℕ) (f : T → T) → SameBeside h (over_part p h n f)
 other_beside p lawful other h n f = record {
   journals = λ m. other_journal p lawful other h n m f;
   rows = λ m. part_rows p h n m f;
@@ -411,7 +426,7 @@ done_few x s p plain = inl (none_one s.held (done s p x).held)
 
 -- ---- an event
 
-space_beside : (h : Held) (n : ℕ) (f : List Cell → List Cell) → SameBeside h (on_space h n f)
+pub space_beside : (h : Held) (n : ℕ) (f : List Cell → List Cell) → SameBeside h (on_space h n f)
 space_beside h n f = other_beside space_part space_lawful (λ x. refl) h n f
 
 value_beside : (h : Held) (n at : ℕ) (v : Val) → SameBeside h (put_value h n at v)
@@ -419,7 +434,7 @@ value_beside h n at (vals.Bytes bytes) = space_beside h n (with_bytes at bytes)
 value_beside h n at (vals.Ptr p) = space_beside h n (with_pointer at p)
 value_beside h n at _ = same_beside h
 
-delivered_beside : (s : State) (shift : ℕ) (receiver : Option Operand) (v : Option Val) → SameBeside s.held (delivered s shift receiver v).state.held
+pub delivered_beside : (s : State) (shift : ℕ) (receiver : Option Operand) (v : Option Val) → SameBeside s.held (delivered s shift receiver v).state.held
 delivered_beside s shift receiver None = same_beside s.held
 delivered_beside s shift (Some (operands.InSpace base offset attr)) (Some v) = value_beside s.held (target_of base) _ v
 delivered_beside s shift _ (Some v) = same_beside s.held

@@ -3,3 +3,4 @@ pub mod Unforced
 pub mod Trails
 pub mod OnePut
 pub mod Puts
+pub mod Fresh
