@@ -110,6 +110,11 @@ journal_leads h n f block = leads_by h (on_journal h n f) (λ m. block_by_journa
     there true (Some j) = refl
     there false x = refl
 
+pub undone_leads : (changes : List UnitChange) (h : Held) (block : ℕ) → journal_for_block (all_undone h changes) block ≡ journal_for_block h block
+unfolding all_undone
+undone_leads [] h block = refl
+undone_leads (change ∷ newer) h block = data_leads (all_undone h newer) change.space.0 (over_table (put_back change)) block ∙ undone_leads newer h block
+
 pub same_leads : (h k : Held) → ((block : ℕ) → journal_for_block k block ≡ journal_for_block h block) → Leads h k
 same_leads h k same block n to = sym (same block) ∙ to
 
@@ -321,11 +326,6 @@ module _ (P : ℕ → Type 0) (anew : ℕ → Bool) where
   unfolding all_undone
   undone_low [] h units low = low
   undone_low (change ∷ newer) h units low = data_low (all_undone h newer) units change.space.0 (over_table (put_back change)) (undone_low newer h units low)
-
-  pub undone_leads : (changes : List UnitChange) (h : Held) (block : ℕ) → journal_for_block (all_undone h changes) block ≡ journal_for_block h block
-  unfolding all_undone
-  undone_leads [] h block = refl
-  undone_leads (change ∷ newer) h block = data_leads (all_undone h newer) change.space.0 (over_table (put_back change)) block ∙ undone_leads newer h block
 
   committed_low : (s : State) (p block : ℕ) (unit : Option CommitUnit) → unit_of s.units block ≡ unit → AreLowBut s.held s.units → AreLowBut (committed s p block unit).held (committed s p block unit).units
   committed_low s p block None found low = low
