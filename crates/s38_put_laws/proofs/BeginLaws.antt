@@ -26,13 +26,14 @@ use Rattle.s38_kept_laws.proofs.StandLaws.{read_images}
 use Rattle.s38_kept_laws.specs.Beginning.{durable_in, origin_of}
 use Rattle.s38_restart.specs.Parts.{AreParts, all_parts}
 use Rattle.s38_restart.specs.Restarted.{data_followed, followed, imaged, restarted}
-use Rattle.s38_rules.specs.Held.{Held, kind_of, object_in}
+use Rattle.s38_rules.specs.Held.{Held, disk_in, is_on_disk, kind_of, object_in}
 use Rattle.s38_rules.specs.Parts.{data_part, journal_at, journal_lawful, journal_of, journal_part, no_journal, over_body, part_at, part_in}
 use Rattle.s38_rules.specs.Room.{Room, image_len}
 use Rattle.s38_rules.specs.declared.data_body.DataBody.{DataBody}
 use Rattle.s38_rules.specs.declared.object.Body.TheVariants as bodies
 use Rattle.s38_rules.specs.declared.object.Body.{Body}
 use Rattle.s38_vault.specs.Content.{Content}
+use Rattle.s38_put_laws.specs.Fresh.{AreFresh}
 use Rattle.s38_put_laws.specs.Trails.{AreTrailing, IsTrailOf, IsTrailing}
 use Rattle.s38_put_laws.specs.Unforced.{AreLow}
 use Rattle.s38_put_laws.proofs.LongerLaws.{append_none}
@@ -129,3 +130,17 @@ module _ (m : Content) (h : Held) (are : AreParts (all_parts m)) (fault : first_
 
   pub begins_trail : (templates : List CheckedTemplate) (jobs : List Job) (room : Room) → IsTrailOf (origin_of h templates jobs (Some room)) d
   begins_trail templates jobs room = record { stored = refl; trailing = begins_trailing; low = begins_low [] refl }
+
+  -- each journal space is on disk
+  pub begins_fresh : AreFresh h
+  begins_fresh n j is off = by (kept d.objects n) refl
+    where
+      seen : (r : Option Stored) → object_in (map (followed (imaged d.objects)) d.objects) n ≡ option_map (followed (imaged d.objects)) r → is_on_disk h n ≡ disk_in (option_map (followed (imaged d.objects)) r)
+      seen r at = ap (λ (k : Held). is_on_disk k n) of ∙ ap disk_in at
+
+      by : (r : Option Stored) → kept d.objects n ≡ r → j.entries ≡ []
+      by None found = absurd (let e : None ≡ Some j = sym (journal_seen n ∙ ap journal_kept found) ∙ is in cc)
+      by (Some x) found =
+          let on : is_on_disk h n ≡ true =
+          seen (Some x) (followed_in (imaged d.objects) d.objects n ∙ ap (option_map (followed (imaged d.objects))) found) ∙ (image n x found).on_disk in
+          absurd (let e : true ≡ false = sym on ∙ off in cc)

@@ -43,7 +43,7 @@ use Rattle.s38_step_parts.specs.Stepping.{HaveHeaders, object_changes}
 use Rattle.s38_vault.specs.Content.{Content}
 use Rattle.s38_vault.specs.Vaults.{most_changes}
 use Rattle.s38_put_laws.specs.Lengthening.{AreLonger, Lengthens}
-use Rattle.s38_put_laws.specs.OnePut.{AreShort, AreSpacesShort}
+use Rattle.s38_put_laws.specs.OnePut.{AreShort, DestroysShort}
 use Rattle.s38_put_laws.specs.Trails.{AreTrailing, IsTrailing}
 use Rattle.s38_put_laws.specs.Unforced.{AreLow, most_trailing}
 use Rattle.s38_put_laws.proofs.DifferLaws.{differ, none_differ}
@@ -126,7 +126,8 @@ module _ (all : List Forced) (d : Durable) (s t : State) (k : Held) where
     pub ends : (n : ℕ) (x : Stored) → kept new.objects n ≡ Some x → 128 + pages_begun (image_len x.object.body) ≤ parts_end
     pub short : AreShort d
     pub then_short : AreShort new
-    pub spaces : AreSpacesShort d new
+    pub first : (n : ℕ) (x : Stored) (j : JournalList) → kept d.objects n ≡ None → kept new.objects n ≡ Some x → journal_of x.object.body ≡ Some j → image_len x.object.body ≤ body_limit
+    pub last : DestroysShort d new
 
   module _ (led : IsLed) where
     -- how many parts of a number differ
@@ -298,11 +299,11 @@ module _ (all : List Forced) (d : Durable) (s t : State) (k : Held) where
 
         first : (y : Stored) → kept d.objects n ≡ None → kept new.objects n ≡ Some y → (r : Option JournalList) → journal_of y.object.body ≡ r → image_len y.object.body ≤ body_limit
         first y was is None body = led.then_short n y is body
-        first y was is (Some j) body = led.spaces.first n y j was is body
+        first y was is (Some j) body = led.first n y j was is body
 
         last : (x : Stored) → kept d.objects n ≡ Some x → kept new.objects n ≡ None → (r : Option JournalList) → journal_of x.object.body ≡ r → image_len x.object.body ≤ body_limit
         last x was is None body = led.short n x was body
-        last x was is (Some j) body = led.spaces.last n x j was is body
+        last x was is (Some j) body = led.last n x j was is body
 
         by : (r : Option Stored) → kept d.objects n ≡ r → (q : Option Stored) → kept new.objects n ≡ q → Small n r q 2176
         by None was None is = others_few n None None was is (omega arith) (omega arith)

@@ -5,6 +5,7 @@ use Rattle.std.specs.FinMap.{get}
 use Rattle.std.specs.List.{list_any}
 use Rattle.std.specs.Option.{option_map}
 use Rattle.std.specs.Prelude.{◌||◌, None, Option, Some, is_some}
+use Rattle.s38_base.specs.Limits.{body_limit}
 use Rattle.s38_base.specs.Pointers.{start_of, target_of}
 use Rattle.s38_code.specs.Operations.{family_of}
 use Rattle.s38_code.specs.declared.entry.Entry.{Entry}
@@ -17,15 +18,17 @@ use Rattle.s38_code.specs.declared.reply.Reply.{Reply}
 use Rattle.s38_code.specs.declared.reply.Val.{Val}
 use Rattle.s38_commitment_laws.proofs.HeldLaws.{part_over}
 use Rattle.s38_commitment_laws.proofs.RowLaws.{done_right, row_may, value_carries}
+use Rattle.s38_commitment_laws.proofs.StepLaws.{step_right}
 use Rattle.s38_commitment_laws.proofs.UnitLaws.{all_stand}
 use Rattle.s38_commitment_laws.specs.Right.{IsRight}
 use Rattle.s38_commits.specs.Units.{UnitMap}
-use Rattle.s38_durable.specs.Durable.{Durable, after_reply, durable, durable_after, kept}
+use Rattle.s38_durable.specs.Durable.{Durable, after_reply, durable, durable_after, kept, kept_after, kept_behind, whole}
 use Rattle.s38_durable.specs.Following.{Header}
 use Rattle.s38_durable.specs.Stands.{Stands}
+use Rattle.s38_image.specs.Settled.{settled_body}
 use Rattle.s38_image.specs.declared.stored.Stored.{Stored}
 use Rattle.s38_journals.specs.Journals as journals
-use Rattle.s38_journals.specs.Journals.{JournalList}
+use Rattle.s38_journals.specs.Journals.{JournalList, entries_len}
 use Rattle.s38_kept_laws.proofs.FoundLaws.{IsThere, found_all, kept_there, there_kept}
 use Rattle.s38_kept_laws.proofs.GoesLaws.{object_given}
 use Rattle.s38_kept_laws.proofs.ImageLaws.{image_header}
@@ -35,6 +38,7 @@ use Rattle.s38_kept_laws.proofs.SizeLaws.{body_low}
 use Rattle.s38_kept_laws.proofs.StepLaws.{IsDone, TakesEffect, stayed, step_goes, step_room, stored_same, takes_effect, follows_room}
 use Rattle.s38_kept_laws.specs.Kept.{AllReadable, AreImages, AreNumbered, IsKeptOf, IsReadableBehind}
 use Rattle.s38_object_laws.specs.Well.{AreWell, IsWell}
+use Rattle.s38_rules.proofs.ChargeLaws.{found_number}
 use Rattle.s38_rules.proofs.RoomLaws.{permitted_by_rules}
 use Rattle.s38_rules.proofs.StoreLaws.{stored_beside, stored_holds}
 use Rattle.s38_rules.proofs.VerdictLaws.{permitted_none}
@@ -47,25 +51,30 @@ use Rattle.s38_rules.specs.Journaling.{open_units}
 use Rattle.s38_rules.specs.Legal.{Leads}
 use Rattle.s38_rules.specs.Operands.{delivered}
 use Rattle.s38_rules.specs.Parts.{journal_at, journal_lawful, journal_of, journal_part, on_journal, over_object, part_at, part_in}
-use Rattle.s38_rules.specs.Room.{Room}
+use Rattle.s38_rules.specs.Room.{Room, image_len}
 use Rattle.s38_rules.specs.Rows.{row}
 use Rattle.s38_rules.specs.State.{State, process_entry}
 use Rattle.s38_rules.specs.Step.{awake_verdict, step}
 use Rattle.s38_rules.specs.Storing.{all_kept, stored, stored_in}
 use Rattle.s38_rules.specs.Verdict.{refused_by, ruled_verdict}
+use Rattle.s38_rules.specs.declared.object.Body.TheVariants as bodies
+use Rattle.s38_rules.specs.declared.object.Body.{Body}
 use Rattle.s38_rules.specs.declared.object.Object.{Object}
 use Rattle.s38_rules.specs.declared.process.ProcessEntry.{ProcessEntry}
 use Rattle.s38_rules.specs.declared.verdict.Verdict.TheVariants.{Permit}
+use Rattle.s38_step_parts.proofs.AfterLaws.{kept_behind_step, kept_one}
 use Rattle.s38_step_parts.specs.Numbers.{numbered}
 use Rattle.s38_step_parts.specs.Stepping.{HaveHeaders, object_changes}
 use Rattle.s38_vault.specs.Content.{Content}
 use Rattle.s38_vault.specs.Vaults.{most_changes}
+use Rattle.s38_put_laws.specs.Fresh.{AllLeadToDisk, AreFresh, LeadToDisk}
 use Rattle.s38_put_laws.specs.Lengthening.{Lengthens}
-use Rattle.s38_put_laws.specs.OnePut.{AllSpacesShort, AreShort, AreSpacesShort, IsShortBy}
+use Rattle.s38_put_laws.specs.OnePut.{AllDestroyShort, AreShort, DestroysShort, IsShortBy}
 use Rattle.s38_put_laws.specs.Puts.{AllOnePut, IsOnePutBy}
 use Rattle.s38_put_laws.specs.Trails.{AreTrailing, IsTrailOf}
 use Rattle.s38_put_laws.specs.Unforced.{AreLow, most_trailing}
 use Rattle.s38_put_laws.proofs.BeginLaws.{image_short}
+use Rattle.s38_put_laws.proofs.FreshLaws.{KeepsFresh, event_fresh, then_fresh}
 use Rattle.s38_put_laws.proofs.LongerLaws.{event_longer, value_longer}
 use Rattle.s38_put_laws.proofs.LowLaws.{AreLowBut, Covers, all_low, carried_low, done_low, few_open, journal_leads, same_leads}
 use Rattle.s38_put_laws.proofs.OneLaws.{SameEntries, step_put}
@@ -243,6 +252,31 @@ module _ (s : State) (p : ℕ) (e : Event) (right : IsRight s) (numbered_are : A
       subst (λ (h : Held). AreLow h between.units) (sym takes.held) (behind_low (λ n old on. goes_on.disk n old (ap (λ (h : Held). is_on_disk h n) takes.held ∙ on))) in
       subst (λ (us : UnitMap). AreLow t.held us) (sym (takes.units ∙ (stored_beside s p e between).units)) held
 
+-- ---- journal spaces that are not on disk
+
+pub done_fresh : (s : State) (p : ℕ) (e : Event) → IsRight s → LeadToDisk s.held → AreFresh s.held → IsDone (step s p e).reply → AreFresh (step s p e).state.held
+done_fresh s p e right lead fresh does n j is off =
+    entries (part_at journal_part effected.held n) refl
+    (subst (SameEntries (part_at journal_part effected.held n)) (sym (ap (λ (h : Held). part_at journal_part h n) takes_it.held) ∙ is) (stored_entries s p e effected n))
+  where
+    effected : State
+    effected = (effect_of s p e).state
+
+    takes_it : TakesEffect s (step s p e).state p e
+    takes_it = takes_effect s p e does
+
+    was_off : is_on_disk effected.held n ≡ false
+    was_off = sym ((stored_same s p e effected).disk n) ∙ sym (ap (λ (h : Held). is_on_disk h n) takes_it.held) ∙ off
+
+    entries : (r : Option JournalList) → part_at journal_part effected.held n ≡ r → SameEntries r (Some j) → j.entries ≡ []
+    entries None seen h = absurd h
+    entries (Some k) seen h = h ∙ then_fresh s.held effected.held (event_fresh s p e right lead fresh) n k seen was_off
+
+settled_none : (units : UnitMap) (n : ℕ) (b : Body) → journal_of b ≡ None → journal_of (settled_body units n b) ≡ None
+settled_none units n (bodies.DataSpace d) none = refl
+settled_none units n (bodies.Journal j) none = absurd (let e : Some j ≡ None = none in cc)
+settled_none units n _ none = none
+
 -- ---- with what is durable
 
 module _ (laws : DurableLaws) (s : State) (p : ℕ) (e : Event) (d : Durable) (is : IsKeptOf s d) (does : IsDone (step s p e).reply) where
@@ -329,9 +363,55 @@ module _ (laws : DurableLaws) (s : State) (p : ℕ) (e : Event) (d : Durable) (i
       by None some = some
       by (Some room) some = refl
 
+  -- a journal space that is kept for the first time has no entry
+  first_short : LeadToDisk s.held → AreFresh s.held → (n : ℕ) (x : Stored) (j : JournalList) → kept d.objects n ≡ None → kept new.objects n ≡ Some x → journal_of x.object.body ≡ Some j
+      → image_len x.object.body ≤ body_limit
+  first_short lead fresh n x j none at of = by (object now.held n) refl (sym (kept_behind_step all d now n then_kept.numbered.rising) ∙ at)
+    where
+      same : (a b : Stored) → Some a ≡ Some b → a ≡ b
+      same a b h = cc
+
+      keeps : KeepsFresh s.held effected.held
+      keeps = event_fresh s p e is.right lead fresh
+
+      entries : (r : Option JournalList) → part_at journal_part effected.held n ≡ r → (i : JournalList) → SameEntries r (Some i) → i.entries ≡ []
+      entries None seen i h = absurd h
+      entries (Some k) seen i h = h ∙ keeps.still n k (off_disk n none) seen
+
+      -- it is kept whole
+      whole_one : (o : Object) → object now.held n ≡ Some o → x ≡ whole now o → (r : Option JournalList) → journal_of o.body ≡ r → image_len x.object.body ≤ body_limit
+      whole_one o found as_whole None own =
+          absurd (let e : None ≡ Some j = sym (settled_none now.units o.number.0 o.body own) ∙ sym (ap (λ (z : Stored). journal_of z.object.body) as_whole) ∙ of in cc)
+      whole_one o found as_whole (Some i) own =
+          let seen : part_at journal_part now.held n ≡ Some i = ap (part_in journal_part) found ∙ own in
+          let empty : i.entries ≡ [] =
+          entries (part_at journal_part effected.held n) refl i
+          (subst (SameEntries (part_at journal_part effected.held n)) (sym (ap (λ (h : Held). part_at journal_part h n) takes_it.held) ∙ seen) (stored_entries s p e effected n)) in
+          let size : image_len x.object.body ≡ entries_len i.entries =
+          ap (λ (z : Stored). image_len z.object.body) as_whole ∙ ap (λ (b : Body). image_len (settled_body now.units o.number.0 b)) (journal_lawful.back o.body i own) in
+          let none_is : entries_len i.entries ≡ 0 = ap entries_len empty in
+          omega (arith, size, none_is)
+
+      anew : (o : Object) (b : Bool) → cond b (whole now o) (kept_behind now o None) ≡ whole now o
+      anew o true = refl
+      anew o false = refl
+
+      disk : (o : Object) → object now.held n ≡ Some o → (b : Bool) → o.on_disk ≡ b → cond b (Some (kept_after all now (kept d.objects o.number.0) o)) None ≡ Some x → image_len x.object.body ≤ body_limit
+      disk o found false off h = cc
+      disk o found true on h =
+          whole_one o found
+          (sym (same (kept_after all now (kept d.objects o.number.0) o) x h)
+          ∙ ap (λ (i : ℕ). cond (list_any (is_whole i) all) (whole now o) (kept_behind now o (kept d.objects i))) (found_number n o now.held.objects found)
+          ∙ ap (λ (r : Option Stored). cond (list_any (is_whole n) all) (whole now o) (kept_behind now o r)) none
+          ∙ anew o (list_any (is_whole n) all)) (journal_of o.body) refl
+
+      by : (y : Option Object) → object now.held n ≡ y → kept_one all now d.objects y ≡ Some x → image_len x.object.body ≤ body_limit
+      by None found h = cc
+      by (Some o) found h = disk o found o.on_disk refl h
+
   -- what it forces fits in one put
-  pub done_put : (m : Content) → IsTrailOf s d → HaveHeaders d → HaveHeaders new → AreShort d → AreShort new → AreSpacesShort d new → Stands m d → length (object_changes (numbered all) (get m) new) ≤ most_changes
-  done_put m trail headers then_headers short then_short spaces stands =
+  pub done_put : (m : Content) → IsTrailOf s d → HaveHeaders d → HaveHeaders new → AreShort d → AreShort new → DestroysShort d new → LeadToDisk s.held → AreFresh s.held → Stands m d → length (object_changes (numbered all) (get m) new) ≤ most_changes
+  done_put m trail headers then_headers short then_short destroys lead fresh stands =
       step_put all d s now effected.held (record {
         rising = then_kept.numbered.rising;
         own = is.bodies;
@@ -354,7 +434,8 @@ module _ (laws : DurableLaws) (s : State) (p : ℕ) (e : Event) (d : Durable) (i
         ends = λ n x at. body_low x (then_headers n x at);
         short = short;
         then_short = then_short;
-        spaces = spaces;
+        first = first_short lead fresh;
+        last = destroys;
       }) m stands (forced_low laws s p e d is does)
 
 -- ---- a step that takes no effect, and a history
@@ -391,22 +472,38 @@ entry_images laws s e d (Done values) same is images readable = images_behind la
 entry_images laws s e d (Signal x) same is images readable = images
 entry_images laws s e d MustWait same is images readable = images
 
-entry_put : DurableLaws → (s : State) (e : Entry) (d : Durable) (r : Reply) → (step s e.process e.event).reply ≡ r → IsKeptOf s d → IsTrailOf s d → AreImages d → IsReadableBehind s e r → IsShortBy d s e r → IsOnePutBy most_changes d s e r
-entry_put laws s e d (Done values) same is trail images readable spaces =
+entry_put : DurableLaws → (s : State) (e : Entry) (d : Durable) (r : Reply) → (step s e.process e.event).reply ≡ r → IsKeptOf s d → IsTrailOf s d → AreImages d → IsReadableBehind s e r → IsShortBy d s e r → LeadToDisk s.held → AreFresh s.held
+    → IsOnePutBy most_changes d s e r
+entry_put laws s e d (Done values) same is trail images readable destroys lead fresh =
     let does = subst IsDone (sym same) tt in
     let new_durable : Durable = durable_after (forced s e.process e.event) d (step s e.process e.event).state in
-    let behind = images_behind laws s e.process e.event d is does images readable in
+    let behind_images = images_behind laws s e.process e.event d is does images readable in
     let next = done_kept laws s e.process e.event d is does in
-    λ m stands. done_put laws s e.process e.event d is does m trail (images_headers d images) (images_headers new_durable behind) (images_short s d is images) (images_short (step s e.process e.event).state new_durable next behind) spaces stands
-entry_put laws s e d (Signal x) same is trail images readable spaces = tt
-entry_put laws s e d MustWait same is trail images readable spaces = tt
+    λ m stands.
+    done_put laws s e.process e.event d is does m trail (images_headers d images) (images_headers new_durable behind_images) (images_short s d is images)
+    (images_short (step s e.process e.event).state new_durable next behind_images) destroys lead fresh stands
+entry_put laws s e d (Signal x) same is trail images readable destroys lead fresh = tt
+entry_put laws s e d MustWait same is trail images readable destroys lead fresh = tt
 
-pub history_put : DurableLaws → (s : State) (d : Durable) (before history : List Entry) (end : State) → IsKeptOf s d → IsTrailOf s d → AreImages d → AllReadable s history → AllSpacesShort d s history
-    → Leads s before history end → AllOnePut most_changes d s history
-history_put laws s d before [] end is trail images readable spaces leads = tt
-history_put laws s d before (e ∷ es) end is trail images readable spaces leads =
+pub other_fresh : (s : State) (p : ℕ) (e : Event) → (IsDone (step s p e).reply → ⊥) → AreFresh s.held → AreFresh (step s p e).state.held
+other_fresh s p e not fresh = subst AreFresh (sym (stayed s p e not).held) fresh
+
+entry_fresh : (s : State) (e : Entry) (r : Reply) → (step s e.process e.event).reply ≡ r → IsRight s → LeadToDisk s.held → AreFresh s.held → AreFresh (step s e.process e.event).state.held
+entry_fresh s e (Done values) same right lead fresh = done_fresh s e.process e.event right lead fresh (subst IsDone (sym same) tt)
+entry_fresh s e (Signal x) same right lead fresh = other_fresh s e.process e.event (not_done (Signal x) (step s e.process e.event).reply same (λ h. h)) fresh
+entry_fresh s e MustWait same right lead fresh = other_fresh s e.process e.event (not_done MustWait (step s e.process e.event).reply same (λ h. h)) fresh
+
+pub history_fresh : (s : State) (before history : List Entry) (end : State) → IsRight s → AllLeadToDisk s history → AreFresh s.held → Leads s before history end → AreFresh end.held
+history_fresh s before [] end right lead fresh leads = subst (λ (t : State). AreFresh t.held) leads fresh
+history_fresh s before (e ∷ es) end right lead fresh leads =
+    history_fresh (step s e.process e.event).state (before ++ e ∷ []) es end (step_right s e.process e.event right) lead.1 (entry_fresh s e e.reply leads.0.reply right lead.0 fresh) leads.1
+
+pub history_put : DurableLaws → (s : State) (d : Durable) (before history : List Entry) (end : State) → IsKeptOf s d → IsTrailOf s d → AreFresh s.held → AreImages d → AllReadable s history → AllDestroyShort d s history
+    → AllLeadToDisk s history → Leads s before history end → AllOnePut most_changes d s history
+history_put laws s d before [] end is trail fresh images readable destroys lead leads = tt
+history_put laws s d before (e ∷ es) end is trail fresh images readable destroys lead leads =
     let same = leads.0.reply in (
-      entry_put laws s e d e.reply same is trail images readable.0 spaces.0,
+      entry_put laws s e d e.reply same is trail images readable.0 destroys.0 lead.0 fresh,
       history_put laws (step s e.process e.event).state (after_reply d s e e.reply) (before ++ e ∷ []) es end (entry_kept laws s e d e.reply same is) (entry_trail laws s e d e.reply same is trail)
-          (entry_images laws s e d e.reply same is images readable.0) readable.1 spaces.1 leads.1,
+          (entry_fresh s e e.reply same is.right lead.0 fresh) (entry_images laws s e d e.reply same is images readable.0) readable.1 destroys.1 lead.1 leads.1,
     )

@@ -17,17 +17,16 @@ use Rattle.s38_rules.specs.Step.{step}
 abbrev pub AreShort : Durable → Type 0
 AreShort d = (n : ℕ) (x : Stored) → kept d.objects n ≡ Some x → journal_of x.object.body ≡ None → image_len x.object.body ≤ body_limit
 
--- a journal space that is kept for the first time has no more bytes either, and neither has one that is kept no more
-pub record AreSpacesShort (d new : Durable) : Type 0 where
-  pub first : (n : ℕ) (x : Stored) (j : JournalList) → kept d.objects n ≡ None → kept new.objects n ≡ Some x → journal_of x.object.body ≡ Some j → image_len x.object.body ≤ body_limit
-  pub last : (n : ℕ) (x : Stored) (j : JournalList) → kept d.objects n ≡ Some x → kept new.objects n ≡ None → journal_of x.object.body ≡ Some j → image_len x.object.body ≤ body_limit
+-- a journal space that is kept no more has no more bytes either
+abbrev pub DestroysShort : Durable → Durable → Type 0
+DestroysShort d new = (n : ℕ) (x : Stored) (j : JournalList) → kept d.objects n ≡ Some x → kept new.objects n ≡ None → journal_of x.object.body ≡ Some j → image_len x.object.body ≤ body_limit
 
 abbrev pub IsShortBy : Durable → State → Entry → Reply → Type 0
-IsShortBy d s e (Done values) = AreSpacesShort d (durable_after (forced s e.process e.event) d (step s e.process e.event).state)
+IsShortBy d s e (Done values) = DestroysShort d (durable_after (forced s e.process e.event) d (step s e.process e.event).state)
 IsShortBy d s e (Signal x) = Unit {0}
 IsShortBy d s e MustWait = Unit {0}
 
--- at each step of a history they are
-abbrev pub AllSpacesShort : Durable → State → List Entry → Type 0
-AllSpacesShort d s [] = Unit {0}
-AllSpacesShort d s (e ∷ es) = IsShortBy d s e e.reply × AllSpacesShort (after_reply d s e e.reply) (step s e.process e.event).state es
+-- so it is at each step of a history
+abbrev pub AllDestroyShort : Durable → State → List Entry → Type 0
+AllDestroyShort d s [] = Unit {0}
+AllDestroyShort d s (e ∷ es) = IsShortBy d s e e.reply × AllDestroyShort (after_reply d s e e.reply) (step s e.process e.event).state es
