@@ -63,6 +63,7 @@ use Rattle.s38_rules.specs.declared.object.Object.{Object}
 use Rattle.s38_rules.specs.declared.process.ProcessEntry.{ProcessEntry}
 use Rattle.s38_rules.specs.declared.verdict.Verdict.TheVariants.{Permit}
 use Rattle.s38_step_parts.proofs.AfterLaws.{kept_behind_step, kept_one}
+use Rattle.s38_step_parts.specs.Growing.{AreBeginnings, IsBeginning}
 use Rattle.s38_step_parts.specs.Numbers.{numbered}
 use Rattle.s38_step_parts.specs.Stepping.{HaveHeaders, object_changes}
 use Rattle.s38_vault.specs.Content.{Content}
@@ -350,6 +351,20 @@ module _ (laws : DurableLaws) (s : State) (p : ℕ) (e : Event) (d : Durable) (i
     given = given;
     kinds = kinds_on;
   }) trails
+
+  -- and what was kept of one is the beginning of what is there behind the step
+  pub begins_on : AreTrailing s.held d → AreBeginnings now.held d
+  begins_on trails n o x j found at body =
+      by (journal_kind x.object.body o.body j (sym (kinds_on n o x found at)) (ap journal_of body)) (part_at journal_part effected.held n) refl
+      (subst (SameEntries (part_at journal_part effected.held n)) (sym (ap (λ (h : Held). part_at journal_part h n) takes_it.held) ∙ (ap (part_in journal_part) found ∙ ap journal_of body)) (stored_entries s p e effected n))
+    where
+      by : (own : (i : JournalList) × (journal_of x.object.body ≡ Some i)) (r : Option JournalList) → part_at journal_part effected.held n ≡ r → SameEntries r (Some j) → IsBeginning x j
+      by own None seen same = absurd same
+      by own (Some k) seen same =
+          let i = own.0 in
+          let longer = subst (Lengthens (part_at journal_part s.held n)) seen ((event_longer s p e).each n (given n x at)) in
+          let trail = trails_at i.entries (part_at journal_part s.held n) k (trails n x i at own.1) longer in
+          record { old = i; more = trail.rest; body = journal_lawful.back x.object.body i own.1; grown = same ∙ trail.entries }
 
   -- a step over a store
   pub done_trail : IsTrailOf s d → IsTrailOf now new

@@ -29,6 +29,7 @@ ghost use Rattle.s38_rules.specs.Legal.{IsEntry, Leads};
 ghost use Rattle.s38_rules.specs.Room.{Room};
 ghost use Rattle.s38_rules.specs.State.{State};
 ghost use Rattle.s38_rules.specs.Step.{step};
+ghost use Rattle.s38_step_parts.specs.Growing.{AreBeginnings};
 ghost use Rattle.s38_step_parts.specs.Numbers.{numbered};
 ghost use Rattle.s38_step_parts.specs.Stepping.{HaveHeaders, object_changes};
 ghost use Rattle.s38_vault.specs.Content.{Content};
@@ -46,12 +47,13 @@ pub fn journal_spaces_become_longer()
 
 /// In each state of a run over a store what is kept of a journal space is the beginning of it, and no more bytes are there
 /// behind that than are counted as unforced, which are few. It is so as the run begins and behind each step, and so at the
-/// end of a history.
+/// end of a history. What was kept before a step is the beginning of what is there behind it.
 pub fn what_is_kept_of_journal_spaces_is_their_beginning()
     ensures begins { (m : Content) (h : Held) (templates : List CheckedTemplate) (jobs : List Job) (room : Room) → AreParts (all_parts m) → first_fault body_limit (all_parts m) ≡ None
         → h ≡ restarted body_limit (all_parts m) → IsTrailOf (origin_of h templates jobs (Some room)) (durable_in m) }
     ensures done { (s : State) (p : ℕ) (e : Event) (values : List Val) (d : Durable) → IsKeptOf s d → IsTrailOf s d → (step s p e).reply ≡ Done values
         → IsTrailOf (step s p e).state (durable_after (forced s p e) d (step s p e).state) }
+    ensures begun { (s : State) (p : ℕ) (e : Event) (values : List Val) (d : Durable) → IsKeptOf s d → IsTrailOf s d → (step s p e).reply ≡ Done values → AreBeginnings (step s p e).state.held d }
     ensures refused { (s : State) (p : ℕ) (e : Event) (x : Exception) (d : Durable) → IsTrailOf s d → (step s p e).reply ≡ Signal x → IsTrailOf (step s p e).state d }
     ensures waits { (s : State) (p : ℕ) (e : Event) (d : Durable) → IsTrailOf s d → (step s p e).reply ≡ MustWait → IsTrailOf (step s p e).state d }
     ensures entries { (s : State) (before : List Entry) (e : Entry) (d : Durable) → IsEntry s before e → IsKeptOf s d → IsTrailOf s d → IsTrailOf (step s e.process e.event).state (after_reply d s e e.reply) }

@@ -15,15 +15,13 @@ use Rattle.s38_image.specs.Fitting.{header_codec}
 use Rattle.s38_image.specs.Images.{header_of}
 use Rattle.s38_image.specs.declared.stored.Stored.{Stored}
 use Rattle.s38_object_laws.specs.Outline.{is_forced}
-use Rattle.s38_journals.specs.Journals.{JournalList}
 use Rattle.s38_rules.specs.Forcing.{Ceiling, Forced}
 use Rattle.s38_rules.specs.Held.{Held, object}
 use Rattle.s38_rules.specs.Room.{image_len}
 use Rattle.s38_rules.specs.State.{State}
-use Rattle.s38_rules.specs.declared.object.Body.TheVariants as bodies
 use Rattle.s38_rules.specs.declared.object.Object.{Object}
 use Rattle.s38_vault.specs.Content.{Content}
-use Rattle.s38_step_parts.specs.Growing.{IsBeginning}
+use Rattle.s38_step_parts.specs.Growing.{AreBeginnings}
 use Rattle.s38_step_parts.specs.Numbers.{numbers}
 
 -- ---- what may be forced
@@ -99,7 +97,7 @@ pub record Precedes (h : Held) (us : UnitMap) (m : Content) (d : Durable) (s : S
   pub stands : Stands m d
   pub headers : HaveHeaders d
   pub kinds : (n : ℕ) (o : Object) (x : Stored) → object s.held n ≡ Some o → kept d.objects n ≡ Some x → x.object.id.kind ≡ o.id.kind
-  pub grows : (n : ℕ) (o : Object) (x : Stored) (journal : JournalList) → object s.held n ≡ Some o → kept d.objects n ≡ Some x → o.body ≡ bodies.Journal journal → IsBeginning x journal
+  pub grows : AreBeginnings s.held d
 
 -- a step led from what is durable to the state, and forces this: what it does not force stays durable
 pub record IsDue (all : List Forced) (d : Durable) (s : State) : Type 0 where
