@@ -43,7 +43,7 @@ use Rattle.s38_step_parts.specs.Stepping.{HaveHeaders, object_changes}
 use Rattle.s38_vault.specs.Content.{Content}
 use Rattle.s38_vault.specs.Vaults.{most_changes}
 use Rattle.s38_put_laws.specs.Lengthening.{AreLonger, Lengthens}
-use Rattle.s38_put_laws.specs.OnePut.{AreShort, DestroysShort}
+use Rattle.s38_put_laws.specs.OnePut.{AreShort, FirstShort, LastShort}
 use Rattle.s38_put_laws.specs.Trails.{AreTrailing, IsTrailing}
 use Rattle.s38_put_laws.specs.Unforced.{AreLow, most_trailing}
 use Rattle.s38_put_laws.proofs.DifferLaws.{differ, none_differ}
@@ -126,8 +126,8 @@ module _ (all : List Forced) (d : Durable) (s t : State) (k : Held) where
     pub ends : (n : ℕ) (x : Stored) → kept new.objects n ≡ Some x → 128 + pages_begun (image_len x.object.body) ≤ parts_end
     pub short : AreShort d
     pub then_short : AreShort new
-    pub first : (n : ℕ) (x : Stored) (j : JournalList) → kept d.objects n ≡ None → kept new.objects n ≡ Some x → journal_of x.object.body ≡ Some j → image_len x.object.body ≤ body_limit
-    pub last : DestroysShort d new
+    pub first : FirstShort d new
+    pub last : LastShort d new
 
   module _ (led : IsLed) where
     -- how many parts of a number differ

@@ -17,7 +17,7 @@ ghost use Rattle.s38_kept_laws.specs.Beginning.{durable_in, origin_of};
 ghost use Rattle.s38_kept_laws.specs.Kept.{AllReadable, AreImages, IsKeptOf};
 ghost use Rattle.s38_put_laws.specs.Fresh.{AllLeadToDisk, AreFresh, LeadToDisk};
 ghost use Rattle.s38_put_laws.specs.Lengthening.{AreLonger};
-ghost use Rattle.s38_put_laws.specs.OnePut.{AllDestroyShort, AreShort, DestroysShort};
+ghost use Rattle.s38_put_laws.specs.OnePut.{AllBetween, AreShort, FirstShort, LastShort};
 ghost use Rattle.s38_put_laws.specs.Puts.{AllOnePut};
 ghost use Rattle.s38_put_laws.specs.Trails.{IsTrailOf};
 ghost use Rattle.s38_restart.specs.Parts.{AreParts, all_parts};
@@ -62,28 +62,36 @@ pub fn what_is_kept_of_journal_spaces_is_their_beginning()
     what_is_not_forced_stays_durable();
 }
 
-/// A journal space that is not on disk has no entry, as long as the journal spaces of the data spaces that are journaled are on
-/// disk: nothing is journaled elsewhere. A restart makes all objects be on disk.
+/// A journal space that is not on disk has no entry, and so has one that is kept for the first time, as long as the journal
+/// spaces of the data spaces that are journaled are on disk: nothing is journaled elsewhere. A restart makes all objects be
+/// on disk.
 pub fn a_journal_space_off_disk_has_no_entry()
     ensures begins { (m : Content) (h : Held) → AreParts (all_parts m) → first_fault body_limit (all_parts m) ≡ None → h ≡ restarted body_limit (all_parts m) → AreFresh h }
     ensures done { (s : State) (p : ℕ) (e : Event) (values : List Val) → IsRight s → LeadToDisk s.held → AreFresh s.held → (step s p e).reply ≡ Done values → AreFresh (step s p e).state.held }
     ensures refused { (s : State) (p : ℕ) (e : Event) (x : Exception) → AreFresh s.held → (step s p e).reply ≡ Signal x → AreFresh (step s p e).state.held }
     ensures waits { (s : State) (p : ℕ) (e : Event) → AreFresh s.held → (step s p e).reply ≡ MustWait → AreFresh (step s p e).state.held }
     ensures histories { (s : State) (before : List Entry) (history : List Entry) (end : State) → Leads s before history end → IsRight s → AllLeadToDisk s history → AreFresh s.held → AreFresh end.held }
-{}
+    ensures first { (s : State) (p : ℕ) (e : Event) (values : List Val) (d : Durable) → IsKeptOf s d → LeadToDisk s.held → AreFresh s.held → (step s p e).reply ≡ Done values
+        → FirstShort d (durable_after (forced s p e) d (step s p e).state) }
+    ensures all_first { (s : State) (before : List Entry) (history : List Entry) (end : State) (d : Durable) → Leads s before history end → IsKeptOf s d → AllLeadToDisk s history → AreFresh s.held
+        → AllBetween FirstShort d s history }
+{
+    what_is_durable_follows();
+    room_counts_what_is_durable();
+    what_is_not_forced_stays_durable();
+}
 
 /// What a step forces that takes effect fits in one put, besides the ceiling, if no body but that of a journal space is too
-/// long, no journal space that is destroyed is, and nothing is journaled in a journal space that is not on disk. Where what
-/// was durable can be read again, no other body is too long; so each step of a history is kept by one put, where all that is
-/// kept can be read again.
+/// long, and no journal space is that is kept for the first time, or no more. Where what was durable can be read again, no
+/// other body is too long; so each step of a history is kept by one put, where all that is kept can be read again.
 pub fn what_a_step_forces_fits_in_one_put()
-    ensures done { (s : State) (p : ℕ) (e : Event) (values : List Val) (d : Durable) (m : Content) → IsKeptOf s d → IsTrailOf s d → LeadToDisk s.held → AreFresh s.held → (step s p e).reply ≡ Done values
+    ensures done { (s : State) (p : ℕ) (e : Event) (values : List Val) (d : Durable) (m : Content) → IsKeptOf s d → IsTrailOf s d → (step s p e).reply ≡ Done values
         → HaveHeaders d → HaveHeaders (durable_after (forced s p e) d (step s p e).state) → AreShort d → AreShort (durable_after (forced s p e) d (step s p e).state)
-        → DestroysShort d (durable_after (forced s p e) d (step s p e).state) → Stands m d
+        → FirstShort d (durable_after (forced s p e) d (step s p e).state) → LastShort d (durable_after (forced s p e) d (step s p e).state) → Stands m d
         → length (object_changes (numbered (forced s p e)) (get m) (durable_after (forced s p e) d (step s p e).state)) ≤ most_changes }
     ensures short { (s : State) (d : Durable) → IsKeptOf s d → AreImages d → AreShort d }
-    ensures histories { (s : State) (before : List Entry) (history : List Entry) (end : State) (d : Durable) → Leads s before history end → IsKeptOf s d → IsTrailOf s d → AreFresh s.held
-        → AllLeadToDisk s history → AreImages d → AllReadable s history → AllDestroyShort d s history → AllOnePut most_changes d s history }
+    ensures histories { (s : State) (before : List Entry) (history : List Entry) (end : State) (d : Durable) → Leads s before history end → IsKeptOf s d → IsTrailOf s d → AreImages d → AllReadable s history
+        → AllBetween FirstShort d s history → AllBetween LastShort d s history → AllOnePut most_changes d s history }
 {
     what_is_durable_follows();
     room_counts_what_is_durable();
