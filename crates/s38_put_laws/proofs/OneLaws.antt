@@ -44,10 +44,11 @@ use Rattle.s38_vault.specs.Content.{Content}
 use Rattle.s38_vault.specs.Vaults.{most_changes}
 use Rattle.s38_put_laws.specs.Lengthening.{AreLonger, Lengthens}
 use Rattle.s38_put_laws.specs.OnePut.{AreShort, FirstShort, LastShort}
+use Rattle.s38_put_laws.specs.Spaces.{IsSpace}
 use Rattle.s38_put_laws.specs.Trails.{AreTrailing, IsTrailing}
 use Rattle.s38_put_laws.specs.Unforced.{AreLow, most_trailing}
 use Rattle.s38_put_laws.proofs.DifferLaws.{differ, none_differ}
-use Rattle.s38_put_laws.proofs.ObjectLaws.{IsOf, IsSpace, all_few, header_few, page_in, pages_in, same_few, space_few}
+use Rattle.s38_put_laws.proofs.ObjectLaws.{IsOf, all_few, header_few, page_in, pages_in, same_few, space_few}
 use Rattle.s38_put_laws.proofs.ShapeLaws.{ForcesBoth, ForcesFew, ForcesOne, longest_entry, rows_at, rows_in, unforced_in}
 use Rattle.s38_put_laws.proofs.TrailLaws.{journal_kind, trails_at}
 

@@ -1,10 +1,11 @@
 //! Laws about journal spaces on the way, and about what a step puts.
-ghost use Rattle.std.specs.Prelude.{◌≡◌, ◌≤◌, ℕ, List, None, Some, length};
+ghost use Rattle.std.specs.Prelude.{◌≡◌, ◌+◌, ◌/◌, ◌++◌, ◌<◌, ◌≤◌, ℕ, List, None, Some, length};
 ghost use Rattle.std.specs.FinMap.{get};
-ghost use Rattle.s38_base.specs.Limits.{body_limit};
+ghost use Rattle.s38_base.specs.Limits.{body_limit, page_bytes};
 ghost use Rattle.s38_base.specs.declared.exception.Exception.{Exception};
 ghost use Rattle.s38_code.specs.declared.deck.Job.{Job};
 ghost use Rattle.s38_code.specs.declared.entry.Entry.{Entry};
+ghost use Rattle.s38_journals.specs.Entries as journals;
 ghost use Rattle.s38_code.specs.declared.event.Event.{Event};
 ghost use Rattle.s38_code.specs.declared.made.CheckedTemplate.{CheckedTemplate};
 ghost use Rattle.s38_code.specs.declared.reply.Reply.TheVariants.{Done, MustWait, Signal};
@@ -12,13 +13,18 @@ ghost use Rattle.s38_code.specs.declared.reply.Val.{Val};
 ghost use Rattle.s38_commitment_laws.specs.Right.{IsRight};
 ghost use Rattle.s38_durable.specs.Durable.{Durable, after_reply, durable, durable_after};
 ghost use Rattle.s38_durable.specs.Stands.{Stands};
+ghost use Rattle.s38_forcing.specs.Differences.{wanted_at};
 ghost use Rattle.s38_groups.specs.Stores.{first_fault};
+ghost use Rattle.s38_image.specs.Images.{body_part, parts_of};
+ghost use Rattle.s38_image.specs.declared.stored.Stored.{Stored};
+ghost use Rattle.s38_journals.specs.Journals.{entries_len};
 ghost use Rattle.s38_kept_laws.specs.Beginning.{durable_in, origin_of};
 ghost use Rattle.s38_kept_laws.specs.Kept.{AllReadable, AreImages, IsKeptOf};
 ghost use Rattle.s38_put_laws.specs.Fresh.{AllLeadToDisk, AreFresh, LeadToDisk};
 ghost use Rattle.s38_put_laws.specs.Lengthening.{AreLonger};
 ghost use Rattle.s38_put_laws.specs.OnePut.{AllBetween, AreShort, FirstShort, LastShort};
 ghost use Rattle.s38_put_laws.specs.Puts.{AllOnePut};
+ghost use Rattle.s38_put_laws.specs.Spaces.{IsSpace};
 ghost use Rattle.s38_put_laws.specs.Trails.{IsTrailOf};
 ghost use Rattle.s38_restart.specs.Parts.{AreParts, all_parts};
 ghost use Rattle.s38_restart.specs.Restarted.{restarted};
@@ -61,6 +67,13 @@ pub fn what_is_kept_of_journal_spaces_is_their_beginning()
     room_counts_what_is_durable();
     what_is_not_forced_stays_durable();
 }
+
+/// The pages of a journal space that lie within the entries that were kept stay as they are where more entries are kept: what
+/// differs of its body are the pages from the last of those on.
+pub fn pages_within_what_was_kept_stay()
+    ensures { (n p : ℕ) (x y : Stored) (es rest : List journals.Entry) → IsSpace n x es → IsSpace n y (es ++ rest) → body_part ≤ p → p < body_part + entries_len es / page_bytes
+        → wanted_at (parts_of x) (record { object = n; part = p }) ≡ wanted_at (parts_of y) (record { object = n; part = p }) }
+{}
 
 /// A journal space that is not on disk has no entry, and so has one that is kept for the first time, as long as the journal
 /// spaces of the data spaces that are journaled are on disk: nothing is journaled elsewhere. A restart makes all objects be
