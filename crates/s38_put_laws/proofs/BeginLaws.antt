@@ -1,7 +1,6 @@
 -- A run over a store begins with journal spaces that are kept whole, and what can be read again is short.
 use Rattle.std.proofs.Common.{◌≡◌, ◌∙◌, ℕ, ◌≤◌, ◌==◌, zero, suc, Bool, true, false, cond, List, [], ◌∷◌, map, refl, sym, ap, subst, arith}
 use Rattle.std.proofs.lemmas.Bool.{and_parts, eqb-true}
-use Rattle.std.proofs.lemmas.Bool.Decides.{nat_tests}
 use Rattle.std.specs.Option.{option_map, unwrap_or}
 use Rattle.std.specs.Prelude.{◌&&◌, None, Option, Some, nat_le}
 use Rattle.s38_base.specs.Limits.{body_limit, most_rows}
@@ -37,6 +36,7 @@ use Rattle.s38_put_laws.specs.Fresh.{AreFresh}
 use Rattle.s38_put_laws.specs.Trails.{AreTrailing, IsTrailOf, IsTrailing}
 use Rattle.s38_put_laws.specs.Unforced.{AreLow}
 use Rattle.s38_put_laws.proofs.LongerLaws.{append_none}
+use Rattle.s38_put_laws.proofs.ShapeLaws.{true_le}
 
 -- ---- what can be read again
 
@@ -63,9 +63,6 @@ image_forced x i image kind is =
 other_longest : (b : Body) → journal_of b ≡ None → longest_body body_limit (kind_of b) ≡ body_limit
 other_longest (bodies.Journal j) none = absurd (let e : Some j ≡ None = none in cc)
 other_longest _ none = refl
-
-true_le : (a b : ℕ) → nat_le a b ≡ true → a ≤ b
-true_le a b e = grind (arith, nat_tests)
 
 pub image_short : (x : Stored) → IsImage body_limit x → kind_of x.object.body ≡ x.object.id.kind → journal_of x.object.body ≡ None → image_len x.object.body ≤ body_limit
 image_short x image kind none =

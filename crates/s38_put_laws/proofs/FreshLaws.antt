@@ -1,7 +1,6 @@
 -- A journal space that is not on disk has no entry: one case for each word of change.
-use Rattle.std.proofs.Common.{◌≡◌, ◌∙◌, ℕ, ◌+◌, ◌<◌, ◌≤◌, ◌==◌, Bool, true, false, cond, List, [], ◌∷◌, ◌++◌, length, refl, sym, ap, subst, arith}
+use Rattle.std.proofs.Common.{◌≡◌, ◌∙◌, ℕ, ◌≤◌, ◌==◌, Bool, true, false, cond, List, [], ◌∷◌, length, refl, sym, ap, subst, arith}
 use Rattle.std.proofs.lemmas.Bool.{and_parts, cond_both}
-use Rattle.std.proofs.lemmas.Bool.Decides.{nat_tests}
 use Rattle.std.proofs.lemmas.List.Elements.{All-cons, All-head, All-nil, All-tail}
 use Rattle.std.proofs.lemmas.List.Folds.{find-append}
 use Rattle.std.specs.Option.{option_map, option_or}
@@ -24,7 +23,6 @@ use Rattle.s38_dataspaces.specs.Table.{DataTable}
 use Rattle.s38_journals.specs.Entries.{Entry}
 use Rattle.s38_journals.specs.Journals.{JournalList}
 use Rattle.s38_journals.specs.declared.entry.EntryKind.TheVariants.{Commit, Decommit}
-use Rattle.s38_journals.specs.declared.entry.EntryKind.{EntryKind}
 use Rattle.s38_memory.specs.Tagged.{resized}
 use Rattle.s38_memory.specs.declared.cell.Cell.{Cell}
 use Rattle.s38_rules.proofs.ChargeLaws.{KeepsNumber, object_changed, object_without}
@@ -38,7 +36,7 @@ use Rattle.s38_rules.specs.Held.{Held, change, disk_in, has_number, is_on_disk, 
 use Rattle.s38_rules.specs.Invocations.{restack_at}
 use Rattle.s38_rules.specs.Journaling.{block_port, data_port, journal_behind, journal_for, journal_for_block, open_behind}
 use Rattle.s38_rules.specs.Operands.{cells_put}
-use Rattle.s38_rules.specs.Parts.{cursor_lawful, cursor_part, data_lawful, data_part, index_lawful, index_part, journal_at, journal_lawful, journal_of, journal_part, on_data, on_journal, on_table, over_object, over_table, part_at, part_in, profile_lawful, profile_part, queue_lawful, queue_part}
+use Rattle.s38_rules.specs.Parts.{cursor_lawful, cursor_part, data_lawful, data_part, index_lawful, index_part, journal_at, journal_lawful, journal_of, journal_part, on_data, on_journal, over_object, over_table, part_at, part_in, profile_lawful, profile_part, queue_lawful, queue_part}
 use Rattle.s38_rules.specs.Rows.{row}
 use Rattle.s38_rules.specs.Standing.{standing_of, with_standing}
 use Rattle.s38_rules.specs.State.{State, process_entry}
@@ -49,12 +47,12 @@ use Rattle.s38_rules.specs.declared.object.Body.{Body}
 use Rattle.s38_rules.specs.declared.object.Object.{Object}
 use Rattle.s38_rules.specs.declared.process.ProcessEntry.{ProcessEntry}
 use Rattle.s38_commitment_laws.proofs.HeldLaws.{part_over, part_without}
-use Rattle.s38_commitment_laws.proofs.UnitLaws.{Both, all_found, all_stand}
+use Rattle.s38_commitment_laws.proofs.UnitLaws.{Both, all_found}
 use Rattle.s38_commitment_laws.specs.Right.{IsLogged, IsRight, IsUnit}
 use Rattle.s38_kept_laws.proofs.SameLaws.{seen_same}
 use Rattle.s38_put_laws.specs.Fresh.{AreFresh, LeadToDisk}
-use Rattle.s38_put_laws.proofs.LowLaws.{data_leads, journal_leads, undone_leads}
-use Rattle.s38_put_laws.proofs.ShapeLaws.{IsPlain, NewBody, SameBeside, data_journal, delivered_beside, other_beside, row_plain, same_beside, space_beside}
+use Rattle.s38_put_laws.proofs.LowLaws.{journal_leads, undone_leads}
+use Rattle.s38_put_laws.proofs.ShapeLaws.{IsPlain, NewBody, SameBeside, delivered_beside, other_beside, row_plain, same_beside, space_beside}
 
 -- ---- what goes on
 

@@ -4,7 +4,7 @@ use Rattle.std.proofs.lemmas.Bool.{and_parts, cond_both}
 use Rattle.std.proofs.lemmas.Bool.Decides.{nat_tests}
 use Rattle.std.proofs.lemmas.List.Elements.{All-head, All-tail}
 use Rattle.std.specs.List.{list_any}
-use Rattle.std.specs.Option.{option_map, unwrap_or}
+use Rattle.std.specs.Option.{option_map}
 use Rattle.std.specs.Prelude.{◌&&◌, ◌||◌, All, None, Option, Some, is_none, is_some, nat_le, nat_lt, not}
 use Rattle.s38_base.specs.Pointers.{start_of, target_of}
 use Rattle.s38_base.specs.declared.id.Id.{Id}
@@ -32,7 +32,7 @@ use Rattle.s38_rules.specs.Held.{Held, kept_on_disk, object, without}
 use Rattle.s38_rules.specs.Invocations.{restack_at}
 use Rattle.s38_rules.specs.Journaling.{begins_unit, block_port, block_port_in, data_port, goes_to, is_journal, is_number, journal_behind, journal_for, journal_for_block, journal_named, open_behind, open_units}
 use Rattle.s38_rules.specs.Operands.{cells_put}
-use Rattle.s38_rules.specs.Parts.{block_part, cursor_lawful, cursor_part, data_part, index_lawful, index_part, journal_at, journal_lawful, journal_part, no_journal, on_data, on_journal, on_space, on_table, over_table, part_at, part_in, port_part, profile_lawful, profile_part, queue_lawful, queue_part, space_lawful, space_part}
+use Rattle.s38_rules.specs.Parts.{block_part, cursor_lawful, cursor_part, data_part, index_lawful, index_part, journal_at, journal_lawful, journal_part, on_data, on_journal, on_space, on_table, over_table, part_at, part_in, port_part, profile_lawful, profile_part, queue_lawful, queue_part, space_lawful, space_part}
 use Rattle.s38_rules.specs.Standing.{standing_of, with_standing}
 use Rattle.s38_rules.specs.State.{State, process_entry}
 use Rattle.s38_rules.specs.Units.{all_decommitted, all_undone, committed, decommitted, end_entry, end_written, put_back, with_entry}
@@ -54,6 +54,7 @@ use Rattle.s38_put_laws.specs.Lengthening.{AreLonger, Lengthens}
 use Rattle.s38_put_laws.specs.Unforced.{most_trailing}
 use Rattle.s38_put_laws.proofs.LongerLaws.{done_longer}
 use Rattle.s38_put_laws.proofs.RowLaws.{MayOpen}
+use Rattle.s38_put_laws.proofs.ShapeLaws.{unforced_in}
 
 -- ---- where units go
 
@@ -119,9 +120,6 @@ pub same_leads : (h k : Held) → ((block : ℕ) → journal_for_block k block �
 same_leads h k same block n to = sym (same block) ∙ to
 
 -- ---- what is unforced
-
-abbrev unforced_in : Option JournalList → ℕ
-unforced_in x = (unwrap_or x no_journal).unforced
 
 -- a journal space is another one
 journal_bytes_at : (h : Held) (n m : ℕ) (f : JournalList → JournalList) → (journal_at (on_journal h n f) m).unforced ≡ unforced_in (cond (n == m) (option_map f (part_at journal_part h m)) (part_at journal_part h m))

@@ -30,6 +30,7 @@ use Rattle.s38_rules.specs.declared.rows.PrivateRow.{PrivateRow}
 use Rattle.s38_step_parts.proofs.FrontLaws.{front_are, parts_split, stream_from, untagged, wanted_before, wanted_behind}
 use Rattle.s38_step_parts.specs.Fronts.{front_parts}
 use Rattle.s38_step_parts.specs.Stepping.{HasHeader}
+use Rattle.s38_put_laws.specs.Spaces.{IsSpace}
 use Rattle.s38_put_laws.proofs.DifferLaws.{AreSame, differ, differ_before, differ_from, few_differ, pieces}
 use Rattle.s38_put_laws.proofs.PrintLaws.{printed_more, printed_none}
 use Rattle.s38_put_laws.proofs.TailLaws.{stream_longer}
@@ -108,15 +109,6 @@ journal_bytes b sequence j is has =
     by zero e = at ((j.spare == 0) && (j.unforced == 0)) e
     by (suc k) e = none e
 
--- what is kept of a journal space
-pub record IsSpace (n : ℕ) (x : Stored) (es : List Entry) : Type 0 where
-  pub number : x.object.number.0 ≡ n
-  pub has : HasHeader x
-  pub kind : x.object.id.kind ≡ kinds.Journal
-  pub journal : JournalList
-  pub body : x.object.body ≡ bodies.Journal journal
-  pub entries : journal.entries ≡ es
-
 module _ (n : ℕ) (x : Stored) (es : List Entry) (is : IsSpace n x es) where
   space_bytes : body_bytes kinds.Journal (image_of x) ≡ journal.print es
   space_bytes =
@@ -138,6 +130,15 @@ module _ (n : ℕ) (x : Stored) (es : List Entry) (is : IsSpace n x es) where
   space_none p past =
       let size : image_len x.object.body ≡ length (journal.print es) = ap image_len is.body ∙ ap entries_len is.entries ∙ sym (journal_long es) in
       ap (λ (m : ℕ). wanted_at (parts_of x) (key_at m p)) (sym is.number) ∙ none_behind x is.has p (omega (arith, past, ap needed size))
+
+-- the pages that lie within the entries that were kept stay where more entries are
+pub pages_stay : (n p : ℕ) (x y : Stored) (es rest : List Entry) → IsSpace n x es → IsSpace n y (es ++ rest) → 128 ≤ p → p < 128 + entries_len es / 512
+    → wanted_at (parts_of x) (key_at n p) ≡ wanted_at (parts_of y) (key_at n p)
+pages_stay n p x y es rest was is from before =
+    let more = printed_more es rest in
+    let size = journal_long es in
+    space_page n x es was p from ∙ stream_longer n 128 p (journal.print es) more.0 from (omega (arith, before, size))
+    ∙ sym (ap (λ (bs : List ℕ). wanted_at (stream_parts n 128 bs []) (key_at n p)) more.1) ∙ sym (space_page n y (es ++ rest) is p from)
 
 -- ---- two that are kept under a number
 
@@ -181,9 +182,6 @@ module _ (n end : ℕ) (x y : Stored) (es rest : List Entry) (was : IsSpace n x 
   abbrev all_pages : ℕ
   all_pages = needed (length (journal.print (es ++ rest)))
 
-  more : (bs : List ℕ) × (journal.print (es ++ rest) ≡ journal.print es ++ bs)
-  more = printed_more es rest
-
   size : length (journal.print (es ++ rest)) ≡ length (journal.print es) + entries_len rest
   size =
       let one = journal_long es in
@@ -193,9 +191,7 @@ module _ (n end : ℕ) (x y : Stored) (es rest : List Entry) (was : IsSpace n x 
 
   -- the pages within what was kept are the same
   begin_same : AreSame pages wanted n 128 (128 + first_pages)
-  begin_same p from before =
-      space_page n x es was p from ∙ stream_longer n 128 p (journal.print es) more.0 from before
-      ∙ sym (ap (λ (bs : List ℕ). wanted_at (stream_parts n 128 bs []) (key_at n p)) more.1) ∙ sym (space_page n y (es ++ rest) is p from)
+  begin_same p from before = let own = journal_long es in pages_stay n p x y es rest was is from (omega (arith, before, own))
 
   past_same : AreSame pages wanted n (128 + all_pages) end
   past_same p from before = space_none n x es was p (omega (arith, from, size)) ∙ sym (space_none n y (es ++ rest) is p from)

@@ -43,11 +43,12 @@ use Rattle.s38_step_parts.specs.Stepping.{HaveHeaders, object_changes}
 use Rattle.s38_vault.specs.Content.{Content}
 use Rattle.s38_vault.specs.Vaults.{most_changes}
 use Rattle.s38_put_laws.specs.Lengthening.{AreLonger, Lengthens}
-use Rattle.s38_put_laws.specs.OnePut.{AreShort, DestroysShort}
+use Rattle.s38_put_laws.specs.OnePut.{AreShort, FirstShort, LastShort}
+use Rattle.s38_put_laws.specs.Spaces.{IsSpace}
 use Rattle.s38_put_laws.specs.Trails.{AreTrailing, IsTrailing}
 use Rattle.s38_put_laws.specs.Unforced.{AreLow, most_trailing}
 use Rattle.s38_put_laws.proofs.DifferLaws.{differ, none_differ}
-use Rattle.s38_put_laws.proofs.ObjectLaws.{IsOf, IsSpace, all_few, header_few, page_in, pages_in, same_few, space_few}
+use Rattle.s38_put_laws.proofs.ObjectLaws.{IsOf, all_few, header_few, page_in, pages_in, same_few, space_few}
 use Rattle.s38_put_laws.proofs.ShapeLaws.{ForcesBoth, ForcesFew, ForcesOne, longest_entry, rows_at, rows_in, unforced_in}
 use Rattle.s38_put_laws.proofs.TrailLaws.{journal_kind, trails_at}
 
@@ -126,8 +127,8 @@ module _ (all : List Forced) (d : Durable) (s t : State) (k : Held) where
     pub ends : (n : ℕ) (x : Stored) → kept new.objects n ≡ Some x → 128 + pages_begun (image_len x.object.body) ≤ parts_end
     pub short : AreShort d
     pub then_short : AreShort new
-    pub first : (n : ℕ) (x : Stored) (j : JournalList) → kept d.objects n ≡ None → kept new.objects n ≡ Some x → journal_of x.object.body ≡ Some j → image_len x.object.body ≤ body_limit
-    pub last : DestroysShort d new
+    pub first : FirstShort d new
+    pub last : LastShort d new
 
   module _ (led : IsLed) where
     -- how many parts of a number differ

@@ -272,7 +272,7 @@ other_beside p lawful other h n f = record {
 
 -- ---- how much longer
 
-true_le : (a b : ℕ) → nat_le a b ≡ true → a ≤ b
+pub true_le : (a b : ℕ) → nat_le a b ≡ true → a ≤ b
 true_le a b e = grind (arith, nat_tests)
 
 entry_short : (k : ℕ) (e : Entry) → may_stand k e ≡ true → entry_len e ≤ longest_entry

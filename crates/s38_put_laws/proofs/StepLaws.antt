@@ -70,7 +70,7 @@ use Rattle.s38_vault.specs.Content.{Content}
 use Rattle.s38_vault.specs.Vaults.{most_changes}
 use Rattle.s38_put_laws.specs.Fresh.{AllLeadToDisk, AreFresh, LeadToDisk}
 use Rattle.s38_put_laws.specs.Lengthening.{Lengthens}
-use Rattle.s38_put_laws.specs.OnePut.{AllDestroyShort, AreShort, DestroysShort, IsShortBy}
+use Rattle.s38_put_laws.specs.OnePut.{AllBetween, AreShort, FirstShort, IsBetween, LastShort}
 use Rattle.s38_put_laws.specs.Puts.{AllOnePut, IsOnePutBy}
 use Rattle.s38_put_laws.specs.Trails.{AreTrailing, IsTrailOf}
 use Rattle.s38_put_laws.specs.Unforced.{AreLow, most_trailing}
@@ -379,8 +379,7 @@ module _ (laws : DurableLaws) (s : State) (p : ℕ) (e : Event) (d : Durable) (i
       by (Some room) some = refl
 
   -- a journal space that is kept for the first time has no entry
-  first_short : LeadToDisk s.held → AreFresh s.held → (n : ℕ) (x : Stored) (j : JournalList) → kept d.objects n ≡ None → kept new.objects n ≡ Some x → journal_of x.object.body ≡ Some j
-      → image_len x.object.body ≤ body_limit
+  pub first_short : LeadToDisk s.held → AreFresh s.held → FirstShort d new
   first_short lead fresh n x j none at of = by (object now.held n) refl (sym (kept_behind_step all d now n then_kept.numbered.rising) ∙ at)
     where
       same : (a b : Stored) → Some a ≡ Some b → a ≡ b
@@ -425,8 +424,8 @@ module _ (laws : DurableLaws) (s : State) (p : ℕ) (e : Event) (d : Durable) (i
       by (Some o) found h = disk o found o.on_disk refl h
 
   -- what it forces fits in one put
-  pub done_put : (m : Content) → IsTrailOf s d → HaveHeaders d → HaveHeaders new → AreShort d → AreShort new → DestroysShort d new → LeadToDisk s.held → AreFresh s.held → Stands m d → length (object_changes (numbered all) (get m) new) ≤ most_changes
-  done_put m trail headers then_headers short then_short destroys lead fresh stands =
+  pub done_put : (m : Content) → IsTrailOf s d → HaveHeaders d → HaveHeaders new → AreShort d → AreShort new → FirstShort d new → LastShort d new → Stands m d → length (object_changes (numbered all) (get m) new) ≤ most_changes
+  done_put m trail headers then_headers short then_short first last stands =
       step_put all d s now effected.held (record {
         rising = then_kept.numbered.rising;
         own = is.bodies;
@@ -449,8 +448,8 @@ module _ (laws : DurableLaws) (s : State) (p : ℕ) (e : Event) (d : Durable) (i
         ends = λ n x at. body_low x (then_headers n x at);
         short = short;
         then_short = then_short;
-        first = first_short lead fresh;
-        last = destroys;
+        first = first;
+        last = last;
       }) m stands (forced_low laws s p e d is does)
 
 -- ---- a step that takes no effect, and a history
@@ -487,18 +486,30 @@ entry_images laws s e d (Done values) same is images readable = images_behind la
 entry_images laws s e d (Signal x) same is images readable = images
 entry_images laws s e d MustWait same is images readable = images
 
-entry_put : DurableLaws → (s : State) (e : Entry) (d : Durable) (r : Reply) → (step s e.process e.event).reply ≡ r → IsKeptOf s d → IsTrailOf s d → AreImages d → IsReadableBehind s e r → IsShortBy d s e r → LeadToDisk s.held → AreFresh s.held
-    → IsOnePutBy most_changes d s e r
-entry_put laws s e d (Done values) same is trail images readable destroys lead fresh =
+entry_put : DurableLaws → (s : State) (e : Entry) (d : Durable) (r : Reply) → (step s e.process e.event).reply ≡ r → IsKeptOf s d → IsTrailOf s d → AreImages d → IsReadableBehind s e r → IsBetween FirstShort d s e r
+    → IsBetween LastShort d s e r → IsOnePutBy most_changes d s e r
+entry_put laws s e d (Done values) same is trail images readable first last =
     let does = subst IsDone (sym same) tt in
     let new_durable : Durable = durable_after (forced s e.process e.event) d (step s e.process e.event).state in
     let behind_images = images_behind laws s e.process e.event d is does images readable in
     let next = done_kept laws s e.process e.event d is does in
     λ m stands.
     done_put laws s e.process e.event d is does m trail (images_headers d images) (images_headers new_durable behind_images) (images_short s d is images)
-    (images_short (step s e.process e.event).state new_durable next behind_images) destroys lead fresh stands
-entry_put laws s e d (Signal x) same is trail images readable destroys lead fresh = tt
-entry_put laws s e d MustWait same is trail images readable destroys lead fresh = tt
+    (images_short (step s e.process e.event).state new_durable next behind_images) first last stands
+entry_put laws s e d (Signal x) same is trail images readable first last = tt
+entry_put laws s e d MustWait same is trail images readable first last = tt
+
+pub history_put : DurableLaws → (s : State) (d : Durable) (before history : List Entry) (end : State) → IsKeptOf s d → IsTrailOf s d → AreImages d → AllReadable s history → AllBetween FirstShort d s history
+    → AllBetween LastShort d s history → Leads s before history end → AllOnePut most_changes d s history
+history_put laws s d before [] end is trail images readable first last leads = tt
+history_put laws s d before (e ∷ es) end is trail images readable first last leads =
+    let same = leads.0.reply in (
+      entry_put laws s e d e.reply same is trail images readable.0 first.0 last.0,
+      history_put laws (step s e.process e.event).state (after_reply d s e e.reply) (before ++ e ∷ []) es end (entry_kept laws s e d e.reply same is) (entry_trail laws s e d e.reply same is trail)
+          (entry_images laws s e d e.reply same is images readable.0) readable.1 first.1 last.1 leads.1,
+    )
+
+-- ---- journal spaces that are not on disk, over a history
 
 pub other_fresh : (s : State) (p : ℕ) (e : Event) → (IsDone (step s p e).reply → ⊥) → AreFresh s.held → AreFresh (step s p e).state.held
 other_fresh s p e not fresh = subst AreFresh (sym (stayed s p e not).held) fresh
@@ -513,12 +524,15 @@ history_fresh s before [] end right lead fresh leads = subst (λ (t : State). Ar
 history_fresh s before (e ∷ es) end right lead fresh leads =
     history_fresh (step s e.process e.event).state (before ++ e ∷ []) es end (step_right s e.process e.event right) lead.1 (entry_fresh s e e.reply leads.0.reply right lead.0 fresh) leads.1
 
-pub history_put : DurableLaws → (s : State) (d : Durable) (before history : List Entry) (end : State) → IsKeptOf s d → IsTrailOf s d → AreFresh s.held → AreImages d → AllReadable s history → AllDestroyShort d s history
-    → AllLeadToDisk s history → Leads s before history end → AllOnePut most_changes d s history
-history_put laws s d before [] end is trail fresh images readable destroys lead leads = tt
-history_put laws s d before (e ∷ es) end is trail fresh images readable destroys lead leads =
+entry_first : DurableLaws → (s : State) (e : Entry) (d : Durable) (r : Reply) → (step s e.process e.event).reply ≡ r → IsKeptOf s d → LeadToDisk s.held → AreFresh s.held → IsBetween FirstShort d s e r
+entry_first laws s e d (Done values) same is lead fresh = first_short laws s e.process e.event d is (subst IsDone (sym same) tt) lead fresh
+entry_first laws s e d (Signal x) same is lead fresh = tt
+entry_first laws s e d MustWait same is lead fresh = tt
+
+pub history_first : DurableLaws → (s : State) (d : Durable) (before history : List Entry) (end : State) → IsKeptOf s d → AllLeadToDisk s history → AreFresh s.held → Leads s before history end → AllBetween FirstShort d s history
+history_first laws s d before [] end is lead fresh leads = tt
+history_first laws s d before (e ∷ es) end is lead fresh leads =
     let same = leads.0.reply in (
-      entry_put laws s e d e.reply same is trail images readable.0 destroys.0 lead.0 fresh,
-      history_put laws (step s e.process e.event).state (after_reply d s e e.reply) (before ++ e ∷ []) es end (entry_kept laws s e d e.reply same is) (entry_trail laws s e d e.reply same is trail)
-          (entry_fresh s e e.reply same is.right lead.0 fresh) (entry_images laws s e d e.reply same is images readable.0) readable.1 destroys.1 lead.1 leads.1,
+      entry_first laws s e d e.reply same is lead.0 fresh,
+      history_first laws (step s e.process e.event).state (after_reply d s e e.reply) (before ++ e ∷ []) es end (entry_kept laws s e d e.reply same is) lead.1 (entry_fresh s e e.reply same is.right lead.0 fresh) leads.1,
     )

@@ -4,3 +4,4 @@ pub mod Trails
 pub mod OnePut
 pub mod Puts
 pub mod Fresh
+pub mod Spaces

@@ -17,16 +17,23 @@ use Rattle.s38_rules.specs.Step.{step}
 abbrev pub AreShort : Durable → Type 0
 AreShort d = (n : ℕ) (x : Stored) → kept d.objects n ≡ Some x → journal_of x.object.body ≡ None → image_len x.object.body ≤ body_limit
 
--- a journal space that is kept no more has no more bytes either
-abbrev pub DestroysShort : Durable → Durable → Type 0
-DestroysShort d new = (n : ℕ) (x : Stored) (j : JournalList) → kept d.objects n ≡ Some x → kept new.objects n ≡ None → journal_of x.object.body ≡ Some j → image_len x.object.body ≤ body_limit
+-- a journal space that is kept for the first time has no more bytes either
+abbrev pub FirstShort : Durable → Durable → Type 0
+FirstShort d new = (n : ℕ) (x : Stored) (j : JournalList) → kept d.objects n ≡ None → kept new.objects n ≡ Some x → journal_of x.object.body ≡ Some j → image_len x.object.body ≤ body_limit
 
-abbrev pub IsShortBy : Durable → State → Entry → Reply → Type 0
-IsShortBy d s e (Done values) = DestroysShort d (durable_after (forced s e.process e.event) d (step s e.process e.event).state)
-IsShortBy d s e (Signal x) = Unit {0}
-IsShortBy d s e MustWait = Unit {0}
+-- and neither has one that is kept no more
+abbrev pub LastShort : Durable → Durable → Type 0
+LastShort d new = (n : ℕ) (x : Stored) (j : JournalList) → kept d.objects n ≡ Some x → kept new.objects n ≡ None → journal_of x.object.body ≡ Some j → image_len x.object.body ≤ body_limit
+
+-- ---- over a history
+
+-- what is durable before a step, and what is durable behind it
+abbrev pub IsBetween : (Durable → Durable → Type 0) → Durable → State → Entry → Reply → Type 0
+IsBetween Related d s e (Done values) = Related d (durable_after (forced s e.process e.event) d (step s e.process e.event).state)
+IsBetween Related d s e (Signal x) = Unit {0}
+IsBetween Related d s e MustWait = Unit {0}
 
 -- so it is at each step of a history
-abbrev pub AllDestroyShort : Durable → State → List Entry → Type 0
-AllDestroyShort d s [] = Unit {0}
-AllDestroyShort d s (e ∷ es) = IsShortBy d s e e.reply × AllDestroyShort (after_reply d s e e.reply) (step s e.process e.event).state es
+abbrev pub AllBetween : (Durable → Durable → Type 0) → Durable → State → List Entry → Type 0
+AllBetween Related d s [] = Unit {0}
+AllBetween Related d s (e ∷ es) = IsBetween Related d s e e.reply × AllBetween Related (after_reply d s e e.reply) (step s e.process e.event).state es

@@ -5,6 +5,7 @@
 mod laws;
 
 pub use laws::{
-    a_journal_space_off_disk_has_no_entry, journal_spaces_become_longer, what_a_step_forces_fits_in_one_put,
+    a_journal_space_off_disk_has_no_entry, journal_spaces_become_longer,
+    pages_within_what_was_kept_stay, what_a_step_forces_fits_in_one_put,
     what_is_kept_of_journal_spaces_is_their_beginning,
 };
