@@ -81,7 +81,7 @@ use Rattle.s38_put_laws.proofs.LowLaws.{AreLowBut, Covers, all_low, carried_low,
 use Rattle.s38_put_laws.proofs.OneLaws.{SameEntries, step_put}
 use Rattle.s38_put_laws.proofs.RowLaws.{row_open}
 use Rattle.s38_put_laws.proofs.ShapeLaws.{event_few, rows_at, rows_in, unforced_in}
-use Rattle.s38_put_laws.proofs.TrailLaws.{journal_kind, stored_other, trails_behind}
+use Rattle.s38_put_laws.proofs.TrailLaws.{journal_kind, stored_other, trails_at, trails_behind}
 
 -- ---- few bytes are unforced behind an event
 
