@@ -35,10 +35,6 @@ module _ {keys : Keys} {holds : Content → Type 0} {d : Durable} {changes : Lis
   pub changes_closed : (m : Content) → holds m → changes ≡ closing_changes (get m) d
   changes_closed m h = all.so_far.told m h
 
-  -- they bring as many keys as what is durable
-  pub keys_closed : new_keys keys changes ≡ new_keys keys (parts_of_all d)
-  keys_closed = all.so_far.count ∙ ap (new_keys keys) all.whole
-
   -- after some of the puts
   pub puts_closed : (most : ℕ) (m n : Content) → holds m → IsAfterPuts most m changes n → IsAfterPuts most m (closing_changes (get m) d) n
   puts_closed most m n h after = subst (λ (cs : List Change). IsAfterPuts most m cs n) (changes_closed m h) after

@@ -1,3 +1,5 @@
 pub mod PartLaws
 pub mod PassLaws
 pub mod CloseLaws
+pub mod FoundLaws
+pub mod NextLaws
