@@ -3,3 +3,5 @@ pub mod PassLaws
 pub mod CloseLaws
 pub mod FoundLaws
 pub mod NextLaws
+pub mod WaitLaws
+pub mod KeepLaws

@@ -68,6 +68,8 @@ pub(crate) fn add_next<V: Vault>(
     requires so_far { AreSoFar (V.view vault.old).keys (V.holds vault.old) (parts_at (closing units.now objects.now)) done into.old.items }
     ensures adds { IfOk result (λ ahead. AddsNext (V.view vault.old).keys (V.holds vault.old) (parts_at (closing units.now objects.now)) object.now.number.0 (journal_ahead objects.now object.now.number.0) ahead into.new.items) }
     ensures kept { OnOk result ((rest : List Change) × (into.new.items ≡ into.old.items ++ rest)) }
+    ensures low { OnOk result (done < object.now.number.0) }
+    ensures gap { OnOk result ((k : ℕ) → done < k → k < object.now.number.0 → parts_at (closing units.now objects.now) k ≡ []) }
     ensures fine { OnOk result (AreFineTo (V.view vault.old).keys done → AreFineTo (V.view vault.old).keys object.now.number.0) }
     ensures stays { Stays V.view V.holds V.leaves vault.old vault.new }
     ensures cause { HasCauseOf (V.view vault.old).faults (V.view vault.new).faults result faults.Failed }

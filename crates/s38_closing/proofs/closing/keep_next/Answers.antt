@@ -1,69 +1,171 @@
-use Rattle.std.proofs.Common.{rules, ◌≡◌, ◌≢◌, ◌↔◌, ◌⊎◌, ◌<◌, ◌≤◌, ◌++◌, ◌∷◌, ℕ, All, IfErr, IfOk, List, None, OnErr, OnOk, [], length, ◌+◌, ◌-◌, ◌*◌, ◌/◌, ◌%◌, Bool, true, false, nat_eq, nat_lt, slice_index_or, slice_set, bit_and, bit_or, Fits, w8, w32, w64, Bor, MutBor}
-use Rattle.s38_base.specs.Faults.{HasCauseOf}
-use Rattle.s38_closing.specs.Closing.{closing, content_of, kept_whole}
-use Rattle.s38_closing.specs.Ensuring.{IsLeft}
-use Rattle.s38_closing.specs.Passing.{last_number}
+use Rattle.std.proofs.Common.{◌≡◌, ◌∙◌, ◌⊎◌, ◌<◌, ◌≤◌, ◌++◌, ◌∷◌, ℕ, List, [], ap, append-nil, arith, inl, inr, length, refl, rules, subst, sym, take, drop}
+use Rattle.std.proofs.Math.Seq.{drop-append_seam, take-append_seam}
+use Rattle.std.specs.Prelude.{Err, IfErr, IsErrAnd, Option, Result}
+use Rattle.std.specs.FinMap.{get}
+use Rattle.s38_base.specs.declared.page.Change.{Change}
+use Rattle.s38_closing.specs.Closing.{closing}
+use Rattle.s38_closing.specs.Ensuring.{IsLeft, IsReached, journal_ahead}
 use Rattle.s38_closing.specs.Waiting.{IsNext, IsStoppedBy, Waits}
-use Rattle.s38_durable.specs.Durable.{kept}
+use Rattle.s38_closing.proofs.CloseLaws.{handed}
+use Rattle.s38_closing.proofs.KeepLaws.{handed_by, mark_front, mark_rest, place_moved, placed_full, placed_so_far, placed_waits, stopped_put, stopped_unknown}
+use Rattle.s38_closing.proofs.WaitLaws.{above_by, objects_by, rising_by, told_by}
 use Rattle.s38_durable.specs.Stands.{parts_at}
-use Rattle.s38_image.specs.Faults.{ceiling_key}
-use Rattle.s38_image_printing.specs.Parts.{CanSettle}
-use Rattle.s38_keeping.specs.Walking.{AreFineTo, AreSoFar}
-use Rattle.s38_keeping.specs.declared.fault.KeepFault.TheVariants as faults
-use Rattle.s38_rules.specs.Storable.{IsStorable}
+use Rattle.s38_forcing.specs.Puts.{IsAfterPuts}
+use Rattle.s38_keeping.specs.declared.fault.KeepFault.{KeepFault}
 use Rattle.s38_rules.specs.declared.object.Object.{Object}
-use Rattle.s38_vault.specs.Content.{Content}
+use Rattle.s38_keeping.proofs.PlacedLaws.{all_behind, rising_behind}
+use Rattle.s38_keeping.specs.Outcomes.{IsRightFor, unknown_by}
+use Rattle.s38_vault.specs.Content.{AreRising, Content, HaveObjects, changed}
 use Rattle.s38_vault.specs.Directory.{new_keys}
+use Rattle.s38_vault.specs.Vaults.{VaultView}
+use Rattle.s38_closing.proofs.closing.keep_next.Goals.{then-ahead+in_ok-put_changes, else-ahead}
 use Rattle.s38_closing.proofs.closing.keep_next.Goals as goal
 
--- src/closing.rt:71:17
 pub returns-in_err-ahead-clause-stopped : goal.returns-in_err-ahead-clause-stopped
-returns-in_err-ahead-clause-stopped g c = ?
+returns-in_err-ahead-clause-stopped g c =
+    let V = g.V.Vault in
+    let cause = c.in_err-ahead.field-0.0 in
+    let h = c.args.objects.now in
+    let d = closing c.args.units.now h in
+    let new = c.add_next.new.vault in
+    handed_by _ (λ fault. fault ≡ unknown_by cause) c.from_residual.result c.from_residual.ensures.1 (λ fault is m n gone rest next held w.
+    stopped_unknown (V.holds new) (V.view new).free m d h n cause fault is ((c.add_next.ensures.stays.held n).0 held) w.held)
 
--- src/closing.rt:72:5
 pub make_place-requires-clause-rising : goal.make_place-requires-clause-rising
-make_place-requires-clause-rising g c = ?
+make_place-requires-clause-rising g c =
+    let V = g.V.Vault in
+    let old = c.args.vault.now in
+    let d = closing c.args.units.now c.args.objects.now in
+    let n = c.args.object.now.number.0 in
+    let adds = c.in_ok-ahead.ensures.adds in
+    rising_by d (V.view old).keys (V.holds old) n adds.between c.add_next.new.into.items (journal_ahead c.args.objects.now n) adds.behind adds.so_far.rising adds.so_far.upto
 
--- src/closing.rt:72:5
 pub make_place-requires-clause-objects : goal.make_place-requires-clause-objects
-make_place-requires-clause-objects g c = ?
+make_place-requires-clause-objects g c =
+    let V = g.V.Vault in
+    let old = c.args.vault.now in
+    let d = closing c.args.units.now c.args.objects.now in
+    let n = c.args.object.now.number.0 in
+    let adds = c.in_ok-ahead.ensures.adds in
+    objects_by d (V.view old).keys (V.holds old) n adds.between c.add_next.new.into.items (journal_ahead c.args.objects.now n) adds.behind adds.so_far.objects
 
--- src/closing.rt:72:5
 pub returns-in_err-make_place-clause-stopped : goal.returns-in_err-make_place-clause-stopped
-returns-in_err-make_place-clause-stopped g c = ?
+returns-in_err-make_place-clause-stopped g c =
+    let V = g.V.Vault in
+    let old = c.args.vault.now in
+    let read = c.add_next.new.vault in
+    let mid = c.make_place.new.vault in
+    let h = c.args.objects.now in
+    let d = closing c.args.units.now h in
+    let o = c.args.object.now in
+    let front = c.args.changes.now.items in
+    let all = c.add_next.new.into.items in
+    let adds = c.in_ok-ahead.ensures.adds in
+    let kept = c.in_ok-ahead.ensures.kept in
+    let mark : c.len-mark.result ≡ length front = omega (arith, c.len-mark.ensures, c.args.changes.now.ok.0) in
+    let front_is = mark_front front all kept.0 c.len-mark.result kept.1 mark in
+    let rest_is = mark_rest front all kept.0 c.len-mark.result kept.1 mark in
+    let fault = c.in_err-make_place.field-0.0 in
+    let made = c.in_err-make_place.ensures in
+    handed _ c.from_residual-in_err-make_place.result fault c.from_residual-in_err-make_place.ensures.1 (λ m n gone rest next held w.
+    let read_held = (c.add_next.ensures.stays.held n).0 held in
+    let there : V.holds mid (changed n (take c.len-mark.result all)) → V.holds mid (changed n front) = subst (λ (cs : List Change). V.holds mid (changed n cs)) front_is in
+    placed_full d h o c.args.done (V.view old).keys (V.holds old) front all c.in_ok-ahead.ahead c.requires.so_far adds c.in_ok-ahead.ensures.low c.in_ok-ahead.ensures.gap m gone rest next n held w.next kept.0 kept.1
+    (V.holds mid) (V.view mid).keys (V.view mid).free fault (subst (λ (cs : List Change). IsRightFor (new_keys (V.view mid).keys cs) (V.view mid).free fault) rest_is made.full)
+    (λ needed free is. there (c.make_place.ensures.front needed free (c.in_err-make_place.was ∙ ap Err is) n read_held))
+    (λ needed free is. c.make_place.ensures.keys needed free (c.in_err-make_place.was ∙ ap Err is))
+    (λ not. elim (made.stopped not n read_held) [ inl before ↦ inl before | inr after ↦ inr (there after) ])
+    w.held (record { gone = gone; rest = o ∷ rest; all = next.all; behind = w.next }))
 
--- src/closing.rt:72:5
 pub returns-in_err-make_place-clause-during : goal.returns-in_err-make_place-clause-during
-returns-in_err-make_place-clause-during g c = ?
+returns-in_err-make_place-clause-during g c m n gone rest next held w t x low high left =
+    let V = g.V.Vault in
+    let old = c.args.vault.now in
+    let front = c.args.changes.now.items in
+    let all = c.add_next.new.into.items in
+    let kept = c.in_ok-ahead.ensures.kept in
+    let mark : c.len-mark.result ≡ length front = omega (arith, c.len-mark.ensures, c.args.changes.now.ok.0) in
+    let stays = c.add_next.ensures.stays in
+    w.left x (subst (λ (cs : List Change). IsAfterPuts (V.view old).shape.most n cs x) (mark_front front all kept.0 c.len-mark.result kept.1 mark)
+    (subst (λ (v : VaultView). IsAfterPuts v.shape.most n (take c.len-mark.result all) x) stays.same
+    (c.make_place.ensures.during n ((stays.held n).0 held) t x (subst (λ (v : VaultView). v.moment < t) (sym stays.same) low) high left)))
 
--- src/closing.rt:74:9
 pub put_changes-requires-clause-rising : goal.put_changes-requires-clause-rising
-put_changes-requires-clause-rising g c = ?
+put_changes-requires-clause-rising g c =
+    let V = g.V.Vault in
+    let old = c.args.vault.now in
+    let d = closing c.args.units.now c.args.objects.now in
+    let n = c.args.object.now.number.0 in
+    let adds = c.in_ok-ahead.ensures.adds in
+    let at = c.in_ok-make_place.ensures.placed in
+    subst AreRising (sym c.deref.ensures.value) (rising_behind at.front c.make_place.new.changes.items (subst AreRising at.parted
+    (rising_by d (V.view old).keys (V.holds old) n adds.between c.add_next.new.into.items (journal_ahead c.args.objects.now n) adds.behind adds.so_far.rising adds.so_far.upto)))
 
--- src/closing.rt:74:9
 pub put_changes-requires-clause-objects : goal.put_changes-requires-clause-objects
-put_changes-requires-clause-objects g c = ?
+put_changes-requires-clause-objects g c =
+    let V = g.V.Vault in
+    let old = c.args.vault.now in
+    let d = closing c.args.units.now c.args.objects.now in
+    let n = c.args.object.now.number.0 in
+    let adds = c.in_ok-ahead.ensures.adds in
+    let at = c.in_ok-make_place.ensures.placed in
+    subst HaveObjects (sym c.deref.ensures.value) (all_behind (λ x. 1 ≤ x.key.object) at.front c.make_place.new.changes.items (subst HaveObjects at.parted
+    (objects_by d (V.view old).keys (V.holds old) n adds.between c.add_next.new.into.items (journal_ahead c.args.objects.now n) adds.behind adds.so_far.objects)))
 
--- src/closing.rt:74:9
 pub returns-in_err-put_changes-clause-stopped : goal.returns-in_err-put_changes-clause-stopped
-returns-in_err-put_changes-clause-stopped g c = ?
+returns-in_err-put_changes-clause-stopped g c =
+    let V = g.V.Vault in
+    let old = c.args.vault.now in
+    let mid = c.make_place.new.vault in
+    let new = c.put_changes.new.vault in
+    let h = c.args.objects.now in
+    let d = closing c.args.units.now h in
+    let o = c.args.object.now in
+    let front = c.args.changes.now.items in
+    let all = c.add_next.new.into.items in
+    let own = c.make_place.new.changes.items in
+    let adds = c.in_ok-ahead.ensures.adds in
+    let kept = c.in_ok-ahead.ensures.kept in
+    let stays = c.add_next.ensures.stays in
+    let at = c.in_ok-make_place.ensures.placed in
+    let mark : c.len-mark.result ≡ length front = omega (arith, c.len-mark.ensures, c.args.changes.now.ok.0) in
+    let fault = c.in_err-put_changes.field-0.0 in
+    handed _ c.from_residual-in_err-put_changes.result fault c.from_residual-in_err-put_changes.ensures.1 (λ m n gone rest next held w.
+    let place = place_moved at.front own front (V.view c.add_next.new.vault).shape.most (V.view old).shape.most c.len-mark.result (ap (λ (v : VaultView). v.shape.most) stays.same) mark at.place in
+    let waits = placed_waits d h o c.args.done (V.view old).keys (V.holds old) front all c.in_ok-ahead.ahead c.requires.so_far adds c.in_ok-ahead.ensures.low c.in_ok-ahead.ensures.gap (V.view old).shape.most m gone rest next n held w at.front own kept.0 at.parted kept.1 place in
+    stopped_put (V.holds new) (V.view new).free m d h (changed n at.front) (new_keys (V.view mid).keys own) (V.view mid).free c.in_ok-make_place.ensures.room fault
+    (subst (λ (cs : List Change). IsRightFor (new_keys (V.view mid).keys cs) (V.view mid).free fault) c.deref.ensures.value c.in_err-put_changes.ensures.full)
+    (λ not. (c.in_err-put_changes.ensures.refused_holds not (changed n at.front)).0 (at.made n ((stays.held n).0 held))) waits.held)
 
--- src/closing.rt:74:9
 pub returns-in_err-put_changes-clause-during : goal.returns-in_err-put_changes-clause-during
 returns-in_err-put_changes-clause-during g c = ?
 
--- src/closing.rt:32:1
 pub returns-clause-so_far : goal.returns-clause-so_far
-returns-clause-so_far g c = ?
+returns-clause-so_far g c =
+    let V = g.V.Vault in
+    let old = c.args.vault.now in
+    let h = c.args.objects.now in
+    let d = closing c.args.units.now h in
+    let o = c.args.object.now in
+    let front = c.args.changes.now.items in
+    let all = c.add_next.new.into.items in
+    let own = c.make_place.new.changes.items in
+    let mid = c.make_place.new.vault in
+    let adds = c.in_ok-ahead.ensures.adds in
+    let kept = c.in_ok-ahead.ensures.kept in
+    let stays = c.add_next.ensures.stays in
+    let at = c.in_ok-make_place.ensures.placed in
+    let mark : c.len-mark.result ≡ length front = omega (arith, c.len-mark.ensures, c.args.changes.now.ok.0) in
+    elim c.if-ahead.branch [
+      | then-ahead+in_ok-put_changes w ↦ ?
+      | else-ahead w ↦ ?
+    ]
 
--- src/closing.rt:32:1
 pub returns-clause-fine : goal.returns-clause-fine
 returns-clause-fine g c = ?
 
--- src/closing.rt:32:1
 pub returns-clause-waits : goal.returns-clause-waits
 returns-clause-waits g c = ?
 
--- src/closing.rt:32:1
 pub returns-clause-during : goal.returns-clause-during
 returns-clause-during g c = ?

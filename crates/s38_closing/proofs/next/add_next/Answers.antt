@@ -119,3 +119,9 @@ returns-clause-fine g c = λ was.
     let n = c.args.object.now.number.0 in
     let from = among_from c.args.units.now c.args.objects.now c.all-all.ensures.lawful (omega (arith, c.next_number-next.ensures)) c.requires.numbers c.args.object.now (next_among c.args.units.now c.args.objects.now c.all-all.ensures.lawful (omega (arith, c.next_number-next.ensures)) c.requires.numbers c.requires.there.1.1) in
     fine_next (g.V.Vault.view c.args.vault.now).keys (n - 1) n from (omega arith) (c.in_ok-add_strangers.ensures.fine was)
+
+pub returns-clause-low : goal.returns-clause-low
+returns-clause-low g c = next_above c.args.units.now c.args.objects.now c.all-all.ensures.lawful (omega (arith, c.next_number-next.ensures)) c.requires.numbers c.requires.there.1.1
+
+pub returns-clause-gap : goal.returns-clause-gap
+returns-clause-gap g c = next_gap c.args.units.now c.args.objects.now c.all-all.ensures.lawful (omega (arith, c.next_number-next.ensures)) c.requires.numbers c.requires.there.1.1
