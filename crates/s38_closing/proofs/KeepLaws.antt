@@ -1,5 +1,5 @@
 -- The next object is kept: what waits behind it, and what is left where it is not kept.
-use Rattle.std.proofs.Common.{◌≡◌, ◌≢◌, ◌⊎◌, ℕ, ◌<◌, ◌≤◌, ◌^◌, Bool, true, false, List, [], ◌∷◌, ◌++◌, inl, inr, length, refl, sym, ◌∙◌, ap, subst, arith, append-nil}
+use Rattle.std.proofs.Common.{◌≡◌, ◌≢◌, ◌⊎◌, ◌↔◌, ℕ, ◌<◌, ◌≤◌, ◌^◌, Bool, true, false, List, [], ◌∷◌, ◌++◌, inl, inr, length, refl, sym, ◌∙◌, ap, subst, arith, append-nil}
 use Rattle.std.proofs.lemmas.Bool.Decides.{nat_tests}
 use Rattle.std.proofs.Math.Seq.{drop-append_seam, take-append_seam}
 use Rattle.std.specs.Prelude.{Err, IfErr, IsErrAnd, Ok, Option, Result, drop, nat_le, take}
@@ -127,3 +127,25 @@ module _ (d : Durable) (h : Held) (o : Object) (done : ℕ) (keys : Keys) (holds
       let whole = subst (λ (cs : List Change). AllByRecursion (λ c. IsFine c.key) cs) parted (whole_fine n held) in
       subst (λ (ks : Keys). AreFineTo ks o.number.0) (sym (same ∙ ap (λ (y : Content). keys_of y) is))
       (fine_put n made o.number.0 (all_before (λ c. IsFine c.key) made own whole) of_n)
+
+-- ---- one call behind another
+
+at_most : (a b : ℕ) → nat_le a b ≡ true → a ≤ b
+at_most a b e = grind (arith, nat_tests)
+
+beyond : (a b : ℕ) → nat_le a b ≡ false → b < a
+beyond a b e = grind (arith, nat_tests)
+
+module _ {V : Type 0} (leaves : V → ℕ → Content → Type 0) (P : Content → Type 0) (mid new : V) (begun between ended : ℕ) where
+  pub during_both : ((t : ℕ) (x : Content) → begun < t → t ≤ between → leaves mid t x → P x) → ((t : ℕ) (x : Content) → t ≤ between → leaves mid t x ↔ leaves new t x)
+      → ((t : ℕ) (x : Content) → between < t → t ≤ ended → leaves new t x → P x) → (t : ℕ) (x : Content) → begun < t → t ≤ ended → leaves new t x → P x
+  during_both first past last t x low high left = by (nat_le t between) refl
+    where
+      by : (b : Bool) → nat_le t between ≡ b → P x
+      by true e = first t x low (at_most t between e) ((past t x (at_most t between e)).1 left)
+      by false e = last t x (beyond t between e) high left
+
+-- two calls made changes, one behind the other
+pub made_both : (n x between : Content) (made own all put : List Change) → all ≡ made ++ own → put ≡ own → between ≡ changed n made → x ≡ changed between put → x ≡ changed n all
+made_both n x between made own all put parted is first last =
+    last ∙ (λ i. changed (first i) (is i)) ∙ sym (changed-append n made own) ∙ ap (changed n) (sym parted)

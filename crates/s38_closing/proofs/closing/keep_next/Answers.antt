@@ -1,4 +1,4 @@
-use Rattle.std.proofs.Common.{◌≡◌, ◌∙◌, ◌⊎◌, ◌<◌, ◌≤◌, ◌++◌, ◌∷◌, ℕ, List, [], ap, append-nil, arith, inl, inr, length, refl, rules, subst, sym, take, drop}
+use Rattle.std.proofs.Common.{Global, Vec, ◌≡◌, ◌∙◌, ◌⊎◌, ◌<◌, ◌≤◌, ◌++◌, ◌∷◌, ℕ, List, [], ap, append-nil, append_assoc, arith, inl, inr, length, refl, rules, subst, sym, take, drop}
 use Rattle.std.proofs.Math.Seq.{drop-append_seam, take-append_seam}
 use Rattle.std.specs.Prelude.{Err, IfErr, IsErrAnd, Option, Result}
 use Rattle.std.specs.FinMap.{get}
@@ -7,17 +7,18 @@ use Rattle.s38_closing.specs.Closing.{closing}
 use Rattle.s38_closing.specs.Ensuring.{IsLeft, IsReached, journal_ahead}
 use Rattle.s38_closing.specs.Waiting.{IsNext, IsStoppedBy, Waits}
 use Rattle.s38_closing.proofs.CloseLaws.{handed}
-use Rattle.s38_closing.proofs.KeepLaws.{handed_by, mark_front, mark_rest, place_moved, placed_full, placed_so_far, placed_waits, stopped_put, stopped_unknown}
-use Rattle.s38_closing.proofs.WaitLaws.{above_by, objects_by, rising_by, told_by}
+use Rattle.s38_closing.proofs.KeepLaws.{all_so_far, during_both, handed_by, made_both, made_fine, mark_front, mark_rest, place_moved, placed_full, placed_so_far, placed_waits, stopped_put, stopped_unknown}
+use Rattle.s38_closing.proofs.WaitLaws.{objects_by, rising_by, waits_put}
 use Rattle.s38_durable.specs.Stands.{parts_at}
 use Rattle.s38_forcing.specs.Puts.{IsAfterPuts}
+use Rattle.s38_keeping.specs.Walking.{AreSoFar}
 use Rattle.s38_keeping.specs.declared.fault.KeepFault.{KeepFault}
 use Rattle.s38_rules.specs.declared.object.Object.{Object}
 use Rattle.s38_keeping.proofs.PlacedLaws.{all_behind, rising_behind}
 use Rattle.s38_keeping.specs.Outcomes.{IsRightFor, unknown_by}
 use Rattle.s38_vault.specs.Content.{AreRising, Content, HaveObjects, changed}
-use Rattle.s38_vault.specs.Directory.{new_keys}
-use Rattle.s38_vault.specs.Vaults.{VaultView}
+use Rattle.s38_vault.specs.Directory.{keys_of, new_keys}
+use Rattle.s38_vault.specs.Vaults.{VaultShape, VaultView}
 use Rattle.s38_closing.proofs.closing.keep_next.Goals.{then-ahead+in_ok-put_changes, else-ahead}
 use Rattle.s38_closing.proofs.closing.keep_next.Goals as goal
 
@@ -138,34 +139,173 @@ returns-in_err-put_changes-clause-stopped g c =
     (λ not. (c.in_err-put_changes.ensures.refused_holds not (changed n at.front)).0 (at.made n ((stays.held n).0 held))) waits.held)
 
 pub returns-in_err-put_changes-clause-during : goal.returns-in_err-put_changes-clause-during
-returns-in_err-put_changes-clause-during g c = ?
-
-pub returns-clause-so_far : goal.returns-clause-so_far
-returns-clause-so_far g c =
+returns-in_err-put_changes-clause-during g c m n gone rest next held w0 =
     let V = g.V.Vault in
     let old = c.args.vault.now in
+    let read = c.add_next.new.vault in
+    let mid = c.make_place.new.vault in
     let h = c.args.objects.now in
     let d = closing c.args.units.now h in
     let o = c.args.object.now in
     let front = c.args.changes.now.items in
     let all = c.add_next.new.into.items in
     let own = c.make_place.new.changes.items in
-    let mid = c.make_place.new.vault in
     let adds = c.in_ok-ahead.ensures.adds in
     let kept = c.in_ok-ahead.ensures.kept in
     let stays = c.add_next.ensures.stays in
     let at = c.in_ok-make_place.ensures.placed in
     let mark : c.len-mark.result ≡ length front = omega (arith, c.len-mark.ensures, c.args.changes.now.ok.0) in
+    let place = place_moved at.front own front (V.view read).shape.most (V.view old).shape.most c.len-mark.result (ap (λ (v : VaultView). v.shape.most) stays.same) mark at.place in
+    let waits = placed_waits d h o c.args.done (V.view old).keys (V.holds old) front all c.in_ok-ahead.ahead c.requires.so_far adds c.in_ok-ahead.ensures.low c.in_ok-ahead.ensures.gap (V.view old).shape.most m gone rest next n held w0 at.front own kept.0 at.parted kept.1 place in
+    let first : (t : ℕ) (x : Content) → (V.view old).moment < t → t ≤ (V.view mid).moment → V.leaves mid t x → IsLeft (V.view old).shape.most m d h x =
+    λ t x low high left. w0.left x (subst (λ (cs : List Change). IsAfterPuts (V.view old).shape.most n cs x) (mark_front front all kept.0 c.len-mark.result kept.1 mark)
+    (subst (λ (v : VaultView). IsAfterPuts v.shape.most n (take c.len-mark.result all) x) stays.same
+    (c.make_place.ensures.during n ((stays.held n).0 held) t x (subst (λ (v : VaultView). v.moment < t) (sym stays.same) low) high left))) in
+    let shape = ap (λ (s : VaultShape). s.most) c.make_place.ensures.shape ∙ ap (λ (v : VaultView). v.shape.most) stays.same in
+    let new = c.put_changes.new.vault in
+    during_both V.leaves (IsLeft (V.view old).shape.most m d h) mid new (V.view old).moment (V.view mid).moment (V.view new).moment first c.put_changes.ensures.past
+    (λ t x low high left. waits.left x (subst (λ (k : ℕ). IsAfterPuts k (changed n at.front) own x) shape (subst (λ (cs : List Change). IsAfterPuts (V.view mid).shape.most (changed n at.front) cs x) c.deref.ensures.value
+    (c.put_changes.ensures.during (changed n at.front) (at.made n ((stays.held n).0 held)) t x low high left))))
+
+pub returns-clause-so_far : goal.returns-clause-so_far
+returns-clause-so_far g c =
+    let V = g.V.Vault in
+    let old = c.args.vault.now in
+    let read = c.add_next.new.vault in
+    let mid = c.make_place.new.vault in
+    let h = c.args.objects.now in
+    let d = closing c.args.units.now h in
+    let o = c.args.object.now in
+    let front = c.args.changes.now.items in
+    let all = c.add_next.new.into.items in
+    let own = c.make_place.new.changes.items in
+    let adds = c.in_ok-ahead.ensures.adds in
+    let kept = c.in_ok-ahead.ensures.kept in
+    let stays = c.add_next.ensures.stays in
+    let at = c.in_ok-make_place.ensures.placed in
+    let mark : c.len-mark.result ≡ length front = omega (arith, c.len-mark.ensures, c.args.changes.now.ok.0) in
+    let now = c.if-ahead.vault in
     elim c.if-ahead.branch [
-      | then-ahead+in_ok-put_changes w ↦ ?
-      | else-ahead w ↦ ?
+      | then-ahead+in_ok-put_changes w ↦
+          let made : (x : Content) → V.holds now x → (n : Content) × (V.holds old n × (x ≡ changed n all)) =
+          λ x held.
+          let last = w.in_ok-put_changes.ensures.told x (subst (λ (v : g.row.V.Denot). V.holds v x) w.vault-is held) in
+          let first = at.told last.0 last.1.0 in
+          (first.0, ((stays.held first.0).1 first.1.0, made_both first.0 x last.0 at.front own all w.deref.result.now at.parted w.deref.ensures.value first.1.1 last.1.1)) in
+          subst (λ (cs : List Change). AreSoFar (V.view now).keys (V.holds now) (parts_at d) o.number.0 cs) (sym (ap (λ (v : Vec Change Global). v.items) w.changes-is ∙ w.clear.ensures.items))
+          (all_so_far d h o c.args.done (V.view old).keys (V.holds old) front all c.in_ok-ahead.ahead c.requires.so_far adds c.in_ok-ahead.ensures.low c.in_ok-ahead.ensures.gap (V.holds now) (V.view now).keys c.free-free.ensures.keys made)
+      | else-ahead w ↦
+          let same : (n : Content) → V.holds mid n → (V.view mid).keys ≡ keys_of n = subst (λ (v : g.row.V.Denot). (n : Content) → V.holds v n → (V.view v).keys ≡ keys_of n) w.vault-is c.free-free.ensures.keys in
+          subst (λ (cs : List Change). AreSoFar (V.view now).keys (V.holds now) (parts_at d) o.number.0 cs) (sym (ap (λ (v : Vec Change Global). v.items) w.changes-is))
+          (subst (λ (v : g.row.V.Denot). AreSoFar (V.view v).keys (V.holds v) (parts_at d) o.number.0 own) (sym w.vault-is)
+          (placed_so_far d h o c.args.done (V.view old).keys (V.holds old) front all c.in_ok-ahead.ahead c.requires.so_far adds c.in_ok-ahead.ensures.low c.in_ok-ahead.ensures.gap V.holds read mid (V.view read).shape.most c.len-mark.result own kept.0 (V.view mid).keys
+          w.if-ahead.false kept.1 mark (λ m. (stays.held m).1) same at))
     ]
 
 pub returns-clause-fine : goal.returns-clause-fine
-returns-clause-fine g c = ?
+returns-clause-fine g c = λ was x held.
+    let V = g.V.Vault in
+    let old = c.args.vault.now in
+    let read = c.add_next.new.vault in
+    let mid = c.make_place.new.vault in
+    let h = c.args.objects.now in
+    let d = closing c.args.units.now h in
+    let o = c.args.object.now in
+    let front = c.args.changes.now.items in
+    let all = c.add_next.new.into.items in
+    let own = c.make_place.new.changes.items in
+    let adds = c.in_ok-ahead.ensures.adds in
+    let kept = c.in_ok-ahead.ensures.kept in
+    let stays = c.add_next.ensures.stays in
+    let at = c.in_ok-make_place.ensures.placed in
+    let mark : c.len-mark.result ≡ length front = omega (arith, c.len-mark.ensures, c.args.changes.now.ok.0) in
+    let now = c.if-ahead.vault in
+    let same = c.free-free.ensures.keys x held in
+    elim c.if-ahead.branch [
+      | then-ahead+in_ok-put_changes w ↦
+          let last = w.in_ok-put_changes.ensures.told x (subst (λ (v : g.row.V.Denot). V.holds v x) w.vault-is held) in
+          let first = at.told last.0 last.1.0 in
+          let begun = (stays.held first.0).1 first.1.0 in
+          made_fine d h o c.args.done (V.view old).keys (V.holds old) front all c.in_ok-ahead.ahead c.requires.so_far adds c.in_ok-ahead.ensures.low c.in_ok-ahead.ensures.gap (c.in_ok-ahead.ensures.fine (was first.0 begun)) first.0 begun all [] (sym (append-nil all)) x
+          (made_both first.0 x last.0 at.front own all w.deref.result.now at.parted w.deref.ensures.value first.1.1 last.1.1) (V.view now).keys same
+      | else-ahead w ↦
+          let first = at.told x (subst (λ (v : g.row.V.Denot). V.holds v x) w.vault-is held) in
+          let begun = (stays.held first.0).1 first.1.0 in
+          made_fine d h o c.args.done (V.view old).keys (V.holds old) front all c.in_ok-ahead.ahead c.requires.so_far adds c.in_ok-ahead.ensures.low c.in_ok-ahead.ensures.gap (c.in_ok-ahead.ensures.fine (was first.0 begun)) first.0 begun at.front own at.parted x first.1.1 (V.view now).keys same
+    ]
 
 pub returns-clause-waits : goal.returns-clause-waits
-returns-clause-waits g c = ?
+returns-clause-waits g c m n gone rest next held w0 =
+    let V = g.V.Vault in
+    let old = c.args.vault.now in
+    let read = c.add_next.new.vault in
+    let mid = c.make_place.new.vault in
+    let h = c.args.objects.now in
+    let d = closing c.args.units.now h in
+    let o = c.args.object.now in
+    let front = c.args.changes.now.items in
+    let all = c.add_next.new.into.items in
+    let own = c.make_place.new.changes.items in
+    let adds = c.in_ok-ahead.ensures.adds in
+    let kept = c.in_ok-ahead.ensures.kept in
+    let stays = c.add_next.ensures.stays in
+    let at = c.in_ok-make_place.ensures.placed in
+    let mark : c.len-mark.result ≡ length front = omega (arith, c.len-mark.ensures, c.args.changes.now.ok.0) in
+    let place = place_moved at.front own front (V.view read).shape.most (V.view old).shape.most c.len-mark.result (ap (λ (v : VaultView). v.shape.most) stays.same) mark at.place in
+    let waits = placed_waits d h o c.args.done (V.view old).keys (V.holds old) front all c.in_ok-ahead.ahead c.requires.so_far adds c.in_ok-ahead.ensures.low c.in_ok-ahead.ensures.gap (V.view old).shape.most m gone rest next n held w0 at.front own kept.0 at.parted kept.1 place in
+    let now = c.if-ahead.vault in
+    let shape = ap (λ (s : VaultShape). s.most) c.make_place.ensures.shape ∙ ap (λ (v : VaultView). v.shape.most) stays.same in
+    let there = at.made n ((stays.held n).0 held) in
+    elim c.if-ahead.branch [
+      | then-ahead+in_ok-put_changes w ↦
+          let new = w.put_changes.new.vault in
+          let x = changed (changed n at.front) own in
+          let most : (V.view now).shape.most ≡ (V.view old).shape.most = ap (λ (v : g.row.V.Denot). (V.view v).shape.most) w.vault-is ∙ ap (λ (s : VaultShape). s.most) w.put_changes.ensures.shape ∙ shape in
+          let none : c.if-ahead.changes.items ≡ [] = ap (λ (v : Vec Change Global). v.items) w.changes-is ∙ w.clear.ensures.items in
+          (x, (subst (λ (v : g.row.V.Denot). V.holds v x) (sym w.vault-is) (subst (λ (cs : List Change). V.holds new (changed (changed n at.front) cs)) w.deref.ensures.value (w.in_ok-put_changes.ensures.holds (changed n at.front) there)),
+          subst (λ (k : ℕ). Waits k m d h (gone ++ o ∷ []) x c.if-ahead.changes.items) (sym most) (subst (λ (cs : List Change). Waits (V.view old).shape.most m d h (gone ++ o ∷ []) x cs) (sym none)
+          (waits_put (V.view old).shape.most m d h (gone ++ o ∷ []) rest (changed n at.front) own (next.all ∙ sym (append_assoc gone (o ∷ []) rest)) waits))))
+      | else-ahead w ↦
+          let x = changed n at.front in
+          let most : (V.view now).shape.most ≡ (V.view old).shape.most = ap (λ (v : g.row.V.Denot). (V.view v).shape.most) w.vault-is ∙ shape in
+          let same : c.if-ahead.changes.items ≡ own = ap (λ (v : Vec Change Global). v.items) w.changes-is in
+          (x, (subst (λ (v : g.row.V.Denot). V.holds v x) (sym w.vault-is) there,
+          subst (λ (k : ℕ). Waits k m d h (gone ++ o ∷ []) x c.if-ahead.changes.items) (sym most) (subst (λ (cs : List Change). Waits (V.view old).shape.most m d h (gone ++ o ∷ []) x cs) (sym same) waits)))
+    ]
 
 pub returns-clause-during : goal.returns-clause-during
-returns-clause-during g c = ?
+returns-clause-during g c m n gone rest next held w0 =
+    let V = g.V.Vault in
+    let old = c.args.vault.now in
+    let read = c.add_next.new.vault in
+    let mid = c.make_place.new.vault in
+    let h = c.args.objects.now in
+    let d = closing c.args.units.now h in
+    let o = c.args.object.now in
+    let front = c.args.changes.now.items in
+    let all = c.add_next.new.into.items in
+    let own = c.make_place.new.changes.items in
+    let adds = c.in_ok-ahead.ensures.adds in
+    let kept = c.in_ok-ahead.ensures.kept in
+    let stays = c.add_next.ensures.stays in
+    let at = c.in_ok-make_place.ensures.placed in
+    let mark : c.len-mark.result ≡ length front = omega (arith, c.len-mark.ensures, c.args.changes.now.ok.0) in
+    let place = place_moved at.front own front (V.view read).shape.most (V.view old).shape.most c.len-mark.result (ap (λ (v : VaultView). v.shape.most) stays.same) mark at.place in
+    let waits = placed_waits d h o c.args.done (V.view old).keys (V.holds old) front all c.in_ok-ahead.ahead c.requires.so_far adds c.in_ok-ahead.ensures.low c.in_ok-ahead.ensures.gap (V.view old).shape.most m gone rest next n held w0 at.front own kept.0 at.parted kept.1 place in
+    let first : (t : ℕ) (x : Content) → (V.view old).moment < t → t ≤ (V.view mid).moment → V.leaves mid t x → IsLeft (V.view old).shape.most m d h x =
+    λ t x low high left. w0.left x (subst (λ (cs : List Change). IsAfterPuts (V.view old).shape.most n cs x) (mark_front front all kept.0 c.len-mark.result kept.1 mark)
+    (subst (λ (v : VaultView). IsAfterPuts v.shape.most n (take c.len-mark.result all) x) stays.same
+    (c.make_place.ensures.during n ((stays.held n).0 held) t x (subst (λ (v : VaultView). v.moment < t) (sym stays.same) low) high left))) in
+    let shape = ap (λ (s : VaultShape). s.most) c.make_place.ensures.shape ∙ ap (λ (v : VaultView). v.shape.most) stays.same in
+    let now = c.if-ahead.vault in
+    let there = at.made n ((stays.held n).0 held) in
+    elim c.if-ahead.branch [
+      | then-ahead+in_ok-put_changes w ↦
+          let new = w.put_changes.new.vault in
+          subst (λ (v : g.row.V.Denot). (t : ℕ) (x : Content) → (V.view old).moment < t → t ≤ (V.view v).moment → V.leaves v t x → IsLeft (V.view old).shape.most m d h x) (sym w.vault-is)
+          (during_both V.leaves (IsLeft (V.view old).shape.most m d h) mid new (V.view old).moment (V.view mid).moment (V.view new).moment first w.put_changes.ensures.past
+          (λ t x low high left. waits.left x (subst (λ (k : ℕ). IsAfterPuts k (changed n at.front) own x) shape (subst (λ (cs : List Change). IsAfterPuts (V.view mid).shape.most (changed n at.front) cs x) w.deref.ensures.value
+          (w.put_changes.ensures.during (changed n at.front) there t x low high left)))))
+      | else-ahead w ↦
+          subst (λ (v : g.row.V.Denot). (t : ℕ) (x : Content) → (V.view old).moment < t → t ≤ (V.view v).moment → V.leaves v t x → IsLeft (V.view old).shape.most m d h x) (sym w.vault-is) first
+    ]
