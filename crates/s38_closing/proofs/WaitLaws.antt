@@ -214,6 +214,22 @@ module _ (most : ℕ) (m : Content) (d : Durable) (h : Held) where
         | inr is ↦ inl (subst (IsReached m d h) (sym is) reached)
       ]
 
+  -- nothing waits at first
+  pub waits_begun : (changes : List Change) → changes ≡ [] → Waits most m d h [] m changes
+  waits_begun changes none = subst (λ (cs : List Change). Waits most m d h [] m cs) (sym none) (record { held = reached; next = behind; left = left })
+    where
+      behind : IsBehind m d h [] m
+      behind = record { each = λ key from part. sym (ap (λ b. cond (b || false) (page_of d key) (get m key)) (not_within key.object 0 (omega (arith, from)))) }
+
+      reached : IsReached m d h m
+      reached = record { gone = []; rest = h.objects; all = refl; behind = behind }
+
+      left : (x : Content) → IsAfterPuts most m [] x → IsLeft most m d h x
+      left x after = elim (one_put most m [] x (omega arith) after) [
+        | inl is ↦ inl (subst (IsReached m d h) (sym is) reached)
+        | inr is ↦ inl (subst (IsReached m d h) (sym is) reached)
+      ]
+
   -- one put takes all that waits
   pub waits_few : (gone rest : List Object) (n : Content) (changes : List Change) → h.objects ≡ gone ++ rest → IsReached m d h n → IsBehind m d h gone (changed n changes) → length changes ≤ most → Waits most m d h gone n changes
   waits_few gone rest n changes all held next few = record { held = held; next = next; left = left }
