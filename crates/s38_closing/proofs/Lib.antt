@@ -5,3 +5,4 @@ pub mod FoundLaws
 pub mod NextLaws
 pub mod WaitLaws
 pub mod KeepLaws
+pub mod RestLaws

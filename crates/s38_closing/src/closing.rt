@@ -1,6 +1,7 @@
 //! A run is closed.
 ghost use Rattle.std.specs.Prelude.{◌≡◌, ◌≢◌, ◌↔◌, ◌⊎◌, ◌<◌, ◌≤◌, ◌++◌, ◌∷◌, ℕ, All, IfErr, IfOk, List, None, OnErr, OnOk, [], length};
 
+ghost use Rattle.std.specs.List.{flat_map};
 ghost use Rattle.s38_base.specs.Faults.{HasCauseOf};
 ghost use Rattle.s38_closing.specs.Closing.{closing, content_of, kept_whole};
 ghost use Rattle.s38_closing.specs.Ensuring.{IsLeft};
@@ -9,7 +10,9 @@ ghost use Rattle.s38_closing.specs.Waiting.{IsNext, IsStoppedBy, Waits};
 ghost use Rattle.s38_durable.specs.Durable.{kept};
 ghost use Rattle.s38_durable.specs.Stands.{parts_at};
 ghost use Rattle.s38_image.specs.Faults.{ceiling_key};
+ghost use Rattle.s38_image.specs.Images.{parts_of};
 ghost use Rattle.s38_image_printing.specs.Parts.{CanSettle};
+ghost use Rattle.s38_keeping.specs.Replacing.{each_to};
 ghost use Rattle.s38_keeping.specs.Walking.{AreFineTo, AreSoFar};
 ghost use Rattle.s38_keeping.specs.declared.fault.KeepFault.TheVariants as faults;
 ghost use Rattle.s38_rules.specs.Storable.{IsStorable};
@@ -98,6 +101,7 @@ fn keep_objects<V: Vault>(
     ensures room { OnOk result (new_keys (V.view vault.new).keys changes.new.items ≤ (V.view vault.new).free) }
     ensures fine { IfOk result (λ done. (n : Content) → V.holds vault.new n → AreFineTo (V.view vault.new).keys done) }
     ensures last { IfOk result (λ done. (done ≡ last_number objects.now.objects) × (done < ceiling_key)) }
+    ensures whole { IfOk result (λ done. each_to (parts_at (closing units.now objects.now)) done ≡ flat_map parts_of (kept_whole units.now objects.now)) }
     ensures behind { IfOk result (λ done. (n : ℕ) → done < n → kept (kept_whole units.now objects.now) n ≡ None) }
     ensures waits { OnOk result ((m : Content) → V.holds vault.old m → (n : Content) × (V.holds vault.new n × Waits (V.view vault.old).shape.most m (closing units.now objects.now) objects.now objects.now.objects n changes.new.items)) }
 
@@ -141,7 +145,7 @@ pub fn close<V: Vault>(
 
     // The vault holds what is durable, and nothing else.
     ensures holds { OnOk result ((m : Content) → V.holds vault.old m → V.holds vault.new (content_of (closing units.now objects.now))) }
-    ensures told { OnOk result ((m n : Content) → V.holds vault.old m → V.holds vault.new n → n ≡ content_of (closing units.now objects.now)) }
+    ensures told { OnOk result ((n : Content) → V.holds vault.new n → n ≡ content_of (closing units.now objects.now)) }
 
     // Else the first objects are kept.
     ensures stopped { IfErr result (λ fault. (m : Content) → V.holds vault.old m → IsStoppedBy (V.holds vault.new) (V.view vault.new).free m (closing units.now objects.now) objects.now fault) }

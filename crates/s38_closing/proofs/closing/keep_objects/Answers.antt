@@ -1,14 +1,19 @@
 use Rattle.std.proofs.Common.{◌≡◌, ◌∙◌, ◌<◌, ◌≤◌, ◌++◌, ◌∷◌, ℕ, List, [], ap, arith, map, refl, rules, subst, sym}
 use Rattle.std.specs.Map.Iter.{deref}
 use Rattle.s38_base.specs.declared.page.Change.{Change}
+use Rattle.std.specs.List.{flat_map}
+use Rattle.s38_durable.specs.Durable.{whole_of}
+use Rattle.s38_image.specs.Images.{parts_of}
+use Rattle.s38_keeping.proofs.PieceLaws.{each_none}
+use Rattle.s38_keeping.specs.Replacing.{each_to}
 use Rattle.s38_closing.specs.Closing.{closing}
 use Rattle.s38_closing.specs.Ensuring.{IsLeft}
 use Rattle.s38_closing.specs.Passing.{last_number}
 use Rattle.s38_closing.specs.Waiting.{IsNext, IsStoppedBy, Waits}
 use Rattle.s38_closing.proofs.CloseLaws.{handed}
 use Rattle.s38_closing.proofs.KeepLaws.{during_both}
-use Rattle.s38_closing.proofs.NextLaws.{among_low, next_among}
-use Rattle.s38_closing.proofs.PassLaws.{last_more, none_behind, sorted_by}
+use Rattle.s38_closing.proofs.NextLaws.{among_from, among_low, next_among}
+use Rattle.s38_closing.proofs.PassLaws.{AreSorted, last_more, none_behind, pieces_more, sorted_by}
 use Rattle.s38_closing.proofs.WaitLaws.{waits_begun}
 use Rattle.s38_durable.specs.Stands.{parts_at}
 use Rattle.s38_image.specs.Faults.{ceiling_key}
@@ -34,6 +39,7 @@ loop-object-init g c =
       fine = λ n held. fine_begun (V.view vault).keys;
       last = refl;
       low = omega arith;
+      whole = each_none (parts_at d);
       waits = λ m held. (m, (held, waits_begun (V.view vault).shape.most m d h c.args.changes.now.items c.requires.none));
       past = λ t m low. ((λ left. left), (λ left. left));
       during = λ m held t x low high left. absurd (omega (arith, low, high));
@@ -107,13 +113,17 @@ loop-object-preserved g c =
     let small : h.next ≤ ceiling_key = omega (arith, c.next_number-next.ensures) in
     let lawful = c.all-object-items.ensures.lawful in
     let done = c.in_ok-keep_next.ensures in
+    let among = next_among units h lawful small c.requires.numbers next in
     let more : gone ++ o ∷ [] ≡ map deref (c.loop-object.yielded ++ c.in-Some.object ∷ []) = sym (one_more c.loop-object.yielded c.in-Some.object) in
     record {
       so_far = done.so_far;
       room = done.room;
       fine = done.fine was.fine;
       last = sym (ap last_number (one_more c.loop-object.yielded c.in-Some.object) ∙ last_more gone o);
-      low = among_low units h lawful small c.requires.numbers o (next_among units h lawful small c.requires.numbers next);
+      low = among_low units h lawful small c.requires.numbers o among;
+      whole =
+          subst (λ (l : List Object). each_to (parts_at d) o.number.0 ≡ flat_map parts_of (map (whole_of units h) l)) more
+          (pieces_more units h gone rest o c.loop-object.done all (subst AreSorted all (sorted_by h.objects lawful.rising)) was.last (among_from units h lawful small c.requires.numbers o among) (among_low units h lawful small c.requires.numbers o among) was.whole);
       waits = λ m held.
           let waiting = was.waits m held in
           let waits = subst (λ (k : VaultShape). Waits k.most m d h gone waiting.0 c.loop-object.changes.items) (sym was.shape) waiting.1.1 in
@@ -133,3 +143,27 @@ loop-object-preserved g c =
       shape = c.keep_next.ensures.shape ∙ was.shape;
       count = done.count ∙ was.count;
     }
+
+pub returns-clause-last : goal.returns-clause-last
+returns-clause-last g c =
+    let all = all_gone c.args.objects.now.objects c.loop-object.yielded c.into_iter-object-iterator.result c.loop-object.object-iterator c.next.new.self c.next.result (search rules) c.loop-object.yielded_by c.in-None.is c.next.ensures.steps in
+    (c.loop-object.invariant.last ∙ ap last_number all, c.loop-object.invariant.low)
+
+pub returns-clause-whole : goal.returns-clause-whole
+returns-clause-whole g c =
+    let all = all_gone c.args.objects.now.objects c.loop-object.yielded c.into_iter-object-iterator.result c.loop-object.object-iterator c.next.new.self c.next.result (search rules) c.loop-object.yielded_by c.in-None.is c.next.ensures.steps in
+    subst (λ (l : List Object). each_to (parts_at (closing c.args.units.now c.args.objects.now)) c.loop-object.done ≡ flat_map parts_of (map (whole_of c.args.units.now c.args.objects.now) l)) all c.loop-object.invariant.whole
+
+pub returns-clause-behind : goal.returns-clause-behind
+returns-clause-behind g c = λ n low.
+    let os = c.args.objects.now.objects in
+    let all = all_gone c.args.objects.now.objects c.loop-object.yielded c.into_iter-object-iterator.result c.loop-object.object-iterator c.next.new.self c.next.result (search rules) c.loop-object.yielded_by c.in-None.is c.next.ensures.steps in
+    none_behind c.args.units.now c.args.objects.now os n (sorted_by os c.all-object-items.ensures.lawful.rising) (omega (arith, low, c.loop-object.invariant.last, ap last_number all))
+
+pub returns-clause-waits : goal.returns-clause-waits
+returns-clause-waits g c = λ m held.
+    let V = g.V.Vault in
+    let h = c.args.objects.now in
+    let all = all_gone c.args.objects.now.objects c.loop-object.yielded c.into_iter-object-iterator.result c.loop-object.object-iterator c.next.new.self c.next.result (search rules) c.loop-object.yielded_by c.in-None.is c.next.ensures.steps in
+    let found = c.loop-object.invariant.waits m held in
+    (found.0, (found.1.0, subst (λ (l : List Object). Waits (V.view c.args.vault.now).shape.most m (closing c.args.units.now h) h l found.0 c.loop-object.changes.items) all found.1.1))
