@@ -1,7 +1,7 @@
 -- Objects that are found by number.
-use Rattle.std.proofs.Common.{◌≡◌, ℕ, ◌<◌, ◌≤◌, ◌==◌, Bool, true, false, cond, List, [], ◌∷◌, ◌++◌, refl, sym, ◌∙◌, ap, subst, arith}
+use Rattle.std.proofs.Common.{◌≡◌, ℕ, ◌<◌, ◌≤◌, ◌==◌, Bool, true, false, cond, List, [], ◌∷◌, ◌++◌, refl, sym, ◌∙◌, ap, arith}
 use Rattle.std.proofs.lemmas.Bool.Decides.{nat_tests}
-use Rattle.std.specs.Prelude.{◌&&◌, Option, Some, None, nat_lt}
+use Rattle.std.specs.Prelude.{◌&&◌, Some, None, nat_lt}
 use Rattle.s38_closing.specs.Ensuring.{journal_above, journal_ahead}
 use Rattle.s38_rules.specs.Held.{Held, disk_in, has_number, is_on_disk, object, object_in}
 use Rattle.s38_rules.specs.Journaling.{journal_for}

@@ -1,22 +1,20 @@
 -- The next object is kept: what waits behind it, and what is left where it is not kept.
-use Rattle.std.proofs.Common.{◌≡◌, ◌≢◌, ◌⊎◌, ◌↔◌, ℕ, ◌<◌, ◌≤◌, ◌^◌, Bool, true, false, List, [], ◌∷◌, ◌++◌, inl, inr, length, refl, sym, ◌∙◌, ap, subst, arith, append-nil}
+use Rattle.std.proofs.Common.{◌≡◌, ◌≢◌, ◌⊎◌, ◌↔◌, ℕ, ◌<◌, ◌≤◌, Bool, true, false, List, [], ◌∷◌, ◌++◌, inl, inr, length, refl, sym, ◌∙◌, ap, subst, arith}
 use Rattle.std.proofs.lemmas.Bool.Decides.{nat_tests}
 use Rattle.std.proofs.Math.Seq.{drop-append_seam, take-append_seam}
-use Rattle.std.specs.Prelude.{Err, IfErr, IsErrAnd, Ok, Option, Result, drop, nat_le, take}
+use Rattle.std.specs.Prelude.{Err, IfErr, IsErrAnd, Ok, Result, drop, nat_le, take}
 use Rattle.std.specs.FinMap.{get}
 use Rattle.std.specs.List.{AllByRecursion}
 use Rattle.s38_base.specs.declared.page.Change.{Change}
-use Rattle.s38_closing.specs.Ensuring.{IsBehind, IsLeft, IsReached, changes_of_number, journal_ahead}
+use Rattle.s38_closing.specs.Ensuring.{IsBehind, IsReached, changes_of_number, journal_ahead}
 use Rattle.s38_closing.specs.Waiting.{AddsNext, IsNext, IsStoppedBy, Waits}
-use Rattle.s38_closing.proofs.WaitLaws.{AreWantedAt, IsAbove, above_by, behind_next, fine_next_changes, full_next, has_next, new_next, rest_next, told_by, wanted_by, waits_next, waits_put}
+use Rattle.s38_closing.proofs.WaitLaws.{AreWantedAt, IsAbove, above_by, fine_next_changes, full_next, has_next, new_next, rest_next, told_by, wanted_by, waits_next}
 use Rattle.s38_durable.specs.Durable.{Durable}
 use Rattle.s38_durable.specs.Stands.{parts_at}
-use Rattle.s38_forcing.specs.Differences.{IsWanted}
 use Rattle.s38_forcing.specs.declared.fault.ForcingFault.{ForcingFault}
 use Rattle.s38_forcing.specs.declared.fault.ForcingFault.TheVariants as forcing
 use Rattle.s38_keeping.specs.Outcomes.{IsRightFor, unknown_by}
 use Rattle.s38_keeping.specs.Placing.{IsPlaced}
-use Rattle.s38_keeping.specs.Replacing.{changes_to, range_of}
 use Rattle.s38_keeping.specs.Walking.{AreFineTo, AreSoFar, IsFine}
 use Rattle.s38_keeping.specs.declared.fault.KeepFault.{KeepFault}
 use Rattle.s38_keeping.specs.declared.fault.KeepFault.TheVariants as faults
@@ -56,7 +54,7 @@ place_moved made own front most more mark same is (inl few) = inl (few.0, omega 
 place_moved made own front most more mark same is (inr long) = inr (long ∙ is)
 
 module _ (d : Durable) (h : Held) (o : Object) (done : ℕ) (keys : Keys) (holds : Content → Type 0) (front all : List Change) (ahead : Bool) (was : AreSoFar keys holds (parts_at d) done front)
-  (adds : AddsNext keys holds (parts_at d) o.number.0 (journal_ahead h o.number.0) ahead all) (low : done < o.number.0) (gap : (k : ℕ) → done < k → k < o.number.0 → parts_at d k ≡ []) where
+    (adds : AddsNext keys holds (parts_at d) o.number.0 (journal_ahead h o.number.0) ahead all) (low : done < o.number.0) (gap : (k : ℕ) → done < k → k < o.number.0 → parts_at d k ≡ []) where
   above : IsAbove o.number.0 (journal_ahead h o.number.0)
   above = above_by d keys holds o.number.0 adds.between all (journal_ahead h o.number.0) adds.behind
 

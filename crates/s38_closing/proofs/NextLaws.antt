@@ -1,11 +1,10 @@
 -- The next object, and its parts.
-use Rattle.std.proofs.Common.{◌≡◌, ℕ, suc, ◌-◌, ◌<◌, ◌≤◌, ◌<◌, List, [], ◌∷◌, ◌++◌, ◌+◌, false, length, length-append, append-nil, refl, sym, ◌∙◌, ap, subst, arith}
+use Rattle.std.proofs.Common.{◌≡◌, ℕ, suc, ◌<◌, ◌≤◌, ◌<◌, List, [], ◌∷◌, ◌++◌, ◌+◌, false, length, length-append, append-nil, sym, ◌∙◌, ap, subst, arith}
 use Rattle.std.proofs.lemmas.Bool.Decides.{nat_tests}
 use Rattle.std.specs.Prelude.{All, None, Option, Some, nat_lt}
 use Rattle.s38_closing.specs.Closing.{closing}
-use Rattle.s38_closing.specs.Passing.{last_number}
 use Rattle.s38_closing.specs.Waiting.{AddsNumber, IsNext}
-use Rattle.s38_closing.proofs.FoundLaws.{IsAmong, found_among}
+use Rattle.s38_closing.proofs.FoundLaws.{IsAmong}
 use Rattle.s38_closing.proofs.PassLaws.{AreSorted, at_place, below_next, last_below, nothing_between, sorted_by, whole_at}
 use Rattle.s38_commits.specs.Units.{UnitMap}
 use Rattle.s38_durable.specs.Durable.{whole_of}
@@ -17,7 +16,7 @@ use Rattle.s38_forcing.specs.Differences.{IsWanted}
 use Rattle.s38_keeping.specs.Replacing.{range_of}
 use Rattle.s38_keeping.specs.Walking.{AreAt}
 use Rattle.s38_objects.specs.Lawful.{IsLawful, number_of}
-use Rattle.s38_rules.specs.Held.{Held, object}
+use Rattle.s38_rules.specs.Held.{Held}
 use Rattle.s38_rules.specs.declared.object.Object.{Object}
 use Rattle.s38_vault.specs.Content.{Content}
 use Rattle.s38_vault.specs.Directory.{Keys}

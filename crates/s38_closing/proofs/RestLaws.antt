@@ -1,12 +1,12 @@
 -- What waits behind the last object, and what is left where it is not put.
-use Rattle.std.proofs.Common.{◌≡◌, ◌≢◌, ◌⊎◌, ℕ, ◌<◌, ◌≤◌, ◌^◌, Bool, true, false, List, [], ◌∷◌, ◌++◌, inl, inr, length, refl, sym, ◌∙◌, ap, subst, arith, append-nil}
+use Rattle.std.proofs.Common.{◌≡◌, ◌≢◌, ◌⊎◌, ℕ, ◌<◌, ◌≤◌, Bool, true, false, List, [], ◌++◌, inl, inr, length, refl, sym, ◌∙◌, ap, subst, arith, append-nil}
 use Rattle.std.proofs.lemmas.Bool.Decides.{nat_tests}
 use Rattle.std.specs.Prelude.{None, nat_le}
 use Rattle.std.specs.FinMap.{contains_key, get}
 use Rattle.s38_base.specs.declared.page.Change.{Change}
 use Rattle.s38_base.specs.declared.page.Key.{Key}
 use Rattle.s38_closing.specs.Closing.{closing_changes, content_of, parts_of_all}
-use Rattle.s38_closing.specs.Ensuring.{IsBehind, IsFullAt, IsLeft, IsReached}
+use Rattle.s38_closing.specs.Ensuring.{IsLeft, IsReached}
 use Rattle.s38_closing.specs.Waiting.{IsStoppedBy, Waits}
 use Rattle.s38_closing.proofs.CloseLaws.{AreClosing, content_closed}
 use Rattle.s38_closing.proofs.WaitLaws.{new_next, rest_next, same_front}
@@ -32,7 +32,7 @@ beyond : (a b : ℕ) → nat_le a b ≡ false → b < a
 beyond a b e = grind (arith, nat_tests)
 
 module _ (d : Durable) (h : Held) (done : ℕ) (keys : Keys) (holds : Content → Type 0) (front all : List Change) (was : AreSoFar keys holds (parts_at d) done front) (so_far : AreSoFar keys holds (parts_at d) ceiling_key all)
-  (low : done < ceiling_key) (gap : (k : ℕ) → done < k → k < ceiling_key → parts_at d k ≡ []) where
+    (low : done < ceiling_key) (gap : (k : ℕ) → done < k → k < ceiling_key → parts_at d k ≡ []) where
   own_is : (n : Content) → holds n → (own : List Change) → all ≡ front ++ own → own ≡ changes_to (get (changed n front)) (parts_at d) ceiling_key ++ []
   own_is n held own kept = rest_next d n done ceiling_key None front own all all (omega (arith, low)) tt (was.told n held) (so_far.told n held) (sym (append-nil all)) kept
 
@@ -87,16 +87,21 @@ module _ (d : Durable) (h : Held) (done : ℕ) (keys : Keys) (holds : Content �
         let n2 = changed n front in
         let here = front_held needed free refl in
         let has = subst (λ (cs : List Change). HasWanted (changed n cs) (parts_at d) done) (sym (was.told n held)) (made_in n (parts_at d) done) in
-        let counted = new_next d n2 done ceiling_key None (omega arith) tt (so_far.wanted ceiling_key (omega arith) (omega arith)) has gap in
-        (n2, (here, record {
-          gone = h.objects;
-          rest = [];
-          all = sym (append-nil h.objects);
-          behind = w.next;
-          wanted = right.0 ∙ (λ i. new_keys (same needed free refl n2 here i) (own_is n held own kept i)) ∙ counted ∙ ap (new_keys (keys_of n2)) (append-nil (parts_at d ceiling_key));
-          there = right.1.0;
-          short = right.1.1;
-        }))
+        let counted = new_next d n2 done ceiling_key None (omega arith) tt (so_far.wanted ceiling_key (omega arith) (omega arith)) has gap in (
+          n2,
+          (
+            here,
+            record {
+              gone = h.objects;
+              rest = [];
+              all = sym (append-nil h.objects);
+              behind = w.next;
+              wanted = right.0 ∙ (λ i. new_keys (same needed free refl n2 here i) (own_is n held own kept i)) ∙ counted ∙ ap (new_keys (keys_of n2)) (append-nil (parts_at d ceiling_key));
+              there = right.1.0;
+              short = right.1.1;
+            },
+          ),
+        )
     rest_full own kept now more room faults.NoMemory right front_held same some = elim (some (λ e. cc)) [
       | inl before ↦ (n, (before, w.held))
       | inr after ↦ (changed n front, (after, reached))

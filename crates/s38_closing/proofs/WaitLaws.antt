@@ -1,5 +1,5 @@
 -- What changes that wait make of a content, with those of one more object.
-use Rattle.std.proofs.Common.{◌≡◌, ◌⊎◌, ℕ, suc, ◌+◌, ◌<◌, ◌≤◌, ◌^◌, ◌==◌, Bool, true, false, cond, List, [], ◌∷◌, ◌++◌, inl, inr, length, refl, sym, ◌∙◌, ap, subst, arith, append-nil, append_assoc}
+use Rattle.std.proofs.Common.{◌≡◌, ◌⊎◌, ℕ, ◌+◌, ◌<◌, ◌≤◌, ◌^◌, ◌==◌, Bool, true, false, cond, List, [], ◌∷◌, ◌++◌, inl, inr, length, refl, sym, ◌∙◌, ap, subst, arith, append-nil, append_assoc}
 use Rattle.std.proofs.lemmas.Bool.Decides.{nat_tests}
 use Rattle.std.proofs.lemmas.List.{append_cancel_left}
 use Rattle.std.proofs.lemmas.List.Folds.{list_any-append}
@@ -10,14 +10,13 @@ use Rattle.std.specs.List.{AllByRecursion, list_any}
 use Rattle.s38_base.specs.declared.page.Change.{Change}
 use Rattle.s38_base.specs.declared.page.Key.{Key}
 use Rattle.s38_base.specs.declared.page.Page.{Page}
-use Rattle.s38_closing.specs.Closing.{closing, content_of}
-use Rattle.s38_closing.specs.Ensuring.{IsBehind, IsFullAt, IsLeft, IsReached, IsWithin, changes_of_number, is_ensured, journal_ahead, next_changes, next_parts, page_behind, parts_of_number}
+use Rattle.s38_closing.specs.Ensuring.{IsBehind, IsFullAt, IsLeft, IsReached, changes_of_number, journal_ahead, next_changes, page_behind, parts_of_number}
 use Rattle.s38_closing.specs.Passing.{last_number}
 use Rattle.s38_closing.specs.Waiting.{AddsNumber, IsNext, Waits}
 use Rattle.s38_closing.proofs.PassLaws.{last_more}
 use Rattle.s38_durable.specs.Durable.{Durable}
 use Rattle.s38_durable.specs.Stands.{page_of, parts_at}
-use Rattle.s38_forcing.specs.Differences.{IsWanted, differences, is_in_range, wanted_at}
+use Rattle.s38_forcing.specs.Differences.{IsWanted, differences, wanted_at}
 use Rattle.s38_forcing.specs.Puts.{IsAfterPuts}
 use Rattle.s38_forcing.proofs.LookLaws.{differences_new, differences_objects, differences_rising, one_put}
 use Rattle.s38_forcing.proofs.WantedLaws.{in_range, pages_held}
@@ -267,8 +266,8 @@ module _ (most : ℕ) (m : Content) (d : Durable) (h : Held) where
 
 -- one more object is behind
 module _ (most : ℕ) (m : Content) (d : Durable) (h : Held) (gone rest : List Object) (o : Object) (done : ℕ) (next : IsNext h gone rest o done) (low : done < o.number.0) (n : Content) (front between new : List Change)
-  (w : Waits most m d h gone n front) (first : front ≡ changes_to (get n) (parts_at d) done) (mid : between ≡ changes_to (get n) (parts_at d) o.number.0)
-  (above : IsAbove o.number.0 (journal_ahead h o.number.0)) (last : new ≡ between ++ changes_of_number (get n) d (journal_ahead h o.number.0)) where
+    (w : Waits most m d h gone n front) (first : front ≡ changes_to (get n) (parts_at d) done) (mid : between ≡ changes_to (get n) (parts_at d) o.number.0)
+    (above : IsAbove o.number.0 (journal_ahead h o.number.0)) (last : new ≡ between ++ changes_of_number (get n) d (journal_ahead h o.number.0)) where
   abbrev is_one : Object → ℕ → Bool
   is_one x k = is_number k (journal_ahead h x.number.0)
 

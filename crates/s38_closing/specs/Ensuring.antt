@@ -18,7 +18,6 @@ use Rattle.s38_rules.specs.Journaling.{is_number, journal_for}
 use Rattle.s38_rules.specs.declared.object.Object.{Object}
 use Rattle.s38_vault.specs.Content.{Content}
 use Rattle.s38_vault.specs.Directory.{keys_of, new_keys}
-use Rattle.s38_vault.specs.Vaults.{VaultView}
 
 -- ---- what is ensured
 

@@ -1,6 +1,5 @@
 -- Changes wait while objects are gone through, and go into one put with those of the next objects.
-use Rattle.std.specs.Prelude.{◌≡◌, ◌⊎◌, ◌<◌, ℕ, Bool, false, List, ◌∷◌, ◌++◌, Option, Some, None}
-use Rattle.std.specs.FinMap.{get}
+use Rattle.std.specs.Prelude.{◌≡◌, ◌<◌, ℕ, Bool, false, List, ◌∷◌, ◌++◌, Option, Some, None}
 use Rattle.s38_base.specs.declared.page.Change.{Change}
 use Rattle.s38_closing.specs.Ensuring.{IsBehind, IsFullAt, IsLeft, IsReached}
 use Rattle.s38_closing.specs.Passing.{last_number}

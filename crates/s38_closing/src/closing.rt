@@ -1,6 +1,5 @@
 //! A run is closed.
 ghost use Rattle.std.specs.Prelude.{◌≡◌, ◌≢◌, ◌↔◌, ◌⊎◌, ◌<◌, ◌≤◌, ◌++◌, ◌∷◌, ℕ, All, IfErr, IfOk, List, None, OnErr, OnOk, [], length};
-
 ghost use Rattle.std.specs.List.{flat_map};
 ghost use Rattle.s38_base.specs.Faults.{HasCauseOf};
 ghost use Rattle.s38_closing.specs.Closing.{closing, content_of, kept_whole};

@@ -134,4 +134,3 @@ pub(crate) fn add_all<V: Vault>(
     add_rest(alloc, vault, objects, done, into)?;
     Ok(())
 }
-

@@ -2,8 +2,8 @@
 use Rattle.std.proofs.Common.{◌≡◌, ◌⊎◌, ℕ, zero, suc, ◌+◌, ◌<◌, ◌≤◌, ◌^◌, Bool, true, false, cond, List, [], ◌∷◌, ◌++◌, inl, inr, refl, sym, ◌∙◌, ap, subst, arith, append-nil, append_assoc, length}
 use Rattle.std.proofs.lemmas.Bool.{cases_lt}
 use Rattle.std.proofs.lemmas.List.{append_cancel_left}
-use Rattle.std.specs.Prelude.{Option, Some, None, is_some}
-use Rattle.std.specs.FinMap.{contains_key, get}
+use Rattle.std.specs.Prelude.{Option, is_some}
+use Rattle.std.specs.FinMap.{get}
 use Rattle.std.specs.List.{AllByRecursion}
 use Rattle.std.specs.Ordering.{eq_by_cmp}
 use Rattle.s38_base.specs.declared.page.Change.{Change}
@@ -14,13 +14,13 @@ use Rattle.s38_forcing.proofs.DifferenceLaws.{same_differences}
 use Rattle.s38_forcing.proofs.LookLaws.{differences_new, each_difference, nothing_differs}
 use Rattle.s38_forcing.proofs.WalkLaws.{key_at, one_key}
 use Rattle.s38_forcing.proofs.WantedLaws.{in_range, inside}
-use Rattle.s38_keeping.specs.Replacing.{changes_at, changes_to, each_to, range_of}
-use Rattle.s38_keeping.specs.Walking.{AreFineTo, AreSoFar, IsFine, last_key}
-use Rattle.s38_keeping.proofs.ContentLaws.{changed_at, changed_at-append, differences_at, get-changed, made_here, made_other}
+use Rattle.s38_keeping.specs.Replacing.{changes_at, changes_to, range_of}
+use Rattle.s38_keeping.specs.Walking.{AreFineTo, AreSoFar, IsFine}
+use Rattle.s38_keeping.proofs.ContentLaws.{changed_at, differences_at, get-changed, made_here, made_other}
 use Rattle.s38_keeping.proofs.PieceLaws.{each_next, each_none}
 use Rattle.s38_keeping.proofs.SoFarLaws.{all_of, all_on, new-append, of_number}
-use Rattle.s38_vault.specs.Content.{AreRising, Content, HaveObjects, changed}
-use Rattle.s38_vault.specs.Directory.{Keys, is_after, is_new, keys_of, new_keys}
+use Rattle.s38_vault.specs.Content.{AreRising, Content, changed}
+use Rattle.s38_vault.specs.Directory.{Keys, is_new, keys_of, new_keys}
 use Rattle.s38_vault.specs.Keys.{key_cmp}
 use Rattle.s38_vault.proofs.DirectoryLaws.{contains-keys_of}
 

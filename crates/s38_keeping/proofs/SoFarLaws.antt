@@ -11,10 +11,10 @@ use Rattle.s38_base.specs.declared.page.Key.{Key}
 use Rattle.s38_base.specs.declared.page.Page.{Page}
 use Rattle.s38_forcing.specs.Differences.{HavePages, IsWanted, change_between, difference_at, differences, differences_from, is_in_range, wanted_at}
 use Rattle.s38_forcing.proofs.DifferenceLaws.{none_left, split}
-use Rattle.s38_forcing.proofs.LookLaws.{differences_new, differences_objects, differences_rising, each_difference}
+use Rattle.s38_forcing.proofs.LookLaws.{differences_objects, differences_rising, each_difference}
 use Rattle.s38_forcing.proofs.WalkLaws.{key_at, not_above, object_below, part_below}
 use Rattle.s38_forcing.proofs.WantedLaws.{in_range, inside, pages_held, read_begun}
-use Rattle.s38_keeping.specs.Replacing.{changes_at, each_to, last_part, range_of, short_range}
+use Rattle.s38_keeping.specs.Replacing.{changes_at, last_part, range_of, short_range}
 use Rattle.s38_keeping.specs.Walking.{AreAt, AreSoFar, Stays}
 use Rattle.s38_keeping.proofs.PieceLaws.{each_empty, each_next, each_none}
 use Rattle.s38_vault.specs.Content.{AreRising, Content, HaveObjects}

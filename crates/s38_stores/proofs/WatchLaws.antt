@@ -1,5 +1,5 @@
 -- A vault that a restart or a closing used: what each image of each moment stands for.
-use Rattle.std.proofs.Common.{◌≡◌, ◌⊎◌, ℕ, ◌<◌, ◌≤◌, length, sym, ◌∙◌, ap, subst}
+use Rattle.std.proofs.Common.{◌≡◌, ℕ, ◌<◌, ◌≤◌, sym, ◌∙◌, ap, subst}
 use Rattle.std.specs.Prelude.{take}
 use Rattle.s38_blocks.specs.Store.{Stands}
 use Rattle.s38_blocks.specs.declared.layout.Layout.{Layout}

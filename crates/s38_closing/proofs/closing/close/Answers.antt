@@ -1,4 +1,4 @@
-use Rattle.std.proofs.Common.{◌≡◌, ◌∙◌, ◌⊎◌, ◌<◌, ◌≤◌, ◌++◌, ◌↔◌, ℕ, List, [], ap, arith, inl, inr, length, refl, subst, sym, take}
+use Rattle.std.proofs.Common.{◌≡◌, ◌∙◌, ◌<◌, ◌≤◌, ◌↔◌, ℕ, List, [], ap, arith, inl, inr, length, subst, sym, take}
 use Rattle.std.specs.Prelude.{Err}
 use Rattle.s38_base.specs.declared.page.Change.{Change}
 use Rattle.s38_closing.specs.Closing.{closing, content_of, parts_of_all}

@@ -1,19 +1,15 @@
-use Rattle.std.proofs.Common.{Global, Vec, ◌≡◌, ◌∙◌, ◌⊎◌, ◌<◌, ◌≤◌, ◌++◌, ◌∷◌, ℕ, List, [], ap, append-nil, append_assoc, arith, inl, inr, length, refl, rules, subst, sym, take, drop}
-use Rattle.std.proofs.Math.Seq.{drop-append_seam, take-append_seam}
-use Rattle.std.specs.Prelude.{Err, IfErr, IsErrAnd, Option, Result}
-use Rattle.std.specs.FinMap.{get}
+use Rattle.std.proofs.Common.{Global, Vec, ◌≡◌, ◌∙◌, ◌<◌, ◌≤◌, ◌++◌, ◌∷◌, ℕ, List, [], ap, append-nil, append_assoc, arith, inl, inr, length, subst, sym, take}
+use Rattle.std.specs.Prelude.{Err}
 use Rattle.s38_base.specs.declared.page.Change.{Change}
 use Rattle.s38_closing.specs.Closing.{closing}
-use Rattle.s38_closing.specs.Ensuring.{IsLeft, IsReached, journal_ahead}
-use Rattle.s38_closing.specs.Waiting.{IsNext, IsStoppedBy, Waits}
+use Rattle.s38_closing.specs.Ensuring.{IsLeft, journal_ahead}
+use Rattle.s38_closing.specs.Waiting.{Waits}
 use Rattle.s38_closing.proofs.CloseLaws.{handed}
 use Rattle.s38_closing.proofs.KeepLaws.{all_so_far, during_both, handed_by, made_both, made_fine, mark_front, mark_rest, place_moved, placed_full, placed_so_far, placed_waits, stopped_put, stopped_unknown}
 use Rattle.s38_closing.proofs.WaitLaws.{objects_by, rising_by, waits_put}
 use Rattle.s38_durable.specs.Stands.{parts_at}
 use Rattle.s38_forcing.specs.Puts.{IsAfterPuts}
 use Rattle.s38_keeping.specs.Walking.{AreSoFar}
-use Rattle.s38_keeping.specs.declared.fault.KeepFault.{KeepFault}
-use Rattle.s38_rules.specs.declared.object.Object.{Object}
 use Rattle.s38_keeping.proofs.PlacedLaws.{all_behind, rising_behind}
 use Rattle.s38_keeping.specs.Outcomes.{IsRightFor, unknown_by}
 use Rattle.s38_vault.specs.Content.{AreRising, Content, HaveObjects, changed}
@@ -261,16 +257,24 @@ returns-clause-waits g c m n gone rest next held w0 =
           let new = w.put_changes.new.vault in
           let x = changed (changed n at.front) own in
           let most : (V.view now).shape.most ≡ (V.view old).shape.most = ap (λ (v : g.row.V.Denot). (V.view v).shape.most) w.vault-is ∙ ap (λ (s : VaultShape). s.most) w.put_changes.ensures.shape ∙ shape in
-          let none : c.if-ahead.changes.items ≡ [] = ap (λ (v : Vec Change Global). v.items) w.changes-is ∙ w.clear.ensures.items in
-          (x, (subst (λ (v : g.row.V.Denot). V.holds v x) (sym w.vault-is) (subst (λ (cs : List Change). V.holds new (changed (changed n at.front) cs)) w.deref.ensures.value (w.in_ok-put_changes.ensures.holds (changed n at.front) there)),
-          subst (λ (k : ℕ). Waits k m d h (gone ++ o ∷ []) x c.if-ahead.changes.items) (sym most) (subst (λ (cs : List Change). Waits (V.view old).shape.most m d h (gone ++ o ∷ []) x cs) (sym none)
-          (waits_put (V.view old).shape.most m d h (gone ++ o ∷ []) rest (changed n at.front) own (next.all ∙ sym (append_assoc gone (o ∷ []) rest)) waits))))
+          let none : c.if-ahead.changes.items ≡ [] = ap (λ (v : Vec Change Global). v.items) w.changes-is ∙ w.clear.ensures.items in (
+            x,
+            (
+              subst (λ (v : g.row.V.Denot). V.holds v x) (sym w.vault-is) (subst (λ (cs : List Change). V.holds new (changed (changed n at.front) cs)) w.deref.ensures.value (w.in_ok-put_changes.ensures.holds (changed n at.front) there)),
+              subst (λ (k : ℕ). Waits k m d h (gone ++ o ∷ []) x c.if-ahead.changes.items) (sym most) (subst (λ (cs : List Change). Waits (V.view old).shape.most m d h (gone ++ o ∷ []) x cs) (sym none)
+                  (waits_put (V.view old).shape.most m d h (gone ++ o ∷ []) rest (changed n at.front) own (next.all ∙ sym (append_assoc gone (o ∷ []) rest)) waits)),
+            ),
+          )
       | else-ahead w ↦
           let x = changed n at.front in
           let most : (V.view now).shape.most ≡ (V.view old).shape.most = ap (λ (v : g.row.V.Denot). (V.view v).shape.most) w.vault-is ∙ shape in
-          let same : c.if-ahead.changes.items ≡ own = ap (λ (v : Vec Change Global). v.items) w.changes-is in
-          (x, (subst (λ (v : g.row.V.Denot). V.holds v x) (sym w.vault-is) there,
-          subst (λ (k : ℕ). Waits k m d h (gone ++ o ∷ []) x c.if-ahead.changes.items) (sym most) (subst (λ (cs : List Change). Waits (V.view old).shape.most m d h (gone ++ o ∷ []) x cs) (sym same) waits)))
+          let same : c.if-ahead.changes.items ≡ own = ap (λ (v : Vec Change Global). v.items) w.changes-is in (
+            x,
+            (
+              subst (λ (v : g.row.V.Denot). V.holds v x) (sym w.vault-is) there,
+              subst (λ (k : ℕ). Waits k m d h (gone ++ o ∷ []) x c.if-ahead.changes.items) (sym most) (subst (λ (cs : List Change). Waits (V.view old).shape.most m d h (gone ++ o ∷ []) x cs) (sym same) waits),
+            ),
+          )
     ]
 
 pub returns-clause-during : goal.returns-clause-during

@@ -1,6 +1,5 @@
-use Rattle.std.proofs.Common.{◌≡◌, ◌∙◌, ◌<◌, ◌≤◌, ◌++◌, ◌∷◌, ℕ, List, [], ap, arith, map, refl, rules, subst, sym}
+use Rattle.std.proofs.Common.{◌≡◌, ◌∙◌, ◌≤◌, ◌++◌, ◌∷◌, List, [], ap, arith, map, refl, rules, subst, sym}
 use Rattle.std.specs.Map.Iter.{deref}
-use Rattle.s38_base.specs.declared.page.Change.{Change}
 use Rattle.std.specs.List.{flat_map}
 use Rattle.s38_durable.specs.Durable.{whole_of}
 use Rattle.s38_image.specs.Images.{parts_of}
@@ -9,7 +8,7 @@ use Rattle.s38_keeping.specs.Replacing.{each_to}
 use Rattle.s38_closing.specs.Closing.{closing}
 use Rattle.s38_closing.specs.Ensuring.{IsLeft}
 use Rattle.s38_closing.specs.Passing.{last_number}
-use Rattle.s38_closing.specs.Waiting.{IsNext, IsStoppedBy, Waits}
+use Rattle.s38_closing.specs.Waiting.{IsNext, Waits}
 use Rattle.s38_closing.proofs.CloseLaws.{handed}
 use Rattle.s38_closing.proofs.KeepLaws.{during_both}
 use Rattle.s38_closing.proofs.NextLaws.{among_from, among_low, next_among}
@@ -19,12 +18,10 @@ use Rattle.s38_durable.specs.Stands.{parts_at}
 use Rattle.s38_image.specs.Faults.{ceiling_key}
 use Rattle.s38_keeping.proofs.KeyLaws.{fine_begun}
 use Rattle.s38_keeping.proofs.SoFarLaws.{so_far_begun}
-use Rattle.s38_keeping.specs.declared.fault.KeepFault.{KeepFault}
 use Rattle.s38_objects.proofs.KeptLaws.{all_gone, at_hand, one_more}
 use Rattle.s38_rules.specs.declared.object.Object.{Object}
-use Rattle.s38_vault.specs.Content.{Content}
 use Rattle.s38_vault.specs.Directory.{new_keys}
-use Rattle.s38_vault.specs.Vaults.{VaultShape, VaultView}
+use Rattle.s38_vault.specs.Vaults.{VaultShape}
 use Rattle.s38_closing.proofs.closing.keep_objects.Goals as goal
 
 pub loop-object-init : goal.loop-object-init
@@ -127,9 +124,14 @@ loop-object-preserved g c =
       waits = λ m held.
           let waiting = was.waits m held in
           let waits = subst (λ (k : VaultShape). Waits k.most m d h gone waiting.0 c.loop-object.changes.items) (sym was.shape) waiting.1.1 in
-          let found = done.waits m waiting.0 gone rest next waiting.1.0 waits in
-          (found.0, (found.1.0, subst (λ (l : List Object). Waits (V.view old).shape.most m d h l found.0 c.keep_next.new.changes.items) more
-          (subst (λ (k : VaultShape). Waits k.most m d h (gone ++ o ∷ []) found.0 c.keep_next.new.changes.items) (c.keep_next.ensures.shape ∙ was.shape) found.1.1)));
+          let found = done.waits m waiting.0 gone rest next waiting.1.0 waits in (
+            found.0,
+            (
+              found.1.0,
+              subst (λ (l : List Object). Waits (V.view old).shape.most m d h l found.0 c.keep_next.new.changes.items) more
+                  (subst (λ (k : VaultShape). Waits k.most m d h (gone ++ o ∷ []) found.0 c.keep_next.new.changes.items) (c.keep_next.ensures.shape ∙ was.shape) found.1.1),
+            ),
+          );
       past = λ t x low.
           let first = was.past t x low in
           let last = c.keep_next.ensures.past t x (omega (arith, low, was.later)) in

@@ -4,7 +4,7 @@ use Rattle.s38_closing.specs.Closing.{closing}
 use Rattle.s38_durable.specs.Stands.{ceiling_parts, parts_at}
 use Rattle.s38_forcing.specs.Differences.{IsWanted, differences}
 use Rattle.s38_image.specs.Faults.{ceiling_key}
-use Rattle.s38_keeping.proofs.KeyLaws.{all_known, fine_moved, fine_next, no_next}
+use Rattle.s38_keeping.proofs.KeyLaws.{all_known, fine_next, no_next}
 use Rattle.s38_keeping.proofs.SoFarLaws.{passed, stays_keys, wanted_whole}
 use Rattle.s38_keeping.specs.Replacing.{range_of, short_range}
 use Rattle.s38_keeping.specs.Walking.{AreAt}

@@ -1,9 +1,8 @@
-use Rattle.std.proofs.Common.{◌≡◌, ◌∙◌, Global, Vec, ◌≤◌, ℕ, ◌++◌, ◌-◌, List, Some, None, ap, append-nil, append_assoc, arith, length, refl, rules, subst, sym}
+use Rattle.std.proofs.Common.{◌∙◌, Global, Vec, ◌≤◌, ℕ, ◌++◌, ◌-◌, List, ap, append_assoc, arith, refl, subst, sym}
 use Rattle.std.specs.Prelude.{Option}
-use Rattle.std.specs.Option.{option_copied, option_map}
 use Rattle.s38_base.specs.declared.page.Change.{Change}
 use Rattle.s38_closing.proofs.FoundLaws.{found_among}
-use Rattle.s38_closing.proofs.NextLaws.{adds_none, adds_some, among_all, among_from, among_low, among_parts, at_moved, next_above, next_among, next_gap, none_more}
+use Rattle.s38_closing.proofs.NextLaws.{adds_none, adds_some, among_all, among_from, among_parts, at_moved, next_above, next_among, next_gap, none_more}
 use Rattle.s38_closing.specs.Closing.{closing}
 use Rattle.s38_closing.specs.Ensuring.{journal_ahead}
 use Rattle.s38_closing.specs.Waiting.{AddsNumber}
@@ -18,7 +17,6 @@ use Rattle.s38_keeping.proofs.SoFarLaws.{passed, stays_keys}
 use Rattle.s38_keeping.specs.Replacing.{range_of}
 use Rattle.s38_keeping.specs.Walking.{AreAt, AreSoFar}
 use Rattle.s38_rules.specs.Storable.{IsStorable}
-use Rattle.s38_rules.specs.declared.object.Object.{Object}
 use Rattle.s38_closing.proofs.next.add_next.Goals.{in-Some+in_ok-add_object-2, in_default}
 use Rattle.s38_closing.proofs.next.add_next.Goals as goal
 
@@ -108,9 +106,10 @@ returns-clause-kept g c =
       | in-Some+in_ok-add_object-2 w ↦
           let o = w.in-Some.journal.now in
           let added = w.in_ok-add_object-2.ensures.at in
-          let journal = differences added.pages (range_of o.number.0) (parts_of (whole_of c.args.units.now c.args.objects.now o)) in
-          ((strangers.0 ++ object) ++ journal,
-          ap (λ (v : Vec Change Global). v.items) w.into-is ∙ added.read ∙ ap (λ (cs : List Change). cs ++ journal) both ∙ append_assoc items (strangers.0 ++ object) journal)
+          let journal = differences added.pages (range_of o.number.0) (parts_of (whole_of c.args.units.now c.args.objects.now o)) in (
+            (strangers.0 ++ object) ++ journal,
+            ap (λ (v : Vec Change Global). v.items) w.into-is ∙ added.read ∙ ap (λ (cs : List Change). cs ++ journal) both ∙ append_assoc items (strangers.0 ++ object) journal,
+          )
       | in_default w ↦ (strangers.0 ++ object, ap (λ (v : Vec Change Global). v.items) w.into-is ∙ both)
     ]
 

@@ -1,4 +1,4 @@
-use Rattle.std.proofs.Common.{[], ◌≤◌, inl, length, refl, subst, sym, take, ◌∙◌, ap}
+use Rattle.std.proofs.Common.{[], ◌≤◌, inl, length, refl, subst, sym, take, ◌∙◌}
 use Rattle.std.proofs.lemmas.List.{take-append-drop}
 use Rattle.s38_base.specs.declared.page.Change.{Change}
 use Rattle.std.specs.Prelude.{List, drop}
