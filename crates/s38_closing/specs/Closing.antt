@@ -11,13 +11,9 @@ use Rattle.s38_durable.specs.Stands.{ceiling_parts, parts_at}
 use Rattle.s38_image.specs.declared.stored.Stored.{Stored}
 use Rattle.s38_image.specs.Faults.{ceiling_key}
 use Rattle.s38_image.specs.Images.{parts_of}
-use Rattle.s38_keeping.specs.Outcomes.{IsRightFor}
 use Rattle.s38_keeping.specs.Replacing.{changes_to}
-use Rattle.s38_keeping.specs.declared.fault.KeepFault.{KeepFault}
 use Rattle.s38_rules.specs.Held.{Held}
 use Rattle.s38_vault.specs.Content.{Content, changed}
-use Rattle.s38_vault.specs.Directory.{new_keys}
-use Rattle.s38_vault.specs.Vaults.{VaultView}
 
 -- ---- what is to be kept
 
@@ -43,7 +39,3 @@ content_of d = changed empty (parts_of_all d)
 -- keys
 abbrev pub closing_changes : (Key → Option Page) → Durable → List Change
 closing_changes pages d = changes_to pages (parts_at d) ceiling_key
-
--- a store is full where what is durable brings more keys than there are free parts, whatever keys go
-abbrev pub IsRight : VaultView → Durable → KeepFault → Type 0
-IsRight vault d fault = IsRightFor (new_keys vault.keys (parts_of_all d)) vault.free fault

@@ -1,2 +1,4 @@
 pub mod Closing
 pub mod Passing
+pub mod Ensuring
+pub mod Waiting

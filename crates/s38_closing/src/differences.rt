@@ -1,10 +1,12 @@
 //! The changes of all objects, one object after another.
-ghost use Rattle.std.specs.Prelude.{◌≡◌, ◌<◌, ◌≤◌, ℕ, All, IfOk, None, OnOk, [], true};
+ghost use Rattle.std.specs.Prelude.{◌≡◌, ◌<◌, ◌≤◌, ◌++◌, ℕ, All, IfOk, List, None, OnOk, [], true};
 ghost use Rattle.std.specs.FinMap.{contains_key};
 ghost use Rattle.std.specs.List.{flat_map};
 ghost use Rattle.s38_base.specs.Faults.{HasCauseOf};
+ghost use Rattle.s38_base.specs.declared.page.Change.{Change};
 ghost use Rattle.s38_base.specs.declared.page.Key.{Key};
 ghost use Rattle.s38_closing.specs.Closing.{closing, kept_whole, parts_of_all};
+ghost use Rattle.s38_commits.specs.Units.{UnitMap};
 ghost use Rattle.s38_durable.specs.Durable.{kept, whole_of};
 ghost use Rattle.s38_durable.specs.Stands.{parts_at};
 ghost use Rattle.s38_forcing.specs.Differences.{IsWanted};
@@ -27,7 +29,7 @@ use s38_vault::Vault;
 use std::alloc::Global;
 
 /// Adds the changes at the number of an object.
-fn add_object<V: Vault>(
+pub(crate) fn add_object<V: Vault>(
     alloc: Global,
     vault: &mut V,
     objects: &Objects,
@@ -83,6 +85,32 @@ fn add_objects<V: Vault>(
     Ok(done)
 }
 
+/// Adds the changes at the numbers behind that of the last object: all parts there go, and the ceiling's stands.
+pub(crate) fn add_rest<V: Vault>(
+    alloc: Global,
+    vault: &mut V,
+    objects: &Objects,
+    done: u64,
+    into: &mut Vec<Change>,
+) -> Result<(), ForcingFault>
+    requires low { done < ceiling_key }
+    ensures so_far { OnOk result ((units : UnitMap) → ((n : ℕ) → done < n → kept (kept_whole units objects.now) n ≡ None)
+        → AreSoFar (V.view vault.old).keys (V.holds vault.old) (parts_at (closing units objects.now)) done into.old.items
+        → AreSoFar (V.view vault.old).keys (V.holds vault.old) (parts_at (closing units objects.now)) ceiling_key into.new.items) }
+    ensures kept { OnOk result ((rest : List Change) × (into.new.items ≡ into.old.items ++ rest)) }
+    ensures known { OnOk result (AreFineTo (V.view vault.old).keys done → (key : Key) → contains_key (V.view vault.old).keys key ≡ true → IsKnown ceiling_key key) }
+    ensures stays { Stays V.view V.holds V.leaves vault.old vault.new }
+    ensures cause { HasCauseOf (V.view vault.old).faults (V.view vault.new).faults result faults.Failed }
+    ensures count { OnOk result ((V.view vault.new).faults ≡ (V.view vault.old).faults) }
+{
+    add_strangers(vault, done, CEILING_KEY - 1, into)?;
+    let parts = ceiling_parts(alloc, objects.ceiling())?;
+    add_wanted(vault, CEILING_KEY, &parts, into)?;
+    // Its contract says that no key is behind.
+    let _behind = next_number(vault, CEILING_KEY, CEILING_KEY);
+    Ok(())
+}
+
 /// Adds the changes that make a vault hold all objects whole, the ceiling, and nothing else, in the order of their keys.
 pub(crate) fn add_all<V: Vault>(
     alloc: Global,
@@ -103,10 +131,6 @@ pub(crate) fn add_all<V: Vault>(
     ensures count { OnOk result ((V.view vault.new).faults ≡ (V.view vault.old).faults) }
 {
     let done = add_objects(alloc, vault, objects, units, into)?;
-    add_strangers(vault, done, CEILING_KEY - 1, into)?;
-    let parts = ceiling_parts(alloc, objects.ceiling())?;
-    add_wanted(vault, CEILING_KEY, &parts, into)?;
-    // Its contract says that no key is behind.
-    let _behind = next_number(vault, CEILING_KEY, CEILING_KEY);
+    add_rest(alloc, vault, objects, done, into)?;
     Ok(())
 }

@@ -4,6 +4,7 @@
 mod closing;
 mod differences;
 mod first;
+mod next;
 mod parts;
 
 pub use closing::close;

@@ -28,7 +28,7 @@ const CEILING_MARK: u32 = 0x5333_3843;
 const PAGE_BYTES: u32 = 512;
 
 /// The port that a data space names, 0 for none.
-fn data_port(objects: &Objects, space: ObjNum) -> ObjNum
+pub(crate) fn data_port(objects: &Objects, space: ObjNum) -> ObjNum
     ensures { result.0 ≡ data_port objects.now space.0 }
 {
     match objects.data_space(space) {

@@ -26,7 +26,7 @@ use Rattle.s38_vault.proofs.KeyedLaws.{key_cmp-IsAntisymmetric}
 
 -- ---- a key after changes
 
-unfoldable changed_at : List Change → Key → Option Page → Option Page
+unfoldable pub changed_at : List Change → Key → Option Page → Option Page
 changed_at [] q old = old
 changed_at (c ∷ cs) q old = changed_at cs q (cond (eq_by_cmp key_cmp q c.key) c.page old)
 
@@ -34,12 +34,12 @@ get-with_value : (m : Content) (k : Key) (o : Option Page) (q : Key) → get (wi
 get-with_value m k (Some page) q = get-insert key_cmp_total m k page q
 get-with_value m k None q = get-remove key_cmp_total m k q
 
-get-changed : (m : Content) (cs : List Change) (q : Key) → get (changed m cs) q ≡ changed_at cs q (get m q)
+pub get-changed : (m : Content) (cs : List Change) (q : Key) → get (changed m cs) q ≡ changed_at cs q (get m q)
 unfolding changed_at
 get-changed m [] q = refl
 get-changed m (c ∷ cs) q = get-changed (with_value m c.key c.page) cs q ∙ ap (changed_at cs q) (get-with_value m c.key c.page q)
 
-changed_at-append : (cs ds : List Change) (q : Key) (old : Option Page) → changed_at (cs ++ ds) q old ≡ changed_at ds q (changed_at cs q old)
+pub changed_at-append : (cs ds : List Change) (q : Key) (old : Option Page) → changed_at (cs ++ ds) q old ≡ changed_at ds q (changed_at cs q old)
 unfolding changed_at
 changed_at-append [] ds q old = refl
 changed_at-append (c ∷ cs) ds q old = changed_at-append cs ds q (cond (eq_by_cmp key_cmp q c.key) c.page old)
@@ -49,7 +49,7 @@ unfolding changed_at
 changed_at-others [] q old h = refl
 changed_at-others (c ∷ cs) q old h = ap (λ b. changed_at cs q (cond b c.page old)) h.0 ∙ changed_at-others cs q old h.1
 
-differences_at : (m : Content) (range : PartRange) (wanted : List Change) (q : Key) → changed_at (differences (get m) range wanted) q (get m q) ≡ cond (is_in_range range q) (wanted_at wanted q) (get m q)
+pub differences_at : (m : Content) (range : PartRange) (wanted : List Change) (q : Key) → changed_at (differences (get m) range wanted) q (get m q) ≡ cond (is_in_range range q) (wanted_at wanted q) (get m q)
 differences_at m range wanted q = sym (get-changed m (differences (get m) range wanted) q) ∙ differences_made m range wanted q
 
 -- ---- a key, where each number has changes of its own
@@ -62,12 +62,12 @@ abbrev AreOwn : (ℕ → List Change) → Type 0
 AreOwn f = (k : ℕ) → AllByRecursion (λ c. c.key.object ≡ k) (f k)
 
 -- changes of another number
-other_number : (cs : List Change) (k : ℕ) (q : Key) (old : Option Page) → AllByRecursion (λ c. c.key.object ≡ k) cs → q.object ≢ k → changed_at cs q old ≡ old
+pub other_number : (cs : List Change) (k : ℕ) (q : Key) (old : Option Page) → AllByRecursion (λ c. c.key.object ≡ k) cs → q.object ≢ k → changed_at cs q old ≡ old
 other_number cs k q old own off =
     changed_at-others cs q old (all_of _ _ cs (λ c of_it. is_false _ (λ same. off (ap (λ (x : Key). x.object) (one_key q c.key same) ∙ of_it))) own)
 
 -- no number up to this one is the key's
-made_other : (f : ℕ → List Change) (q : Key) (old : Option Page) (n : ℕ) → ((k : ℕ) → 1 ≤ k → k ≤ n → AllByRecursion (λ c. c.key.object ≡ k) (f k)) → ((k : ℕ) → 1 ≤ k → k ≤ n → q.object ≢ k) → changed_at (each_to f n) q old ≡ old
+pub made_other : (f : ℕ → List Change) (q : Key) (old : Option Page) (n : ℕ) → ((k : ℕ) → 1 ≤ k → k ≤ n → AllByRecursion (λ c. c.key.object ≡ k) (f k)) → ((k : ℕ) → 1 ≤ k → k ≤ n → q.object ≢ k) → changed_at (each_to f n) q old ≡ old
 unfolding changed_at
 made_other f q old zero own off = ap (λ (cs : List Change). changed_at cs q old) (each_none f)
 made_other f q old (suc n) own off =
@@ -76,7 +76,7 @@ made_other f q old (suc n) own off =
     ∙ made_other f q old n (λ k low high. own k low (omega arith)) (λ k low high. off k low (omega arith))
 
 -- the changes of the key's number alone count
-made_here : (f : ℕ → List Change) (q : Key) (old : Option Page) (n : ℕ) → ((k : ℕ) → 1 ≤ k → k ≤ n → AllByRecursion (λ c. c.key.object ≡ k) (f k)) → 1 ≤ q.object → q.object ≤ n → changed_at (each_to f n) q old ≡ changed_at (f q.object) q old
+pub made_here : (f : ℕ → List Change) (q : Key) (old : Option Page) (n : ℕ) → ((k : ℕ) → 1 ≤ k → k ≤ n → AllByRecursion (λ c. c.key.object ≡ k) (f k)) → 1 ≤ q.object → q.object ≤ n → changed_at (each_to f n) q old ≡ changed_at (f q.object) q old
 made_here f q old zero own low high = absurd (omega arith)
 made_here f q old (suc n) own low high =
     ap (λ (cs : List Change). changed_at cs q old) (each_next f n) ∙ changed_at-append (each_to f n) (f (suc n)) q old

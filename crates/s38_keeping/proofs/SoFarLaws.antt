@@ -11,10 +11,10 @@ use Rattle.s38_base.specs.declared.page.Key.{Key}
 use Rattle.s38_base.specs.declared.page.Page.{Page}
 use Rattle.s38_forcing.specs.Differences.{HavePages, IsWanted, change_between, difference_at, differences, differences_from, is_in_range, wanted_at}
 use Rattle.s38_forcing.proofs.DifferenceLaws.{none_left, split}
-use Rattle.s38_forcing.proofs.LookLaws.{differences_new, differences_objects, differences_rising, each_difference}
+use Rattle.s38_forcing.proofs.LookLaws.{differences_objects, differences_rising, each_difference}
 use Rattle.s38_forcing.proofs.WalkLaws.{key_at, not_above, object_below, part_below}
 use Rattle.s38_forcing.proofs.WantedLaws.{in_range, inside, pages_held, read_begun}
-use Rattle.s38_keeping.specs.Replacing.{changes_at, each_to, last_part, range_of, short_range}
+use Rattle.s38_keeping.specs.Replacing.{changes_at, last_part, range_of, short_range}
 use Rattle.s38_keeping.specs.Walking.{AreAt, AreSoFar, Stays}
 use Rattle.s38_keeping.proofs.PieceLaws.{each_empty, each_next, each_none}
 use Rattle.s38_vault.specs.Content.{AreRising, Content, HaveObjects}
@@ -42,7 +42,7 @@ rising_join done [] ds low high first last = last
 rising_join done (c ∷ []) ds low high first last = rising_on c ds (all_of _ _ ds (λ d above. object_below c.key d.key (omega (arith, low.0, above))) high) last
 rising_join done (c ∷ d ∷ cs) ds low high first last = (first.0, rising_join done (d ∷ cs) ds low.1 high first.1 last)
 
-new-append : (keys : Keys) (cs ds : List Change) → new_keys keys (cs ++ ds) ≡ new_keys keys cs + new_keys keys ds
+pub new-append : (keys : Keys) (cs ds : List Change) → new_keys keys (cs ++ ds) ≡ new_keys keys cs + new_keys keys ds
 new-append keys cs ds = sum_by-append (λ c. cond (is_new keys c) 1 0) cs ds
 
 -- the changes of a number are of that number
@@ -132,10 +132,6 @@ module _ (keys : Keys) (holds : Content → Type 0) (wants : ℕ → List Change
             (all_on (λ c. 1 ≤ c.key.object) changes found was.objects (differences_objects at.pages (range_of n) (wants n) (omega arith)));
         upto = subst (λ (cs : List Change). AllByRecursion (λ c. c.key.object ≤ n) cs) (sym at.read)
             (all_on (λ c. c.key.object ≤ n) changes found (all_of _ _ changes (λ c low. omega (arith, low)) was.upto) (all_of _ _ found (λ c here. omega (arith, here)) own));
-        count =
-            ap (new_keys keys) at.read ∙ new-append keys changes found
-            ∙ (λ i. was.count i + differences_new keys at.pages (range_of n) (wants n) at.have is i)
-            ∙ sym (new-append keys (each_to wants done) (wants n)) ∙ ap (new_keys keys) (sym (each_next wants done));
       }
 
   -- a number without a part, where none is wanted
@@ -147,7 +143,6 @@ module _ (keys : Keys) (holds : Content → Type 0) (wants : ℕ → List Change
     rising = was.rising;
     objects = was.objects;
     upto = all_of _ _ changes (λ c low. omega (arith, low)) was.upto;
-    count = was.count ∙ ap (new_keys keys) (sym (each_empty wants done none));
   }
     where
       nothing : (m : Content) → holds m → changes_at (get m) wants (suc done) ≡ []
@@ -211,7 +206,6 @@ module _ (keys : Keys) (holds : Content → Type 0) (wants : ℕ → List Change
     rising = subst AreRising (sym none) tt;
     objects = subst HaveObjects (sym none) tt;
     upto = subst (λ (cs : List Change). AllByRecursion (λ c. c.key.object ≤ 0) cs) (sym none) tt;
-    count = ap (new_keys keys) (none ∙ sym (each_none wants));
   }
 
 -- what is added at a number, and the removal of its last part
@@ -241,7 +235,6 @@ so_far_moved keys more holds now wants done changes same back was = record {
   rising = was.rising;
   objects = was.objects;
   upto = was.upto;
-  count = subst (λ (ks : Keys). new_keys ks changes ≡ new_keys ks (each_to wants done)) (sym same) was.count;
 }
 
 -- numbers where no part is wanted, and then a number at which changes were found, of a vault that is as it was

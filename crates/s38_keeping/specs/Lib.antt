@@ -1,3 +1,4 @@
 pub mod Replacing
 pub mod Outcomes
 pub mod Walking
+pub mod Placing

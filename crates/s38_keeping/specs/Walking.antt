@@ -6,9 +6,9 @@ use Rattle.s38_base.specs.declared.page.Change.{Change}
 use Rattle.s38_base.specs.declared.page.Key.{Key}
 use Rattle.s38_base.specs.declared.page.Page.{Page}
 use Rattle.s38_forcing.specs.Differences.{HavePages, IsWanted, differences}
-use Rattle.s38_keeping.specs.Replacing.{changes_to, each_to, last_part, range_of}
+use Rattle.s38_keeping.specs.Replacing.{changes_to, last_part, range_of}
 use Rattle.s38_vault.specs.Content.{AreRising, Content, HaveObjects}
-use Rattle.s38_vault.specs.Directory.{Keys, is_after, keys_of, new_keys}
+use Rattle.s38_vault.specs.Directory.{Keys, is_after, keys_of}
 use Rattle.s38_vault.specs.Vaults.{VaultView}
 
 -- ---- keys
@@ -57,4 +57,3 @@ pub record AreSoFar (keys : Keys) (holds : Content → Type 0) (wants : ℕ → 
   pub rising : AreRising changes
   pub objects : HaveObjects changes
   pub upto : AllByRecursion (λ c. c.key.object ≤ done) changes
-  pub count : new_keys keys changes ≡ new_keys keys (each_to wants done)

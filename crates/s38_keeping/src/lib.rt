@@ -4,12 +4,14 @@
 mod fault;
 mod laws;
 mod numbers;
+mod placing;
 mod putting;
 mod walking;
 
 pub use fault::KeepFault;
 pub use laws::changes_make_what_is_wanted;
 pub use numbers::{add_strangers, add_wanted};
+pub use placing::make_place;
 pub use putting::put_changes;
 pub use walking::next_number;
 

@@ -60,6 +60,7 @@ pub fn add_strangers<V: Vault>(
 ) -> Result<(), NoMemory>
     requires { done ≤ upto }
     ensures so_far { OnOk result ((wants : ℕ → List Change) → ((n : ℕ) → done < n → n ≤ upto → wants n ≡ []) → AreSoFar (V.view vault.now).keys (V.holds vault.now) wants done into.old.items → AreSoFar (V.view vault.now).keys (V.holds vault.now) wants upto into.new.items) }
+    ensures kept { OnOk result ((rest : List Change) × (into.new.items ≡ into.old.items ++ rest)) }
     ensures fine { OnOk result (AreFineTo (V.view vault.now).keys done → (key : Key) → contains_key (V.view vault.now).keys key ≡ true → key.object ≤ upto → IsFine key) }
 {
     let mut last = done;

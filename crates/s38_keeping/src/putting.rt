@@ -5,12 +5,30 @@ ghost use Rattle.s38_forcing.specs.Puts.{IsAfterPuts};
 ghost use Rattle.s38_keeping.specs.Outcomes.{IsRightFor};
 ghost use Rattle.s38_keeping.specs.declared.fault.KeepFault.TheVariants as faults;
 ghost use Rattle.s38_vault.specs.Content.{AreRising, Content, HaveObjects, changed};
-ghost use Rattle.s38_vault.specs.Directory.{new_keys};
+ghost use Rattle.s38_vault.specs.Directory.{keys_of, new_keys};
 
 use crate::fault::KeepFault;
 use s38_base::Change;
 use s38_forcing::{count_new, put_all};
 use s38_vault::Vault;
+
+/// Whether there are free parts for all new keys, whatever keys changes take away: `Full` where there are too few.
+pub(crate) fn check_room<V: Vault>(vault: &V, changes: &[Change]) -> Result<(), KeepFault>
+    requires { HaveObjects changes.now }
+    ensures room { OnOk result (new_keys (V.view vault.now).keys changes.now ≤ (V.view vault.now).free) }
+    ensures full { IfErr result (λ fault. IsRightFor (new_keys (V.view vault.now).keys changes.now) (V.view vault.now).free fault) }
+    ensures failed { IfErr result (λ fault. fault ≢ faults.Failed) }
+    ensures memory { IfErr result (λ fault. fault ≢ faults.NoMemory) }
+    ensures keys { (m : Content) → V.holds vault.now m → (V.view vault.now).keys ≡ keys_of m }
+{
+    let needed = count_new(vault, changes);
+    let free = vault.free();
+    if needed > free as usize {
+        let needed = needed as u64;
+        return Err(KeepFault::Full { needed, free });
+    }
+    Ok(())
+}
 
 /// Makes room for changes: there are free parts for all new keys, and memory for all puts. Nothing else is changed.
 fn make_room<V: Vault>(vault: &mut V, changes: &[Change]) -> Result<(), KeepFault>
@@ -23,12 +41,7 @@ fn make_room<V: Vault>(vault: &mut V, changes: &[Change]) -> Result<(), KeepFaul
     ensures holds { (m : Content) → V.holds vault.old m ↔ V.holds vault.new m }
     ensures past { (t : ℕ) (m : Content) → t ≤ (V.view vault.old).moment → V.leaves vault.old t m ↔ V.leaves vault.new t m }
 {
-    let needed = count_new(vault, changes);
-    let free = vault.free();
-    if needed > free as usize {
-        let needed = needed as u64;
-        return Err(KeepFault::Full { needed, free });
-    }
+    check_room(vault, changes)?;
     if changes.len() > u32::MAX as usize {
         return Err(KeepFault::NoMemory);
     }

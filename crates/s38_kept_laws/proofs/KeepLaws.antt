@@ -36,6 +36,7 @@ use Rattle.s38_rules.specs.declared.object.Body.TheVariants as bodies
 use Rattle.s38_rules.specs.declared.object.Body.{Body}
 use Rattle.s38_rules.specs.declared.object.Object.{Object}
 use Rattle.s38_vault.specs.Content.{Content}
+use Rattle.s38_step_parts.specs.Growing.{AreBeginnings}
 use Rattle.s38_step_parts.specs.Numbers.{numbered}
 use Rattle.s38_step_parts.specs.Stepping.{AreNumbers, HaveHeaders, IsDue, Precedes}
 use Rattle.s38_kept_laws.specs.Crashes.{led}
@@ -209,8 +210,8 @@ module _ (laws : DurableLaws) (s : State) (p : ℕ) (e : Event) (d : Durable) (i
   pub all_settled : All (λ o. CanSettle t.units o.number.0 o.body) t.held.objects
   all_settled = all_settle t goes.numbered.rising right
 
-  pub goes_before : (m : Content) → HaveHeaders d → Stands m d → Precedes t.held t.units m d t
-  goes_before m headers stands = record { held = refl; units = refl; stands = stands; headers = headers; kinds = same_kinds }
+  pub goes_before : (m : Content) → HaveHeaders d → Stands m d → AreBeginnings t.held d → Precedes t.held t.units m d t
+  goes_before m headers stands begins = record { held = refl; units = refl; stands = stands; headers = headers; kinds = same_kinds; grows = begins }
 
   pub all_due : IsDue all d t
   all_due = record {

@@ -27,6 +27,7 @@ ghost use Rattle.s38_rules.specs.Room.{Room};
 ghost use Rattle.s38_rules.specs.State.{State};
 ghost use Rattle.s38_rules.specs.Step.{step};
 ghost use Rattle.s38_rules.specs.Storable.{IsStorable};
+ghost use Rattle.s38_step_parts.specs.Growing.{AreBeginnings};
 ghost use Rattle.s38_step_parts.specs.Numbers.{numbered};
 ghost use Rattle.s38_step_parts.specs.Stepping.{AreNumbers, HaveHeaders, IsDue, Precedes, ceiling_changes, object_changes, put_forced};
 ghost use Rattle.s38_vault.specs.Content.{Content};
@@ -77,12 +78,12 @@ pub fn what_is_durable_can_be_read()
 }
 
 /// What a step forces that takes effect can be put: the content that stands for what was durable, if each header of that can be
-/// read again, precedes the step, and what the step does not force stays durable. A store can keep each object behind it, with every
+/// read again, and what is kept of journal spaces is a beginning of them, precedes the step, and what the step does not force stays durable. A store can keep each object behind it, with every
 /// uncommitted change taken back. All that is forced is the number of an object, but that an instruction without operands may
 /// force the number of none; this makes no difference.
 pub fn what_is_forced_can_be_put()
     ensures precedes { (s : State) (p : ℕ) (e : Event) (values : List Val) (d : Durable) (m : Content) → IsKeptOf s d → (step s p e).reply ≡ Done values → HaveHeaders d → Stands m d
-        → Precedes (step s p e).state.held (step s p e).state.units m d (step s p e).state }
+        → AreBeginnings (step s p e).state.held d → Precedes (step s p e).state.held (step s p e).state.units m d (step s p e).state }
     ensures due { (s : State) (p : ℕ) (e : Event) (values : List Val) (d : Durable) → IsKeptOf s d → (step s p e).reply ≡ Done values → IsDue (forced s p e) d (step s p e).state }
     ensures due_numbered { (s : State) (p : ℕ) (e : Event) (values : List Val) (d : Durable) → IsKeptOf s d → (step s p e).reply ≡ Done values → IsDue (numbered (forced s p e)) d (step s p e).state }
     ensures numbers { (s : State) (p : ℕ) (e : Event) (values : List Val) (d : Durable) → IsKeptOf s d → (step s p e).reply ≡ Done values → AreNumbers (numbered (forced s p e)) }

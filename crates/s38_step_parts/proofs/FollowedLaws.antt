@@ -1,18 +1,21 @@
 -- What differs of an object that is there, in the words of what is durable.
-use Rattle.std.proofs.Common.{◌≡◌, ◌∙◌, ◌<◌, ◌≤◌, None, Option, Some, ap, false, length, refl, subst, sym, true, ℕ}
+use Rattle.std.proofs.Common.{◌≡◌, ◌∙◌, ◌*◌, ◌<◌, ◌≤◌, ◌++◌, None, Option, Some, ap, false, length, refl, subst, sym, true, ℕ}
 use Rattle.std.specs.FinMap.{get}
 use Rattle.std.specs.Prelude.{Err, IfErr, IsErrAnd, IsTrue, Ok, OnOk, Result, is_some}
 use Rattle.s38_base.specs.NameText.{is_name}
+use Rattle.s38_base.specs.declared.id.Kind.TheVariants as kinds
 use Rattle.s38_commits.specs.Units.{UnitMap}
 use Rattle.s38_durable.specs.Durable.{Durable, kept, kept_behind, last_in, whole_of}
 use Rattle.s38_forcing.specs.Differences.{differences}
 use Rattle.s38_image.specs.Faults.{ceiling_key}
 use Rattle.s38_image.specs.Fitting.{header_codec}
 use Rattle.s38_image.specs.Images.{header_of, parts_of}
+use Rattle.s38_image.specs.Settled.{settled_body, settled_sequence}
 use Rattle.s38_image.specs.declared.header.Header.{Header}
 use Rattle.s38_image.specs.declared.stored.Stored.{Stored}
 use Rattle.s38_image_printing.proofs.LengthLaws.{header_long}
 use Rattle.s38_image_printing.specs.Parts.{header_with}
+use Rattle.s38_journals.specs.Journals.{JournalList, entries_len}
 use Rattle.s38_keeping.specs.Replacing.{range_of}
 use Rattle.s38_rules.specs.Held.{Held, kind_of, object}
 use Rattle.s38_rules.specs.Journaling.{journal_for}
@@ -20,10 +23,14 @@ use Rattle.s38_rules.specs.Room.{image_len}
 use Rattle.s38_rules.specs.Parts.{profile_of}
 use Rattle.s38_rules.specs.State.{State}
 use Rattle.s38_rules.specs.Storable.{IsStorable}
+use Rattle.s38_rules.specs.declared.object.Body.{Body}
+use Rattle.s38_rules.specs.declared.object.Body.TheVariants as bodies
 use Rattle.s38_rules.specs.declared.object.Object.{Object}
 use Rattle.s38_vault.specs.Content.{Content}
 use Rattle.s38_step_parts.proofs.KeptLaws.{Fit, IsKeptLen, followed_header, front_differs, key_of, kept_number, lens, never_bad, nothing_kept, some_kept, settled_len, some_len, user_followed, user_kind, user_unsequenced}
+use Rattle.s38_step_parts.proofs.GrownLaws.{journal_differs}
 use Rattle.s38_step_parts.specs.Fronts.{front_parts, front_range}
+use Rattle.s38_step_parts.specs.Growing.{tail_parts, tail_range}
 use Rattle.s38_step_parts.specs.Outcomes.{IsUnread}
 use Rattle.s38_step_parts.specs.Stepping.{HasHeader, Precedes}
 use Rattle.s38_step_parts.specs.declared.fault.ForceFault.{ForceFault}
@@ -114,3 +121,21 @@ module _ (h : Held) (us : UnitMap) (m : Content) (d : Durable) (s : State) (p : 
         let x = was.stored in
         subst (λ (y : Option Stored). HasHeader (kept_behind s o y)) (sym was.is)
         (followed_header o x len user (p.kinds n o x (found there) was.is) was.said few fits (p.headers n x was.is))
+
+  -- what differs of a journal space that is forced whole, of which so many bytes are kept
+  pub grown_follows : (journal : JournalList) (len k : ℕ) → IsStorable o → o.number.0 < ceiling_key → object h o.number.0 ≡ Some o → lens (get m (key_of o.number.0)) ≡ some_len (Some len) → o.body ≡ bodies.Journal journal
+      → entries_len journal.entries ≤ 16777216 → IsTrue (is_name o.id.name) → 512 * k ≤ len
+      → differences (get m) (range_of o.number.0) (parts_of (whole_of us h o))
+      ≡ differences (get m) (front_range o.number.0) (front_parts o (entries_len journal.entries)) ++ differences (get m) (tail_range o.number.0 k (entries_len journal.entries)) (tail_parts o.number.0 k journal.entries)
+  grown_follows journal len k storable low there read body short named within =
+      let n = o.number.0 in
+      let was = some_kept m d n len p.stands low fit read in
+      let x = was.stored in
+      let has = p.headers n x was.is in
+      let own : x.object.number.0 ≡ n = kept_number n d.objects x was.is in
+      let number : x.object.number ≡ o.number = λ i. record { 0 = own i } in
+      let kind : o.id.kind ≡ kinds.Journal = sym storable.kind ∙ ap kind_of body in
+      let last = last_in h (journal_for h n) in
+      journal_differs m d o (whole_of us h o) x journal len k p.stands low was.is was.said has number (p.kinds n o x (found there) was.is ∙ kind) kind (p.grows n o x journal (found there) was.is body)
+      (ap (λ (b : Body). record o { on_disk = true; body = settled_body us n b }) body) (ap (λ (b : Body). settled_sequence last b) body)
+      (header_long (header_with o (entries_len journal.entries)) named) storable.rows short within

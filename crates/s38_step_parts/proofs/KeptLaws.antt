@@ -84,7 +84,7 @@ kept_number n (y ∷ xs) x h = by (kept_number n xs x) (y.object.number.0 == n) 
     by rest false is h = rest h
 
 -- a part of a number is that of what is kept under it
-page_kept : (m : Content) (d : Durable) (n p : ℕ) (x : Option Stored) → Stands m d → n < ceiling_key → p < parts_end → kept d.objects n ≡ x → get m (key_at n p) ≡ wanted_at (parts_in x) (key_at n p)
+pub page_kept : (m : Content) (d : Durable) (n p : ℕ) (x : Option Stored) → Stands m d → n < ceiling_key → p < parts_end → kept d.objects n ≡ x → get m (key_at n p) ≡ wanted_at (parts_in x) (key_at n p)
 page_kept m d n p x stands low near is =
     stands.each (key_at n p) near
     ∙ ap (λ (cs : List Change). wanted_at cs (key_at n p)) (parts_below d n low ∙ ap parts_in is)

@@ -2,4 +2,5 @@ pub mod Numbers
 pub mod Fronts
 pub mod Putting
 pub mod Outcomes
+pub mod Growing
 pub mod Stepping

@@ -21,6 +21,7 @@ use Rattle.s38_rules.specs.Room.{image_len}
 use Rattle.s38_rules.specs.State.{State}
 use Rattle.s38_rules.specs.declared.object.Object.{Object}
 use Rattle.s38_vault.specs.Content.{Content}
+use Rattle.s38_step_parts.specs.Growing.{AreBeginnings}
 use Rattle.s38_step_parts.specs.Numbers.{numbers}
 
 -- ---- what may be forced
@@ -89,13 +90,14 @@ HaveHeaders d = (n : ℕ) (x : Stored) → kept d.objects n ≡ Some x → HasHe
 -- ---- before the puts
 
 -- the content stands for what is durable, of which each header can be read again, and the state has these objects and
--- units; an object that is there is kept under its kind
+-- units; an object that is there is kept under its kind, and of a journal space a beginning is kept
 pub record Precedes (h : Held) (us : UnitMap) (m : Content) (d : Durable) (s : State) : Type 0 where
   pub held : s.held ≡ h
   pub units : s.units ≡ us
   pub stands : Stands m d
   pub headers : HaveHeaders d
   pub kinds : (n : ℕ) (o : Object) (x : Stored) → object s.held n ≡ Some o → kept d.objects n ≡ Some x → x.object.id.kind ≡ o.id.kind
+  pub grows : AreBeginnings s.held d
 
 -- a step led from what is durable to the state, and forces this: what it does not force stays durable
 pub record IsDue (all : List Forced) (d : Durable) (s : State) : Type 0 where

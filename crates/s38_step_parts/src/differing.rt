@@ -21,7 +21,7 @@ ghost use Rattle.s38_step_parts.specs.declared.fault.ForceFault.TheVariants as f
 ghost use Rattle.s38_vault.specs.Content.{Content};
 
 use crate::fault::ForceFault;
-use crate::parts::{front_parts, whole_header};
+use crate::parts::{BODY_PART, front_parts, whole_header};
 use s38_base::{Change, Key, Page};
 use s38_closing::whole_parts;
 use s38_codecs::ReadFault;
@@ -33,9 +33,6 @@ use s38_objects::Objects;
 use s38_rules::{Body, Object};
 use s38_vault::Vault;
 use std::alloc::Global;
-
-/// The first part of a body.
-const BODY_PART: u32 = 128;
 
 /// How many bytes the body of an object has by the page of its header.
 fn len_in(object: u64, page: &Page) -> Result<u32, ForceFault>
@@ -52,7 +49,7 @@ fn len_in(object: u64, page: &Page) -> Result<u32, ForceFault>
 
 /// How many bytes the body has that is kept of an object, None where nothing is kept of it. The vault stays as it was, but
 /// for its count of faults.
-fn kept_len<V: Vault>(vault: &mut V, object: u64) -> Result<Option<u32>, ForceFault>
+pub(crate) fn kept_len<V: Vault>(vault: &mut V, object: u64) -> Result<Option<u32>, ForceFault>
     ensures told { IfOk result (λ found. (m : Content) → V.holds vault.old m → option_map len_in (get m (record { object = object; part = 0 })) ≡ option_map (λ len. Some len) found) }
     ensures bad { IfErr result (IsUnread ((m : Content) → V.holds vault.old m → option_map len_in (get m (record { object = object; part = 0 })) ≡ Some None)) }
     ensures stays { Stays V.view V.holds V.leaves vault.old vault.new }
@@ -115,7 +112,7 @@ pub(crate) fn add_gone<V: Vault>(
 }
 
 /// The parts of a number before the body.
-fn front_range(number: u64) -> PartRange
+pub(crate) fn front_range(number: u64) -> PartRange
     ensures { result ≡ front_range number }
 {
     PartRange {

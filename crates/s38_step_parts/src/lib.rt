@@ -4,6 +4,7 @@
 
 mod differing;
 mod fault;
+mod grown;
 mod numbers;
 mod objects;
 mod parts;

@@ -23,8 +23,9 @@ ghost use Rattle.s38_step_parts.specs.Stepping.{AreNumbers, HasHeaderIn, IsNumbe
 ghost use Rattle.s38_step_parts.specs.declared.fault.ForceFault.TheVariants as faults;
 ghost use Rattle.s38_vault.specs.Content.{AreRising, Content, HaveObjects};
 
-use crate::differing::{add_followed, add_gone, add_whole};
+use crate::differing::{add_followed, add_gone};
 use crate::fault::ForceFault;
+use crate::grown::add_forced;
 use crate::numbers::numbers_of;
 use s38_base::{Change, ObjNum};
 use s38_closing::{CEILING_KEY, ceiling_parts};
@@ -107,7 +108,7 @@ fn add_there<V: Vault>(
         return add_gone(vault, object.number.0, into);
     }
     if forces_whole(all, object.number.0) {
-        return add_whole(alloc, vault, objects, units, object, into);
+        return add_forced(alloc, vault, objects, units, object, into);
     }
     add_followed(alloc, vault, objects, units, object, into)
 }

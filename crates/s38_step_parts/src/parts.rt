@@ -21,7 +21,9 @@ use s38_rules::Object;
 use std::alloc::Global;
 
 /// How many bytes a page has.
-const PAGE_BYTES: u32 = 512;
+pub(crate) const PAGE_BYTES: u32 = 512;
+/// The first part of the body.
+pub(crate) const BODY_PART: u32 = 128;
 /// The first part of the rows.
 const ROWS_PART: u32 = 1;
 /// How many bytes a row has.

@@ -17,6 +17,8 @@ use Rattle.s38_kept_laws.proofs.KeepLaws as kept_laws
 use Rattle.s38_kept_laws.proofs.StepLaws.{IsDone}
 use Rattle.s38_kept_laws.specs.Crashes.{IsKeptPrefix, StandsBetween, led}
 use Rattle.s38_kept_laws.specs.Kept.{IsKeptOf}
+use Rattle.s38_put_laws.proofs.StepLaws.{begins_on, history_trail}
+use Rattle.s38_put_laws.specs.Trails.{IsTrailOf}
 use Rattle.s38_machine.specs.Stored.{kept_anew}
 use Rattle.s38_rules.proofs.Laws.{sound_after}
 use Rattle.s38_rules.specs.Forcing.{Forced, forced}
@@ -129,7 +131,7 @@ module _ {V : Type 0} (view : V → VaultView) (holds : V → Content → Type 0
 
   -- ---- what is durable
 
-  module _ (d : Durable) (kept : IsKeptFrom view holds leaves x d) (begun : IsKeptOf m.origin d) where
+  module _ (d : Durable) (kept : IsKeptFrom view holds leaves x d) (begun : IsKeptOf m.origin d) (trails : IsTrailOf m.origin d) where
     abbrev old : Durable
     old = durable d m.origin m.history
 
@@ -138,6 +140,9 @@ module _ {V : Type 0} (view : V → VaultView) (holds : V → Content → Type 0
 
     is_old : IsKeptOf s old
     is_old = history_kept laws m.origin d [] m.history s begun is.sound.legal
+
+    trails_old : IsTrailOf s old
+    trails_old = history_trail laws m.origin d [] m.history s begun trails is.sound.legal
 
     held : HoldsOf holds x.vault old
     held = subst (λ (k : Ending). HoldsWhile holds k x.vault old) going kept.now
@@ -207,7 +212,7 @@ module _ {V : Type 0} (view : V → VaultView) (holds : V → Content → Type 0
 
     module _ (does : IsDone (step s p e).reply) (v : V) (k : Ending) (keeps : KeepsStep view holds leaves x.vault v t.held t.units (numbered (forced s p e)) k) where
       precedes : Precedes t.held t.units held.content old t
-      precedes = goes_before laws s p e old is_old does held.content held.headers held.stands
+      precedes = goes_before laws s p e old is_old does held.content held.headers held.stands (begins_on laws s p e old is_old does trails_old.trailing)
 
       due : IsDue (numbered (forced s p e)) old t
       due = numbered_due laws s p e old is_old does
@@ -300,8 +305,8 @@ module _ {V : Type 0} (view : V → VaultView) (holds : V → Content → Type 0
     past = is.past;
     kept = λ c d held_first of. let kept = is.kept c d held_first of in
         record {
-          now = let now = held d kept of.kept in let both = quiet d kept of.kept nothing in record { content = now.content; held = now.held; stands = both.0; headers = both.1 };
-          crash = quiet_crash d kept of.kept nothing;
+          now = let now = held d kept of.kept of.trail in let both = quiet d kept of.kept of.trail nothing in record { content = now.content; held = now.held; stands = both.0; headers = both.1 };
+          crash = quiet_crash d kept of.kept of.trail nothing;
         };
   }
 
@@ -337,14 +342,14 @@ module _ {V : Type 0} (view : V → VaultView) (holds : V → Content → Type 0
           present = keeps.present;
           past = past_behind Going keeps;
           kept = λ c d held_first of. let kept = is.kept c d held_first of in
-              record { now = kept_now d kept of.kept does v Going keeps refl; crash = going_crash d kept of.kept does v Going keeps refl };
+              record { now = kept_now d kept of.kept of.trail does v Going keeps refl; crash = going_crash d kept of.kept of.trail does v Going keeps refl };
         }
 
-    ended_crash_by : (k : Ending) (marks : List ℕ) → marks ≡ m.marks → KeepsStep view holds leaves x.vault v t.held t.units (numbered (forced s p e)) k → (d : Durable) → IsKeptFrom view holds leaves x d → IsKeptOf m.origin d
+    ended_crash_by : (k : Ending) (marks : List ℕ) → marks ≡ m.marks → KeepsStep view holds leaves x.vault v t.held t.units (numbered (forced s p e)) k → (d : Durable) → IsKeptFrom view holds leaves x d → IsKeptOf m.origin d → IsTrailOf m.origin d
         → AllOnePut (view x.first).shape.most d m.origin (m.history ++ one ∷ []) → (j : ℕ) (n : Content) → (view x.first).moment ≤ j → j ≤ (view v).moment → leaves v j n
         → IsKeptPrefix d m.origin (m.history ++ one ∷ []) marks j n
-    ended_crash_by k marks same keeps d kept begun puts j n low high left =
-        subst (λ (ms : List ℕ). IsKeptPrefix d m.origin (m.history ++ one ∷ []) ms j n) (sym same) (ended_crash d kept begun does v k keeps puts j n low high left)
+    ended_crash_by k marks same keeps d kept begun trails puts j n low high left =
+        subst (λ (ms : List ℕ). IsKeptPrefix d m.origin (m.history ++ one ∷ []) ms j n) (sym same) (ended_crash d kept begun trails does v k keeps puts j n low high left)
 
     pub low_moment : (k : Ending) → KeepsStep view holds leaves x.vault v t.held t.units (numbered (forced s p e)) k → m.moment ≤ (view v).moment
     low_moment k keeps = let now = now_is.0 in let later = keeps.later in omega (arith, now, later)
@@ -359,7 +364,7 @@ module _ {V : Type 0} (view : V → VaultView) (holds : V → Content → Type 0
       shape = keeps.shape ∙ is.shape;
       present = keeps.present;
       past = past_behind Stopped keeps;
-      kept = λ c d held_first of. record { now = tt; crash = ended_crash_by Stopped (without_last (m.marks ++ m.moment ∷ [])) (last_left m.marks m.moment) keeps d (is.kept c d held_first of) of.kept };
+      kept = λ c d held_first of. record { now = tt; crash = ended_crash_by Stopped (without_last (m.marks ++ m.moment ∷ [])) (last_left m.marks m.moment) keeps d (is.kept c d held_first of) of.kept of.trail };
     }
 
     pub wanting_sound : KeepsStep view holds leaves x.vault v t.held t.units (numbered (forced s p e)) Wanting → IsSoundOver view holds leaves (record { machine = last_entry; vault = v; first = x.first; ending = Wanting })
@@ -372,5 +377,5 @@ module _ {V : Type 0} (view : V → VaultView) (holds : V → Content → Type 0
       shape = keeps.shape ∙ is.shape;
       present = keeps.present;
       past = past_behind Wanting keeps;
-      kept = λ c d held_first of. record { now = tt; crash = ended_crash_by Wanting (without_last (m.marks ++ m.moment ∷ [])) (last_left m.marks m.moment) keeps d (is.kept c d held_first of) of.kept };
+      kept = λ c d held_first of. record { now = tt; crash = ended_crash_by Wanting (without_last (m.marks ++ m.moment ∷ [])) (last_left m.marks m.moment) keeps d (is.kept c d held_first of) of.kept of.trail };
     }

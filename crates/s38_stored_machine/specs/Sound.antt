@@ -8,6 +8,7 @@ use Rattle.s38_durable.specs.Stands.{Stands}
 use Rattle.s38_kept_laws.specs.Crashes.{IsKeptPrefix}
 use Rattle.s38_kept_laws.specs.Kept.{AreNumbered, IsKeptOf}
 use Rattle.s38_object_laws.specs.Well.{AreWell}
+use Rattle.s38_put_laws.specs.Trails.{IsTrailOf}
 use Rattle.s38_rules.specs.Legal.{IsSound, Run}
 use Rattle.s38_rules.specs.State.{State}
 use Rattle.s38_step_parts.specs.Stepping.{HaveHeaders}
@@ -29,11 +30,13 @@ pub record CanBeStored (s : State) : Type 0 where
 
 -- ---- what is held
 
--- the content stands for what is durable, which goes with a state and has headers that can be read
+-- the content stands for what is durable, which goes with a state and has headers that can be read; and of each journal space
+-- a beginning is kept
 pub record IsOf (m : Content) (d : Durable) (s : State) : Type 0 where
   pub stands : Stands m d
   pub headers : HaveHeaders d
   pub kept : IsKeptOf s d
+  pub trail : IsTrailOf s d
 
 -- ---- a run over a vault
 

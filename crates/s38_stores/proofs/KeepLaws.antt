@@ -1,16 +1,15 @@
 -- What a call came to, by its result.
-use Rattle.std.proofs.Common.{◌≡◌, ℕ, subst}
+use Rattle.std.proofs.Common.{◌≡◌, subst}
 use Rattle.std.specs.Prelude.{Err, IfErr, IfOk, Ok, OnOk, Result}
 use Rattle.s38_keeping.specs.declared.fault.KeepFault.{KeepFault}
-use Rattle.s38_keeping.specs.declared.fault.KeepFault.TheVariants.{Full}
 
 pub kept_of : {P Q : Type 0} (r : Result (Unit {0}) KeepFault) → OnOk r P → (P → Q) → OnOk r Q
 kept_of (Ok done) p f = f p
 kept_of (Err fault) p f = tt
 
--- what is said of each fault is said of a full store
-pub of_fault : (P : KeepFault → Type 0) (r : Result (Unit {0}) KeepFault) (needed free : ℕ) → r ≡ Err (Full needed free) → IfErr r P → P (Full needed free)
-of_fault P r needed free is h = subst (λ (x : Result (Unit {0}) KeepFault). IfErr x P) is h
+-- what is said of each fault is said of this one
+pub of_fault : (P : KeepFault → Type 0) (r : Result (Unit {0}) KeepFault) (fault : KeepFault) → r ≡ Err fault → IfErr r P → P fault
+of_fault P r fault is h = subst (λ (x : Result (Unit {0}) KeepFault). IfErr x P) is h
 
 -- what follows of each answer, and of each fault
 pub ok_on : {A E : Type 0} (P Q : A → Type 0) (r : Result A E) → IfOk r P → ((x : A) → P x → Q x) → IfOk r Q

@@ -1,8 +1,8 @@
 -- The room of a store that was opened: it fits the objects, and all parts but one are for objects.
-use Rattle.std.proofs.Common.{◌≡◌, ◌+◌, ◌==◌, ◌∙◌, ◌∷◌, ℕ, Bool, List, [], ap, cond, map, refl, subst, sym, true, false}
+use Rattle.std.proofs.Common.{◌≡◌, ◌==◌, ◌∷◌, ℕ, Bool, List, [], ap, cond, map, refl, subst, sym, true, false}
 use Rattle.std.specs.List.{AllByRecursion}
 use Rattle.std.specs.Option.{option_map}
-use Rattle.std.specs.Prelude.{None, Option, Some}
+use Rattle.std.specs.Prelude.{None, Some}
 use Rattle.s38_base.specs.Limits.{body_limit}
 use Rattle.s38_base.specs.declared.page.Change.{Change}
 use Rattle.s38_durable.specs.Following.{extent_in}

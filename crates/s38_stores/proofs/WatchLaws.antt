@@ -1,16 +1,14 @@
 -- A vault that a restart or a closing used: what each image of each moment stands for.
-use Rattle.std.proofs.Common.{◌≡◌, ◌⊎◌, ℕ, ◌<◌, ◌≤◌, length, sym, ◌∙◌, ap, subst}
+use Rattle.std.proofs.Common.{◌≡◌, ℕ, ◌<◌, ◌≤◌, sym, ◌∙◌, ap, subst}
 use Rattle.std.specs.Prelude.{take}
-use Rattle.std.specs.FinMap.{get}
 use Rattle.s38_blocks.specs.Store.{Stands}
 use Rattle.s38_blocks.specs.declared.layout.Layout.{Layout}
-use Rattle.s38_closing.specs.Closing.{closing_changes, content_of}
+use Rattle.s38_closing.specs.Ensuring.{IsLeft}
 use Rattle.s38_disk.specs.Blocks.{State}
 use Rattle.s38_disk.specs.Disk.{DiskView, IsAt, moment_of}
 use Rattle.s38_disk.specs.Moves.{IsSettled, Moves}
 use Rattle.s38_disk.specs.declared.block.Block.{Block}
 use Rattle.s38_durable.specs.Durable.{Durable}
-use Rattle.s38_forcing.specs.Puts.{IsAfterPuts}
 use Rattle.s38_groups.specs.Groups.{removals}
 use Rattle.s38_pages.proofs.VaultLemmas.{stands_one}
 use Rattle.s38_pages.proofs.Watching.{same_first}
@@ -20,7 +18,7 @@ use Rattle.s38_pages.specs.Vaults.{PageStore, page_holds, page_leaves, page_view
 use Rattle.s38_pages.specs.Watched.{IsWatched, WatchedStore, watched_view}
 use Rattle.s38_restart.specs.Parts.{all_parts}
 use Rattle.s38_rules.specs.Held.{Held}
-use Rattle.s38_stores.proofs.CrashLaws.{during_both, during_run, during_watch, during_wider, past_still}
+use Rattle.s38_stores.proofs.CrashLaws.{during_both, during_run, during_watch, during_wider}
 use Rattle.s38_stores.proofs.StrayLaws.{objects_kept}
 use Rattle.s38_stores.specs.Crashes.{DuringCall, IsBetween, IsPartlyCleaned, KeepsRestarting}
 use Rattle.s38_stores.specs.Stores.{Restarts}
@@ -67,25 +65,16 @@ module _ {v r : PageStore} {w x : WatchedStore} (begun : w ≡ record { first = 
       })
 
   -- ---- a closing
-  pub close_during : {d : Durable} → r.layout ≡ layout_of r.disk.size → v.layout.most ≡ most_changes
-      → ((m : Content) → page_holds w.now m → (t : ℕ) (n : Content) → (watched_view w).moment < t → t ≤ (watched_view x).moment → page_leaves x.now t n → IsAfterPuts (watched_view w).shape.most m (closing_changes (get m) d) n)
-      → ((m : Content) → page_holds w.now m → length (closing_changes (get m) d) ≤ (watched_view w).shape.most → (t : ℕ) (n : Content) → (watched_view w).moment < t → t ≤ (watched_view x).moment → page_leaves x.now t n → (n ≡ m) ⊎ (n ≡ content_of d))
-      → (m : Content) → page_holds v m → DuringCall v.disk r.disk (IsBetween r.disk.size m d)
-  close_during {d} placed most during once m holds =
+  pub close_during : {d : Durable} {h : Held} → r.layout ≡ layout_of r.disk.size → v.layout.most ≡ most_changes
+      → ((m : Content) → page_holds w.now m → (t : ℕ) (n : Content) → (watched_view w).moment < t → t ≤ (watched_view x).moment → page_leaves x.now t n → IsLeft (watched_view w).shape.most m d h n)
+      → (m : Content) → page_holds v m → DuringCall v.disk r.disk (IsBetween r.disk.size m d h)
+  close_during {d} {h} placed most during m holds =
       let many : w.now.layout.most ≡ most_changes = ap (λ (y : PageStore). y.layout.most) now_is ∙ most in
-      let held = held_then m holds in
       during_use m holds (λ t n g low high left stands. record {
         content = n;
         stands = subst (λ (l : Layout). Stands l g n) placed stands;
-        puts = subst (λ k. IsAfterPuts k m (closing_changes (get m) d) n) many (during m held t n low high left);
-        once = λ few. once m held (subst (λ k. length (closing_changes (get m) d) ≤ k) (sym many) few) t n low high left;
+        left = subst (λ k. IsLeft k m d h n) many (during m (held_then m holds) t n low high left);
       })
-
-  -- a use that ends at the moment of its begin wrote nothing
-  pub unmoved : (watched_view x).moment ≡ (watched_view w).moment → r.disk.past ≡ v.disk.past
-  unmoved same =
-      past_still seen_from.moves
-      (ap (λ (y : PageStore). moment_of y.disk.past) is ∙ same ∙ ap (λ (y : PageStore). moment_of y.disk.past) now_is)
 
   -- a fault of the vault that was used is one of the vault that is left
   pub caused : (page_view v).faults ≡ v.start → Rose (watched_view w).faults (watched_view x).faults → Rose r.start (page_view r).faults

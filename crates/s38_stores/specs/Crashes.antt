@@ -1,15 +1,13 @@
 -- What a crash may leave while a call goes on.
-use Rattle.std.specs.Prelude.{◌≡◌, ◌↔◌, ◌⊎◌, ◌<◌, ◌≤◌, ℕ, false, length, take}
-use Rattle.std.specs.FinMap.{get}
+use Rattle.std.specs.Prelude.{◌≡◌, ◌↔◌, ◌⊎◌, ◌<◌, ◌≤◌, ℕ, false, take}
 use Rattle.s38_blocks.specs.Coding.{is_label}
 use Rattle.s38_blocks.specs.Store.{Stands}
-use Rattle.s38_closing.specs.Closing.{closing_changes, content_of}
+use Rattle.s38_closing.specs.Ensuring.{IsLeft}
 use Rattle.s38_disk.specs.Blocks.{State}
 use Rattle.s38_disk.specs.Disk.{DiskView, IsAt, Leaves, moment_of}
 use Rattle.s38_disk.specs.Moves.{IsSettled}
 use Rattle.s38_disk.specs.declared.block.Block.{Block}
 use Rattle.s38_durable.specs.Durable.{Durable}
-use Rattle.s38_forcing.specs.Puts.{IsAfterPuts}
 use Rattle.s38_groups.specs.Groups.{removals}
 use Rattle.s38_pages.specs.Mounts.{layout_of}
 use Rattle.s38_restart.specs.Parts.{all_parts}
@@ -57,10 +55,9 @@ pub record KeepsRestarting (old new : DiskView) : Type 0 where
 
 -- ---- a store in which a run is kept
 
--- The blocks are a store of what was held before, or of what stands behind some of the puts that keep what is durable;
--- where one put takes all changes, of what was held or of what is durable.
-pub record IsBetween (size : ℕ) (m : Content) (d : Durable) (g : ℕ → Block) : Type 0 where
+-- The blocks are a store of what is behind the first objects that the run left, ensured one after another, or of all that is
+-- durable; or the next object needs several puts, and some of them were made.
+pub record IsBetween (size : ℕ) (m : Content) (d : Durable) (h : Held) (g : ℕ → Block) : Type 0 where
   pub content : Content
   pub stands : Stands (layout_of size) g content
-  pub puts : IsAfterPuts most_changes m (closing_changes (get m) d) content
-  pub once : length (closing_changes (get m) d) ≤ most_changes → (content ≡ m) ⊎ (content ≡ content_of d)
+  pub left : IsLeft most_changes m d h content

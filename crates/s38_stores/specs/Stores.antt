@@ -1,9 +1,10 @@
 -- What the blocks of a disk stand for as a store of objects.
-use Rattle.std.specs.Prelude.{◌≡◌, ◌-◌, ◌<◌, ◌≤◌, ℕ, [], None}
+use Rattle.std.specs.Prelude.{◌≡◌, ◌-◌, ◌≤◌, ℕ, [], None}
 use Rattle.std.specs.FinMap.{len}
 use Rattle.s38_base.specs.Limits.{body_limit}
 use Rattle.s38_blocks.specs.Store.{Stands}
-use Rattle.s38_closing.specs.Closing.{closing, content_of, parts_of_all}
+use Rattle.s38_closing.specs.Closing.{closing, content_of}
+use Rattle.s38_closing.specs.Ensuring.{IsFullAt, IsReached}
 use Rattle.s38_commits.specs.Units.{UnitMap}
 use Rattle.s38_disk.specs.Blocks.{State}
 use Rattle.s38_disk.specs.Disk.{DiskView, IsAt}
@@ -18,7 +19,7 @@ use Rattle.s38_restart.specs.Restarted.{restarted}
 use Rattle.s38_rules.specs.Held.{Held}
 use Rattle.s38_rules.specs.Opening.{held_installed}
 use Rattle.s38_vault.specs.Content.{Content, changed}
-use Rattle.s38_vault.specs.Directory.{keys_of, new_keys}
+use Rattle.s38_vault.specs.Directory.{keys_of}
 
 -- a content without a fault is restarted to these objects
 pub record AreOf (h : Held) (m : Content) : Type 0 where
@@ -51,15 +52,19 @@ no_units = []
 abbrev pub installed_store : Durable
 installed_store = closing no_units held_installed
 
--- ---- a store that is full
+-- ---- a store that does not keep all that a run left
 
--- what is durable needs so many new parts in the store of these blocks, so many are free, and these are too few
-pub record IsFullOf (size : ℕ) (f : ℕ → Block) (d : Durable) (needed free : ℕ) : Type 0 where
+-- the blocks are a store of what is behind the first objects that the run left, ensured one after another
+pub record KeepsFirst (size : ℕ) (m : Content) (d : Durable) (h : Held) (f : ℕ → Block) : Type 0 where
   pub content : Content
   pub stands : Stands (layout_of size) f content
-  pub wanted : needed ≡ new_keys (keys_of content) (parts_of_all d)
-  pub there : free ≡ parts_of (layout_of size) - len (keys_of content)
-  pub short : free < needed
+  pub reached : IsReached m d h content
+
+-- they are those before an object that needs so many new parts where so many are free, and these are too few
+pub record IsFullOf (size : ℕ) (m : Content) (d : Durable) (h : Held) (f : ℕ → Block) (needed free : ℕ) : Type 0 where
+  pub content : Content
+  pub stands : Stands (layout_of size) f content
+  pub full : IsFullAt m d h content (parts_of (layout_of size) - len (keys_of content)) needed free
 
 -- ---- before a call and behind it
 

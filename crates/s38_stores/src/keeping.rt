@@ -1,4 +1,4 @@
-ghost use Rattle.std.specs.Prelude.{◌≡◌, ◌≤◌, ◌≢◌, ℕ, All, Err, IfErr, OnOk};
+ghost use Rattle.std.specs.Prelude.{◌≡◌, ◌≤◌, ℕ, All, Err, IfErr, OnOk};
 ghost use Rattle.s38_base.specs.Faults.{Rose};
 ghost use Rattle.s38_closing.specs.Closing.{closing};
 ghost use Rattle.s38_disk.specs.Blocks.{State};
@@ -8,7 +8,7 @@ ghost use Rattle.s38_pages.specs.Mounts.{layout_of};
 ghost use Rattle.s38_pages.specs.Vaults.{page_holds, page_view};
 ghost use Rattle.s38_rules.specs.Storable.{IsStorable};
 ghost use Rattle.s38_stores.specs.Crashes.{DuringCall, GoesOn, IsBetween};
-ghost use Rattle.s38_stores.specs.Stores.{IsFullOf, Keeps};
+ghost use Rattle.s38_stores.specs.Stores.{IsFullOf, Keeps, KeepsFirst};
 ghost use Rattle.s38_vault.specs.Content.{Content};
 
 use s38_closing::close;
@@ -26,8 +26,9 @@ pub struct Kept<D> {
     pub end: Result<(), KeepFault>,
 }
 
-/// Keeps what a run left in the store that it began with: each object, with every change that is not committed taken back,
-/// the ceiling of numbers, and nothing else. Where it is full the store is as it was.
+/// Keeps what a run left in the store that it began with: each object, one after another in the order of their numbers, with
+/// every change that is not committed taken back, the ceiling of numbers, and nothing else. Where it is full the objects before
+/// the one that does not fit are kept.
 pub fn keep<D: Disk>(
     alloc: Global,
     vault: PageVault<D>,
@@ -41,22 +42,24 @@ pub fn keep<D: Disk>(
     ensures kept { OnOk result.end ((m : Content) → page_holds vault m → (t : State) → IsAt (D.view result.disk).past t
         → Keeps (D.view result.disk).size t.now (closing units.now objects.now)) }
     ensures full { (needed free : ℕ) → result.end ≡ Err (KeepFault.Full needed free) → (m : Content) → page_holds vault m → (t : State) → IsAt (D.view result.disk).past t
-        → IsFullOf (D.view result.disk).size t.now (closing units.now objects.now) needed free }
+        → IsFullOf (D.view result.disk).size m (closing units.now objects.now) objects.now t.now needed free }
+    ensures stopped { result.end ≡ Err KeepFault.NoMemory → (m : Content) → page_holds vault m → (t : State) → IsAt (D.view result.disk).past t
+        → KeepsFirst (D.view result.disk).size m (closing units.now objects.now) objects.now t.now }
     ensures cause { IfErr result.end (λ fault. fault ≡ KeepFault.Failed → Rose vault.start (D.view result.disk).faults) }
 
-    // Unless the disk failed, an error leaves it as it was. Whatever it answers, a crash leaves what was held before or
-    // after some of the puts; where one put takes all changes, all of them or none.
-    ensures stays { IfErr result.end (λ fault. fault ≢ KeepFault.Failed → (D.view result.disk).past ≡ vault.disk.past) }
-    ensures during { (m : Content) → page_holds vault m → DuringCall vault.disk (D.view result.disk) (IsBetween (D.view result.disk).size m (closing units.now objects.now)) }
+    // Whatever it answers, a crash leaves the first objects kept, or all; where one object needs several puts, some of them may
+    // be made.
+    ensures during { (m : Content) → page_holds vault m → DuringCall vault.disk (D.view result.disk) (IsBetween (D.view result.disk).size m (closing units.now objects.now) objects.now) }
     ensures goes { GoesOn vault.disk (D.view result.disk) }
     ensures placed { vault.layout ≡ layout_of (D.view result.disk).size }
 {
-    // Its contract says that the keys are those of the content.
-    let _free = vault.free();
     // Its contract says how many changes a put takes.
     let _most = vault.most();
     let mut watched = WatchedVault::of(vault);
     let end = close(alloc, &mut watched, objects, units);
-    let disk = watched.end().release();
+    let vault = watched.end();
+    // Its contract says that the keys are those of the content, and that with them the free parts are all parts.
+    let _free = vault.free();
+    let disk = vault.release();
     Kept { disk, end }
 }

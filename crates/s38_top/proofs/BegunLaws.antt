@@ -13,6 +13,8 @@ use Rattle.s38_code.specs.History.{entries_of}
 use Rattle.s38_command.specs.declared.turns.Turns.{Turns}
 use Rattle.s38_disk.specs.Blocks.{State as Blocks}
 use Rattle.s38_disk.specs.Disk.{DiskView, IsAt}
+use Rattle.s38_put_laws.proofs.BeginLaws.{begins_trail}
+use Rattle.s38_put_laws.specs.Trails.{IsTrailOf}
 use Rattle.s38_kept_laws.proofs.BeginLaws.{begins_kept, opening_numbered}
 use Rattle.s38_kept_laws.proofs.ImageLaws.{image_header}
 use Rattle.s38_kept_laws.proofs.StandLaws.{cleaned_stands, read_images}
@@ -120,6 +122,9 @@ module _ (old : DiskView) (deck : Deck) (made : List CreateResult) (x : StoredVi
             kept =
                 subst (λ (u : State). IsKeptOf u (durable_in m)) (sym origin_is)
                 (begins_kept m h one.parts one.objects.sound one.objects.is opening (checked_of deck) deck.jobs (Some room) one.extents);
+            trail =
+                subst (λ (u : State). IsTrailOf u (durable_in m)) (sym origin_is)
+                (begins_trail m h one.parts one.objects.sound one.objects.is (checked_of deck) deck.jobs room);
           },
         )
 

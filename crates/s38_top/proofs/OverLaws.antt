@@ -270,7 +270,7 @@ module _ (turns : Turns) (deck : Deck) (x : StoredView WatchedStore) (end : Halt
       }
 
       -- what it left was kept
-      module _ (complete : end ≡ halts.Complete) (goes : GoesOn r.disk new) (during : (m : Content) → page_holds r m → DuringCall r.disk new (IsBetween new.size m (kept_of x.machine.state))) where
+      module _ (complete : end ≡ halts.Complete) (goes : GoesOn r.disk new) (during : (m : Content) → page_holds r m → DuringCall r.disk new (IsBetween new.size m (kept_of x.machine.state) x.machine.state.held)) where
         closing : (m : Content) (d : Durable) → page_holds v m → IsOf m d s → (t : ℕ) (g : ℕ → Block) → moment_of r.disk.past < t → t ≤ moment_of new.past → Leaves new.past t g
             → IsClosing new.size (durable d s entries) behind g
         closing m d holds of t g low high left =
@@ -279,7 +279,7 @@ module _ (turns : Turns) (deck : Deck) (x : StoredView WatchedStore) (end : Halt
             record {
               begun = there.content;
               stands = there.stands;
-              between = subst (λ (e : State). IsBetween new.size there.content (kept_of e) g) (sym (state_is complete)) ((during there.content here).each t g low high left);
+              between = subst (λ (e : State). IsBetween new.size there.content (kept_of e) e.held g) (sym (state_is complete)) ((during there.content here).each t g low high left);
             }
 
         pub left_kept : LeftOver turns deck v s new o
@@ -300,14 +300,18 @@ module _ (turns : Turns) (deck : Deck) (x : StoredView WatchedStore) (end : Halt
         }
 
     -- what a vault held as the run ended, by what it held as the run began
-    pub behind_by : end ≡ halts.Complete → (e : RunEnd) → (e ≡ ends.Stopped → ⊥) → LeavesBy r new x.machine.state e → LeavesBehind v s new behind e
+    pub behind_by : end ≡ halts.Complete → (e : RunEnd) → (e ≡ ends.Stopped → ⊥) → LeavesBy r new x.machine.state e → LeavesBehind v s new entries behind e
     behind_by complete ends.Kept not by = λ m d holds of t told.
         let there = held_then complete m d holds of in
         subst (λ (e : State). Keeps new.size t.now (kept_of e)) (sym (state_is complete)) (by there.content (subst (λ (p : PageStore). page_holds p there.content) (sym is) there.held) t told)
     behind_by complete ends.Failed not by = subst (λ (n : ℕ). Rose n new.faults) seen.start by
     behind_by complete (ends.Full needed free) not by = λ m d holds of t told.
         let there = held_then complete m d holds of in
-        subst (λ (e : State). IsFullOf new.size t.now (kept_of e) needed free) (sym (state_is complete)) (by there.content (subst (λ (p : PageStore). page_holds p there.content) (sym is) there.held) t told)
+        record {
+          begun = there.content;
+          stands = there.stands;
+          full = subst (λ (e : State). IsFullOf new.size there.content (kept_of e) e.held t.now needed free) (sym (state_is complete)) (by there.content (subst (λ (p : PageStore). page_holds p there.content) (sym is) there.held) t told);
+        }
     behind_by complete ends.Stopped not by = absurd (not refl)
 
     -- ---- what is told of it
@@ -323,8 +327,8 @@ module _ (turns : Turns) (deck : Deck) (x : StoredView WatchedStore) (end : Halt
         run_behind : (e : RunEnd) → (e ≡ ends.Stopped → ⊥) → LeavesBy r new whole.state e → IsRunBehind turns deck v s new whole e
         unfolding run_to run_whole
         run_behind e not by =
-            let behind_run : (run : IsRunOf s.room s.held (order_of turns) deck whole.history.items) × LeavesBehind v s new run.state e =
-            subst (λ (es : List Entry). (run : IsRunOf s.room s.held (order_of turns) deck es) × LeavesBehind v s new run.state e) (sym history_is)
+            let behind_run : (run : IsRunOf s.room s.held (order_of turns) deck whole.history.items) × LeavesBehind v s new whole.history.items run.state e =
+            subst (λ (es : List Entry). (run : IsRunOf s.room s.held (order_of turns) deck es) × LeavesBehind v s new es run.state e) (sym history_is)
             (run_whole complete, behind_by complete e not (subst (λ (t : State). LeavesBy r new t e) state_told by)) in
             record { deck_is = deck_is; run = behind_run.0; marks = marks_told (moment_of new.past) goes.later; behind = behind_run.1 }
 

@@ -66,8 +66,8 @@ unprepared_safe (Err d) new of asked turns old is keeps = safe_of asked (Jobs tu
 
 -- ---- what a run left is kept
 
-pub kept_at : {e e' : State} → e ≡ e' → (v new : DiskView) (m : Content) → DuringCall v new (IsBetween new.size m (closing e.units e.held)) → DuringCall v new (IsBetween new.size m (kept_of e'))
-kept_at same v new m during = subst (λ s. DuringCall v new (IsBetween new.size m (kept_of s))) same during
+pub kept_at : {e e' : State} → e ≡ e' → (v new : DiskView) (m : Content) → DuringCall v new (IsBetween new.size m (closing e.units e.held) e.held) → DuringCall v new (IsBetween new.size m (kept_of e') e'.held)
+kept_at same v new m during = subst (λ s. DuringCall v new (IsBetween new.size m (kept_of s) s.held)) same during
 
 -- ---- behind the opening
 

@@ -1,5 +1,5 @@
 -- From a store that was opened to what a run over it comes to.
-use Rattle.std.proofs.Common.{◌≡◌, ℕ, ◌+◌, ◌≤◌, List, [], ◌∷◌, refl, sym, subst, arith}
+use Rattle.std.proofs.Common.{◌≡◌, ◌∙◌, ℕ, ◌+◌, ◌≤◌, List, [], ◌∷◌, ap, refl, sym, subst, arith}
 use Rattle.std.specs.Prelude.{Err, IfErr, Ok, OnOk, Option, Result, Some, slice_get}
 use Rattle.s38_base.specs.Faults.{Rose}
 use Rattle.s38_base.specs.declared.fault.NoMemory.{NoMemory as Fault}
@@ -9,6 +9,7 @@ use Rattle.s38_code.specs.declared.deck.Deck.{Deck}
 use Rattle.s38_code.specs.declared.deck.Job.{Job}
 use Rattle.s38_code.specs.declared.entry.Entry.{Entry}
 use Rattle.s38_code.specs.declared.made.CreateResult.{CreateResult}
+use Rattle.s38_durable.specs.Durable.{durable}
 use Rattle.s38_code.specs.History.{entries_of}
 use Rattle.s38_disk.specs.Blocks.{State as Blocks}
 use Rattle.s38_disk.specs.Disk.{DiskView, IsAt, moment_of}
@@ -20,7 +21,7 @@ use Rattle.s38_kept_laws.specs.Beginning.{cleaned, durable_in}
 use Rattle.s38_pages.specs.Vaults.{PageStore, page_holds, page_view}
 use Rattle.s38_pages.specs.Watched.{WatchedStore}
 use Rattle.s38_rules.specs.Held.{Held}
-use Rattle.s38_rules.specs.Legal.{AreMoments, Leads}
+use Rattle.s38_rules.specs.Legal.{AreMoments, Leads, Run}
 use Rattle.s38_rules.specs.Room.{Room}
 use Rattle.s38_rules.specs.State.{State}
 use Rattle.s38_stored_machine.specs.Seen.{StoredView}
@@ -49,7 +50,7 @@ use Rattle.s38_vault.specs.Content.{Content}
 -- what a store that was kept leaves
 pub leaves_of : (v : PageStore) (new : DiskView) (e : State) (r : Result (Unit {0}) KeepFault) (end : RunEnd) → Some end ≡ end_of r
     → OnOk r ((m : Content) → page_holds v m → (t : Blocks) → IsAt new.past t → Keeps new.size t.now (kept_of e))
-    → ((needed free : ℕ) → r ≡ Err (closes.Full needed free) → (m : Content) → page_holds v m → (t : Blocks) → IsAt new.past t → IsFullOf new.size t.now (kept_of e) needed free)
+    → ((needed free : ℕ) → r ≡ Err (closes.Full needed free) → (m : Content) → page_holds v m → (t : Blocks) → IsAt new.past t → IsFullOf new.size m (kept_of e) e.held t.now needed free)
     → IfErr r (λ fault. fault ≡ closes.Failed → Rose v.start new.faults)
     → LeavesBy v new e end
 leaves_of v new e (Ok done) end is kept full failed = subst (LeavesBy v new e) (kept_is end is) kept
@@ -76,7 +77,7 @@ kept_end (Err closes.NoMemory) end is stopped = cc
 -- the same of a state that is told otherwise
 pub leaves_at : {e e' : State} → e ≡ e' → (v : PageStore) (new : DiskView) (r : Result (Unit {0}) KeepFault) (end : RunEnd) → Some end ≡ end_of r
     → OnOk r ((m : Content) → page_holds v m → (t : Blocks) → IsAt new.past t → Keeps new.size t.now (kept_of e))
-    → ((needed free : ℕ) → r ≡ Err (closes.Full needed free) → (m : Content) → page_holds v m → (t : Blocks) → IsAt new.past t → IsFullOf new.size t.now (kept_of e) needed free)
+    → ((needed free : ℕ) → r ≡ Err (closes.Full needed free) → (m : Content) → page_holds v m → (t : Blocks) → IsAt new.past t → IsFullOf new.size m (kept_of e) e.held t.now needed free)
     → IfErr r (λ fault. fault ≡ closes.Failed → Rose v.start new.faults)
     → LeavesBy v new e' end
 leaves_at {e} same v new r end is kept full failed = subst (λ s. LeavesBy v new s end) same (leaves_of v new e r end is kept full failed)
@@ -84,11 +85,13 @@ leaves_at {e} same v new r end is kept full failed = subst (λ s. LeavesBy v new
 -- ---- what a run over the store of a disk comes to
 
 -- what is behind in a vault is behind on its disk
-ends_behind : (old new : DiskView) (deck : Deck) (made : List CreateResult) (x : StoredView WatchedStore) (e : State) (end : RunEnd) → IsReady old deck made x → LeavesBehind (vault_of x) x.machine.origin new e end → EndsWith old new e end
-ends_behind old new deck made x e ends.Kept ready behind = λ s t at is. let was = ready.content s at in let one = ready.holds s at was.0 was.1 in behind (cleaned was.0) (durable_in was.0) one.0 one.1 t is
-ends_behind old new deck made x e ends.Failed ready behind = subst (λ n. Rose n new.faults) ready.faultless.start behind
-ends_behind old new deck made x e (ends.Full needed free) ready behind = λ s t at is. let was = ready.content s at in let one = ready.holds s at was.0 was.1 in behind (cleaned was.0) (durable_in was.0) one.0 one.1 t is
-ends_behind old new deck made x e ends.Stopped ready behind = subst (λ n. Rose n new.faults) ready.faultless.start behind
+ends_behind : (old new : DiskView) (deck : Deck) (made : List CreateResult) (x : StoredView WatchedStore) (es : List Entry) (e : State) (end : RunEnd) → IsReady old deck made x → LeavesBehind (vault_of x) x.machine.origin new es e end
+    → EndsWith old new (λ m. durable (durable_in m) x.machine.origin es) e end
+ends_behind old new deck made x es e ends.Kept ready behind = λ s t at is. let was = ready.content s at in let one = ready.holds s at was.0 was.1 in behind (cleaned was.0) (durable_in was.0) one.0 one.1 t is
+ends_behind old new deck made x es e ends.Failed ready behind = subst (λ n. Rose n new.faults) ready.faultless.start behind
+ends_behind old new deck made x es e (ends.Full needed free) ready behind =
+    λ s t at is. let was = ready.content s at in let one = ready.holds s at was.0 was.1 in record { content = was.0; stands = was.1; full = behind (cleaned was.0) (durable_in was.0) one.0 one.1 t is }
+ends_behind old new deck made x es e ends.Stopped ready behind = subst (λ n. Rose n new.faults) ready.faultless.start behind
 
 marks_from : (first later last : ℕ) (marks : List ℕ) (history : List Entry) → first ≤ later → AreStoreMarks later last marks history → AreStoreMarks first last marks history
 marks_from first later last marks history le are = record { count = are.count; moments = from marks are.moments }
@@ -115,7 +118,10 @@ module _ (turns : Turns) (old new : DiskView) (deck : Deck) (made : List CreateR
       };
     };
     marks = marks_from (moment_of old.past) (page_view (vault_of x)).moment (moment_of new.past) whole.marks.items whole.history.items ready.goes.later behind.marks;
-    ends = ends_behind old new deck made x behind.run.state end ready behind.behind;
+    ends =
+        subst (λ (u : State). EndsWith old new (λ m. durable (durable_in m) u whole.history.items) behind.run.state end)
+        (ap (λ (m : Run). m.origin) ready.begun.machine ∙ ap (λ (r : Option Room). opened r s.held deck) ready.has ∙ ap (λ (d : Deck). opened (Some ready.room) s.held d) (sym behind.deck_is))
+        (ends_behind old new deck made x whole.history.items behind.run.state end ready behind.behind);
   }
 
   came_stop : (whole : Whole) → IsRunStopped turns deck (vault_of x) s new whole → CameToStop turns old new whole

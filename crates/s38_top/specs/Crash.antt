@@ -37,12 +37,12 @@ pub record IsLeftAt (size : ℕ) (d : Durable) (s : State) (entries : List Entry
   pub stands : Stands (layout_of size) g content
   pub kept : IsKeptPrefix d s entries marks moment content
 
--- The blocks are a store of what stands behind some of the puts that keep what the run left, from what was durable behind
--- all of its entries; where one put takes all changes, of what was there before or of all that the run left.
+-- From what was durable behind all of its entries, the blocks are a store of what is behind the first objects that the run
+-- left, ensured one after another, or of all that it left; or the next object needs several puts, and some of them were made.
 pub record IsClosing (size : ℕ) (d : Durable) (e : State) (g : ℕ → Block) : Type 0 where
   pub begun : Content
   pub stands : IsOfDurable begun d
-  pub between : IsBetween size begun (kept_of e) g
+  pub between : IsBetween size begun (kept_of e) e.held g
 
 -- from one moment of the disk on, and up to another, each image is so
 abbrev pub Between : ℕ → ℕ → DiskView → (ℕ → (ℕ → Block) → Type 0) → Type 0

@@ -60,7 +60,7 @@ pub record IsRunBehind (turns : Turns) (deck : Deck) (v : PageStore) (s : State)
   pub deck_is : whole.deck ≡ deck
   pub run : IsRunOf s.room s.held (order_of turns) deck whole.history.items
   pub marks : AreStoreMarks (page_view v).moment (moment_of new.past) whole.marks.items whole.history.items
-  pub behind : LeavesBehind v s new run.state end
+  pub behind : LeavesBehind v s new whole.history.items run.state end
 
 -- it was run up to where the disk failed
 pub record IsRunStopped (turns : Turns) (deck : Deck) (v : PageStore) (s : State) (new : DiskView) (whole : Whole) : Type 0 where

@@ -36,10 +36,12 @@ use Rattle.s38_command.specs.declared.turns.Turns.{Turns}
 use Rattle.s38_command.specs.declared.turns.Turns.TheVariants.{Serial}
 use Rattle.s38_command.specs.Commands.{reads_deck}
 use Rattle.s38_top.specs.Crash.{IsSafe}
-use Rattle.s38_top.specs.Decks.{AreMarks, AreStoreMarks, IsRunOf, checked_of, order_of}
+use Rattle.s38_top.specs.Decks.{AreMarks, AreStoreMarks, IsRunOf, checked_of, opened, order_of}
 use Rattle.s38_top.specs.Laws.{KeepsLaws}
 use Rattle.s38_top.specs.Lines.{bad_store_line, disk_fault_line, full_line, line}
 use Rattle.s38_top.specs.Outside.{Outside, Unread, Untouched}
+use Rattle.s38_durable.specs.Durable.{durable}
+use Rattle.s38_kept_laws.specs.Beginning.{durable_in}
 use Rattle.s38_top.specs.Runs.{EndsWith, RanOver, RanTo, kept_of}
 
 -- how many bytes of a deck are taken at most
@@ -142,7 +144,7 @@ pub record RanGenerated (size : ℕ) (deck : Deck) (history : List Entry) : Type
 pub record CameToEnd (turns : Turns) (old new : DiskView) (whole : Whole) (end : RunEnd) : Type 0 where
   pub ran : RanOver turns old whole.deck whole.history.items
   pub marks : AreStoreMarks (moment_of old.past) (moment_of new.past) whole.marks.items whole.history.items
-  pub ends : EndsWith old new ran.run.state end
+  pub ends : EndsWith old new (λ m. durable (durable_in m) (opened (Some ran.room) ran.held whole.deck) whole.history.items) ran.run.state end
 
 -- a run over the store of a disk up to where the disk failed, and its marks
 pub record CameToStop (turns : Turns) (old new : DiskView) (whole : Whole) : Type 0 where

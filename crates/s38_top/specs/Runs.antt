@@ -9,7 +9,8 @@ use Rattle.s38_command.specs.declared.turns.Turns.{Turns}
 use Rattle.s38_disk.specs.Blocks.{State as Blocks}
 use Rattle.s38_disk.specs.Disk.{DiskView, IsAt}
 use Rattle.s38_disk.specs.declared.block.Block.{Block}
-use Rattle.s38_durable.specs.Durable.{Durable}
+use Rattle.s38_durable.specs.Durable.{Durable, durable}
+use Rattle.s38_durable.specs.Stands.{Stands as IsOfDurable}
 use Rattle.s38_durable.specs.Following.{Counts}
 use Rattle.s38_kept_laws.specs.Beginning.{durable_in}
 use Rattle.s38_openings.specs.Opening.{IsOpening}
@@ -63,26 +64,39 @@ pub record RanTo (turns : Turns) (disk : DiskView) (deck : Deck) (history : List
 
 -- ---- what is left
 
--- what a machine in this state leaves on the disk: all of it; or the disk failed; or the store is as it was behind the run,
--- since it is too full
-abbrev pub EndsWith : DiskView → DiskView → State → RunEnd → Type 0
-EndsWith old new e ends.Kept = Leaves old new (λ f g. Keeps new.size g (kept_of e))
-EndsWith old new e ends.Failed = Rose old.faults new.faults
-EndsWith old new e (ends.Full needed free) = Leaves old new (λ f g. IsFullOf new.size g (kept_of e) needed free)
-EndsWith old new e ends.Stopped = Rose old.faults new.faults
+-- from what was durable behind the run, the blocks are a store of what is behind the first objects that it left, ensured one
+-- after another, and the next one needs more new parts than are free
+pub record IsFullBehind (size : ℕ) (d : Durable) (e : State) (g : ℕ → Block) (needed free : ℕ) : Type 0 where
+  pub begun : Content
+  pub stands : IsOfDurable begun d
+  pub full : IsFullOf size begun (kept_of e) e.held g needed free
+
+-- the same from what stood on a disk before, by what is durable behind the run
+pub record IsFullFrom (old : DiskView) (behind : Content → Durable) (size : ℕ) (e : State) (f g : ℕ → Block) (needed free : ℕ) : Type 0 where
+  pub content : Content
+  pub stands : Stands (layout_of old.size) f content
+  pub full : IsFullBehind size (behind content) e g needed free
+
+-- what a machine in this state leaves on the disk, where this is durable behind the run: all of it; or the disk failed; or the
+-- first objects alone, since the next one does not fit
+abbrev pub EndsWith : DiskView → DiskView → (Content → Durable) → State → RunEnd → Type 0
+EndsWith old new behind e ends.Kept = Leaves old new (λ f g. Keeps new.size g (kept_of e))
+EndsWith old new behind e ends.Failed = Rose old.faults new.faults
+EndsWith old new behind e (ends.Full needed free) = Leaves old new (λ f g. IsFullFrom old behind new.size e f g needed free)
+EndsWith old new behind e ends.Stopped = Rose old.faults new.faults
 
 -- the same by what a vault held
 abbrev pub LeavesBy : PageStore → DiskView → State → RunEnd → Type 0
 LeavesBy v new e ends.Kept = (m : Content) → page_holds v m → (t : Blocks) → IsAt new.past t → Keeps new.size t.now (kept_of e)
 LeavesBy v new e ends.Failed = Rose v.start new.faults
 LeavesBy v new e (ends.Full needed free) =
-    (m : Content) → page_holds v m → (t : Blocks) → IsAt new.past t → IsFullOf new.size t.now (kept_of e) needed free
+    (m : Content) → page_holds v m → (t : Blocks) → IsAt new.past t → IsFullOf new.size m (kept_of e) e.held t.now needed free
 LeavesBy v new e ends.Stopped = Rose v.start new.faults
 
--- the same where the run began over a vault in a state
-abbrev pub LeavesBehind : PageStore → State → DiskView → State → RunEnd → Type 0
-LeavesBehind v s new e ends.Kept = (m : Content) (d : Durable) → page_holds v m → IsOf m d s → (t : Blocks) → IsAt new.past t → Keeps new.size t.now (kept_of e)
-LeavesBehind v s new e ends.Failed = Rose v.start new.faults
-LeavesBehind v s new e (ends.Full needed free) =
-    (m : Content) (d : Durable) → page_holds v m → IsOf m d s → (t : Blocks) → IsAt new.past t → IsFullOf new.size t.now (kept_of e) needed free
-LeavesBehind v s new e ends.Stopped = Rose v.start new.faults
+-- the same where the run began over a vault in a state, and has these entries
+abbrev pub LeavesBehind : PageStore → State → DiskView → List Entry → State → RunEnd → Type 0
+LeavesBehind v s new es e ends.Kept = (m : Content) (d : Durable) → page_holds v m → IsOf m d s → (t : Blocks) → IsAt new.past t → Keeps new.size t.now (kept_of e)
+LeavesBehind v s new es e ends.Failed = Rose v.start new.faults
+LeavesBehind v s new es e (ends.Full needed free) =
+    (m : Content) (d : Durable) → page_holds v m → IsOf m d s → (t : Blocks) → IsAt new.past t → IsFullBehind new.size (durable d s es) e t.now needed free
+LeavesBehind v s new es e ends.Stopped = Rose v.start new.faults

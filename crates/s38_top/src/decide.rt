@@ -46,7 +46,7 @@ fn of_whole<D: Disk>(alloc: Global, turns: Turns, whole: Whole, vault: PageVault
     requires end { CanClose whole.state }
     requires faultless { (page_view vault).faults ≡ vault.start }
     ensures end { IsEnd turns whole vault (D.view result.disk) result.outcome }
-    ensures during { (m : Content) → page_holds vault m → DuringCall vault.disk (D.view result.disk) (IsBetween (D.view result.disk).size m (kept_of whole.state)) }
+    ensures during { (m : Content) → page_holds vault m → DuringCall vault.disk (D.view result.disk) (IsBetween (D.view result.disk).size m (kept_of whole.state) whole.state.held) }
     ensures goes { GoesOn vault.disk (D.view result.disk) }
     ensures placed { vault.layout ≡ layout_of (D.view result.disk).size }
 {

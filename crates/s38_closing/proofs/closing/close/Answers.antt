@@ -1,75 +1,333 @@
-use Rattle.std.proofs.Common.{◌<◌, ◌∙◌, List, subst, sym}
+use Rattle.std.proofs.Common.{◌≡◌, ◌∙◌, ◌<◌, ◌≤◌, ◌↔◌, ℕ, List, [], ap, arith, inl, inr, length, subst, sym, take}
+use Rattle.std.specs.Prelude.{Err}
 use Rattle.s38_base.specs.declared.page.Change.{Change}
-use Rattle.s38_closing.specs.Closing.{IsRight, closing}
+use Rattle.s38_closing.specs.Closing.{closing, content_of, parts_of_all}
+use Rattle.s38_closing.specs.Ensuring.{IsLeft}
+use Rattle.s38_closing.proofs.CloseLaws.{handed}
+use Rattle.s38_closing.proofs.KeepLaws.{during_both, handed_by, made_both, mark_front, mark_rest, place_moved, stopped_put, stopped_unknown}
+use Rattle.s38_closing.proofs.PassLaws.{no_parts, pieces_all}
+use Rattle.s38_closing.proofs.RestLaws.{all_made, rest_full, rest_left, rest_reached}
+use Rattle.s38_durable.specs.Stands.{parts_at}
 use Rattle.s38_forcing.specs.Puts.{IsAfterPuts}
-use Rattle.s38_keeping.specs.declared.fault.KeepFault.{KeepFault}
-use Rattle.s38_vault.specs.Content.{Content}
-use Rattle.s38_vault.specs.Vaults.{VaultView}
-use Rattle.s38_closing.proofs.CloseLaws.{AreClosing, content_closed, handed, keys_closed, once_closed, right_closed}
+use Rattle.s38_image.specs.Faults.{ceiling_key}
+use Rattle.s38_keeping.proofs.PlacedLaws.{all_behind, changed-append, rising_behind}
+use Rattle.s38_keeping.specs.Outcomes.{IsRightFor, unknown_by}
+use Rattle.s38_keeping.specs.Replacing.{each_to}
+use Rattle.s38_vault.specs.Content.{AreRising, Content, HaveObjects, changed}
+use Rattle.s38_vault.specs.Directory.{new_keys}
+use Rattle.s38_vault.specs.Vaults.{VaultShape, VaultView}
 use Rattle.s38_closing.proofs.closing.close.Goals as goal
 
-pub returns-in_err-put_changes-clause-full : goal.returns-in_err-put_changes-clause-full
-returns-in_err-put_changes-clause-full g c =
+pub returns-in_err-add_rest-clause-stopped : goal.returns-in_err-add_rest-clause-stopped
+returns-in_err-add_rest-clause-stopped g c =
     let V = g.V.Vault in
-    let old = c.args.vault.now in
-    let d = closing c.args.units.now c.args.objects.now in
-    let found : AreClosing (V.view old).keys (V.holds old) d c.add_all.new.into.items = record { so_far = c.in_ok-add_all.ensures.so_far; whole = c.in_ok-add_all.ensures.whole; known = c.in_ok-add_all.ensures.known } in
-    let all = subst (λ (cs : List Change). AreClosing (V.view old).keys (V.holds old) d cs) (sym c.deref.ensures.value) found in
-    let fault = c.in_err-put_changes.field-0.0 in
-    handed (λ (e : KeepFault). IsRight (V.view old) d e) c.from_residual-in_err-put_changes.result fault c.from_residual-in_err-put_changes.ensures.1
-    (right_closed (V.view old) (V.view c.add_all.new.vault) d c.deref.result.now fault c.add_all.ensures.stays.same (keys_closed all) c.in_err-put_changes.ensures.full)
+    let cause = c.in_err-add_rest.field-0.0 in
+    let h = c.args.objects.now in
+    let d = closing c.args.units.now h in
+    let new = c.add_rest.new.vault in
+    handed_by _ (λ fault. fault ≡ unknown_by cause) c.from_residual-in_err-add_rest.result c.from_residual-in_err-add_rest.ensures.1 (λ fault is m held.
+    let found = c.in_ok-done.ensures.waits m held in
+    stopped_unknown (V.holds new) (V.view new).free m d h found.0 cause fault is ((c.add_rest.ensures.stays.held found.0).0 found.1.0) found.1.1.held)
 
-pub returns-in_err-put_changes-clause-once : goal.returns-in_err-put_changes-clause-once
-returns-in_err-put_changes-clause-once g c = λ m h few t n low high left.
+pub make_place-requires-clause-rising : goal.make_place-requires-clause-rising
+make_place-requires-clause-rising g c = (c.in_ok-add_rest.ensures.so_far c.args.units.now c.in_ok-done.ensures.behind c.in_ok-done.ensures.so_far).rising
+
+pub make_place-requires-clause-objects : goal.make_place-requires-clause-objects
+make_place-requires-clause-objects g c = (c.in_ok-add_rest.ensures.so_far c.args.units.now c.in_ok-done.ensures.behind c.in_ok-done.ensures.so_far).objects
+
+pub returns-in_err-make_place-clause-stopped : goal.returns-in_err-make_place-clause-stopped
+returns-in_err-make_place-clause-stopped g c =
     let V = g.V.Vault in
     let old = c.args.vault.now in
-    let d = closing c.args.units.now c.args.objects.now in
-    let stays = c.add_all.ensures.stays in
-    let found : AreClosing (V.view old).keys (V.holds old) d c.add_all.new.into.items = record { so_far = c.in_ok-add_all.ensures.so_far; whole = c.in_ok-add_all.ensures.whole; known = c.in_ok-add_all.ensures.known } in
-    let all = subst (λ (cs : List Change). AreClosing (V.view old).keys (V.holds old) d cs) (sym c.deref.ensures.value) found in
-    let begun = subst (λ (v : VaultView). v.moment < t) (sym stays.same) low in
-    once_closed all (V.view old).shape.most m n h few
-    (subst (λ (v : VaultView). IsAfterPuts v.shape.most m c.deref.result.now n) stays.same (c.put_changes.ensures.during m ((stays.held m).0 h) t n begun high left))
+    let begun = c.keep_objects.new.vault in
+    let read = c.add_rest.new.vault in
+    let h = c.args.objects.now in
+    let d = closing c.args.units.now h in
+    let front = c.keep_objects.new.changes.items in
+    let all = c.add_rest.new.into.items in
+    let done = c.in_ok-done.done in
+    let was = c.in_ok-done.ensures.so_far in
+    let so_far = c.in_ok-add_rest.ensures.so_far c.args.units.now c.in_ok-done.ensures.behind was in
+    let low = c.in_ok-done.ensures.last.1 in
+    let gap : (k : ℕ) → done < k → k < ceiling_key → parts_at d k ≡ [] = λ k above below. no_parts c.args.units.now h k below (c.in_ok-done.ensures.behind k above) in
+    let kept = c.in_ok-add_rest.ensures.kept in
+    let stays = c.add_rest.ensures.stays in
+    let mark : c.len-mark.result ≡ length front = omega (arith, c.len-mark.ensures, c.keep_objects.new.changes.ok.0) in
+    let whole : each_to (parts_at d) ceiling_key ≡ parts_of_all d = pieces_all c.args.units.now h done low c.in_ok-done.ensures.behind c.in_ok-done.ensures.whole in
+    let content : (n : Content) → V.holds begun n → changed n all ≡ content_of d = λ n held. all_made d (V.view begun).keys (V.holds begun) all so_far whole (c.in_ok-add_rest.ensures.known (c.in_ok-done.ensures.fine n held)) n held in
+    let mid = c.make_place.new.vault in
+    let front_is = mark_front front all kept.0 c.len-mark.result kept.1 mark in
+    let rest_is = mark_rest front all kept.0 c.len-mark.result kept.1 mark in
+    let fault = c.in_err-make_place.field-0.0 in
+    let made = c.in_err-make_place.ensures in
+    handed _ c.from_residual-in_err-make_place.result fault c.from_residual-in_err-make_place.ensures.1 (λ m held.
+    let found = c.in_ok-done.ensures.waits m held in
+    let n = found.0 in
+    let read_held = (stays.held n).0 found.1.0 in
+    let there : V.holds mid (changed n (take c.len-mark.result all)) → V.holds mid (changed n front) = subst (λ (cs : List Change). V.holds mid (changed n cs)) front_is in
+    rest_full d h done (V.view begun).keys (V.holds begun) front all was so_far low gap (V.view old).shape.most m n found.1.0 found.1.1 (content n found.1.0) kept.0 kept.1
+    (V.holds mid) (V.view mid).keys (V.view mid).free fault (subst (λ (cs : List Change). IsRightFor (new_keys (V.view mid).keys cs) (V.view mid).free fault) rest_is made.full)
+    (λ needed free is. there (c.make_place.ensures.front needed free (c.in_err-make_place.was ∙ ap Err is) n read_held))
+    (λ needed free is. c.make_place.ensures.keys needed free (c.in_err-make_place.was ∙ ap Err is))
+    (λ not. elim (made.stopped not n read_held) [ inl before ↦ inl before | inr after ↦ inr (there after) ]))
+
+pub returns-in_err-make_place-clause-during : goal.returns-in_err-make_place-clause-during
+returns-in_err-make_place-clause-during g c m held =
+    let V = g.V.Vault in
+    let old = c.args.vault.now in
+    let begun = c.keep_objects.new.vault in
+    let read = c.add_rest.new.vault in
+    let h = c.args.objects.now in
+    let d = closing c.args.units.now h in
+    let front = c.keep_objects.new.changes.items in
+    let all = c.add_rest.new.into.items in
+    let done = c.in_ok-done.done in
+    let was = c.in_ok-done.ensures.so_far in
+    let so_far = c.in_ok-add_rest.ensures.so_far c.args.units.now c.in_ok-done.ensures.behind was in
+    let low = c.in_ok-done.ensures.last.1 in
+    let gap : (k : ℕ) → done < k → k < ceiling_key → parts_at d k ≡ [] = λ k above below. no_parts c.args.units.now h k below (c.in_ok-done.ensures.behind k above) in
+    let kept = c.in_ok-add_rest.ensures.kept in
+    let stays = c.add_rest.ensures.stays in
+    let mark : c.len-mark.result ≡ length front = omega (arith, c.len-mark.ensures, c.keep_objects.new.changes.ok.0) in
+    let whole : each_to (parts_at d) ceiling_key ≡ parts_of_all d = pieces_all c.args.units.now h done low c.in_ok-done.ensures.behind c.in_ok-done.ensures.whole in
+    let content : (n : Content) → V.holds begun n → changed n all ≡ content_of d = λ n held. all_made d (V.view begun).keys (V.holds begun) all so_far whole (c.in_ok-add_rest.ensures.known (c.in_ok-done.ensures.fine n held)) n held in
+    let found = c.in_ok-done.ensures.waits m held in
+    let n = found.0 in
+    let w = found.1.1 in
+    let past : (t : ℕ) (x : Content) → t ≤ (V.view begun).moment → V.leaves begun t x ↔ V.leaves c.make_place.new.vault t x =
+    λ t x low.
+    let one = stays.past t x low in
+    let two = c.make_place.ensures.past t x (subst (λ (v : VaultView). t ≤ v.moment) (sym stays.same) low) in
+    ((λ left. two.0 (one.0 left)), (λ left. one.1 (two.1 left))) in
+    let first : (t : ℕ) (x : Content) → (V.view old).moment < t → t ≤ (V.view c.make_place.new.vault).moment → V.leaves c.make_place.new.vault t x → IsLeft (V.view old).shape.most m d h x =
+    during_both V.leaves (IsLeft (V.view old).shape.most m d h) begun c.make_place.new.vault (V.view old).moment (V.view begun).moment (V.view c.make_place.new.vault).moment (c.keep_objects.ensures.during m held) past
+    (λ t x low high left. w.left x (subst (λ (cs : List Change). IsAfterPuts (V.view old).shape.most n cs x) (mark_front front all kept.0 c.len-mark.result kept.1 mark)
+    (subst (λ (k : ℕ). IsAfterPuts k n (take c.len-mark.result all) x) (ap (λ (v : VaultView). v.shape.most) stays.same ∙ ap (λ (s : VaultShape). s.most) c.keep_objects.ensures.shape)
+    (c.make_place.ensures.during n ((stays.held n).0 found.1.0) t x (subst (λ (v : VaultView). v.moment < t) (sym stays.same) low) high left)))) in
+    first
+
+pub put_changes-requires-clause-rising : goal.put_changes-requires-clause-rising
+put_changes-requires-clause-rising g c =
+    let at = c.in_ok-make_place.ensures.placed in
+    subst AreRising (sym c.deref.ensures.value) (rising_behind at.front c.make_place.new.changes.items (subst AreRising at.parted
+    (c.in_ok-add_rest.ensures.so_far c.args.units.now c.in_ok-done.ensures.behind c.in_ok-done.ensures.so_far).rising))
+
+pub put_changes-requires-clause-objects : goal.put_changes-requires-clause-objects
+put_changes-requires-clause-objects g c =
+    let at = c.in_ok-make_place.ensures.placed in
+    subst HaveObjects (sym c.deref.ensures.value) (all_behind (λ x. 1 ≤ x.key.object) at.front c.make_place.new.changes.items (subst HaveObjects at.parted
+    (c.in_ok-add_rest.ensures.so_far c.args.units.now c.in_ok-done.ensures.behind c.in_ok-done.ensures.so_far).objects))
+
+pub returns-in_err-put_changes-clause-stopped : goal.returns-in_err-put_changes-clause-stopped
+returns-in_err-put_changes-clause-stopped g c =
+    let V = g.V.Vault in
+    let old = c.args.vault.now in
+    let begun = c.keep_objects.new.vault in
+    let read = c.add_rest.new.vault in
+    let h = c.args.objects.now in
+    let d = closing c.args.units.now h in
+    let front = c.keep_objects.new.changes.items in
+    let all = c.add_rest.new.into.items in
+    let done = c.in_ok-done.done in
+    let was = c.in_ok-done.ensures.so_far in
+    let so_far = c.in_ok-add_rest.ensures.so_far c.args.units.now c.in_ok-done.ensures.behind was in
+    let low = c.in_ok-done.ensures.last.1 in
+    let gap : (k : ℕ) → done < k → k < ceiling_key → parts_at d k ≡ [] = λ k above below. no_parts c.args.units.now h k below (c.in_ok-done.ensures.behind k above) in
+    let kept = c.in_ok-add_rest.ensures.kept in
+    let stays = c.add_rest.ensures.stays in
+    let mark : c.len-mark.result ≡ length front = omega (arith, c.len-mark.ensures, c.keep_objects.new.changes.ok.0) in
+    let whole : each_to (parts_at d) ceiling_key ≡ parts_of_all d = pieces_all c.args.units.now h done low c.in_ok-done.ensures.behind c.in_ok-done.ensures.whole in
+    let content : (n : Content) → V.holds begun n → changed n all ≡ content_of d = λ n held. all_made d (V.view begun).keys (V.holds begun) all so_far whole (c.in_ok-add_rest.ensures.known (c.in_ok-done.ensures.fine n held)) n held in
+    let mid = c.make_place.new.vault in
+    let own = c.make_place.new.changes.items in
+    let at = c.in_ok-make_place.ensures.placed in
+    let most : (V.view read).shape.most ≡ (V.view old).shape.most = ap (λ (v : VaultView). v.shape.most) stays.same ∙ ap (λ (s : VaultShape). s.most) c.keep_objects.ensures.shape in
+    let place = place_moved at.front own front (V.view read).shape.most (V.view old).shape.most c.len-mark.result most mark at.place in
+    let new = c.put_changes.new.vault in
+    let fault = c.in_err-put_changes.field-0.0 in
+    handed _ c.from_residual-in_err-put_changes.result fault c.from_residual-in_err-put_changes.ensures.1 (λ m held.
+    let found = c.in_ok-done.ensures.waits m held in
+    let n = found.0 in
+    stopped_put (V.holds new) (V.view new).free m d h (changed n at.front) (new_keys (V.view mid).keys own) (V.view mid).free c.in_ok-make_place.ensures.room fault
+    (subst (λ (cs : List Change). IsRightFor (new_keys (V.view mid).keys cs) (V.view mid).free fault) c.deref.ensures.value c.in_err-put_changes.ensures.full)
+    (λ not. (c.in_err-put_changes.ensures.refused_holds not (changed n at.front)).0 (at.made n ((stays.held n).0 found.1.0)))
+    (rest_reached d h done (V.view begun).keys (V.holds begun) front all was so_far low gap (V.view old).shape.most m n found.1.0 found.1.1 (content n found.1.0) at.front own kept.0 at.parted kept.1 place))
+
+pub returns-in_err-put_changes-clause-during : goal.returns-in_err-put_changes-clause-during
+returns-in_err-put_changes-clause-during g c m held =
+    let V = g.V.Vault in
+    let old = c.args.vault.now in
+    let begun = c.keep_objects.new.vault in
+    let read = c.add_rest.new.vault in
+    let h = c.args.objects.now in
+    let d = closing c.args.units.now h in
+    let front = c.keep_objects.new.changes.items in
+    let all = c.add_rest.new.into.items in
+    let done = c.in_ok-done.done in
+    let was = c.in_ok-done.ensures.so_far in
+    let so_far = c.in_ok-add_rest.ensures.so_far c.args.units.now c.in_ok-done.ensures.behind was in
+    let low = c.in_ok-done.ensures.last.1 in
+    let gap : (k : ℕ) → done < k → k < ceiling_key → parts_at d k ≡ [] = λ k above below. no_parts c.args.units.now h k below (c.in_ok-done.ensures.behind k above) in
+    let kept = c.in_ok-add_rest.ensures.kept in
+    let stays = c.add_rest.ensures.stays in
+    let mark : c.len-mark.result ≡ length front = omega (arith, c.len-mark.ensures, c.keep_objects.new.changes.ok.0) in
+    let whole : each_to (parts_at d) ceiling_key ≡ parts_of_all d = pieces_all c.args.units.now h done low c.in_ok-done.ensures.behind c.in_ok-done.ensures.whole in
+    let content : (n : Content) → V.holds begun n → changed n all ≡ content_of d = λ n held. all_made d (V.view begun).keys (V.holds begun) all so_far whole (c.in_ok-add_rest.ensures.known (c.in_ok-done.ensures.fine n held)) n held in
+    let mid = c.make_place.new.vault in
+    let own = c.make_place.new.changes.items in
+    let at = c.in_ok-make_place.ensures.placed in
+    let most : (V.view read).shape.most ≡ (V.view old).shape.most = ap (λ (v : VaultView). v.shape.most) stays.same ∙ ap (λ (s : VaultShape). s.most) c.keep_objects.ensures.shape in
+    let place = place_moved at.front own front (V.view read).shape.most (V.view old).shape.most c.len-mark.result most mark at.place in
+    let found = c.in_ok-done.ensures.waits m held in
+    let n = found.0 in
+    let w = found.1.1 in
+    let past : (t : ℕ) (x : Content) → t ≤ (V.view begun).moment → V.leaves begun t x ↔ V.leaves c.make_place.new.vault t x =
+    λ t x low.
+    let one = stays.past t x low in
+    let two = c.make_place.ensures.past t x (subst (λ (v : VaultView). t ≤ v.moment) (sym stays.same) low) in
+    ((λ left. two.0 (one.0 left)), (λ left. one.1 (two.1 left))) in
+    let first : (t : ℕ) (x : Content) → (V.view old).moment < t → t ≤ (V.view c.make_place.new.vault).moment → V.leaves c.make_place.new.vault t x → IsLeft (V.view old).shape.most m d h x =
+    during_both V.leaves (IsLeft (V.view old).shape.most m d h) begun c.make_place.new.vault (V.view old).moment (V.view begun).moment (V.view c.make_place.new.vault).moment (c.keep_objects.ensures.during m held) past
+    (λ t x low high left. w.left x (subst (λ (cs : List Change). IsAfterPuts (V.view old).shape.most n cs x) (mark_front front all kept.0 c.len-mark.result kept.1 mark)
+    (subst (λ (k : ℕ). IsAfterPuts k n (take c.len-mark.result all) x) (ap (λ (v : VaultView). v.shape.most) stays.same ∙ ap (λ (s : VaultShape). s.most) c.keep_objects.ensures.shape)
+    (c.make_place.ensures.during n ((stays.held n).0 found.1.0) t x (subst (λ (v : VaultView). v.moment < t) (sym stays.same) low) high left)))) in
+    during_both V.leaves (IsLeft (V.view old).shape.most m d h) mid c.put_changes.new.vault (V.view old).moment (V.view mid).moment (V.view c.put_changes.new.vault).moment first c.put_changes.ensures.past
+    (λ t x low high left. rest_left d h done (V.view begun).keys (V.holds begun) front all was so_far c.in_ok-done.ensures.last.1 gap (V.view old).shape.most m n found.1.0 w (content n found.1.0) at.front own kept.0 at.parted kept.1 place x
+    (subst (λ (k : ℕ). IsAfterPuts k (changed n at.front) own x) (ap (λ (s : VaultShape). s.most) c.make_place.ensures.shape ∙ most)
+    (subst (λ (cs : List Change). IsAfterPuts (V.view mid).shape.most (changed n at.front) cs x) c.deref.ensures.value
+    (c.put_changes.ensures.during (changed n at.front) (at.made n ((stays.held n).0 found.1.0)) t x low high left))))
 
 pub returns-clause-holds : goal.returns-clause-holds
-returns-clause-holds g c = λ m h.
+returns-clause-holds g c m held =
     let V = g.V.Vault in
     let old = c.args.vault.now in
-    let d = closing c.args.units.now c.args.objects.now in
-    let stays = c.add_all.ensures.stays in
-    let found : AreClosing (V.view old).keys (V.holds old) d c.add_all.new.into.items = record { so_far = c.in_ok-add_all.ensures.so_far; whole = c.in_ok-add_all.ensures.whole; known = c.in_ok-add_all.ensures.known } in
-    let all = subst (λ (cs : List Change). AreClosing (V.view old).keys (V.holds old) d cs) (sym c.deref.ensures.value) found in
-    subst (λ (n : Content). V.holds c.put_changes.new.vault n) (content_closed all m h) (c.in_ok-put_changes.ensures.holds m ((stays.held m).0 h))
+    let begun = c.keep_objects.new.vault in
+    let read = c.add_rest.new.vault in
+    let h = c.args.objects.now in
+    let d = closing c.args.units.now h in
+    let front = c.keep_objects.new.changes.items in
+    let all = c.add_rest.new.into.items in
+    let done = c.in_ok-done.done in
+    let was = c.in_ok-done.ensures.so_far in
+    let so_far = c.in_ok-add_rest.ensures.so_far c.args.units.now c.in_ok-done.ensures.behind was in
+    let low = c.in_ok-done.ensures.last.1 in
+    let gap : (k : ℕ) → done < k → k < ceiling_key → parts_at d k ≡ [] = λ k above below. no_parts c.args.units.now h k below (c.in_ok-done.ensures.behind k above) in
+    let kept = c.in_ok-add_rest.ensures.kept in
+    let stays = c.add_rest.ensures.stays in
+    let mark : c.len-mark.result ≡ length front = omega (arith, c.len-mark.ensures, c.keep_objects.new.changes.ok.0) in
+    let whole : each_to (parts_at d) ceiling_key ≡ parts_of_all d = pieces_all c.args.units.now h done low c.in_ok-done.ensures.behind c.in_ok-done.ensures.whole in
+    let content : (n : Content) → V.holds begun n → changed n all ≡ content_of d = λ n held. all_made d (V.view begun).keys (V.holds begun) all so_far whole (c.in_ok-add_rest.ensures.known (c.in_ok-done.ensures.fine n held)) n held in
+    let mid = c.make_place.new.vault in
+    let own = c.make_place.new.changes.items in
+    let at = c.in_ok-make_place.ensures.placed in
+    let most : (V.view read).shape.most ≡ (V.view old).shape.most = ap (λ (v : VaultView). v.shape.most) stays.same ∙ ap (λ (s : VaultShape). s.most) c.keep_objects.ensures.shape in
+    let place = place_moved at.front own front (V.view read).shape.most (V.view old).shape.most c.len-mark.result most mark at.place in
+    let found = c.in_ok-done.ensures.waits m held in
+    let n = found.0 in
+    let put = c.in_ok-put_changes.ensures.holds (changed n at.front) (at.made n ((stays.held n).0 found.1.0)) in
+    subst (λ (x : Content). V.holds c.put_changes.new.vault x)
+    (ap (changed (changed n at.front)) c.deref.ensures.value ∙ sym (changed-append n at.front own) ∙ ap (changed n) (sym at.parted) ∙ content n found.1.0) put
 
 pub returns-clause-told : goal.returns-clause-told
-returns-clause-told g c = λ n h.
+returns-clause-told g c x held =
     let V = g.V.Vault in
     let old = c.args.vault.now in
-    let d = closing c.args.units.now c.args.objects.now in
-    let stays = c.add_all.ensures.stays in
-    let found : AreClosing (V.view old).keys (V.holds old) d c.add_all.new.into.items = record { so_far = c.in_ok-add_all.ensures.so_far; whole = c.in_ok-add_all.ensures.whole; known = c.in_ok-add_all.ensures.known } in
-    let all = subst (λ (cs : List Change). AreClosing (V.view old).keys (V.holds old) d cs) (sym c.deref.ensures.value) found in
-    let was = c.in_ok-put_changes.ensures.told n h in
-    was.1.1 ∙ content_closed all was.0 ((stays.held was.0).1 was.1.0)
+    let begun = c.keep_objects.new.vault in
+    let read = c.add_rest.new.vault in
+    let h = c.args.objects.now in
+    let d = closing c.args.units.now h in
+    let front = c.keep_objects.new.changes.items in
+    let all = c.add_rest.new.into.items in
+    let done = c.in_ok-done.done in
+    let was = c.in_ok-done.ensures.so_far in
+    let so_far = c.in_ok-add_rest.ensures.so_far c.args.units.now c.in_ok-done.ensures.behind was in
+    let low = c.in_ok-done.ensures.last.1 in
+    let gap : (k : ℕ) → done < k → k < ceiling_key → parts_at d k ≡ [] = λ k above below. no_parts c.args.units.now h k below (c.in_ok-done.ensures.behind k above) in
+    let kept = c.in_ok-add_rest.ensures.kept in
+    let stays = c.add_rest.ensures.stays in
+    let mark : c.len-mark.result ≡ length front = omega (arith, c.len-mark.ensures, c.keep_objects.new.changes.ok.0) in
+    let whole : each_to (parts_at d) ceiling_key ≡ parts_of_all d = pieces_all c.args.units.now h done low c.in_ok-done.ensures.behind c.in_ok-done.ensures.whole in
+    let content : (n : Content) → V.holds begun n → changed n all ≡ content_of d = λ n held. all_made d (V.view begun).keys (V.holds begun) all so_far whole (c.in_ok-add_rest.ensures.known (c.in_ok-done.ensures.fine n held)) n held in
+    let mid = c.make_place.new.vault in
+    let own = c.make_place.new.changes.items in
+    let at = c.in_ok-make_place.ensures.placed in
+    let most : (V.view read).shape.most ≡ (V.view old).shape.most = ap (λ (v : VaultView). v.shape.most) stays.same ∙ ap (λ (s : VaultShape). s.most) c.keep_objects.ensures.shape in
+    let place = place_moved at.front own front (V.view read).shape.most (V.view old).shape.most c.len-mark.result most mark at.place in
+    let last = c.in_ok-put_changes.ensures.told x held in
+    let first = at.told last.0 last.1.0 in
+    let n = first.0 in
+    made_both n x last.0 at.front own all c.deref.result.now at.parted c.deref.ensures.value first.1.1 last.1.1 ∙ content n ((stays.held n).1 first.1.0)
 
-pub returns-clause-once : goal.returns-clause-once
-returns-clause-once g c = λ m h few t n low high left.
+pub returns-clause-during : goal.returns-clause-during
+returns-clause-during g c m held =
     let V = g.V.Vault in
     let old = c.args.vault.now in
-    let d = closing c.args.units.now c.args.objects.now in
-    let stays = c.add_all.ensures.stays in
-    let found : AreClosing (V.view old).keys (V.holds old) d c.add_all.new.into.items = record { so_far = c.in_ok-add_all.ensures.so_far; whole = c.in_ok-add_all.ensures.whole; known = c.in_ok-add_all.ensures.known } in
-    let all = subst (λ (cs : List Change). AreClosing (V.view old).keys (V.holds old) d cs) (sym c.deref.ensures.value) found in
-    let begun = subst (λ (v : VaultView). v.moment < t) (sym stays.same) low in
-    once_closed all (V.view old).shape.most m n h few
-    (subst (λ (v : VaultView). IsAfterPuts v.shape.most m c.deref.result.now n) stays.same (c.put_changes.ensures.during m ((stays.held m).0 h) t n begun high left))
+    let begun = c.keep_objects.new.vault in
+    let read = c.add_rest.new.vault in
+    let h = c.args.objects.now in
+    let d = closing c.args.units.now h in
+    let front = c.keep_objects.new.changes.items in
+    let all = c.add_rest.new.into.items in
+    let done = c.in_ok-done.done in
+    let was = c.in_ok-done.ensures.so_far in
+    let so_far = c.in_ok-add_rest.ensures.so_far c.args.units.now c.in_ok-done.ensures.behind was in
+    let low = c.in_ok-done.ensures.last.1 in
+    let gap : (k : ℕ) → done < k → k < ceiling_key → parts_at d k ≡ [] = λ k above below. no_parts c.args.units.now h k below (c.in_ok-done.ensures.behind k above) in
+    let kept = c.in_ok-add_rest.ensures.kept in
+    let stays = c.add_rest.ensures.stays in
+    let mark : c.len-mark.result ≡ length front = omega (arith, c.len-mark.ensures, c.keep_objects.new.changes.ok.0) in
+    let whole : each_to (parts_at d) ceiling_key ≡ parts_of_all d = pieces_all c.args.units.now h done low c.in_ok-done.ensures.behind c.in_ok-done.ensures.whole in
+    let content : (n : Content) → V.holds begun n → changed n all ≡ content_of d = λ n held. all_made d (V.view begun).keys (V.holds begun) all so_far whole (c.in_ok-add_rest.ensures.known (c.in_ok-done.ensures.fine n held)) n held in
+    let mid = c.make_place.new.vault in
+    let own = c.make_place.new.changes.items in
+    let at = c.in_ok-make_place.ensures.placed in
+    let most : (V.view read).shape.most ≡ (V.view old).shape.most = ap (λ (v : VaultView). v.shape.most) stays.same ∙ ap (λ (s : VaultShape). s.most) c.keep_objects.ensures.shape in
+    let place = place_moved at.front own front (V.view read).shape.most (V.view old).shape.most c.len-mark.result most mark at.place in
+    let found = c.in_ok-done.ensures.waits m held in
+    let n = found.0 in
+    let w = found.1.1 in
+    let past : (t : ℕ) (x : Content) → t ≤ (V.view begun).moment → V.leaves begun t x ↔ V.leaves c.make_place.new.vault t x =
+    λ t x low.
+    let one = stays.past t x low in
+    let two = c.make_place.ensures.past t x (subst (λ (v : VaultView). t ≤ v.moment) (sym stays.same) low) in
+    ((λ left. two.0 (one.0 left)), (λ left. one.1 (two.1 left))) in
+    let first : (t : ℕ) (x : Content) → (V.view old).moment < t → t ≤ (V.view c.make_place.new.vault).moment → V.leaves c.make_place.new.vault t x → IsLeft (V.view old).shape.most m d h x =
+    during_both V.leaves (IsLeft (V.view old).shape.most m d h) begun c.make_place.new.vault (V.view old).moment (V.view begun).moment (V.view c.make_place.new.vault).moment (c.keep_objects.ensures.during m held) past
+    (λ t x low high left. w.left x (subst (λ (cs : List Change). IsAfterPuts (V.view old).shape.most n cs x) (mark_front front all kept.0 c.len-mark.result kept.1 mark)
+    (subst (λ (k : ℕ). IsAfterPuts k n (take c.len-mark.result all) x) (ap (λ (v : VaultView). v.shape.most) stays.same ∙ ap (λ (s : VaultShape). s.most) c.keep_objects.ensures.shape)
+    (c.make_place.ensures.during n ((stays.held n).0 found.1.0) t x (subst (λ (v : VaultView). v.moment < t) (sym stays.same) low) high left)))) in
+    during_both V.leaves (IsLeft (V.view old).shape.most m d h) mid c.put_changes.new.vault (V.view old).moment (V.view mid).moment (V.view c.put_changes.new.vault).moment first c.put_changes.ensures.past
+    (λ t x low high left. rest_left d h done (V.view begun).keys (V.holds begun) front all was so_far c.in_ok-done.ensures.last.1 gap (V.view old).shape.most m n found.1.0 w (content n found.1.0) at.front own kept.0 at.parted kept.1 place x
+    (subst (λ (k : ℕ). IsAfterPuts k (changed n at.front) own x) (ap (λ (s : VaultShape). s.most) c.make_place.ensures.shape ∙ most)
+    (subst (λ (cs : List Change). IsAfterPuts (V.view mid).shape.most (changed n at.front) cs x) c.deref.ensures.value
+    (c.put_changes.ensures.during (changed n at.front) (at.made n ((stays.held n).0 found.1.0)) t x low high left))))
 
 pub returns-clause-after : goal.returns-clause-after
-returns-clause-after g c = λ m n h left.
+returns-clause-after g c m x held left =
     let V = g.V.Vault in
     let old = c.args.vault.now in
-    let d = closing c.args.units.now c.args.objects.now in
-    let stays = c.add_all.ensures.stays in
-    let found : AreClosing (V.view old).keys (V.holds old) d c.add_all.new.into.items = record { so_far = c.in_ok-add_all.ensures.so_far; whole = c.in_ok-add_all.ensures.whole; known = c.in_ok-add_all.ensures.known } in
-    let all = subst (λ (cs : List Change). AreClosing (V.view old).keys (V.holds old) d cs) (sym c.deref.ensures.value) found in
-    c.in_ok-put_changes.ensures.after m n ((stays.held m).0 h) left ∙ content_closed all m h
+    let begun = c.keep_objects.new.vault in
+    let read = c.add_rest.new.vault in
+    let h = c.args.objects.now in
+    let d = closing c.args.units.now h in
+    let front = c.keep_objects.new.changes.items in
+    let all = c.add_rest.new.into.items in
+    let done = c.in_ok-done.done in
+    let was = c.in_ok-done.ensures.so_far in
+    let so_far = c.in_ok-add_rest.ensures.so_far c.args.units.now c.in_ok-done.ensures.behind was in
+    let low = c.in_ok-done.ensures.last.1 in
+    let gap : (k : ℕ) → done < k → k < ceiling_key → parts_at d k ≡ [] = λ k above below. no_parts c.args.units.now h k below (c.in_ok-done.ensures.behind k above) in
+    let kept = c.in_ok-add_rest.ensures.kept in
+    let stays = c.add_rest.ensures.stays in
+    let mark : c.len-mark.result ≡ length front = omega (arith, c.len-mark.ensures, c.keep_objects.new.changes.ok.0) in
+    let whole : each_to (parts_at d) ceiling_key ≡ parts_of_all d = pieces_all c.args.units.now h done low c.in_ok-done.ensures.behind c.in_ok-done.ensures.whole in
+    let content : (n : Content) → V.holds begun n → changed n all ≡ content_of d = λ n held. all_made d (V.view begun).keys (V.holds begun) all so_far whole (c.in_ok-add_rest.ensures.known (c.in_ok-done.ensures.fine n held)) n held in
+    let mid = c.make_place.new.vault in
+    let own = c.make_place.new.changes.items in
+    let at = c.in_ok-make_place.ensures.placed in
+    let most : (V.view read).shape.most ≡ (V.view old).shape.most = ap (λ (v : VaultView). v.shape.most) stays.same ∙ ap (λ (s : VaultShape). s.most) c.keep_objects.ensures.shape in
+    let place = place_moved at.front own front (V.view read).shape.most (V.view old).shape.most c.len-mark.result most mark at.place in
+    let found = c.in_ok-done.ensures.waits m held in
+    let n = found.0 in
+    c.in_ok-put_changes.ensures.after (changed n at.front) x (at.made n ((stays.held n).0 found.1.0)) left
+    ∙ ap (changed (changed n at.front)) c.deref.ensures.value ∙ sym (changed-append n at.front own) ∙ ap (changed n) (sym at.parted) ∙ content n found.1.0

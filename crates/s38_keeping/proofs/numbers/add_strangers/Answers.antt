@@ -1,4 +1,8 @@
-use Rattle.std.proofs.Common.{refl, arith}
+use Rattle.std.proofs.Common.{◌++◌, ◌∙◌, List, [], ap, append-nil, append_assoc, arith, refl, sym}
+use Rattle.s38_base.specs.declared.page.Change.{Change}
+use Rattle.s38_forcing.proofs.WantedLaws.{read_begun}
+use Rattle.s38_forcing.specs.Differences.{differences}
+use Rattle.s38_keeping.specs.Replacing.{range_of}
 use Rattle.s38_keeping.proofs.KeyLaws.{above_behind, fine_on, fine_upto}
 use Rattle.s38_keeping.proofs.SoFarLaws.{so_far_skip, so_far_stranger}
 use Rattle.s38_keeping.proofs.numbers.add_strangers.Goals as goal
@@ -8,6 +12,7 @@ loop-number-init g c = record {
   low = omega arith;
   high = omega (arith, c.requires);
   so_far = λ wants none was. was;
+  kept = ([], sym (append-nil c.args.into.now.items));
   fine = λ was. was;
 }
 
@@ -20,6 +25,8 @@ loop-number-preserved g c =
     let number = c.in-Some.number in
     let low = c.in-Some.ensures.behind in
     let high = c.in-Some.ensures.within in
+    let some = read_begun keys (range_of number) [] [] in
+    let more = differences some.pages (range_of number) [] in
     record {
       low = omega (arith, was.low, low);
       high = omega (arith, high);
@@ -27,6 +34,8 @@ loop-number-preserved g c =
           so_far_stranger keys (V.holds c.args.vault.now) wants last number c.loop-number.into.items c.add_none.new.into.items low
           (λ k above below. none k (omega (arith, was.low, above)) (omega (arith, below, high)))
           (λ key above below. c.in-Some.ensures.before key (above_behind last key above) below) c.in_ok-add_none.ensures (was.so_far wants none before);
+      kept =
+          (was.kept.0 ++ more, c.in_ok-add_none.ensures some.pages some.have ∙ ap (λ (cs : List Change). cs ++ more) was.kept.1 ∙ append_assoc c.args.into.now.items was.kept.0 more);
       fine = λ before. fine_on keys last number low c.in-Some.ensures.before (was.fine before);
     }
 
@@ -41,5 +50,6 @@ returns g c =
           so_far_skip keys (V.holds c.args.vault.now) wants last c.args.upto c.loop-number.into.items was.high
           (λ k above below. none k (omega (arith, was.low, above)) below)
           (λ key above below. c.in_default.ensures.none refl key (above_behind last key above) below) (was.so_far wants none before);
+      kept = was.kept;
       fine = λ before. fine_upto keys last c.args.upto (c.in_default.ensures.none refl) (was.fine before);
     }

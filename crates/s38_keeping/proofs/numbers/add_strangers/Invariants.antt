@@ -1,4 +1,4 @@
-use Rattle.std.proofs.Common.{◌≡◌, ◌<◌, ◌≤◌, ◌-◌, ℕ, List, []}
+use Rattle.std.proofs.Common.{◌≡◌, ◌<◌, ◌≤◌, ◌-◌, ◌++◌, ℕ, List, []}
 use Rattle.s38_base.specs.declared.page.Change.{Change}
 use Rattle.s38_keeping.specs.Walking.{AreFineTo, AreSoFar}
 use Rattle.s38_keeping.proofs.numbers.add_strangers.Given as goal
@@ -9,6 +9,7 @@ invariant-loop-number g l = record {
   low : l.fn.done ≤ l.last;
   high : l.last ≤ l.fn.upto;
   so_far : (wants : ℕ → List Change) → ((n : ℕ) → l.fn.done < n → n ≤ l.fn.upto → wants n ≡ []) → AreSoFar (g.V.Vault.view l.vault).keys (g.V.Vault.holds l.vault) wants l.fn.done l.fn.into.items → AreSoFar (g.V.Vault.view l.vault).keys (g.V.Vault.holds l.vault) wants l.last l.into.items;
+  kept : (rest : List Change) × (l.into.items ≡ l.fn.into.items ++ rest);
   fine : AreFineTo (g.V.Vault.view l.vault).keys l.fn.done → AreFineTo (g.V.Vault.view l.vault).keys l.last;
 }
 

@@ -7,8 +7,8 @@ use Rattle.s38_kept_laws.proofs.laws.what_is_forced_can_be_put.Goals as goal
 
 pub returns-clause-precedes : goal.returns-clause-precedes
 returns-clause-precedes c =
-    λ s p e values d m is does images stands.
-    goes_before (record { follows = c.what_is_durable_follows.ensures; counts = c.room_counts_what_is_durable.ensures; stays = c.what_is_not_forced_stays_durable.ensures }) s p e d is (subst IsDone (sym does) tt) m images stands
+    λ s p e values d m is does images stands begins.
+    goes_before (record { follows = c.what_is_durable_follows.ensures; counts = c.room_counts_what_is_durable.ensures; stays = c.what_is_not_forced_stays_durable.ensures }) s p e d is (subst IsDone (sym does) tt) m images stands begins
 
 pub returns-clause-due : goal.returns-clause-due
 returns-clause-due c =

@@ -17,10 +17,10 @@ returns-then-forces_whole-clause-told g c =
     let us = c.args.units.now in
     let all = all_forced c.args.all.now in
     let forced : list_any (is_whole o.number.0) all ≡ true = sym c.forces_whole.ensures ∙ c.if-forces_whole.true in
-    on_ok c.add_whole.result _ _
+    on_ok c.add_forced.result _ _
     (λ told m d s held p.
-    told m held ∙ ap (λ (cs : List Change). c.args.into.now.items ++ differences (get m) (range_of o.number.0) cs) (sym (there_whole all h us m d s o p c.if-not-object.false forced)))
-    c.add_whole.ensures.told
+    told m d s held p ∙ ap (λ (cs : List Change). c.args.into.now.items ++ differences (get m) (range_of o.number.0) cs) (sym (there_whole all h us m d s o p c.if-not-object.false forced)))
+    c.add_forced.ensures.told
 
 pub returns-clause-told : goal.returns-clause-told
 returns-clause-told g c =
@@ -45,7 +45,7 @@ returns-then-forces_whole-clause-header g c =
     let us = c.args.units.now in
     let all = all_forced c.args.all.now in
     let forced : list_any (is_whole o.number.0) all ≡ true = sym c.forces_whole.ensures ∙ c.if-forces_whole.true in
-    always c.add_whole.result _ (λ m d s held p. header_whole all h us m d s o p c.if-not-object.false forced c.add_whole.ensures.header)
+    always c.add_forced.result _ (λ m d s held p. header_whole all h us m d s o p c.if-not-object.false forced c.add_forced.ensures.header)
 
 pub returns-clause-header : goal.returns-clause-header
 returns-clause-header g c =

@@ -44,7 +44,7 @@ returns-in-Complete-clause-left g c =
     (reported_kept c.args.turns c.args.run.deck x c.args.run.end c.requires c.end-vault-2.result given new c.of_whole.ensures.placed left refl c.end-vault.ensures.history c.end-vault.ensures.marks c.in-Complete.is c.end-vault.ensures.state
     c.of_whole.ensures.goes c.of_whole.result.outcome c.of_whole.ensures.end)
     c.in-Complete.is c.of_whole.ensures.goes
-    (λ m holds. subst (λ (s : State). DuringCall c.end-vault-2.result.disk new (IsBetween new.size m (kept_of s))) c.end-vault.ensures.state (c.of_whole.ensures.during m holds))
+    (λ m holds. subst (λ (s : State). DuringCall c.end-vault-2.result.disk new (IsBetween new.size m (kept_of s) s.held)) c.end-vault.ensures.state (c.of_whole.ensures.during m holds))
 
 pub returns-in-Stopped-clause-came : goal.returns-in-Stopped-clause-came
 returns-in-Stopped-clause-came g c =

@@ -1,0 +1,149 @@
+-- The next object is kept: what waits behind it, and what is left where it is not kept.
+use Rattle.std.proofs.Common.{◌≡◌, ◌≢◌, ◌⊎◌, ◌↔◌, ℕ, ◌<◌, ◌≤◌, Bool, true, false, List, [], ◌∷◌, ◌++◌, inl, inr, length, refl, sym, ◌∙◌, ap, subst, arith}
+use Rattle.std.proofs.lemmas.Bool.Decides.{nat_tests}
+use Rattle.std.proofs.Math.Seq.{drop-append_seam, take-append_seam}
+use Rattle.std.specs.Prelude.{Err, IfErr, IsErrAnd, Ok, Result, drop, nat_le, take}
+use Rattle.std.specs.FinMap.{get}
+use Rattle.std.specs.List.{AllByRecursion}
+use Rattle.s38_base.specs.declared.page.Change.{Change}
+use Rattle.s38_closing.specs.Ensuring.{IsBehind, IsReached, changes_of_number, journal_ahead}
+use Rattle.s38_closing.specs.Waiting.{AddsNext, IsNext, IsStoppedBy, Waits}
+use Rattle.s38_closing.proofs.WaitLaws.{AreWantedAt, IsAbove, above_by, fine_next_changes, full_next, has_next, new_next, rest_next, told_by, wanted_by, waits_next}
+use Rattle.s38_durable.specs.Durable.{Durable}
+use Rattle.s38_durable.specs.Stands.{parts_at}
+use Rattle.s38_forcing.specs.declared.fault.ForcingFault.{ForcingFault}
+use Rattle.s38_forcing.specs.declared.fault.ForcingFault.TheVariants as forcing
+use Rattle.s38_keeping.specs.Outcomes.{IsRightFor, unknown_by}
+use Rattle.s38_keeping.specs.Placing.{IsPlaced}
+use Rattle.s38_keeping.specs.Walking.{AreFineTo, AreSoFar, IsFine}
+use Rattle.s38_keeping.specs.declared.fault.KeepFault.{KeepFault}
+use Rattle.s38_keeping.specs.declared.fault.KeepFault.TheVariants as faults
+use Rattle.s38_keeping.proofs.PlacedLaws.{HasWanted, all_before, changed-append, fine_put, made_in, so_far_done, so_far_put}
+use Rattle.s38_keeping.proofs.SoFarLaws.{so_far_begun}
+use Rattle.s38_rules.specs.Held.{Held}
+use Rattle.s38_rules.specs.declared.object.Object.{Object}
+use Rattle.s38_vault.specs.Content.{Content, changed}
+use Rattle.s38_vault.specs.Directory.{Keys, keys_of, new_keys}
+
+-- ---- faults
+
+pub handed_by : {T : Type 0} (P Q : KeepFault → Type 0) (r : Result T KeepFault) → IsErrAnd r Q → ((e : KeepFault) → Q e → P e) → IfErr r P
+handed_by P Q (Ok done) q f = tt
+handed_by P Q (Err e) q f = f e q
+
+pub stopped_unknown : (holds : Content → Type 0) (room : ℕ) (m : Content) (d : Durable) (h : Held) (n : Content) (cause : ForcingFault) (fault : KeepFault) → fault ≡ unknown_by cause → holds n → IsReached m d h n → IsStoppedBy holds room m d h fault
+stopped_unknown holds room m d h n forcing.Failed fault is held reached = subst (IsStoppedBy holds room m d h) (sym is) tt
+stopped_unknown holds room m d h n forcing.NoMemory fault is held reached = subst (IsStoppedBy holds room m d h) (sym is) (n, (held, reached))
+
+-- where there is room, only memory was refused
+pub stopped_put : (holds : Content → Type 0) (room : ℕ) (m : Content) (d : Durable) (h : Held) (n : Content) (wanted free : ℕ) → wanted ≤ free → (fault : KeepFault) → IsRightFor wanted free fault → (fault ≢ faults.Failed → holds n) → IsReached m d h n → IsStoppedBy holds room m d h fault
+stopped_put holds room m d h n wanted free fits (faults.Full needed there) right held reached = absurd (omega (arith, right.0, right.1.0, right.1.1, fits))
+stopped_put holds room m d h n wanted free fits faults.NoMemory right held reached = (n, (held (λ e. cc), reached))
+stopped_put holds room m d h n wanted free fits faults.Failed right held reached = tt
+
+-- ---- the changes of the next object
+
+pub mark_front : (front all rest : List Change) (mark : ℕ) → all ≡ front ++ rest → mark ≡ length front → take mark all ≡ front
+mark_front front all rest mark kept is = (λ i. take (is i) (kept i)) ∙ take-append_seam front rest
+
+pub mark_rest : (front all rest : List Change) (mark : ℕ) → all ≡ front ++ rest → mark ≡ length front → drop mark all ≡ rest
+mark_rest front all rest mark kept is = (λ i. drop (is i) (kept i)) ∙ drop-append_seam front rest
+
+pub place_moved : (made own front : List Change) (most more mark : ℕ) → most ≡ more → mark ≡ length front → ((made ≡ []) × (length own ≤ most)) ⊎ (length made ≡ mark) → ((made ≡ []) × (length own ≤ more)) ⊎ (length made ≡ length front)
+place_moved made own front most more mark same is (inl few) = inl (few.0, omega (arith, few.1, same))
+place_moved made own front most more mark same is (inr long) = inr (long ∙ is)
+
+module _ (d : Durable) (h : Held) (o : Object) (done : ℕ) (keys : Keys) (holds : Content → Type 0) (front all : List Change) (ahead : Bool) (was : AreSoFar keys holds (parts_at d) done front)
+    (adds : AddsNext keys holds (parts_at d) o.number.0 (journal_ahead h o.number.0) ahead all) (low : done < o.number.0) (gap : (k : ℕ) → done < k → k < o.number.0 → parts_at d k ≡ []) where
+  above : IsAbove o.number.0 (journal_ahead h o.number.0)
+  above = above_by d keys holds o.number.0 adds.between all (journal_ahead h o.number.0) adds.behind
+
+  wanted : AreWantedAt d (journal_ahead h o.number.0)
+  wanted = wanted_by d keys holds o.number.0 adds.between all (journal_ahead h o.number.0) adds.behind
+
+  told : (n : Content) → holds n → all ≡ adds.between ++ changes_of_number (get n) d (journal_ahead h o.number.0)
+  told n held = told_by d keys holds o.number.0 adds.between all (journal_ahead h o.number.0) adds.behind n held
+
+  -- they are those of the content that is held, and with them it has all that is wanted up to the object
+  pub whole_has : (n : Content) → holds n → HasWanted (changed n all) (parts_at d) o.number.0
+  whole_has n held = has_next d n o.number.0 (journal_ahead h o.number.0) adds.between all above (adds.so_far.told n held) (told n held)
+
+  pub whole_fine : (n : Content) → holds n → AllByRecursion (λ c. IsFine c.key) all
+  whole_fine n held =
+      let is = told n held ∙ ap (λ (cs : List Change). cs ++ changes_of_number (get n) d (journal_ahead h o.number.0)) (adds.so_far.told n held) in
+      subst (λ (cs : List Change). AllByRecursion (λ c. IsFine c.key) cs) (sym is) (fine_next_changes d (get n) o.number.0 (journal_ahead h o.number.0) above)
+
+  -- what waits behind it
+  pub placed_waits : (most : ℕ) (m : Content) (gone rest : List Object) → IsNext h gone rest o done → (n : Content) → holds n → Waits most m d h gone n front → (made own more : List Change) → all ≡ made ++ own → all ≡ front ++ more
+      → ((made ≡ []) × (length own ≤ most)) ⊎ (length made ≡ length front) → Waits most m d h (gone ++ o ∷ []) (changed n made) own
+  placed_waits most m gone rest next n held w made own more parted kept place =
+      waits_next most m d h gone rest o done next low n front adds.between all w (was.told n held) (adds.so_far.told n held) above (told n held) made own more parted kept place
+
+  -- a store that is full
+  pub placed_full : (m : Content) (gone rest : List Object) → IsNext h gone rest o done → (n : Content) → holds n → IsBehind m d h gone (changed n front) → (own : List Change) → all ≡ front ++ own
+      → (now : Content → Type 0) (more : Keys) (room : ℕ) (fault : KeepFault) → IsRightFor (new_keys more own) room fault
+      → ((needed free : ℕ) → fault ≡ faults.Full needed free → now (changed n front)) → ((needed free : ℕ) → fault ≡ faults.Full needed free → (x : Content) → now x → more ≡ keys_of x)
+      → (fault ≢ faults.Failed → now n ⊎ now (changed n front)) → IsReached m d h n → IsReached m d h (changed n front) → IsStoppedBy now room m d h fault
+  placed_full m gone rest next n held behind own kept now more room (faults.Full needed free) right front_held same some reached reached' =
+      let n2 = changed n front in
+      let here = front_held needed free refl in
+      let has = subst (λ (cs : List Change). HasWanted (changed n cs) (parts_at d) done) (sym (was.told n held)) (made_in n (parts_at d) done) in
+      let rest_is = rest_next d n done o.number.0 (journal_ahead h o.number.0) front own adds.between all (omega (arith, low)) above (was.told n held) (adds.so_far.told n held) (told n held) kept in
+      let counted = new_next d n2 done o.number.0 (journal_ahead h o.number.0) (omega (arith, low)) wanted (adds.so_far.wanted o.number.0 (omega (arith, low)) (omega arith)) has gap in
+      (n2, (here, full_next m d h gone rest o done next n2 (journal_ahead h o.number.0) own more room needed free behind refl rest_is counted (same needed free refl n2 here) right))
+  placed_full m gone rest next n held behind own kept now more room faults.NoMemory right front_held same some reached reached' = elim (some (λ e. cc)) [
+    | inl before ↦ (n, (before, reached))
+    | inr after ↦ (changed n front, (after, reached'))
+  ]
+  placed_full m gone rest next n held behind own kept now more room faults.Failed right front_held same some reached reached' = tt
+
+  -- where none was added of a journal space, what waits are all changes up to the object
+  pub placed_so_far : {V : Type 0} (now : V → Content → Type 0) (old mid : V) (most mark : ℕ) (own more : List Change) (keys' : Keys) → ahead ≡ false → all ≡ front ++ more → mark ≡ length front → ((m : Content) → now old m → holds m)
+      → ((n : Content) → now mid n → keys' ≡ keys_of n) → (at : IsPlaced now old mid most mark all own) → AreSoFar keys' (now mid) (parts_at d) o.number.0 own
+  placed_so_far now old mid most mark own more keys' none kept is back same at = elim at.place [
+    | inl few ↦
+        let made : (n : Content) → now mid n → (m : Content) × (holds m × (n ≡ changed m [])) = λ n held. let was_held = at.told n held in (was_held.0, (back was_held.0 was_held.1.0, was_held.1.1 ∙ ap (changed was_held.0) few.0)) in
+        so_far_put keys keys' holds (now mid) (parts_at d) 0 o.number.0 [] own (omega arith) same made (so_far_begun keys holds (parts_at d) [] refl was.keys_held)
+        (subst (λ (cs : List Change). AreSoFar keys holds (parts_at d) o.number.0 cs) (sym (adds.none none) ∙ at.parted ∙ ap (λ (cs : List Change). cs ++ own) few.0) adds.so_far)
+    | inr long ↦
+        let front_is : at.front ≡ front = sym (take-append_seam at.front own) ∙ (λ i. take (long i) (sym at.parted i)) ∙ mark_front front all more mark kept is in
+        let made : (n : Content) → now mid n → (m : Content) × (holds m × (n ≡ changed m front)) = λ n held. let was_held = at.told n held in (was_held.0, (back was_held.0 was_held.1.0, was_held.1.1 ∙ ap (changed was_held.0) front_is)) in
+        so_far_put keys keys' holds (now mid) (parts_at d) done o.number.0 front own (omega (arith, low)) same made was
+        (subst (λ (cs : List Change). AreSoFar keys holds (parts_at d) o.number.0 cs) (sym (adds.none none) ∙ at.parted ∙ ap (λ (cs : List Change). cs ++ own) front_is) adds.so_far)
+  ]
+
+  -- and where all is put none waits
+  pub all_so_far : (now : Content → Type 0) (keys' : Keys) → ((n : Content) → now n → keys' ≡ keys_of n) → ((n : Content) → now n → (m : Content) × (holds m × (n ≡ changed m all))) → AreSoFar keys' now (parts_at d) o.number.0 []
+  all_so_far now keys' same made =
+      so_far_done keys keys' holds now (parts_at d) o.number.0 adds.between same
+      (λ n held. let was_held = made n held in subst (λ (x : Content). HasWanted x (parts_at d) o.number.0) (sym was_held.1.1) (whole_has was_held.0 was_held.1.0)) adds.so_far
+
+  -- keys stay fine where the first of them, or all, were made
+  pub made_fine : (fine : AreFineTo keys o.number.0) → (n : Content) → holds n → (made own : List Change) → all ≡ made ++ own → (x : Content) → x ≡ changed n made → (keys' : Keys) → keys' ≡ keys_of x → AreFineTo keys' o.number.0
+  made_fine fine n held made own parted x is keys' same =
+      let of_n : AreFineTo (keys_of n) o.number.0 = subst (λ (ks : Keys). AreFineTo ks o.number.0) (was.keys_held n held) fine in
+      let whole = subst (λ (cs : List Change). AllByRecursion (λ c. IsFine c.key) cs) parted (whole_fine n held) in
+      subst (λ (ks : Keys). AreFineTo ks o.number.0) (sym (same ∙ ap (λ (y : Content). keys_of y) is))
+      (fine_put n made o.number.0 (all_before (λ c. IsFine c.key) made own whole) of_n)
+
+-- ---- one call behind another
+
+at_most : (a b : ℕ) → nat_le a b ≡ true → a ≤ b
+at_most a b e = grind (arith, nat_tests)
+
+beyond : (a b : ℕ) → nat_le a b ≡ false → b < a
+beyond a b e = grind (arith, nat_tests)
+
+module _ {V : Type 0} (leaves : V → ℕ → Content → Type 0) (P : Content → Type 0) (mid new : V) (begun between ended : ℕ) where
+  pub during_both : ((t : ℕ) (x : Content) → begun < t → t ≤ between → leaves mid t x → P x) → ((t : ℕ) (x : Content) → t ≤ between → leaves mid t x ↔ leaves new t x)
+      → ((t : ℕ) (x : Content) → between < t → t ≤ ended → leaves new t x → P x) → (t : ℕ) (x : Content) → begun < t → t ≤ ended → leaves new t x → P x
+  during_both first past last t x low high left = by (nat_le t between) refl
+    where
+      by : (b : Bool) → nat_le t between ≡ b → P x
+      by true e = first t x low (at_most t between e) ((past t x (at_most t between e)).1 left)
+      by false e = last t x (beyond t between e) high left
+
+-- two calls made changes, one behind the other
+pub made_both : (n x between : Content) (made own all put : List Change) → all ≡ made ++ own → put ≡ own → between ≡ changed n made → x ≡ changed between put → x ≡ changed n all
+made_both n x between made own all put parted is first last =
+    last ∙ (λ i. changed (first i) (is i)) ∙ sym (changed-append n made own) ∙ ap (changed n) (sym parted)

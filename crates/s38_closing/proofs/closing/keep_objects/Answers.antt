@@ -1,0 +1,171 @@
+use Rattle.std.proofs.Common.{◌≡◌, ◌∙◌, ◌≤◌, ◌++◌, ◌∷◌, List, [], ap, arith, map, refl, rules, subst, sym}
+use Rattle.std.specs.Map.Iter.{deref}
+use Rattle.std.specs.List.{flat_map}
+use Rattle.s38_durable.specs.Durable.{whole_of}
+use Rattle.s38_image.specs.Images.{parts_of}
+use Rattle.s38_keeping.proofs.PieceLaws.{each_none}
+use Rattle.s38_keeping.specs.Replacing.{each_to}
+use Rattle.s38_closing.specs.Closing.{closing}
+use Rattle.s38_closing.specs.Ensuring.{IsLeft}
+use Rattle.s38_closing.specs.Passing.{last_number}
+use Rattle.s38_closing.specs.Waiting.{IsNext, Waits}
+use Rattle.s38_closing.proofs.CloseLaws.{handed}
+use Rattle.s38_closing.proofs.KeepLaws.{during_both}
+use Rattle.s38_closing.proofs.NextLaws.{among_from, among_low, next_among}
+use Rattle.s38_closing.proofs.PassLaws.{AreSorted, last_more, none_behind, pieces_more, sorted_by}
+use Rattle.s38_closing.proofs.WaitLaws.{waits_begun}
+use Rattle.s38_durable.specs.Stands.{parts_at}
+use Rattle.s38_image.specs.Faults.{ceiling_key}
+use Rattle.s38_keeping.proofs.KeyLaws.{fine_begun}
+use Rattle.s38_keeping.proofs.SoFarLaws.{so_far_begun}
+use Rattle.s38_objects.proofs.KeptLaws.{all_gone, at_hand, one_more}
+use Rattle.s38_rules.specs.declared.object.Object.{Object}
+use Rattle.s38_vault.specs.Directory.{new_keys}
+use Rattle.s38_vault.specs.Vaults.{VaultShape}
+use Rattle.s38_closing.proofs.closing.keep_objects.Goals as goal
+
+pub loop-object-init : goal.loop-object-init
+loop-object-init g c =
+    let V = g.V.Vault in
+    let vault = c.args.vault.now in
+    let h = c.args.objects.now in
+    let d = closing c.args.units.now h in
+    record {
+      so_far = so_far_begun (V.view vault).keys (V.holds vault) (parts_at d) c.args.changes.now.items c.requires.none c.free-free.ensures.keys;
+      room = omega (arith, ap (new_keys (V.view vault).keys) c.requires.none);
+      fine = λ n held. fine_begun (V.view vault).keys;
+      last = refl;
+      low = omega arith;
+      whole = each_none (parts_at d);
+      waits = λ m held. (m, (held, waits_begun (V.view vault).shape.most m d h c.args.changes.now.items c.requires.none));
+      past = λ t m low. ((λ left. left), (λ left. left));
+      during = λ m held t x low high left. absurd (omega (arith, low, high));
+      later = omega arith;
+      shape = refl;
+      count = refl;
+    }
+
+pub keep_next-requires-clause-there : goal.keep_next-requires-clause-there
+keep_next-requires-clause-there g c =
+    let gone = map deref c.loop-object.yielded in
+    let rest = c.next.new.self in
+    let o = c.in-Some.object.now in
+    let all : c.args.objects.now.objects ≡ gone ++ o ∷ rest =
+    at_hand c.args.objects.now.objects c.loop-object.yielded c.into_iter-object-iterator.result c.loop-object.object-iterator c.next.new.self c.next.result c.in-Some.object (search rules) c.loop-object.yielded_by c.in-Some.is c.next.ensures.steps in
+    (gone, (rest, record { all = all; last = c.loop-object.invariant.last }))
+
+pub returns-in_err-keep_next-clause-stopped : goal.returns-in_err-keep_next-clause-stopped
+returns-in_err-keep_next-clause-stopped g c =
+    let V = g.V.Vault in
+    let gone = map deref c.loop-object.yielded in
+    let rest = c.next.new.self in
+    let o = c.in-Some.object.now in
+    let was = c.loop-object.invariant in
+    let h = c.args.objects.now in
+    let d = closing c.args.units.now h in
+    let all : c.args.objects.now.objects ≡ gone ++ o ∷ rest =
+    at_hand c.args.objects.now.objects c.loop-object.yielded c.into_iter-object-iterator.result c.loop-object.object-iterator c.next.new.self c.next.result c.in-Some.object (search rules) c.loop-object.yielded_by c.in-Some.is c.next.ensures.steps in
+    let next : IsNext h gone rest o c.loop-object.done = record { all = all; last = was.last } in
+    let fault = c.in_err-keep_next.field-0.0 in
+    handed _ c.from_residual.result fault c.from_residual.ensures.1 (λ m held.
+    let waiting = was.waits m held in
+    c.in_err-keep_next.ensures.stopped m waiting.0 gone rest next waiting.1.0 (subst (λ (k : VaultShape). Waits k.most m d h gone waiting.0 c.loop-object.changes.items) (sym was.shape) waiting.1.1))
+
+pub returns-in_err-keep_next-clause-during : goal.returns-in_err-keep_next-clause-during
+returns-in_err-keep_next-clause-during g c m held =
+    let V = g.V.Vault in
+    let old = c.args.vault.now in
+    let mid = c.loop-object.vault in
+    let new = c.keep_next.new.vault in
+    let gone = map deref c.loop-object.yielded in
+    let rest = c.next.new.self in
+    let o = c.in-Some.object.now in
+    let was = c.loop-object.invariant in
+    let h = c.args.objects.now in
+    let d = closing c.args.units.now h in
+    let all : c.args.objects.now.objects ≡ gone ++ o ∷ rest =
+    at_hand c.args.objects.now.objects c.loop-object.yielded c.into_iter-object-iterator.result c.loop-object.object-iterator c.next.new.self c.next.result c.in-Some.object (search rules) c.loop-object.yielded_by c.in-Some.is c.next.ensures.steps in
+    let next : IsNext h gone rest o c.loop-object.done = record { all = all; last = was.last } in
+    let waiting = was.waits m held in
+    let waits = subst (λ (k : VaultShape). Waits k.most m d h gone waiting.0 c.loop-object.changes.items) (sym was.shape) waiting.1.1 in
+    during_both V.leaves (IsLeft (V.view old).shape.most m d h) mid new (V.view old).moment (V.view mid).moment (V.view new).moment (was.during m held) c.keep_next.ensures.past
+    (λ t x low high left. subst (λ (k : VaultShape). IsLeft k.most m d h x) was.shape (c.keep_next.ensures.during m waiting.0 gone rest next waiting.1.0 waits t x low high left))
+
+pub loop-object-preserved : goal.loop-object-preserved
+loop-object-preserved g c =
+    let V = g.V.Vault in
+    let old = c.args.vault.now in
+    let mid = c.loop-object.vault in
+    let new = c.keep_next.new.vault in
+    let gone = map deref c.loop-object.yielded in
+    let rest = c.next.new.self in
+    let o = c.in-Some.object.now in
+    let was = c.loop-object.invariant in
+    let h = c.args.objects.now in
+    let units = c.args.units.now in
+    let d = closing units h in
+    let all : c.args.objects.now.objects ≡ gone ++ o ∷ rest =
+    at_hand c.args.objects.now.objects c.loop-object.yielded c.into_iter-object-iterator.result c.loop-object.object-iterator c.next.new.self c.next.result c.in-Some.object (search rules) c.loop-object.yielded_by c.in-Some.is c.next.ensures.steps in
+    let next : IsNext h gone rest o c.loop-object.done = record { all = all; last = was.last } in
+    let small : h.next ≤ ceiling_key = omega (arith, c.next_number-next.ensures) in
+    let lawful = c.all-object-items.ensures.lawful in
+    let done = c.in_ok-keep_next.ensures in
+    let among = next_among units h lawful small c.requires.numbers next in
+    let more : gone ++ o ∷ [] ≡ map deref (c.loop-object.yielded ++ c.in-Some.object ∷ []) = sym (one_more c.loop-object.yielded c.in-Some.object) in
+    record {
+      so_far = done.so_far;
+      room = done.room;
+      fine = done.fine was.fine;
+      last = sym (ap last_number (one_more c.loop-object.yielded c.in-Some.object) ∙ last_more gone o);
+      low = among_low units h lawful small c.requires.numbers o among;
+      whole =
+          subst (λ (l : List Object). each_to (parts_at d) o.number.0 ≡ flat_map parts_of (map (whole_of units h) l)) more
+          (pieces_more units h gone rest o c.loop-object.done all (subst AreSorted all (sorted_by h.objects lawful.rising)) was.last (among_from units h lawful small c.requires.numbers o among) (among_low units h lawful small c.requires.numbers o among) was.whole);
+      waits = λ m held.
+          let waiting = was.waits m held in
+          let waits = subst (λ (k : VaultShape). Waits k.most m d h gone waiting.0 c.loop-object.changes.items) (sym was.shape) waiting.1.1 in
+          let found = done.waits m waiting.0 gone rest next waiting.1.0 waits in (
+            found.0,
+            (
+              found.1.0,
+              subst (λ (l : List Object). Waits (V.view old).shape.most m d h l found.0 c.keep_next.new.changes.items) more
+                  (subst (λ (k : VaultShape). Waits k.most m d h (gone ++ o ∷ []) found.0 c.keep_next.new.changes.items) (c.keep_next.ensures.shape ∙ was.shape) found.1.1),
+            ),
+          );
+      past = λ t x low.
+          let first = was.past t x low in
+          let last = c.keep_next.ensures.past t x (omega (arith, low, was.later)) in
+          ((λ left. last.0 (first.0 left)), (λ left. first.1 (last.1 left)));
+      during = λ m held.
+          let waiting = was.waits m held in
+          let waits = subst (λ (k : VaultShape). Waits k.most m d h gone waiting.0 c.loop-object.changes.items) (sym was.shape) waiting.1.1 in
+          during_both V.leaves (IsLeft (V.view old).shape.most m d h) mid new (V.view old).moment (V.view mid).moment (V.view new).moment (was.during m held) c.keep_next.ensures.past
+          (λ t x low high left. subst (λ (k : VaultShape). IsLeft k.most m d h x) was.shape (c.keep_next.ensures.during m waiting.0 gone rest next waiting.1.0 waits t x low high left));
+      later = omega (arith, was.later, c.keep_next.ensures.later);
+      shape = c.keep_next.ensures.shape ∙ was.shape;
+      count = done.count ∙ was.count;
+    }
+
+pub returns-clause-last : goal.returns-clause-last
+returns-clause-last g c =
+    let all = all_gone c.args.objects.now.objects c.loop-object.yielded c.into_iter-object-iterator.result c.loop-object.object-iterator c.next.new.self c.next.result (search rules) c.loop-object.yielded_by c.in-None.is c.next.ensures.steps in
+    (c.loop-object.invariant.last ∙ ap last_number all, c.loop-object.invariant.low)
+
+pub returns-clause-whole : goal.returns-clause-whole
+returns-clause-whole g c =
+    let all = all_gone c.args.objects.now.objects c.loop-object.yielded c.into_iter-object-iterator.result c.loop-object.object-iterator c.next.new.self c.next.result (search rules) c.loop-object.yielded_by c.in-None.is c.next.ensures.steps in
+    subst (λ (l : List Object). each_to (parts_at (closing c.args.units.now c.args.objects.now)) c.loop-object.done ≡ flat_map parts_of (map (whole_of c.args.units.now c.args.objects.now) l)) all c.loop-object.invariant.whole
+
+pub returns-clause-behind : goal.returns-clause-behind
+returns-clause-behind g c = λ n low.
+    let os = c.args.objects.now.objects in
+    let all = all_gone c.args.objects.now.objects c.loop-object.yielded c.into_iter-object-iterator.result c.loop-object.object-iterator c.next.new.self c.next.result (search rules) c.loop-object.yielded_by c.in-None.is c.next.ensures.steps in
+    none_behind c.args.units.now c.args.objects.now os n (sorted_by os c.all-object-items.ensures.lawful.rising) (omega (arith, low, c.loop-object.invariant.last, ap last_number all))
+
+pub returns-clause-waits : goal.returns-clause-waits
+returns-clause-waits g c = λ m held.
+    let V = g.V.Vault in
+    let h = c.args.objects.now in
+    let all = all_gone c.args.objects.now.objects c.loop-object.yielded c.into_iter-object-iterator.result c.loop-object.object-iterator c.next.new.self c.next.result (search rules) c.loop-object.yielded_by c.in-None.is c.next.ensures.steps in
+    let found = c.loop-object.invariant.waits m held in
+    (found.0, (found.1.0, subst (λ (l : List Object). Waits (V.view c.args.vault.now).shape.most m (closing c.args.units.now h) h l found.0 c.loop-object.changes.items) all found.1.1))

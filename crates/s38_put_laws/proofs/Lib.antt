@@ -1,0 +1,13 @@
+pub mod LongerLaws
+pub mod TrailLaws
+pub mod RowLaws
+pub mod LowLaws
+pub mod ShapeLaws
+pub mod DifferLaws
+pub mod TailLaws
+pub mod PrintLaws
+pub mod ObjectLaws
+pub mod OneLaws
+pub mod StepLaws
+pub mod BeginLaws
+pub mod FreshLaws

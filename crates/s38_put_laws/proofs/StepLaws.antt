@@ -1,0 +1,538 @@
+-- Step by step what is kept of journal spaces stays their beginning, few bytes are unforced, and what is forced fits in one
+-- put.
+use Rattle.std.proofs.Common.{◌≡◌, ◌∙◌, ℕ, ◌+◌, ◌*◌, ◌<◌, ◌≤◌, ◌==◌, Bool, true, false, cond, List, [], ◌∷◌, ◌++◌, length, refl, sym, ap, subst, arith}
+use Rattle.std.specs.FinMap.{get}
+use Rattle.std.specs.List.{list_any}
+use Rattle.std.specs.Option.{option_map}
+use Rattle.std.specs.Prelude.{◌||◌, None, Option, Some, is_some}
+use Rattle.s38_base.specs.Limits.{body_limit}
+use Rattle.s38_base.specs.Pointers.{start_of, target_of}
+use Rattle.s38_code.specs.Operations.{family_of}
+use Rattle.s38_code.specs.declared.entry.Entry.{Entry}
+use Rattle.s38_code.specs.declared.event.Event.TheVariants.{Act, Finish, Start}
+use Rattle.s38_code.specs.declared.event.Event.{Event}
+use Rattle.s38_code.specs.declared.operand.Operand.TheVariants as operands
+use Rattle.s38_code.specs.declared.operand.Operand.{Operand}
+use Rattle.s38_code.specs.declared.reply.Reply.TheVariants.{Done, MustWait, Signal}
+use Rattle.s38_code.specs.declared.reply.Reply.{Reply}
+use Rattle.s38_code.specs.declared.reply.Val.{Val}
+use Rattle.s38_commitment_laws.proofs.HeldLaws.{part_over}
+use Rattle.s38_commitment_laws.proofs.RowLaws.{done_right, row_may, value_carries}
+use Rattle.s38_commitment_laws.proofs.StepLaws.{step_right}
+use Rattle.s38_commitment_laws.proofs.UnitLaws.{all_stand}
+use Rattle.s38_commitment_laws.specs.Right.{IsRight}
+use Rattle.s38_commits.specs.Units.{UnitMap}
+use Rattle.s38_durable.specs.Durable.{Durable, after_reply, durable, durable_after, kept, kept_after, kept_behind, whole}
+use Rattle.s38_durable.specs.Following.{Header}
+use Rattle.s38_durable.specs.Stands.{Stands}
+use Rattle.s38_image.specs.Settled.{settled_body}
+use Rattle.s38_image.specs.declared.stored.Stored.{Stored}
+use Rattle.s38_journals.specs.Journals as journals
+use Rattle.s38_journals.specs.Journals.{JournalList, entries_len}
+use Rattle.s38_kept_laws.proofs.FoundLaws.{IsThere, found_all, kept_there, there_kept}
+use Rattle.s38_kept_laws.proofs.GoesLaws.{object_given}
+use Rattle.s38_kept_laws.proofs.ImageLaws.{image_header}
+use Rattle.s38_kept_laws.proofs.KeepLaws.{DurableLaws, done_kept, entry_kept, forced_low, images_behind, not_done, same_kinds}
+use Rattle.s38_kept_laws.proofs.SameLaws.{seen_same}
+use Rattle.s38_kept_laws.proofs.SizeLaws.{body_low}
+use Rattle.s38_kept_laws.proofs.StepLaws.{IsDone, TakesEffect, stayed, step_goes, step_room, stored_same, takes_effect, follows_room}
+use Rattle.s38_kept_laws.specs.Kept.{AllReadable, AreImages, AreNumbered, IsKeptOf, IsReadableBehind}
+use Rattle.s38_object_laws.specs.Well.{AreWell, IsWell}
+use Rattle.s38_rules.proofs.ChargeLaws.{found_number}
+use Rattle.s38_rules.proofs.RoomLaws.{permitted_by_rules}
+use Rattle.s38_rules.proofs.StoreLaws.{stored_beside, stored_holds}
+use Rattle.s38_rules.proofs.VerdictLaws.{permitted_none}
+use Rattle.s38_rules.specs.Changes.{done}
+use Rattle.s38_rules.specs.Computing.{receiver_at, shift_at}
+use Rattle.s38_rules.specs.Effect.{effect, effect_of, end_at, start_at}
+use Rattle.s38_rules.specs.Forcing.{Ceiling, Forced, Header as HeaderOf, Removed, Whole, forced, is_whole}
+use Rattle.s38_rules.specs.Held.{Held, disk_in, is_on_disk, kind_of, object}
+use Rattle.s38_rules.specs.Journaling.{open_units}
+use Rattle.s38_rules.specs.Legal.{Leads}
+use Rattle.s38_rules.specs.Operands.{delivered}
+use Rattle.s38_rules.specs.Parts.{journal_at, journal_lawful, journal_of, journal_part, on_journal, over_object, part_at, part_in}
+use Rattle.s38_rules.specs.Room.{Room, image_len}
+use Rattle.s38_rules.specs.Rows.{row}
+use Rattle.s38_rules.specs.State.{State, process_entry}
+use Rattle.s38_rules.specs.Step.{awake_verdict, step}
+use Rattle.s38_rules.specs.Storing.{all_kept, stored, stored_in}
+use Rattle.s38_rules.specs.Verdict.{refused_by, ruled_verdict}
+use Rattle.s38_rules.specs.declared.object.Body.TheVariants as bodies
+use Rattle.s38_rules.specs.declared.object.Body.{Body}
+use Rattle.s38_rules.specs.declared.object.Object.{Object}
+use Rattle.s38_rules.specs.declared.process.ProcessEntry.{ProcessEntry}
+use Rattle.s38_rules.specs.declared.verdict.Verdict.TheVariants.{Permit}
+use Rattle.s38_step_parts.proofs.AfterLaws.{kept_behind_step, kept_one}
+use Rattle.s38_step_parts.specs.Growing.{AreBeginnings, IsBeginning}
+use Rattle.s38_step_parts.specs.Numbers.{numbered}
+use Rattle.s38_step_parts.specs.Stepping.{HaveHeaders, object_changes}
+use Rattle.s38_vault.specs.Content.{Content}
+use Rattle.s38_vault.specs.Vaults.{most_changes}
+use Rattle.s38_put_laws.specs.Fresh.{AllLeadToDisk, AreFresh, LeadToDisk}
+use Rattle.s38_put_laws.specs.Lengthening.{Lengthens}
+use Rattle.s38_put_laws.specs.OnePut.{AllBetween, AreShort, FirstShort, IsBetween, LastShort}
+use Rattle.s38_put_laws.specs.Puts.{AllOnePut, IsOnePutBy}
+use Rattle.s38_put_laws.specs.Trails.{AreTrailing, IsTrailOf}
+use Rattle.s38_put_laws.specs.Unforced.{AreLow, most_trailing}
+use Rattle.s38_put_laws.proofs.BeginLaws.{image_short}
+use Rattle.s38_put_laws.proofs.FreshLaws.{KeepsFresh, event_fresh, then_fresh}
+use Rattle.s38_put_laws.proofs.LongerLaws.{event_longer, value_longer}
+use Rattle.s38_put_laws.proofs.LowLaws.{AreLowBut, Covers, all_low, carried_low, done_low, few_open, journal_leads, same_leads}
+use Rattle.s38_put_laws.proofs.OneLaws.{SameEntries, step_put}
+use Rattle.s38_put_laws.proofs.RowLaws.{row_open}
+use Rattle.s38_put_laws.proofs.ShapeLaws.{event_few, rows_at, rows_in, unforced_in}
+use Rattle.s38_put_laws.proofs.TrailLaws.{journal_kind, stored_other, trails_at, trails_behind}
+
+-- ---- few bytes are unforced behind an event
+
+module _ (P : ℕ → Type 0) (anew : ℕ → Bool) where
+  value_low : (s : State) (shift : ℕ) (receiver : Option Operand) (v : Option Val) → IsRight s → AreLowBut P anew s.held s.units
+      → AreLowBut P anew (delivered s shift receiver v).state.held (delivered s shift receiver v).state.units
+  value_low s shift receiver None right low = low
+  value_low s shift (Some (operands.InSpace base offset attr)) (Some v) right low =
+      carried_low P anew s.held _ s.units right (value_carries s.held (target_of base) (start_of base offset + shift) v) (value_longer s.held (target_of base) (start_of base offset + shift) v) low
+  value_low s shift _ (Some v) right low = low
+
+  start_low : (s : State) (p : ℕ) (x : Option ProcessEntry) → AreLowBut P anew s.held s.units → AreLowBut P anew (start_at s p x).held (start_at s p x).units
+  start_low s p None low = low
+  start_low s p (Some x) low = low
+
+  finish_low : (s : State) (p : ℕ) (x : Option ProcessEntry) → IsRight s → AreLowBut P anew s.held s.units → AreLowBut P anew (end_at s p x).held (end_at s p x).units
+  finish_low s p None right low = low
+  finish_low s p (Some x) right low = all_low P anew s.units s p right.rising right.rising (all_stand s.units right.rising) low
+
+  event_low : (s : State) (p : ℕ) (e : Event) → IsRight s → awake_verdict s p e ≡ Permit → Covers anew (forced s p e) → AreLowBut P anew s.held s.units
+      → AreLowBut P anew (effect_of s p e).state.held (effect_of s p e).state.units
+  unfolding effect_of effect ruled_verdict forced
+  event_low s p Start right may cover low = start_low s p (process_entry s p) low
+  event_low s p (Act d t) right may cover low =
+      let x = (row t.op).changes s p d t in
+      let met = permitted_none s p t (refused_by (row t.op) s p d t) (permitted_by_rules s p (Act d t) may) in
+      let meets = row_may (family_of t.op) t.op s p d t right met in
+      value_low (done s p x) (shift_at s.held t.op t.operands) (receiver_at t.op t.operands) ((row t.op).gives s p d t) (done_right x s p right meets)
+      (done_low P anew x s p right meets (row_open (family_of t.op) t.op s p d t met) cover low)
+  event_low s p (Finish cause) right may cover low = finish_low s p (process_entry s p) right low
+
+-- ---- what the store keeps of it
+
+zero_stays : (h : Held) (m n : ℕ) → (journal_at h n).unforced ≡ 0 → (journal_at (on_journal h m journals.forced) n).unforced ≡ 0
+zero_stays h m n none = ap unforced_in (part_over journal_part journal_lawful h m n journals.forced) ∙ by (m == n) (part_at journal_part h n) none
+  where
+    by : (b : Bool) (x : Option JournalList) → unforced_in x ≡ 0 → unforced_in (cond b (option_map journals.forced x) x) ≡ 0
+    by true None e = refl
+    by true (Some j) e = refl
+    by false x e = e
+
+zero_kept : (all : List Forced) (h : Held) (n : ℕ) → (journal_at h n).unforced ≡ 0 → (journal_at (all_kept h all) n).unforced ≡ 0
+unfolding all_kept
+zero_kept [] h n none = none
+zero_kept (Ceiling ∷ more) h n none = zero_kept more h n none
+zero_kept (HeaderOf m ∷ more) h n none = zero_kept more h n none
+zero_kept (Whole m ∷ more) h n none = zero_kept more (on_journal h m journals.forced) n (zero_stays h m n none)
+zero_kept (Removed m ∷ more) h n none = zero_kept more h n none
+
+kept_zero : (all : List Forced) (h : Held) (n : ℕ) → list_any (is_whole n) all ≡ true → (journal_at (all_kept h all) n).unforced ≡ 0
+unfolding all_kept
+kept_zero [] h n anew = cc
+kept_zero (Ceiling ∷ more) h n anew = kept_zero more h n anew
+kept_zero (HeaderOf m ∷ more) h n anew = kept_zero more h n anew
+kept_zero (Removed m ∷ more) h n anew = kept_zero more h n anew
+kept_zero (Whole m ∷ more) h n anew = by (m == n) refl anew (kept_zero more (on_journal h m journals.forced) n)
+  where
+    none : (x : Option JournalList) → unforced_in (option_map journals.forced x) ≡ 0
+    none None = refl
+    none (Some j) = refl
+
+    by : (b : Bool) → (m == n) ≡ b → (b || list_any (is_whole n) more) ≡ true → (list_any (is_whole n) more ≡ true → (journal_at (all_kept (on_journal h m journals.forced) more) n).unforced ≡ 0)
+        → (journal_at (all_kept (on_journal h m journals.forced) more) n).unforced ≡ 0
+    by true is anew rest =
+        zero_kept more (on_journal h m journals.forced) n
+        (ap unforced_in (part_over journal_part journal_lawful h m n journals.forced) ∙ ap (λ b. unforced_in (cond b (option_map journals.forced (part_at journal_part h n)) (part_at journal_part h n))) is ∙ none (part_at journal_part h n))
+    by false off anew rest = rest anew
+
+stored_in_zero : (o : Option Room) (all : List Forced) (t : State) (n : ℕ) → is_some o ≡ true → list_any (is_whole n) all ≡ true → (journal_at (stored_in o all t).held n).unforced ≡ 0
+stored_in_zero None all t n some anew = absurd (let e : false ≡ true = some in cc)
+stored_in_zero (Some room) all t n some anew = kept_zero all t.held n anew
+
+stored_zero : (s : State) (p : ℕ) (e : Event) (t : State) (n : ℕ) → is_some s.room ≡ true → list_any (is_whole n) (forced s p e) ≡ true → (journal_at (stored s p e t).held n).unforced ≡ 0
+unfolding stored
+stored_zero s p e t n some anew = stored_in_zero s.room (forced s p e) t n some anew
+
+entries_forced : (h : Held) (m n : ℕ) → SameEntries (part_at journal_part h n) (part_at journal_part (on_journal h m journals.forced) n)
+entries_forced h m n = subst (SameEntries (part_at journal_part h n)) (sym (part_over journal_part journal_lawful h m n journals.forced)) (by (m == n) (part_at journal_part h n))
+  where
+    by : (b : Bool) (x : Option JournalList) → SameEntries x (cond b (option_map journals.forced x) x)
+    by true None = tt
+    by true (Some j) = refl
+    by false None = tt
+    by false (Some j) = refl
+
+entries_then : (x y z : Option JournalList) → SameEntries x y → SameEntries y z → SameEntries x z
+entries_then None None None a b = tt
+entries_then None None (Some z) a b = b
+entries_then None (Some y) z a b = absurd a
+entries_then (Some x) None z a b = absurd a
+entries_then (Some x) (Some y) None a b = b
+entries_then (Some x) (Some y) (Some z) a b = b ∙ a
+
+entries_same : (x : Option JournalList) → SameEntries x x
+entries_same None = tt
+entries_same (Some j) = refl
+
+stored_entries : (s : State) (p : ℕ) (e : Event) (t : State) (n : ℕ) → SameEntries (part_at journal_part t.held n) (part_at journal_part (stored s p e t).held n)
+stored_entries s p e t n =
+    stored_holds (λ (h : Held). SameEntries (part_at journal_part t.held n) (part_at journal_part h n))
+    (λ h m so_far. entries_then (part_at journal_part t.held n) (part_at journal_part h n) _ so_far (entries_forced h m n)) s p e t (entries_same (part_at journal_part t.held n))
+
+stored_rows : (s : State) (p : ℕ) (e : Event) (t : State) (n : ℕ) → rows_at (stored s p e t).held n ≡ rows_at t.held n
+stored_rows s p e t n =
+    stored_holds (λ (h : Held). rows_at h n ≡ rows_at t.held n) (λ h m so_far. seen_same rows_in h m n (over_object journal_part journals.forced) (λ x. refl) (λ x. refl) ∙ so_far) s p e t refl
+
+stored_open : (s : State) (p : ℕ) (e : Event) (t : State) (n : ℕ) → open_units (stored s p e t).held t.units n ≤ open_units t.held t.units n
+stored_open s p e t n =
+    stored_holds (λ (h : Held). open_units h t.units n ≤ open_units t.held t.units n)
+    (λ h m so_far. let few = few_open h (on_journal h m journals.forced) t.units n (same_leads h (on_journal h m journals.forced) (journal_leads h m journals.forced)) in omega (arith, few, so_far)) s p e t (omega arith)
+
+-- ---- a step that takes effect
+
+disk_given : (h : Held) (n : ℕ) → AreNumbered h → is_on_disk h n ≡ true → n < h.next
+disk_given h n are on = by (object h n) refl on
+  where
+    by : (x : Option Object) → object h n ≡ x → disk_in x ≡ true → n < h.next
+    by None is on = absurd (let e : false ≡ true = on in cc)
+    by (Some o) is on = object_given h n o are is
+
+module _ (s : State) (p : ℕ) (e : Event) (right : IsRight s) (numbered_are : AreNumbered s.held) (some : is_some s.room ≡ true) (low : AreLow s.held s.units) (does : IsDone (step s p e).reply) where
+  abbrev t : State
+  t = (step s p e).state
+
+  abbrev between : State
+  between = (effect_of s p e).state
+
+  abbrev behind : State
+  behind = stored s p e between
+
+  abbrev anew : ℕ → Bool
+  anew n = list_any (is_whole n) (forced s p e)
+
+  abbrev WasOnDisk : ℕ → Type 0
+  WasOnDisk n = is_on_disk s.held n ≡ true
+
+  takes : TakesEffect s t p e
+  takes = takes_effect s p e does
+
+  but : AreLowBut WasOnDisk anew between.held between.units
+  but = event_low WasOnDisk anew s p e right takes.permit (λ n is. is) (record {
+    given = λ n on. disk_given s.held n numbered_are on;
+    opened = low.opened;
+    bytes = λ n on old. low.bytes n on;
+  })
+
+  behind_low : ((n : ℕ) → anew n ≡ false → is_on_disk behind.held n ≡ true → is_on_disk s.held n ≡ true) → AreLow behind.held between.units
+  behind_low disk = record {
+    opened = λ n. let one = but.opened n in let two = stored_open s p e between n in omega (arith, one, two);
+    bytes = λ n on. by n on (anew n) refl;
+  }
+    where
+      by : (n : ℕ) → is_on_disk behind.held n ≡ true → (b : Bool) → anew n ≡ b → (journal_at behind.held n).unforced + 41 * open_units behind.held between.units n ≤ most_trailing
+      by n on true is =
+          let none = stored_zero s p e between n some is in
+          let one = but.opened n in
+          let two = stored_open s p e between n in
+          omega (arith, none, one, two)
+      by n on false is =
+          let same = ap unforced_in (stored_other s p e between n is) in
+          let one = but.bytes n (disk n is on) is in
+          let two = stored_open s p e between n in
+          omega (arith, same, one, two)
+
+  pub step_low : AreLow t.held t.units
+  step_low =
+      let goes_on = step_goes s p e numbered_are does in
+      let held : AreLow t.held between.units =
+      subst (λ (h : Held). AreLow h between.units) (sym takes.held) (behind_low (λ n old on. goes_on.disk n old (ap (λ (h : Held). is_on_disk h n) takes.held ∙ on))) in
+      subst (λ (us : UnitMap). AreLow t.held us) (sym (takes.units ∙ (stored_beside s p e between).units)) held
+
+-- ---- journal spaces that are not on disk
+
+pub done_fresh : (s : State) (p : ℕ) (e : Event) → IsRight s → LeadToDisk s.held → AreFresh s.held → IsDone (step s p e).reply → AreFresh (step s p e).state.held
+done_fresh s p e right lead fresh does n j is off =
+    entries (part_at journal_part effected.held n) refl
+    (subst (SameEntries (part_at journal_part effected.held n)) (sym (ap (λ (h : Held). part_at journal_part h n) takes_it.held) ∙ is) (stored_entries s p e effected n))
+  where
+    effected : State
+    effected = (effect_of s p e).state
+
+    takes_it : TakesEffect s (step s p e).state p e
+    takes_it = takes_effect s p e does
+
+    was_off : is_on_disk effected.held n ≡ false
+    was_off = sym ((stored_same s p e effected).disk n) ∙ sym (ap (λ (h : Held). is_on_disk h n) takes_it.held) ∙ off
+
+    entries : (r : Option JournalList) → part_at journal_part effected.held n ≡ r → SameEntries r (Some j) → j.entries ≡ []
+    entries None seen h = absurd h
+    entries (Some k) seen h = h ∙ then_fresh s.held effected.held (event_fresh s p e right lead fresh) n k seen was_off
+
+settled_none : (units : UnitMap) (n : ℕ) (b : Body) → journal_of b ≡ None → journal_of (settled_body units n b) ≡ None
+settled_none units n (bodies.DataSpace d) none = refl
+settled_none units n (bodies.Journal j) none = absurd (let e : Some j ≡ None = none in cc)
+settled_none units n _ none = none
+
+-- ---- with what is durable
+
+module _ (laws : DurableLaws) (s : State) (p : ℕ) (e : Event) (d : Durable) (is : IsKeptOf s d) (does : IsDone (step s p e).reply) where
+  abbrev now : State
+  now = (step s p e).state
+
+  abbrev all : List Forced
+  all = forced s p e
+
+  abbrev new : Durable
+  new = durable_after all d now
+
+  abbrev effected : State
+  effected = (effect_of s p e).state
+
+  takes_it : TakesEffect s now p e
+  takes_it = takes_effect s p e does
+
+  then_kept : IsKeptOf now new
+  then_kept = done_kept laws s p e d is does
+
+  there : (n : ℕ) (x : Stored) → kept d.objects n ≡ Some x → IsThere s.held n x
+  there n x found = there_kept s.held d n x is.follows found
+
+  given : (n : ℕ) (x : Stored) → kept d.objects n ≡ Some x → n < s.held.next
+  given n x found = let at = there n x found in object_given s.held n at.object is.numbered at.found
+
+  storable_kind : (u : State) (n : ℕ) (o : Object) → AreWell u → object u.held n ≡ Some o → kind_of o.body ≡ o.id.kind
+  storable_kind u n o well found = (found_all IsWell u.held.objects n o well.objects found).storable.kind
+
+  kinds_on : (n : ℕ) (o : Object) (x : Stored) → object now.held n ≡ Some o → kept d.objects n ≡ Some x → kind_of x.object.body ≡ kind_of o.body
+  kinds_on n o x found at = is.bodies n x at ∙ same_kinds laws s p e d is does n o x found at ∙ sym (storable_kind now n o then_kept.well found)
+
+  -- what is kept is of the kind of what was there
+  old_kind : (n : ℕ) (x : Stored) (at : kept d.objects n ≡ Some x) → kind_of x.object.body ≡ kind_of (there n x at).object.body
+  old_kind n x at =
+      let q = there n x at in
+      is.bodies n x at ∙ ap (λ (h : Header). h.id.kind) q.header ∙ sym (storable_kind s n q.object is.well q.found)
+
+  on_disk : (n : ℕ) (x : Stored) → kept d.objects n ≡ Some x → is_on_disk s.held n ≡ true
+  on_disk n x at = let q = there n x at in ap disk_in q.found ∙ q.disk
+
+  off_disk : (n : ℕ) → kept d.objects n ≡ None → is_on_disk s.held n ≡ false
+  off_disk n none = by (object s.held n) refl
+    where
+      at : (o : Object) → object s.held n ≡ Some o → (b : Bool) → o.on_disk ≡ b → b ≡ false
+      at o found true on = absurd (let x = kept_there s.held d n o is.follows found on in let f : None ≡ Some x.0 = sym none ∙ x.1 in cc)
+      at o found false off = refl
+
+      by : (x : Option Object) → object s.held n ≡ x → disk_in x ≡ false
+      by None found = refl
+      by (Some o) found = at o found o.on_disk refl
+
+  old_rows : (n : ℕ) (x : Stored) → kept d.objects n ≡ Some x → x.object.rows ≡ rows_at s.held n
+  old_rows n x at = let q = there n x at in ap (λ (h : Header). h.standing.rows) q.header ∙ sym (ap rows_in q.found)
+
+  old_kinds : (n : ℕ) (x : Stored) → kept d.objects n ≡ Some x → is_some (part_at journal_part s.held n) ≡ true → is_some (journal_of x.object.body) ≡ true
+  old_kinds n x at some = by (journal_of (there n x at).object.body) refl (sym (ap (λ (r : Option Object). is_some (part_in journal_part r)) (there n x at).found) ∙ some)
+    where
+      by : (r : Option JournalList) → journal_of (there n x at).object.body ≡ r → is_some r ≡ true → is_some (journal_of x.object.body) ≡ true
+      by None of h = absurd (let f : false ≡ true = h in cc)
+      by (Some j) of h = ap is_some (journal_kind x.object.body (there n x at).object.body j (sym (old_kind n x at)) of).1
+
+  -- what is kept of journal spaces is their beginning
+  pub trail_on : AreTrailing s.held d → AreTrailing now.held new
+  trail_on trails = trails_behind all d s.held now (record {
+    rising = then_kept.numbered.rising;
+    longer = λ n less not.
+        subst (λ (r : Option JournalList). Lengthens (part_at journal_part s.held n) r)
+        (sym (ap (λ (h : Held). part_at journal_part h n) takes_it.held ∙ stored_other s p e effected n not)) ((event_longer s p e).each n less);
+    given = given;
+    kinds = kinds_on;
+  }) trails
+
+  -- and what was kept of one is the beginning of what is there behind the step
+  pub begins_on : AreTrailing s.held d → AreBeginnings now.held d
+  begins_on trails n o x j found at body =
+      by (journal_kind x.object.body o.body j (sym (kinds_on n o x found at)) (ap journal_of body)) (part_at journal_part effected.held n) refl
+      (subst (SameEntries (part_at journal_part effected.held n)) (sym (ap (λ (h : Held). part_at journal_part h n) takes_it.held) ∙ (ap (part_in journal_part) found ∙ ap journal_of body)) (stored_entries s p e effected n))
+    where
+      by : (own : (i : JournalList) × (journal_of x.object.body ≡ Some i)) (r : Option JournalList) → part_at journal_part effected.held n ≡ r → SameEntries r (Some j) → IsBeginning x j
+      by own None seen same = absurd same
+      by own (Some k) seen same =
+          let i = own.0 in
+          let longer = subst (Lengthens (part_at journal_part s.held n)) seen ((event_longer s p e).each n (given n x at)) in
+          let trail = trails_at i.entries (part_at journal_part s.held n) k (trails n x i at own.1) longer in
+          record { old = i; more = trail.rest; body = journal_lawful.back x.object.body i own.1; grown = same ∙ trail.entries }
+
+  -- a step over a store
+  pub done_trail : IsTrailOf s d → IsTrailOf now new
+  done_trail trail = record {
+    stored = ap is_some (step_room s p e does) ∙ by s.room trail.stored;
+    trailing = trail_on trail.trailing;
+    low = step_low s p e is.right is.numbered trail.stored trail.low does;
+  }
+    where
+      by : (r : Option Room) → is_some r ≡ true → is_some (follows_room r all now.held.objects) ≡ true
+      by None some = some
+      by (Some room) some = refl
+
+  -- a journal space that is kept for the first time has no entry
+  pub first_short : LeadToDisk s.held → AreFresh s.held → FirstShort d new
+  first_short lead fresh n x j none at of = by (object now.held n) refl (sym (kept_behind_step all d now n then_kept.numbered.rising) ∙ at)
+    where
+      same : (a b : Stored) → Some a ≡ Some b → a ≡ b
+      same a b h = cc
+
+      keeps : KeepsFresh s.held effected.held
+      keeps = event_fresh s p e is.right lead fresh
+
+      entries : (r : Option JournalList) → part_at journal_part effected.held n ≡ r → (i : JournalList) → SameEntries r (Some i) → i.entries ≡ []
+      entries None seen i h = absurd h
+      entries (Some k) seen i h = h ∙ keeps.still n k (off_disk n none) seen
+
+      -- it is kept whole
+      whole_one : (o : Object) → object now.held n ≡ Some o → x ≡ whole now o → (r : Option JournalList) → journal_of o.body ≡ r → image_len x.object.body ≤ body_limit
+      whole_one o found as_whole None own =
+          absurd (let e : None ≡ Some j = sym (settled_none now.units o.number.0 o.body own) ∙ sym (ap (λ (z : Stored). journal_of z.object.body) as_whole) ∙ of in cc)
+      whole_one o found as_whole (Some i) own =
+          let seen : part_at journal_part now.held n ≡ Some i = ap (part_in journal_part) found ∙ own in
+          let empty : i.entries ≡ [] =
+          entries (part_at journal_part effected.held n) refl i
+          (subst (SameEntries (part_at journal_part effected.held n)) (sym (ap (λ (h : Held). part_at journal_part h n) takes_it.held) ∙ seen) (stored_entries s p e effected n)) in
+          let size : image_len x.object.body ≡ entries_len i.entries =
+          ap (λ (z : Stored). image_len z.object.body) as_whole ∙ ap (λ (b : Body). image_len (settled_body now.units o.number.0 b)) (journal_lawful.back o.body i own) in
+          let none_is : entries_len i.entries ≡ 0 = ap entries_len empty in
+          omega (arith, size, none_is)
+
+      anew : (o : Object) (b : Bool) → cond b (whole now o) (kept_behind now o None) ≡ whole now o
+      anew o true = refl
+      anew o false = refl
+
+      disk : (o : Object) → object now.held n ≡ Some o → (b : Bool) → o.on_disk ≡ b → cond b (Some (kept_after all now (kept d.objects o.number.0) o)) None ≡ Some x → image_len x.object.body ≤ body_limit
+      disk o found false off h = cc
+      disk o found true on h =
+          whole_one o found
+          (sym (same (kept_after all now (kept d.objects o.number.0) o) x h)
+          ∙ ap (λ (i : ℕ). cond (list_any (is_whole i) all) (whole now o) (kept_behind now o (kept d.objects i))) (found_number n o now.held.objects found)
+          ∙ ap (λ (r : Option Stored). cond (list_any (is_whole n) all) (whole now o) (kept_behind now o r)) none
+          ∙ anew o (list_any (is_whole n) all)) (journal_of o.body) refl
+
+      by : (y : Option Object) → object now.held n ≡ y → kept_one all now d.objects y ≡ Some x → image_len x.object.body ≤ body_limit
+      by None found h = cc
+      by (Some o) found h = disk o found o.on_disk refl h
+
+  -- what it forces fits in one put
+  pub done_put : (m : Content) → IsTrailOf s d → HaveHeaders d → HaveHeaders new → AreShort d → AreShort new → FirstShort d new → LastShort d new → Stands m d → length (object_changes (numbered all) (get m) new) ≤ most_changes
+  done_put m trail headers then_headers short then_short first last stands =
+      step_put all d s now effected.held (record {
+        rising = then_kept.numbered.rising;
+        own = is.bodies;
+        then_own = then_kept.bodies;
+        kinds = kinds_on;
+        given = given;
+        on_disk = on_disk;
+        off_disk = off_disk;
+        old_rows = old_rows;
+        old_kinds = old_kinds;
+        longer = event_longer s p e;
+        entries = λ n. subst (λ (h : Held). SameEntries (part_at journal_part effected.held n) (part_at journal_part h n)) (sym takes_it.held) (stored_entries s p e effected n);
+        rows = λ n. ap (λ (h : Held). rows_at h n) takes_it.held ∙ stored_rows s p e effected n;
+        disk = λ n. ap (λ (h : Held). is_on_disk h n) takes_it.held ∙ (stored_same s p e effected).disk n;
+        few = event_few s p e;
+        trails = trail.trailing;
+        low = trail.low;
+        headers = headers;
+        then_headers = then_headers;
+        ends = λ n x at. body_low x (then_headers n x at);
+        short = short;
+        then_short = then_short;
+        first = first;
+        last = last;
+      }) m stands (forced_low laws s p e d is does)
+
+-- ---- a step that takes no effect, and a history
+
+pub other_trail : (s : State) (p : ℕ) (e : Event) (d : Durable) → (IsDone (step s p e).reply → ⊥) → IsTrailOf s d → IsTrailOf (step s p e).state d
+other_trail s p e d not trail =
+    let stays = stayed s p e not in
+    record {
+      stored = ap is_some stays.room ∙ trail.stored;
+      trailing = subst (λ (h : Held). AreTrailing h d) (sym stays.held) trail.trailing;
+      low = subst (λ (h : Held). AreLow h (step s p e).state.units) (sym stays.held) (subst (λ (us : UnitMap). AreLow s.held us) (sym stays.units) trail.low);
+    }
+
+pub entry_trail : DurableLaws → (s : State) (e : Entry) (d : Durable) (r : Reply) → (step s e.process e.event).reply ≡ r → IsKeptOf s d → IsTrailOf s d → IsTrailOf (step s e.process e.event).state (after_reply d s e r)
+entry_trail laws s e d (Done values) same is trail = done_trail laws s e.process e.event d is (subst IsDone (sym same) tt) trail
+entry_trail laws s e d (Signal x) same is trail = other_trail s e.process e.event d (not_done (Signal x) (step s e.process e.event).reply same (λ h. h)) trail
+entry_trail laws s e d MustWait same is trail = other_trail s e.process e.event d (not_done MustWait (step s e.process e.event).reply same (λ h. h)) trail
+
+pub history_trail : DurableLaws → (s : State) (d : Durable) (before history : List Entry) (end : State) → IsKeptOf s d → IsTrailOf s d → Leads s before history end → IsTrailOf end (durable d s history)
+history_trail laws s d before [] end is trail leads = subst (λ (t : State). IsTrailOf t d) leads trail
+history_trail laws s d before (e ∷ es) end is trail leads =
+    history_trail laws (step s e.process e.event).state (after_reply d s e e.reply) (before ++ e ∷ []) es end (entry_kept laws s e d e.reply leads.0.reply is) (entry_trail laws s e d e.reply leads.0.reply is trail) leads.1
+
+-- ---- what each step of a history forces fits in one put
+
+pub images_headers : (d : Durable) → AreImages d → HaveHeaders d
+images_headers d images n x at = image_header x (images n x at)
+
+pub images_short : (s : State) (d : Durable) → IsKeptOf s d → AreImages d → AreShort d
+images_short s d is images n x at none = image_short x (images n x at) (is.bodies n x at) none
+
+entry_images : DurableLaws → (s : State) (e : Entry) (d : Durable) (r : Reply) → (step s e.process e.event).reply ≡ r → IsKeptOf s d → AreImages d → IsReadableBehind s e r → AreImages (after_reply d s e r)
+entry_images laws s e d (Done values) same is images readable = images_behind laws s e.process e.event d is (subst IsDone (sym same) tt) images readable
+entry_images laws s e d (Signal x) same is images readable = images
+entry_images laws s e d MustWait same is images readable = images
+
+entry_put : DurableLaws → (s : State) (e : Entry) (d : Durable) (r : Reply) → (step s e.process e.event).reply ≡ r → IsKeptOf s d → IsTrailOf s d → AreImages d → IsReadableBehind s e r → IsBetween FirstShort d s e r
+    → IsBetween LastShort d s e r → IsOnePutBy most_changes d s e r
+entry_put laws s e d (Done values) same is trail images readable first last =
+    let does = subst IsDone (sym same) tt in
+    let new_durable : Durable = durable_after (forced s e.process e.event) d (step s e.process e.event).state in
+    let behind_images = images_behind laws s e.process e.event d is does images readable in
+    let next = done_kept laws s e.process e.event d is does in
+    λ m stands.
+    done_put laws s e.process e.event d is does m trail (images_headers d images) (images_headers new_durable behind_images) (images_short s d is images)
+    (images_short (step s e.process e.event).state new_durable next behind_images) first last stands
+entry_put laws s e d (Signal x) same is trail images readable first last = tt
+entry_put laws s e d MustWait same is trail images readable first last = tt
+
+pub history_put : DurableLaws → (s : State) (d : Durable) (before history : List Entry) (end : State) → IsKeptOf s d → IsTrailOf s d → AreImages d → AllReadable s history → AllBetween FirstShort d s history
+    → AllBetween LastShort d s history → Leads s before history end → AllOnePut most_changes d s history
+history_put laws s d before [] end is trail images readable first last leads = tt
+history_put laws s d before (e ∷ es) end is trail images readable first last leads =
+    let same = leads.0.reply in (
+      entry_put laws s e d e.reply same is trail images readable.0 first.0 last.0,
+      history_put laws (step s e.process e.event).state (after_reply d s e e.reply) (before ++ e ∷ []) es end (entry_kept laws s e d e.reply same is) (entry_trail laws s e d e.reply same is trail)
+          (entry_images laws s e d e.reply same is images readable.0) readable.1 first.1 last.1 leads.1,
+    )
+
+-- ---- journal spaces that are not on disk, over a history
+
+pub other_fresh : (s : State) (p : ℕ) (e : Event) → (IsDone (step s p e).reply → ⊥) → AreFresh s.held → AreFresh (step s p e).state.held
+other_fresh s p e not fresh = subst AreFresh (sym (stayed s p e not).held) fresh
+
+entry_fresh : (s : State) (e : Entry) (r : Reply) → (step s e.process e.event).reply ≡ r → IsRight s → LeadToDisk s.held → AreFresh s.held → AreFresh (step s e.process e.event).state.held
+entry_fresh s e (Done values) same right lead fresh = done_fresh s e.process e.event right lead fresh (subst IsDone (sym same) tt)
+entry_fresh s e (Signal x) same right lead fresh = other_fresh s e.process e.event (not_done (Signal x) (step s e.process e.event).reply same (λ h. h)) fresh
+entry_fresh s e MustWait same right lead fresh = other_fresh s e.process e.event (not_done MustWait (step s e.process e.event).reply same (λ h. h)) fresh
+
+pub history_fresh : (s : State) (before history : List Entry) (end : State) → IsRight s → AllLeadToDisk s history → AreFresh s.held → Leads s before history end → AreFresh end.held
+history_fresh s before [] end right lead fresh leads = subst (λ (t : State). AreFresh t.held) leads fresh
+history_fresh s before (e ∷ es) end right lead fresh leads =
+    history_fresh (step s e.process e.event).state (before ++ e ∷ []) es end (step_right s e.process e.event right) lead.1 (entry_fresh s e e.reply leads.0.reply right lead.0 fresh) leads.1
+
+entry_first : DurableLaws → (s : State) (e : Entry) (d : Durable) (r : Reply) → (step s e.process e.event).reply ≡ r → IsKeptOf s d → LeadToDisk s.held → AreFresh s.held → IsBetween FirstShort d s e r
+entry_first laws s e d (Done values) same is lead fresh = first_short laws s e.process e.event d is (subst IsDone (sym same) tt) lead fresh
+entry_first laws s e d (Signal x) same is lead fresh = tt
+entry_first laws s e d MustWait same is lead fresh = tt
+
+pub history_first : DurableLaws → (s : State) (d : Durable) (before history : List Entry) (end : State) → IsKeptOf s d → AllLeadToDisk s history → AreFresh s.held → Leads s before history end → AllBetween FirstShort d s history
+history_first laws s d before [] end is lead fresh leads = tt
+history_first laws s d before (e ∷ es) end is lead fresh leads =
+    let same = leads.0.reply in (
+      entry_first laws s e d e.reply same is lead.0 fresh,
+      history_first laws (step s e.process e.event).state (after_reply d s e e.reply) (before ++ e ∷ []) es end (entry_kept laws s e d e.reply same is) lead.1 (entry_fresh s e e.reply same is.right lead.0 fresh) leads.1,
+    )

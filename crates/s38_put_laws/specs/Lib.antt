@@ -1,0 +1,7 @@
+pub mod Lengthening
+pub mod Unforced
+pub mod Trails
+pub mod OnePut
+pub mod Puts
+pub mod Fresh
+pub mod Spaces
