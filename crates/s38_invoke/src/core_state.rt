@@ -7,15 +7,15 @@ use s38_code::Checked;
 use s38_commits::Units;
 use s38_extents::Room;
 use s38_locks::LockTable;
-use s38_profiles::Profiles;
-use s38_rules::{ProcessEntry, Table, TableRows, UserMaps};
+use s38_profiles::{CountedRows, Profiles};
+use s38_rules::{ProcessEntry, Table, TableRows};
 use std::alloc::Global;
 use std::marker::Model;
 
 /// The objects, what is kept of users beside them, the deck's templates, the processes, their locks and their units of
 /// changes. Contracts see it as the machine's state, which says of users what the objects say.
 #[derive(Drop)]
-pub struct Core<T: Table, P: UserMaps> {
+pub struct Core<T: Table, P: CountedRows> {
     pub objects: T,
     /// What the objects say of users, in maps.
     pub profiles: P,
@@ -31,7 +31,7 @@ pub struct Core<T: Table, P: UserMaps> {
     pub room: Option<Room>,
 }
 
-impl<T: Table, P: UserMaps> Model for Core<T, P> {
+impl<T: Table, P: CountedRows> Model for Core<T, P> {
     ghost use Rattle.std.specs.Prelude.{◌≤◌};
     ghost use Rattle.s38_base.specs.Limits.{furthest};
     ghost use Rattle.s38_extents.specs.Keeping.{room_in};

@@ -21,7 +21,7 @@ impl<T: Table, P: UserMaps> Core<T, P> {
     pub fn row_on(&self, number: ObjNum, user: UserNum) -> Rights
         ensures { result.0 ≡ row_on self.now.held number.0 user.0 }
     {
-        self.profiles.row(user, number)
+        self.profiles.peek(user, number)
     }
 
     /// How many pages a user may own, 0 of one that is not there.

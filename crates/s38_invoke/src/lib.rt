@@ -1,4 +1,4 @@
-//! The machine's world, over any table of objects: its core, with the processes, who acts in them, their invocations, their starts
+//! The core of the machine's world, over any table of objects: the processes, who acts in them, their invocations, their starts
 //! and ends, and what is kept of users.
 #![tactic(auto)]
 
@@ -8,10 +8,8 @@ mod kept;
 mod processes;
 mod starts;
 mod users;
-mod world;
 
 pub use core_state::Core;
 pub use s38_profiles::Profiles;
 pub use starts::{end, start, start_failure};
 pub use users::Acting;
-pub use world::World;

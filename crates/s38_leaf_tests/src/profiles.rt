@@ -17,5 +17,7 @@ fn users_and_rows_are_added(rt: HostRuntime) -> Result<(), Fail> {
     assert_eq!(rt; profiles.row(user, ObjNum(3)), Rights(0));
     assert_eq!(rt; profiles.specials(user), Special::PROFILE);
     assert_eq!(rt; (profiles.limit(user), profiles.charge(user)), (100, 0));
+    assert_eq!(rt; profiles.peek(user, ObjNum(7)), Rights(4));
+    assert_eq!(rt; profiles.visits(), 3);
     Ok(())
 }

@@ -18,8 +18,9 @@ mod verdicts;
 use log::Log;
 pub use machine::{Machine, State};
 pub use opening::{general_opening, installed};
-use s38_invoke::{Core, Profiles, World};
+use s38_invoke::{Core, Profiles};
 use s38_objects::Objects;
+use s38_verified::World;
 use std::snapshot::Snapshot;
 
 /// What is sent between threads.

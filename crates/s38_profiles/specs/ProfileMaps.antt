@@ -1,4 +1,4 @@
--- The rows and the users. A row counts only while its user is there.
+-- The rows and the users, and how many rows were visited. A row counts only while its user is there.
 use Rattle.std.specs.Prelude.{ℕ, Option, Some, None}
 use Rattle.std.specs.Option.{unwrap_or}
 use Rattle.s38_base.specs.declared.rights.Rights.{Rights}
@@ -9,6 +9,7 @@ use Rattle.s38_profiles.specs.Users.{Users, user_at}
 pub record ProfileMaps : Type 0 where
   pub rows : Rows
   pub users : Users
+  pub visits : ℕ
 
 abbrev pub no_rights : Rights
 no_rights = record { 0 = 0 }

@@ -1,11 +1,14 @@
-//! What authority and page limits rest on: the private rows of users, and each user's specials, limit and charge.
+//! What authority and page limits rest on: the private rows of users, of which each visit is counted, and each user's
+//! specials, limit and charge.
 #![tactic(auto)]
 
+mod counted;
 mod profile;
 mod profiles;
 mod rows;
 mod users;
 
+pub use counted::{CountedRows, Peek};
 pub use profiles::Profiles;
 
 /// What is sent between threads.

@@ -1,8 +1,10 @@
 ghost use Rattle.std.specs.Prelude.{◌≡◌, ◌≢◌, [], None, Some, IsSome, OnOk, OnErr, is_some};
+ghost use Rattle.s38_base.specs.Faults.{counted};
 ghost use Rattle.s38_profiles.specs.Rows.{SetsRow, row_at, row_key, row_with, with_row};
 ghost use Rattle.s38_profiles.specs.Users.{SetsUser, charge_in, charged, entered, limit_in, special_in, user_at, with_charge, with_user, without_user};
 ghost use Rattle.s38_profiles.specs.ProfileMaps.{row_of};
 
+use crate::counted::{CountedRows, Peek};
 use crate::profile::{Profile, RowKey};
 use crate::{rows, users};
 use s38_base::{NoMemory, ObjNum, Rights, Special, UserNum};
@@ -10,11 +12,13 @@ use std::alloc::Global;
 use std::collections::BTreeMap;
 use std::marker::Model;
 
-/// The private rows of users, and each user's specials, limit and charge. Contracts see it as its two maps.
+/// The private rows of users, and each user's specials, limit and charge. Contracts see it as its two maps, and how many
+/// rows were visited.
 #[derive(Drop)]
 pub struct Profiles {
     rows: BTreeMap<RowKey, Rights>,
     users: BTreeMap<u64, Profile>,
+    visits: u64,
 }
 
 impl Model for Profiles {
@@ -22,22 +26,33 @@ impl Model for Profiles {
 
     ghost Value = { ProfileMaps };
 
-    ghost view = { λ p. record { rows = p.rows.entries; users = p.users.entries } };
+    ghost view = { λ p. record { rows = p.rows.entries; users = p.users.entries; visits = p.visits } };
 }
 
 impl Profiles {
-    /// No rows and no users; it takes no memory until it grows.
+    /// No rows and no users, and no row was visited; it takes no memory until it grows.
     pub fn new(alloc: Global) -> Profiles
-        ensures { result ≡ record { rows = []; users = [] } }
+        ensures { result ≡ record { rows = []; users = []; visits = 0 } }
     {
         Profiles {
             rows: BTreeMap::new(alloc),
             users: BTreeMap::new(alloc),
+            visits: 0,
         }
     }
 
-    /// The rights of a user in the rows of an object, none of a user that is not there, in logarithmic time.
-    pub fn row(&self, user: UserNum, object: ObjNum) -> Rights
+    /// The rights of a user in the rows of an object, none of a user that is not there, in logarithmic time. The visit is
+    /// counted.
+    pub fn row(&mut self, user: UserNum, object: ObjNum) -> Rights
+        ensures rights { result ≡ row_of self.old user.0 object.0 }
+        ensures visits { self.new ≡ record self.old { visits = counted self.old.visits } }
+    {
+        self.visits = self.visits.saturating_add(1);
+        self.peek(user, object)
+    }
+
+    /// What `row` answers, without a visit that is counted.
+    pub fn peek(&self, user: UserNum, object: ObjNum) -> Rights
         ensures { result ≡ row_of self.now user.0 object.0 }
     {
         let key = RowKey {
@@ -84,11 +99,11 @@ impl Profiles {
         }
     }
 
-    /// How many rows were visited: none is counted.
+    /// How many rows were visited; the count stands still at its last value.
     pub fn visits(&self) -> u64
-        ensures { result ≡ 0 }
+        ensures { result ≡ self.now.visits }
     {
-        0
+        self.visits
     }
 
     /// Sets the rights of a user in the rows of an object; a row without rights is taken out. Memory can be refused
@@ -133,5 +148,29 @@ impl Profiles {
         ensures others { SetsUser self.old.users user.0 None self.new.users }
     {
         users::leave(&mut self.users, user.0);
+    }
+}
+
+impl CountedRows for Profiles {
+    ghost use Rattle.s38_profiles.specs.ProfileMaps.{ProfileMaps};
+
+    ghost maps = { λ p. p };
+
+    fn row(&mut self, user: UserNum, object: ObjNum) -> Rights {
+        Profiles::row(self, user, object)
+    }
+
+    fn specials(&self, user: UserNum) -> Special {
+        Profiles::specials(self, user)
+    }
+
+    fn visits(&self) -> u64 {
+        Profiles::visits(self)
+    }
+}
+
+impl Peek for Profiles {
+    fn peek(&self, user: UserNum, object: ObjNum) -> Rights {
+        Profiles::peek(self, user, object)
     }
 }
