@@ -17,7 +17,8 @@ use Rattle.s38_kept_laws.proofs.KeepLaws as kept_laws
 use Rattle.s38_kept_laws.proofs.StepLaws.{IsDone}
 use Rattle.s38_kept_laws.specs.Crashes.{IsKeptPrefix, StandsBetween, led}
 use Rattle.s38_kept_laws.specs.Kept.{IsKeptOf}
-use Rattle.s38_put_laws.proofs.StepLaws.{begins_on, history_trail}
+use Rattle.s38_put_laws.proofs.StepLaws.{begins_on, done_put, history_trail, short_after}
+use Rattle.s38_put_laws.specs.OnePut.{AreShort}
 use Rattle.s38_put_laws.specs.Trails.{IsTrailOf}
 use Rattle.s38_machine.specs.Stored.{kept_anew}
 use Rattle.s38_rules.proofs.Laws.{sound_after}
@@ -30,15 +31,13 @@ use Rattle.s38_rules.specs.declared.verdict.Verdict.{Verdict}
 use Rattle.s38_step_parts.specs.Numbers.{numbered}
 use Rattle.s38_step_parts.specs.Stepping.{HaveHeaders, IsDue, Precedes}
 use Rattle.s38_vault.specs.Content.{Content}
-use Rattle.s38_vault.specs.Vaults.{VaultView}
-use Rattle.s38_stored_machine.specs.Keeping.{KeepsStep}
-use Rattle.s38_stored_machine.specs.Puts.{AllOnePut, AreOnePut, IsOnePutBy}
+use Rattle.s38_vault.specs.Vaults.{VaultView, most_changes}
+use Rattle.s38_stored_machine.specs.Keeping.{FitsOnePut, KeepsStep}
 use Rattle.s38_stored_machine.specs.Seen.{StoredView, answered_by, call_of, run_of, without_last}
 use Rattle.s38_stored_machine.specs.Sound.{HoldsOf, HoldsWhile, IsEnding, IsKeptFrom, IsSoundOver}
 use Rattle.s38_stored_machine.specs.declared.ending.Ending.{Ending}
 use Rattle.s38_stored_machine.specs.declared.ending.Ending.TheVariants.{Going, Stopped, Wanting}
 use Rattle.s38_stored_machine.proofs.MarkLaws.{last_left}
-use Rattle.s38_stored_machine.proofs.PutLaws.{front_puts, last_put}
 use Rattle.s38_stored_machine.proofs.StandLaws.{still_headers, still_stands}
 use Rattle.s38_stored_machine.proofs.StateLaws.{is_done, kept_done, step_stored}
 
@@ -144,11 +143,14 @@ module _ {V : Type 0} (view : V → VaultView) (holds : V → Content → Type 0
     trails_old : IsTrailOf s old
     trails_old = history_trail laws m.origin d [] m.history s begun trails is.sound.legal
 
+    short_old : AreShort old
+    short_old = kept.short
+
     held : HoldsOf holds x.vault old
     held = subst (λ (k : Ending). HoldsWhile holds k x.vault old) going kept.now
 
-    crash : AllOnePut (view x.first).shape.most d m.origin m.history → (k : ℕ) (n : Content) → (view x.first).moment ≤ k → k ≤ (view x.vault).moment → leaves x.vault k n → IsKeptPrefix d m.origin m.history m.marks k n
-    crash = subst (λ (ending : Ending). AllOnePut (view x.first).shape.most d m.origin m.history → (k : ℕ) (n : Content) → (view x.first).moment ≤ k → k ≤ (view x.vault).moment → leaves x.vault k n
+    crash : (view x.first).shape.most ≡ most_changes → (k : ℕ) (n : Content) → (view x.first).moment ≤ k → k ≤ (view x.vault).moment → leaves x.vault k n → IsKeptPrefix d m.origin m.history m.marks k n
+    crash = subst (λ (ending : Ending). (view x.first).shape.most ≡ most_changes → (k : ℕ) (n : Content) → (view x.first).moment ≤ k → k ≤ (view x.vault).moment → leaves x.vault k n
         → IsKeptPrefix d m.origin m.history (answered_by ending m).marks k n) going kept.crash
 
     new_is : new ≡ after_reply old s one (step s p e).reply
@@ -178,6 +180,14 @@ module _ {V : Type 0} (view : V → VaultView) (holds : V → Content → Type 0
     other_is : (IsDone (step s p e).reply → ⊥) → new ≡ old
     other_is not = new_is ∙ other_by (step s p e).reply not
 
+    -- no body that is kept behind it is too long
+    short_by : (IsDone (step s p e).reply → ⊥) ⊎ IsDone (step s p e).reply → AreShort new
+    short_by (inl not) = subst (λ (y : Durable). AreShort y) (sym (other_is not)) short_old
+    short_by (inr does) = subst (λ (y : Durable). AreShort y) (sym (done_is does)) (short_after laws s p e old is_old does (bodies_short t (step_stored s p e is.state).ordered) short_old)
+
+    short_new : AreShort new
+    short_new = short_by (is_done (step s p e).reply)
+
     -- ---- where nothing is kept anew
 
     quiet_by : (IsDone (step s p e).reply → ⊥) ⊎ IsDone (step s p e).reply → kept_anew s p e ≡ [] → (Stands held.content new) × HaveHeaders new
@@ -193,14 +203,14 @@ module _ {V : Type 0} (view : V → VaultView) (holds : V → Content → Type 0
     quiet : kept_anew s p e ≡ [] → (Stands held.content new) × HaveHeaders new
     quiet nothing = quiet_by (is_done (step s p e).reply) nothing
 
-    quiet_crash : kept_anew s p e ≡ [] → AllOnePut (view x.first).shape.most d m.origin (m.history ++ one ∷ []) → (k : ℕ) (n : Content) → (view x.first).moment ≤ k → k ≤ (view x.vault).moment → leaves x.vault k n
+    quiet_crash : kept_anew s p e ≡ [] → (view x.first).shape.most ≡ most_changes → (k : ℕ) (n : Content) → (view x.first).moment ≤ k → k ≤ (view x.vault).moment → leaves x.vault k n
         → IsKeptPrefix d m.origin (m.history ++ one ∷ []) (m.marks ++ m.moment ∷ []) k n
-    quiet_crash nothing puts k n low high left = by (cases_lt k m.moment)
+    quiet_crash nothing most k n low high left = by (cases_lt k m.moment)
       where
         by : (k < m.moment) ⊎ (m.moment ≤ k) → IsKeptPrefix d m.origin (m.history ++ one ∷ []) (m.marks ++ m.moment ∷ []) k n
         by (inl early) =
             earlier_left d m.origin m.history m.marks one m.moment k n is.sound.stored.marked ceiling_is early
-            (crash (front_puts (view x.first).shape.most d m.origin m.history one puts) k n low high left)
+            (crash most k n low high left)
         by (inr late) =
             let now = now_is.0 in
             let at : k ≡ (view x.vault).moment = omega (arith, now, late, high) in
@@ -223,27 +233,29 @@ module _ {V : Type 0} (view : V → VaultView) (holds : V → Content → Type 0
       kept_now : k ≡ Going → HoldsOf holds v new
       kept_now goes = subst (λ (y : Durable). HoldsOf holds v y) kept_is (keeps.kept goes held.content old t held.held precedes due)
 
-      one_put : (r : Reply) → IsDone r → IsOnePutBy (view x.first).shape.most old s one r → AreOnePut (view x.vault).shape.most old (numbered (forced s p e)) (durable_after (numbered (forced s p e)) old t)
-      one_put (Done values) is_done puts =
-          subst (λ (most : ℕ). AreOnePut most old (numbered (forced s p e)) (durable_after (numbered (forced s p e)) old t)) (ap (λ shape. shape.most) (sym is.shape))
-          (subst (λ (y : Durable). AreOnePut (view x.first).shape.most old (numbered (forced s p e)) y) (sym (numbered_same laws s p e old is_old does)) puts)
-      one_put (Signal signal) is_done puts = absurd is_done
-      one_put MustWait is_done puts = absurd is_done
+      fits : (view x.first).shape.most ≡ most_changes → HaveHeaders (durable_after (numbered (forced s p e)) old t)
+          → FitsOnePut (view x.vault).shape.most held.content (numbered (forced s p e)) (durable_after (numbered (forced s p e)) old t)
+      fits most headers =
+          let same = numbered_same laws s p e old is_old does in
+          subst (λ (k : ℕ). FitsOnePut k held.content (numbered (forced s p e)) (durable_after (numbered (forced s p e)) old t)) (sym (ap (λ shape. shape.most) is.shape ∙ most))
+          (subst (λ (y : Durable). FitsOnePut most_changes held.content (numbered (forced s p e)) y) (sym same)
+          (done_put laws s p e old held.content is_old trails_old does held.headers (subst (λ (y : Durable). HaveHeaders y) same headers) short_old
+          (subst (λ (y : Durable). AreShort y) (done_is does) short_new) held.stands))
 
-      between : AllOnePut (view x.first).shape.most d m.origin (m.history ++ one ∷ []) → (j : ℕ) (n : Content) → (view x.vault).moment < j → j ≤ (view v).moment → leaves v j n
+      between : (view x.first).shape.most ≡ most_changes → (j : ℕ) (n : Content) → (view x.vault).moment < j → j ≤ (view v).moment → leaves v j n
           → StandsBetween n old (led m.origin (m.history ++ one ∷ [])) new
-      between puts j n low high left =
+      between most j n low high left =
           subst (λ (u : State). StandsBetween n old u new) (sym led_is)
           (subst (λ (y : Durable). StandsBetween n old t y) kept_is
-          (keeps.during held.content old t held.held precedes due (one_put (step s p e).reply does (last_put (view x.first).shape.most d m.origin [] m.history s one is.sound.legal puts)) j n low high left))
+          (keeps.during held.content old t held.held precedes due (fits most) j n low high left))
 
-      earlier : AllOnePut (view x.first).shape.most d m.origin (m.history ++ one ∷ []) → (j : ℕ) (n : Content) → (view x.first).moment ≤ j → j ≤ (view x.vault).moment → leaves v j n
+      earlier : (view x.first).shape.most ≡ most_changes → (j : ℕ) (n : Content) → (view x.first).moment ≤ j → j ≤ (view x.vault).moment → leaves v j n
           → IsKeptPrefix d m.origin m.history m.marks j n
-      earlier puts j n low high left = crash (front_puts (view x.first).shape.most d m.origin m.history one puts) j n low high ((keeps.past j n high).1 left)
+      earlier most j n low high left = crash most j n low high ((keeps.past j n high).1 left)
 
-      going_crash : k ≡ Going → AllOnePut (view x.first).shape.most d m.origin (m.history ++ one ∷ []) → (j : ℕ) (n : Content) → (view x.first).moment ≤ j → j ≤ (view v).moment → leaves v j n
+      going_crash : k ≡ Going → (view x.first).shape.most ≡ most_changes → (j : ℕ) (n : Content) → (view x.first).moment ≤ j → j ≤ (view v).moment → leaves v j n
           → IsKeptPrefix d m.origin (m.history ++ one ∷ []) (m.marks ++ (view v).moment ∷ []) j n
-      going_crash goes puts j n low high left = by (cases_lt j (view v).moment)
+      going_crash goes most j n low high left = by (cases_lt j (view v).moment)
         where
           now : m.moment ≡ (view x.vault).moment
           now = now_is.0
@@ -251,9 +263,9 @@ module _ {V : Type 0} (view : V → VaultView) (holds : V → Content → Type 0
           midst : j < (view v).moment → (((view x.vault).moment < j) ⊎ (j ≤ (view x.vault).moment)) → IsKeptPrefix d m.origin (m.history ++ one ∷ []) (m.marks ++ (view v).moment ∷ []) j n
           midst early (inl behind_old) =
               during_left d m.origin m.history m.marks one m.first m.moment (view v).moment j n is.sound.stored.marked is.sound.stored.stamped (omega (arith, now, behind_old)) early
-              (between puts j n behind_old high left)
+              (between most j n behind_old high left)
           midst early (inr before) =
-              earlier_left d m.origin m.history m.marks one (view v).moment j n is.sound.stored.marked ceiling_is early (earlier puts j n low before left)
+              earlier_left d m.origin m.history m.marks one (view v).moment j n is.sound.stored.marked ceiling_is early (earlier most j n low before left)
 
           by : (j < (view v).moment) ⊎ ((view v).moment ≤ j) → IsKeptPrefix d m.origin (m.history ++ one ∷ []) (m.marks ++ (view v).moment ∷ []) j n
           by (inl early) = midst early (cases_lt (view x.vault).moment j)
@@ -265,17 +277,17 @@ module _ {V : Type 0} (view : V → VaultView) (holds : V → Content → Type 0
               answered_left d m.origin m.history m.marks one m.first m.moment (view v).moment j n is.sound.stored.marked is.sound.stored.stamped (omega (arith, now, later)) late
               (subst (λ (c : Content). Stands c new) (sym same) here.stands)
 
-      ended_crash : AllOnePut (view x.first).shape.most d m.origin (m.history ++ one ∷ []) → (j : ℕ) (n : Content) → (view x.first).moment ≤ j → j ≤ (view v).moment → leaves v j n
+      ended_crash : (view x.first).shape.most ≡ most_changes → (j : ℕ) (n : Content) → (view x.first).moment ≤ j → j ≤ (view v).moment → leaves v j n
           → IsKeptPrefix d m.origin (m.history ++ one ∷ []) m.marks j n
-      ended_crash puts j n low high left = by (cases_lt (view x.vault).moment j)
+      ended_crash most j n low high left = by (cases_lt (view x.vault).moment j)
         where
           now : m.moment ≡ (view x.vault).moment
           now = now_is.0
 
           by : ((view x.vault).moment < j) ⊎ (j ≤ (view x.vault).moment) → IsKeptPrefix d m.origin (m.history ++ one ∷ []) m.marks j n
           by (inl behind_old) =
-              during_stopped d m.origin m.history m.marks one m.first m.moment j n is.sound.stored.marked is.sound.stored.stamped (omega (arith, now, behind_old)) (between puts j n behind_old high left)
-          by (inr before) = earlier_stopped d m.origin m.history m.marks one j n is.sound.stored.marked ceiling_is (earlier puts j n low before left)
+              during_stopped d m.origin m.history m.marks one m.first m.moment j n is.sound.stored.marked is.sound.stored.stamped (omega (arith, now, behind_old)) (between most j n behind_old high left)
+          by (inr before) = earlier_stopped d m.origin m.history m.marks one j n is.sound.stored.marked ceiling_is (earlier most j n low before left)
 
   -- ---- the machine behind it
 
@@ -306,6 +318,7 @@ module _ {V : Type 0} (view : V → VaultView) (holds : V → Content → Type 0
     kept = λ c d held_first of. let kept = is.kept c d held_first of in
         record {
           now = let now = held d kept of.kept of.trail in let both = quiet d kept of.kept of.trail nothing in record { content = now.content; held = now.held; stands = both.0; headers = both.1 };
+          short = short_new d kept of.kept of.trail;
           crash = quiet_crash d kept of.kept of.trail nothing;
         };
   }
@@ -342,14 +355,14 @@ module _ {V : Type 0} (view : V → VaultView) (holds : V → Content → Type 0
           present = keeps.present;
           past = past_behind Going keeps;
           kept = λ c d held_first of. let kept = is.kept c d held_first of in
-              record { now = kept_now d kept of.kept of.trail does v Going keeps refl; crash = going_crash d kept of.kept of.trail does v Going keeps refl };
+              record { now = kept_now d kept of.kept of.trail does v Going keeps refl; short = short_new d kept of.kept of.trail; crash = going_crash d kept of.kept of.trail does v Going keeps refl };
         }
 
     ended_crash_by : (k : Ending) (marks : List ℕ) → marks ≡ m.marks → KeepsStep view holds leaves x.vault v t.held t.units (numbered (forced s p e)) k → (d : Durable) → IsKeptFrom view holds leaves x d → IsKeptOf m.origin d → IsTrailOf m.origin d
-        → AllOnePut (view x.first).shape.most d m.origin (m.history ++ one ∷ []) → (j : ℕ) (n : Content) → (view x.first).moment ≤ j → j ≤ (view v).moment → leaves v j n
+        → (view x.first).shape.most ≡ most_changes → (j : ℕ) (n : Content) → (view x.first).moment ≤ j → j ≤ (view v).moment → leaves v j n
         → IsKeptPrefix d m.origin (m.history ++ one ∷ []) marks j n
-    ended_crash_by k marks same keeps d kept begun trails puts j n low high left =
-        subst (λ (ms : List ℕ). IsKeptPrefix d m.origin (m.history ++ one ∷ []) ms j n) (sym same) (ended_crash d kept begun trails does v k keeps puts j n low high left)
+    ended_crash_by k marks same keeps d kept begun trails most j n low high left =
+        subst (λ (ms : List ℕ). IsKeptPrefix d m.origin (m.history ++ one ∷ []) ms j n) (sym same) (ended_crash d kept begun trails does v k keeps most j n low high left)
 
     pub low_moment : (k : Ending) → KeepsStep view holds leaves x.vault v t.held t.units (numbered (forced s p e)) k → m.moment ≤ (view v).moment
     low_moment k keeps = let now = now_is.0 in let later = keeps.later in omega (arith, now, later)
@@ -364,7 +377,7 @@ module _ {V : Type 0} (view : V → VaultView) (holds : V → Content → Type 0
       shape = keeps.shape ∙ is.shape;
       present = keeps.present;
       past = past_behind Stopped keeps;
-      kept = λ c d held_first of. record { now = tt; crash = ended_crash_by Stopped (without_last (m.marks ++ m.moment ∷ [])) (last_left m.marks m.moment) keeps d (is.kept c d held_first of) of.kept of.trail };
+      kept = λ c d held_first of. record { now = tt; short = short_new d (is.kept c d held_first of) of.kept of.trail; crash = ended_crash_by Stopped (without_last (m.marks ++ m.moment ∷ [])) (last_left m.marks m.moment) keeps d (is.kept c d held_first of) of.kept of.trail };
     }
 
     pub wanting_sound : KeepsStep view holds leaves x.vault v t.held t.units (numbered (forced s p e)) Wanting → IsSoundOver view holds leaves (record { machine = last_entry; vault = v; first = x.first; ending = Wanting })
@@ -377,5 +390,5 @@ module _ {V : Type 0} (view : V → VaultView) (holds : V → Content → Type 0
       shape = keeps.shape ∙ is.shape;
       present = keeps.present;
       past = past_behind Wanting keeps;
-      kept = λ c d held_first of. record { now = tt; crash = ended_crash_by Wanting (without_last (m.marks ++ m.moment ∷ [])) (last_left m.marks m.moment) keeps d (is.kept c d held_first of) of.kept of.trail };
+      kept = λ c d held_first of. record { now = tt; short = short_new d (is.kept c d held_first of) of.kept of.trail; crash = ended_crash_by Wanting (without_last (m.marks ++ m.moment ∷ [])) (last_left m.marks m.moment) keeps d (is.kept c d held_first of) of.kept of.trail };
     }

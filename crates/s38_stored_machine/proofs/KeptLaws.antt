@@ -1,5 +1,5 @@
 -- What is said of a vault behind a step that was kept, or not.
-use Rattle.std.proofs.Common.{◌≡◌, ◌∙◌, ℕ, ◌<◌, ◌≤◌, List, length, refl, sym}
+use Rattle.std.proofs.Common.{◌≡◌, ◌∙◌, ◌⊎◌, inl, inr, ℕ, ◌<◌, ◌≤◌, List, length, refl, sym, arith}
 use Rattle.std.specs.FinMap.{get}
 use Rattle.std.specs.Prelude.{◌↔◌, Result, Ok, Err, OnOk}
 use Rattle.s38_base.specs.Faults.{HasCauseOf, Rose}
@@ -10,7 +10,8 @@ use Rattle.s38_kept_laws.specs.Crashes.{StandsBetween}
 use Rattle.s38_rules.specs.Forcing.{Forced}
 use Rattle.s38_rules.specs.Held.{Held}
 use Rattle.s38_rules.specs.State.{State}
-use Rattle.s38_step_parts.specs.Stepping.{HaveHeaders, IsDue, Precedes, object_changes, put_forced}
+use Rattle.s38_step_parts.specs.Leftovers.{StandsBut, first_changes}
+use Rattle.s38_step_parts.specs.Stepping.{HaveHeaders, IsDue, Precedes, object_changes, put_forced, raised}
 use Rattle.s38_step_parts.specs.declared.fault.ForceFault.{ForceFault}
 use Rattle.s38_step_parts.specs.declared.fault.ForceFault.TheVariants as fails
 use Rattle.s38_vault.specs.Content.{Content}
@@ -46,21 +47,28 @@ failed_by before now (Err (fails.Full needed free)) cause h = absurd (Wanting_St
 failed_by before now (Err (fails.BadHeader object)) cause h = absurd (Wanting_Stopped h)
 failed_by before now (Err fails.NoMemory) cause h = absurd (Wanting_Stopped h)
 
+between_but : (n : Content) (d : Durable) (s : State) (new : Durable) → Stands n d ⊎ (Stands n (raised d s) ⊎ StandsBut n new) → StandsBetween n d s new
+between_but n d s new (inl x) = inl (record { each = λ key part belongs. x.each key part })
+between_but n d s new (inr (inl x)) = inr (inl (record { each = λ key part belongs. x.each key part }))
+between_but n d s new (inr (inr x)) = inr (inr x)
+
 pub keeps_step : {V : Type 0} (view : V → VaultView) (holds : V → Content → Type 0) (leaves : V → ℕ → Content → Type 0) (old new : V) (h : Held) (us : UnitMap) (all : List Forced) (r : Result (Unit {0}) ForceFault) (ending : Ending) → ending ≡ ending_of r
     → OnOk r ((m n : Content) (d : Durable) (s : State) → holds old m → holds new n → Precedes h us m d s → IsDue all d s → Stands n (durable_after all d s))
     → OnOk r ((m : Content) (d : Durable) (s : State) → holds old m → Precedes h us m d s → holds new (put_forced all m (durable_after all d s)))
     → OnOk r ((m : Content) (d : Durable) (s : State) → holds old m → Precedes h us m d s → IsDue all d s → HaveHeaders (durable_after all d s))
-    → ((m : Content) (d : Durable) (s : State) → holds old m → Precedes h us m d s → IsDue all d s → length (object_changes all (get m) (durable_after all d s)) ≤ (view old).shape.most
-    → (t : ℕ) (n : Content) → (view old).moment < t → t ≤ (view new).moment → leaves new t n → StandsBetween n d s (durable_after all d s))
+    → ((m : Content) (d : Durable) (s : State) → holds old m → Precedes h us m d s → IsDue all d s → length (first_changes (view old).shape.most (durable_after all d s) (object_changes all (get m) (durable_after all d s))) ≤ (view old).shape.most
+    → (t : ℕ) (n : Content) → (view old).moment < t → t ≤ (view new).moment → leaves new t n → Stands n d ⊎ (Stands n (raised d s) ⊎ StandsBut n (durable_after all d s)))
+    → ((m : Content) (d : Durable) (s : State) → holds old m → Precedes h us m d s → IsDue all d s → (view old).moment < (view new).moment → HaveHeaders (durable_after all d s))
     → ((m n : Content) → holds new m → leaves new (view new).moment n → n ≡ m)
     → ((t : ℕ) (m : Content) → t ≤ (view old).moment → leaves old t m ↔ leaves new t m) → (view old).moment ≤ (view new).moment → (view new).shape ≡ (view old).shape
     → HasCauseOf (view old).faults (view new).faults r fails.Failed → OnOk r ((view new).faults ≡ (view old).faults) → KeepsStep view holds leaves old new h us all ending
-keeps_step view holds leaves old new h us all r ending is stands held headers once present past later shape cause count = record {
+keeps_step view holds leaves old new h us all r ending is stands held headers once moved present past later shape cause count = record {
   kept = λ goes m d s holds_old precedes due.
       let ok = is_ok goes in
       let put = went_on r held ok m d s holds_old precedes in
       record { content = put_forced all m (durable_after all d s); held = put; stands = went_on r stands ok m (put_forced all m (durable_after all d s)) d s holds_old put precedes due; headers = went_on r headers ok m d s holds_old precedes due };
-  during = λ m d s holds_old precedes due puts. once m d s holds_old precedes due (puts m precedes.stands);
+  during = λ m d s holds_old precedes due fits t n low high left.
+      between_but n d s (durable_after all d s) (once m d s holds_old precedes due (fits (moved m d s holds_old precedes due (omega (arith, low, high)))) t n low high left);
   present = present;
   past = past;
   later = later;

@@ -24,7 +24,8 @@ begun_sound {V} view holds leaves v s m is can present =
       past = λ t c low. (λ h. h, λ h. h);
       kept = λ c d held of. record {
         now = record { content = c; held = held; stands = of.stands; headers = of.headers };
-        crash = λ puts t n low high left.
+        short = of.short;
+        crash = λ most t n low high left.
             let at : t ≡ (view v).moment = omega (arith, low, high) in
             let same : n ≡ c = present c n held (subst (λ (k : ℕ). leaves v k n) at left) in
             begins_left d s t n (subst (λ (k : Content). Stands k d) (sym same) of.stands);

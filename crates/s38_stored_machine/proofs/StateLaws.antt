@@ -24,6 +24,7 @@ use Rattle.s38_rules.specs.declared.verdict.Verdict.TheVariants.{Permit, Refuse,
 use Rattle.s38_rules.specs.declared.verdict.Verdict.{Verdict}
 use Rattle.s38_step_parts.specs.Numbers.{numbered}
 use Rattle.s38_step_parts.specs.Stepping.{AreNumbers}
+use Rattle.s38_state_laws.proofs.StepLaws.{step_in_order}
 use Rattle.s38_stored_machine.specs.Sound.{CanBeStored}
 
 -- ---- what is kept anew
@@ -87,6 +88,7 @@ module _ (s : State) (p : ℕ) (e : Event) (can : CanBeStored s) where
     well = step_well s p e can.well;
     right = step_right s p e can.right;
     numbered = numbered_by (is_done (step s p e).reply);
+    ordered = step_in_order s p e can.well can.ordered;
   }
 
   -- what is kept anew are numbers of objects

@@ -7,7 +7,7 @@ use Rattle.std.proofs.lemmas.List.{take_all}
 use Rattle.std.specs.Prelude.{nat_le}
 use Rattle.s38_code.specs.declared.entry.Entry.{Entry}
 use Rattle.s38_durable.specs.Durable.{Durable, durable}
-use Rattle.s38_durable.specs.Stands.{Stands}
+use Rattle.s38_step_parts.specs.Leftovers.{StandsBut}
 use Rattle.s38_kept_laws.proofs.CrashLaws.{left_last}
 use Rattle.s38_kept_laws.proofs.KeepLaws as kept_laws
 use Rattle.s38_kept_laws.proofs.KeepLaws.{history_kept, led_to}
@@ -15,8 +15,7 @@ use Rattle.s38_kept_laws.specs.Crashes.{IsKeptPrefix, IsLeftBehind, StandsBetwee
 use Rattle.s38_rules.specs.Legal.{AreMoments, Run}
 use Rattle.s38_rules.specs.State.{State}
 use Rattle.s38_vault.specs.Content.{Content}
-use Rattle.s38_vault.specs.Vaults.{VaultView}
-use Rattle.s38_stored_machine.specs.Puts.{AllOnePut}
+use Rattle.s38_vault.specs.Vaults.{VaultView, most_changes}
 use Rattle.s38_stored_machine.specs.Seen.{StoredView, answered_by, broken_off, without_last}
 use Rattle.s38_stored_machine.specs.Sound.{IsKeptFrom, IsSoundOver}
 use Rattle.s38_stored_machine.specs.declared.ending.Ending.{Ending}
@@ -70,15 +69,15 @@ module _ (d : Durable) (s : State) (history : List Entry) (e : Entry) (marks : L
   count : length marks ≡ length history
   count = let one = length-append marks (mark ∷ []) in let two = length-append history (e ∷ []) in omega (arith, one, two, marked)
 
-  all_left : StandsBetween n (durable d s more) (led s more) (durable d s more) → Stands n (durable d s more)
+  all_left : StandsBetween n (durable d s more) (led s more) (durable d s more) → StandsBut n (durable d s more)
   all_left (inl x) = x
-  all_left (inr (inl x)) = subst (λ (c : ℕ). Stands n (record (durable d s more) { ceiling = c })) (sym ceiling) x
+  all_left (inr (inl x)) = subst (λ (c : ℕ). StandsBut n (record (durable d s more) { ceiling = c })) (sym ceiling) x
   all_left (inr (inr x)) = x
 
   whole : (k : ℕ) → length history + 1 ≤ k → take k more ≡ more
   whole k le = let two = length-append history (e ∷ []) in take_all k more (omega (arith, two, le))
 
-  stands_whole : (k : ℕ) → k ≡ length history + 1 → IsLeftBehind d s more k n → Stands n (durable d s more)
+  stands_whole : (k : ℕ) → k ≡ length history + 1 → IsLeftBehind d s more k n → StandsBut n (durable d s more)
   stands_whole k at left =
       let one = whole k (omega (arith, at)) in
       let two = whole (k + 1) (omega (arith, at)) in
@@ -110,18 +109,18 @@ module _ {V : Type 0} (view : V → VaultView) (holds : V → Content → Type 0
   m = x.machine
 
   crash_by : (es : List Entry) (ms : List ℕ) → m.history ≡ es → m.marks ≡ ms → 1 ≤ length es → (d : Durable) → IsKeptFrom view holds leaves x d → (durable d m.origin m.history).ceiling ≡ (led m.origin m.history).held.ceiling
-      → AllOnePut (view x.first).shape.most d m.origin m.history → (t : ℕ) (n : Content) → (view x.first).moment ≤ t → t ≤ (view x.vault).moment → leaves x.vault t n
+      → (view x.first).shape.most ≡ most_changes → (t : ℕ) (n : Content) → (view x.first).moment ≤ t → t ≤ (view x.vault).moment → leaves x.vault t n
       → IsKeptPrefix d m.origin m.history (without_last m.marks) t n
-  crash_by [] ms at_es at_ms some d kept ceiling puts t n low high left = absurd (omega (arith, some))
-  crash_by (e ∷ es) [] at_es at_ms some d kept ceiling puts t n low high left =
+  crash_by [] ms at_es at_ms some d kept ceiling most t n low high left = absurd (omega (arith, some))
+  crash_by (e ∷ es) [] at_es at_ms some d kept ceiling most t n low high left =
       absurd (let marked = is.sound.stored.marked in let one = ap length at_es in let two = ap length at_ms in omega (arith, marked, one, two))
-  crash_by (e ∷ es) (k ∷ ks) at_es at_ms some d kept ceiling puts t n low high left =
+  crash_by (e ∷ es) (k ∷ ks) at_es at_ms some d kept ceiling most t n low high left =
       let last = split_last e es in
       let mark = split_last k ks in
       let hist : m.history ≡ without_last (e ∷ es) ++ last.0 ∷ [] = at_es ∙ last.1 in
       let marks : m.marks ≡ without_last (k ∷ ks) ++ mark.0 ∷ [] = at_ms ∙ mark.1 in
-      let old = subst (λ (ending : Ending). AllOnePut (view x.first).shape.most d m.origin m.history → (j : ℕ) (c : Content) → (view x.first).moment ≤ j → j ≤ (view x.vault).moment → leaves x.vault j c
-      → IsKeptPrefix d m.origin m.history (answered_by ending m).marks j c) going kept.crash puts t n low high left in
+      let old = subst (λ (ending : Ending). (view x.first).shape.most ≡ most_changes → (j : ℕ) (c : Content) → (view x.first).moment ≤ j → j ≤ (view x.vault).moment → leaves x.vault j c
+      → IsKeptPrefix d m.origin m.history (answered_by ending m).marks j c) going kept.crash most t n low high left in
       subst (λ (ys : List ℕ). IsKeptPrefix d m.origin m.history ys t n) (sym (ap (λ (ys : List ℕ). without_last ys) at_ms))
       (subst (λ (hs : List Entry). IsKeptPrefix d m.origin hs (without_last (k ∷ ks)) t n) (sym hist)
       (fewer_left d m.origin (without_last (e ∷ es)) last.0 (without_last (k ∷ ks)) mark.0 m.first m.moment t n
@@ -143,5 +142,5 @@ module _ {V : Type 0} (view : V → VaultView) (holds : V → Content → Type 0
     kept = λ c d held of. let kept = is.kept c d held of in
         let led_is = led_to m.origin [] m.history m.state is.sound.legal in
         let ceiling = (history_kept laws m.origin d [] m.history m.state of.kept is.sound.legal).ceiling ∙ ap (λ (u : State). u.held.ceiling) (sym led_is) in
-        record { now = tt; crash = λ puts t n low high left. crash_by m.history m.marks refl refl some d kept ceiling puts t n low high left };
+        record { now = tt; short = kept.short; crash = λ most t n low high left. crash_by m.history m.marks refl refl some d kept ceiling most t n low high left };
   }

@@ -1,5 +1,6 @@
 -- What becomes of a step that a vault is to keep.
-use Rattle.std.specs.Prelude.{◌≡◌, ◌↔◌, ◌<◌, ◌≤◌, ℕ, List, [], ◌∷◌, Result, Ok, Err}
+use Rattle.std.specs.FinMap.{get}
+use Rattle.std.specs.Prelude.{◌≡◌, ◌↔◌, ◌<◌, ◌≤◌, ℕ, List, [], ◌∷◌, length, Result, Ok, Err}
 use Rattle.s38_base.specs.Faults.{Rose}
 use Rattle.s38_code.specs.declared.asked.Asked.{Asked}
 use Rattle.s38_code.specs.declared.step.StepFault.{StepFault}
@@ -13,12 +14,12 @@ use Rattle.s38_rules.specs.Held.{Held}
 use Rattle.s38_rules.specs.Legal.{Run}
 use Rattle.s38_rules.specs.State.{State}
 use Rattle.s38_step_parts.specs.Numbers.{numbered}
-use Rattle.s38_step_parts.specs.Stepping.{IsDue, Precedes}
+use Rattle.s38_step_parts.specs.Leftovers.{first_changes}
+use Rattle.s38_step_parts.specs.Stepping.{HaveHeaders, IsDue, Precedes, object_changes}
 use Rattle.s38_step_parts.specs.declared.fault.ForceFault.{ForceFault}
 use Rattle.s38_step_parts.specs.declared.fault.ForceFault.TheVariants as fails
 use Rattle.s38_vault.specs.Content.{Content}
 use Rattle.s38_vault.specs.Vaults.{VaultView}
-use Rattle.s38_stored_machine.specs.Puts.{AreOnePut}
 use Rattle.s38_stored_machine.specs.Seen.{StoredView}
 use Rattle.s38_stored_machine.specs.Sound.{HoldsOf}
 use Rattle.s38_stored_machine.specs.declared.ending.Ending.{Ending}
@@ -32,12 +33,17 @@ ending_of (Err (fails.Full needed free)) = Wanting
 ending_of (Err (fails.BadHeader object)) = Wanting
 ending_of (Err fails.NoMemory) = Wanting
 
+-- from a content on, no more parts of objects differ that belong to something than one put takes
+abbrev pub FitsOnePut : ℕ → Content → List Forced → Durable → Type 0
+FitsOnePut most m all d = length (first_changes most d (object_changes all (get m) d)) ≤ most
+
 -- a vault keeps what a step forces that led to these objects and units, or does not
 pub record KeepsStep {V : Type 0} (view : V → VaultView) (holds : V → Content → Type 0) (leaves : V → ℕ → Content → Type 0) (old new : V) (h : Held) (us : UnitMap) (all : List Forced) (ending : Ending) : Type 0 where
   -- where it does, it holds what is durable behind the step
   pub kept : ending ≡ Going → (m : Content) (d : Durable) (s : State) → holds old m → Precedes h us m d s → IsDue all d s → HoldsOf holds new (durable_after all d s)
   -- a crash leaves what was durable before the step, or that with the ceiling, or what is durable behind it
-  pub during : (m : Content) (d : Durable) (s : State) → holds old m → Precedes h us m d s → IsDue all d s → AreOnePut (view old).shape.most d all (durable_after all d s)
+  pub during : (m : Content) (d : Durable) (s : State) → holds old m → Precedes h us m d s → IsDue all d s
+      → (HaveHeaders (durable_after all d s) → FitsOnePut (view old).shape.most m all (durable_after all d s))
       → (t : ℕ) (n : Content) → (view old).moment < t → t ≤ (view new).moment → leaves new t n → StandsBetween n d s (durable_after all d s)
   pub present : (m n : Content) → holds new m → leaves new (view new).moment n → n ≡ m
   pub past : (t : ℕ) (m : Content) → t ≤ (view old).moment → leaves old t m ↔ leaves new t m

@@ -1,5 +1,4 @@
 pub mod Seen
-pub mod Puts
 pub mod Sound
 pub mod Keeping
 pub mod Laws

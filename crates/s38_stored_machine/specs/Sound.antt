@@ -8,33 +8,36 @@ use Rattle.s38_durable.specs.Stands.{Stands}
 use Rattle.s38_kept_laws.specs.Crashes.{IsKeptPrefix}
 use Rattle.s38_kept_laws.specs.Kept.{AreNumbered, IsKeptOf}
 use Rattle.s38_object_laws.specs.Well.{AreWell}
+use Rattle.s38_put_laws.specs.OnePut.{AreShort}
 use Rattle.s38_put_laws.specs.Trails.{IsTrailOf}
 use Rattle.s38_rules.specs.Legal.{IsSound, Run}
 use Rattle.s38_rules.specs.State.{State}
+use Rattle.s38_state_laws.specs.Order.{AreInOrder}
 use Rattle.s38_step_parts.specs.Stepping.{HaveHeaders}
 use Rattle.s38_vault.specs.Content.{Content}
-use Rattle.s38_vault.specs.Vaults.{VaultView}
-use Rattle.s38_stored_machine.specs.Puts.{AllOnePut}
+use Rattle.s38_vault.specs.Vaults.{VaultView, most_changes}
 use Rattle.s38_stored_machine.specs.Seen.{StoredView, run_of}
 use Rattle.s38_stored_machine.specs.declared.ending.Ending.{Ending}
 use Rattle.s38_stored_machine.specs.declared.ending.Ending.TheVariants.{Going, Stopped, Wanting}
 
 -- ---- states
 
--- a store has room, each object can be kept, and each change that is not committed can be taken back
+-- a store has room, each object can be kept and is in order, and each change that is not committed can be taken back
 pub record CanBeStored (s : State) : Type 0 where
   pub room : is_some s.room ≡ true
   pub well : AreWell s
   pub right : IsRight s
   pub numbered : AreNumbered s.held
+  pub ordered : AreInOrder s
 
 -- ---- what is held
 
--- the content stands for what is durable, which goes with a state and has headers that can be read; and of each journal space
--- a beginning is kept
+-- the content stands for what is durable, which goes with a state and has headers that can be read, and no body that is too
+-- long; and of each journal space a beginning is kept
 pub record IsOf (m : Content) (d : Durable) (s : State) : Type 0 where
   pub stands : Stands m d
   pub headers : HaveHeaders d
+  pub short : AreShort d
   pub kept : IsKeptOf s d
   pub trail : IsTrailOf s d
 
@@ -57,10 +60,12 @@ HoldsWhile holds Wanting v d = Unit {0}
 pub record IsKeptFrom {V : Type 0} (view : V → VaultView) (holds : V → Content → Type 0) (leaves : V → ℕ → Content → Type 0) (x : StoredView V) (d : Durable) : Type 0 where
   -- while it goes on, the vault holds what is durable behind the history
   pub now : HoldsWhile holds x.ending x.vault (durable d x.machine.origin x.machine.history)
-  -- what a crash leaves at each moment of the run: what is durable behind the entries that were answered by then, or behind
-  -- one entry more, of which at least the ceiling may be there
-  pub crash : AllOnePut (view x.first).shape.most d x.machine.origin x.machine.history → (t : ℕ) (n : Content) → (view x.first).moment ≤ t → t ≤ (view x.vault).moment
-      → leaves x.vault t n → IsKeptPrefix d x.machine.origin x.machine.history (run_of x).marks t n
+  -- and no body that is too long
+  pub short : AreShort (durable d x.machine.origin x.machine.history)
+  -- what a crash leaves at each moment of the run, where a put takes as many changes as a store's: what is durable behind the
+  -- entries that were answered by then, or behind one entry more, of which at least the ceiling may be there
+  pub crash : (view x.first).shape.most ≡ most_changes → (t : ℕ) (n : Content) → (view x.first).moment ≤ t → t ≤ (view x.vault).moment → leaves x.vault t n
+      → IsKeptPrefix d x.machine.origin x.machine.history (run_of x).marks t n
 
 -- while it goes on, the machine is at the moment of its vault, which did not fail; where it stopped, the vault failed, and
 -- the entry of the call that failed is there

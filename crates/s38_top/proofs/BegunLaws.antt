@@ -14,6 +14,7 @@ use Rattle.s38_command.specs.declared.turns.Turns.{Turns}
 use Rattle.s38_disk.specs.Blocks.{State as Blocks}
 use Rattle.s38_disk.specs.Disk.{DiskView, IsAt}
 use Rattle.s38_put_laws.proofs.BeginLaws.{begins_trail}
+use Rattle.s38_put_laws.proofs.StepLaws.{images_short}
 use Rattle.s38_put_laws.specs.Trails.{IsTrailOf}
 use Rattle.s38_kept_laws.proofs.BeginLaws.{begins_kept, opening_numbered}
 use Rattle.s38_kept_laws.proofs.ImageLaws.{image_header}
@@ -37,6 +38,7 @@ use Rattle.s38_run.proofs.JobLaws.{is_begun, process_begun}
 use Rattle.s38_run.specs.Whole.{AllByProgram, AllRan, IsBegun}
 use Rattle.s38_run.specs.declared.run_end.RunEnd.{RunEnd}
 use Rattle.s38_run.specs.declared.run_end.RunEnd.TheVariants.{Complete, NoMemory, Stopped as Halted}
+use Rattle.s38_state_laws.proofs.StepLaws.{opening_in_order}
 use Rattle.s38_stored_machine.specs.Seen.{StoredBeginning, StoredView, answered_by, beginning_of, run_of, stopped_by, stopped_of}
 use Rattle.s38_stored_machine.specs.Sound.{CanBeStored, IsOf}
 use Rattle.s38_stored_machine.specs.declared.ending.Ending.{Ending}
@@ -59,6 +61,7 @@ can_start room h ts js is = record {
   well = opening_well (Some room) h ts js is;
   right = opening_right (Some room) h ts js is;
   numbered = opening_numbered h is;
+  ordered = opening_in_order (Some room) h ts js is;
 }
 
 pub fits_start : (room : Room) (h : Held) (ts : List CheckedTemplate) (js : List Job) → IsOpening h → Fits room.extents h → FitsStore (stored_state_of (Some room) h ts js)
@@ -114,14 +117,18 @@ module _ (old : DiskView) (deck : Deck) (made : List CreateResult) (x : StoredVi
       (parts : room.parts + 1 ≡ (page_view v).shape.parts) (placed : v.layout ≡ layout_of old.size) (goes : GoesOn old v.disk) (during : KeepsRestarting old v.disk) where
     held_then : (s : Blocks) → IsAt old.past s → (m : Content) → Stands (layout_of old.size) s.now m → page_holds (vault_of x) (cleaned m) × IsOf (cleaned m) (durable_in m) x.machine.origin
     held_then s at m stands =
-        let one = on s at m stands in (
+        let one = on s at m stands in
+        let images = read_images m one.parts one.objects.sound in
+        let kept : IsKeptOf x.machine.origin (durable_in m) =
+        subst (λ (u : State). IsKeptOf u (durable_in m)) (sym origin_is)
+        (begins_kept m h one.parts one.objects.sound one.objects.is opening (checked_of deck) deck.jobs (Some room) one.extents)
+        in (
           subst (λ (p : PageStore). page_holds p (cleaned m)) (sym vault) one.holds,
           record {
             stands = cleaned_stands m one.parts one.objects.sound;
-            headers = λ n y there. image_header y (read_images m one.parts one.objects.sound n y there);
-            kept =
-                subst (λ (u : State). IsKeptOf u (durable_in m)) (sym origin_is)
-                (begins_kept m h one.parts one.objects.sound one.objects.is opening (checked_of deck) deck.jobs (Some room) one.extents);
+            headers = λ n y there. image_header y (images n y there);
+            short = images_short x.machine.origin (durable_in m) kept images;
+            kept = kept;
             trail =
                 subst (λ (u : State). IsTrailOf u (durable_in m)) (sym origin_is)
                 (begins_trail m h one.parts one.objects.sound one.objects.is (checked_of deck) deck.jobs room);

@@ -27,7 +27,6 @@ use Rattle.s38_rules.specs.State.{State}
 use Rattle.s38_rules.specs.Step.{step}
 use Rattle.s38_run.specs.declared.run_end.RunEnd.{RunEnd as Halt}
 use Rattle.s38_run.specs.declared.run_end.RunEnd.TheVariants as halts
-use Rattle.s38_stored_machine.specs.Puts.{AllOnePut}
 use Rattle.s38_stored_machine.specs.Seen.{StoredView, answered_by, run_of, without_last}
 use Rattle.s38_stored_machine.specs.Sound.{HoldsOf, HoldsWhile, IsEnding, IsKeptFrom, IsOf}
 use Rattle.s38_stored_machine.specs.declared.ending.Ending.{Ending}
@@ -240,15 +239,15 @@ module _ (turns : Turns) (deck : Deck) (x : StoredView WatchedStore) (end : Halt
         (whole.0, (subst (λ (p : PageStore). page_leaves p t whole.0) is leaves, subst (λ (l : Layout). Stands l g whole.0) placed stands))
 
     -- while it was made
-    left_running : (m : Content) (d : Durable) → page_holds v m → IsOf m d s → AllOnePut most_changes d s x.machine.history
+    left_running : (m : Content) (d : Durable) → page_holds v m → IsOf m d s
         → (t : ℕ) (g : ℕ → Block) → moment_of v.disk.past < t → t ≤ moment_of r.disk.past → Leaves r.disk.past t g → IsLeftAt new.size d s x.machine.history marks t g
-    left_running m d holds of puts t g low high left =
+    left_running m d holds of t g low high left =
         let one = image_of m holds t g low high left in
         let kept = went.sound.kept m d holds of in
         record {
           content = one.0;
           stands = one.1.1;
-          kept = kept.crash (subst (λ (n : ℕ). AllOnePut n d s x.machine.history) (sym most_is) puts) t one.0 (omega (arith, low)) (let here = moment_is in omega (arith, here, high)) one.1.0;
+          kept = kept.crash most_is t one.0 (omega (arith, low)) (let here = moment_is in omega (arith, here, high)) one.1.0;
         }
 
     module _ (o : Outcome) (reported : (o ≡ NoMemory → ⊥) → (history_of o ≡ entries) × (marks_of o ≡ marks)) where
@@ -264,7 +263,7 @@ module _ (turns : Turns) (deck : Deck) (x : StoredView WatchedStore) (end : Halt
         goes = subst (λ (d : DiskView). GoesOn v.disk d) (sym same) (goes_by seen.moves);
         marked = marked;
         ended = let here = ap (λ (d : DiskView). moment_of d.past) same in omega (arith, here);
-        running = λ m d holds of puts t g low high left. left_running m d holds of puts t g low high (subst (λ (d : DiskView). Leaves d.past t g) same left);
+        running = λ m d holds of t g low high left. left_running m d holds of t g low high (subst (λ (d : DiskView). Leaves d.past t g) same left);
         closing = λ m d holds of t g low high left. absurd (let here = ap (λ (d : DiskView). moment_of d.past) same in omega (arith, here, low, high));
         reported = reported;
       }
@@ -294,7 +293,7 @@ module _ (turns : Turns) (deck : Deck) (x : StoredView WatchedStore) (end : Halt
           goes = goes_then (goes_by seen.moves) goes;
           marked = marked;
           ended = goes.later;
-          running = λ m d holds of puts t g low high left. left_running m d holds of puts t g low high ((goes.before t g high).1 left);
+          running = λ m d holds of t g low high left. left_running m d holds of t g low high ((goes.before t g high).1 left);
           closing = closing;
           reported = reported;
         }

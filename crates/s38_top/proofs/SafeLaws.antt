@@ -19,7 +19,6 @@ use Rattle.s38_pages.specs.Watched.{WatchedStore}
 use Rattle.s38_rules.specs.Legal.{Leads, Run}
 use Rattle.s38_rules.specs.Room.{Room}
 use Rattle.s38_rules.specs.State.{State}
-use Rattle.s38_stored_machine.specs.Puts.{AllOnePut}
 use Rattle.s38_stored_machine.specs.Seen.{StoredView}
 use Rattle.s38_stored_machine.specs.Sound.{IsOf}
 use Rattle.s38_stores.proofs.CrashLaws.{during_none, goes_then}
@@ -33,7 +32,6 @@ use Rattle.s38_top.specs.declared.outcome.Outcome.{Outcome}
 use Rattle.s38_top.specs.declared.outcome.Outcome.TheVariants.{NoMemory}
 use Rattle.s38_top.specs.Outcome.{history_of, marks_of}
 use Rattle.s38_vault.specs.Content.{Content}
-use Rattle.s38_vault.specs.Vaults.{most_changes}
 
 -- ---- a disk that is left alone
 
@@ -114,10 +112,10 @@ module _ (turns : Turns) (old new : DiskView) (deck : Deck) (made : List CreateR
     opening = λ f at rest m stands t g low high image.
         let during = ready.during.content f at rest m stands in
         subst (λ (n : ℕ). IsPartlyCleaned n m g) (sym left.goes.size) (during.each t g low high ((left.goes.before t g high).1 image));
-    running = λ f at rest m stands puts t g low high image.
+    running = λ f at rest m stands t g low high image.
         let one = ready.holds f at m stands in
         subst (λ (u : State). IsLeftAt new.size (durable_in m) u left.planned left.marks t g) state_is
-        (left.running (cleaned m) (durable_in m) one.0 one.1 (subst (λ (u : State). AllOnePut most_changes (durable_in m) u left.planned) (sym state_is) puts) t g low high image);
+        (left.running (cleaned m) (durable_in m) one.0 one.1 t g low high image);
     closing = λ f at rest m stands t g low high image.
         let one = ready.holds f at m stands in
         subst (λ (u : State). IsClosing new.size (durable (durable_in m) u left.entries) left.run.state g) state_is (left.closing (cleaned m) (durable_in m) one.0 one.1 t g low high image);

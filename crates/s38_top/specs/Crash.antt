@@ -15,12 +15,10 @@ use Rattle.s38_kept_laws.specs.Crashes.{IsKeptPrefix, led}
 use Rattle.s38_pages.specs.Mounts.{layout_of}
 use Rattle.s38_rules.specs.Legal.{Leads}
 use Rattle.s38_rules.specs.State.{State}
-use Rattle.s38_stored_machine.specs.Puts.{AllOnePut}
 use Rattle.s38_stores.specs.Crashes.{AtRest, DuringCall, GoesOn, IsBetween, IsNoneOrInstalled, IsPartlyCleaned, KeepsRestarting}
 use Rattle.s38_top.specs.Decks.{AreStoreMarks, opened}
 use Rattle.s38_top.specs.Runs.{RanTo, kept_of}
 use Rattle.s38_vault.specs.Content.{Content}
-use Rattle.s38_vault.specs.Vaults.{most_changes}
 
 -- ---- while a run goes on
 
@@ -31,7 +29,7 @@ pub record ArePlanned (s : State) (entries planned : List Entry) : Type 0 where
   pub legal : Leads s [] planned (led s planned)
 
 -- The blocks are a store of what is durable behind the entries that were answered by a moment, or behind one entry more, of
--- which at least the ceiling may be there.
+-- which at least the ceiling may be there; and of no more but parts that belong to nothing, which a restart takes away.
 pub record IsLeftAt (size : ℕ) (d : Durable) (s : State) (entries : List Entry) (marks : List ℕ) (moment : ℕ) (g : ℕ → Block) : Type 0 where
   pub content : Content
   pub stands : Stands (layout_of size) g content
@@ -63,8 +61,8 @@ pub record MadeRun (turns : Turns) (old new : DiskView) (entries : List Entry) (
   pub ended : last ≤ moment_of new.past
   -- while the store was opened, parts that belong to nothing may have gone
   pub opening : AtRest old (λ f. (m : Content) → Stands (layout_of old.size) f m → Between (moment_of old.past) first new (λ t g. IsPartlyCleaned new.size m g))
-  -- while the run was made, if each step is kept by one put
-  pub running : AtRest old (λ f. (m : Content) → Stands (layout_of old.size) f m → AllOnePut most_changes (durable_in m) (opened (Some ran.room) ran.held deck) planned
+  -- while the run was made
+  pub running : AtRest old (λ f. (m : Content) → Stands (layout_of old.size) f m
       → Between first last new (λ t g. IsLeftAt new.size (durable_in m) (opened (Some ran.room) ran.held deck) planned marks t g))
   -- while what it left was kept
   pub closing : AtRest old (λ f. (m : Content) → Stands (layout_of old.size) f m

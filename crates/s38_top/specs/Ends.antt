@@ -20,7 +20,6 @@ use Rattle.s38_pages.specs.Vaults.{PageStore, page_holds, page_view}
 use Rattle.s38_pages.specs.Watched.{WatchedStore}
 use Rattle.s38_rules.specs.Room.{Room}
 use Rattle.s38_rules.specs.State.{State}
-use Rattle.s38_stored_machine.specs.Puts.{AllOnePut}
 use Rattle.s38_stored_machine.specs.Seen.{StoredView}
 use Rattle.s38_stored_machine.specs.Sound.{IsOf}
 use Rattle.s38_stores.specs.Crashes.{GoesOn, KeepsRestarting}
@@ -38,7 +37,6 @@ use Rattle.s38_top.specs.Outside.{outside}
 use Rattle.s38_top.specs.Runs.{BeginsWith, LeavesBehind, LeavesBy}
 use Rattle.s38_top.specs.Stored.{IsBegunOver, vault_of}
 use Rattle.s38_vault.specs.Content.{Content}
-use Rattle.s38_vault.specs.Vaults.{most_changes}
 
 -- how a run ended by what became of what it left; none for want of memory
 abbrev pub end_of : Result (Unit {0}) KeepFault → Option RunEnd
@@ -92,7 +90,7 @@ pub record LeftOver (turns : Turns) (deck : Deck) (v : PageStore) (s : State) (n
   pub goes : GoesOn v.disk new
   pub marked : AreStoreMarks (page_view v).moment last marks entries
   pub ended : last ≤ moment_of new.past
-  pub running : (m : Content) (d : Durable) → page_holds v m → IsOf m d s → AllOnePut most_changes d s planned → Between (page_view v).moment last new (λ t g. IsLeftAt new.size d s planned marks t g)
+  pub running : (m : Content) (d : Durable) → page_holds v m → IsOf m d s → Between (page_view v).moment last new (λ t g. IsLeftAt new.size d s planned marks t g)
   pub closing : (m : Content) (d : Durable) → page_holds v m → IsOf m d s → Between last (moment_of new.past) new (λ t g. IsClosing new.size (durable d s entries) run.state g)
   pub reported : (o ≡ NoMemory → ⊥) → (history_of o ≡ entries) × (marks_of o ≡ marks)
 
