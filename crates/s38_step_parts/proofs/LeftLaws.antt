@@ -1,13 +1,12 @@
 -- What stands for what is durable but for parts that belong to nothing.
-use Rattle.std.proofs.Common.{◌≡◌, ◌<◌, ◌∙◌, [], Bool, List, ap, cond, false, filter, length, refl, subst, sym, true, ℕ}
+use Rattle.std.proofs.Common.{◌≡◌, ◌∙◌, [], Bool, List, cond, false, filter, length, sym, true, ℕ}
 use Rattle.std.specs.FinMap.{get}
 use Rattle.std.specs.List.{AllByRecursion}
 use Rattle.std.specs.Prelude.{nat_le}
 use Rattle.s38_base.specs.declared.page.Change.{Change}
-use Rattle.s38_base.specs.declared.page.Key.{Key}
 use Rattle.s38_durable.specs.Durable.{Durable}
 use Rattle.s38_durable.specs.Stands.{Stands}
-use Rattle.s38_keeping.proofs.ContentLaws.{changed_at, get-changed}
+use Rattle.s38_keeping.proofs.ContentLaws.{get-changed}
 use Rattle.s38_vault.specs.Content.{Content, changed}
 use Rattle.s38_step_parts.proofs.TurnLaws.{beside, others_fail, passing}
 use Rattle.s38_step_parts.specs.Leftovers.{StandsBut, belongs, belongs_in, first_changes, is_left_in, later_changes}
@@ -23,7 +22,7 @@ first_stand most m d cs stands = by (nat_le (length cs) most)
     by true = all_stand (changed m cs) d stands
     by false = record {
       each = λ key low own.
-      get-changed m (filter (belongs_in d) cs) key ∙ passing (belongs d) cs key (get m key) own ∙ sym (get-changed m cs key) ∙ stands.each key low;
+          get-changed m (filter (belongs_in d) cs) key ∙ passing (belongs d) cs key (get m key) own ∙ sym (get-changed m cs key) ∙ stands.each key low;
     }
 
 -- what is put behind them belongs to nothing
@@ -37,5 +36,5 @@ later_left most d cs = by (nat_le (length cs) most)
 -- and makes no difference
 pub later_stand : (m : Content) (d : Durable) (cs : List Change) → AllByRecursion (λ c. belongs_in d c ≡ false) cs → StandsBut m d → StandsBut (changed m cs) d
 later_stand m d cs left stands = record {
-  each = λ key low own. get-changed m cs key ∙ beside (belongs d) true cs key (get m key) own left ∙ stands.each key low;
+  each = λ key low own. get-changed m cs key ∙ beside (belongs d) true cs key (get m key) own left ∙ stands.each key low own;
 }

@@ -1,5 +1,5 @@
 -- Changes in two turns.
-use Rattle.std.proofs.Common.{◌==◌, ◌≡◌, ◌+◌, ◌<◌, ◌≤◌, ◌∙◌, ◌∷◌, [], Bool, List, None, Option, Some, ap, arith, cond, false, filter, length, not, refl, subst, suc, sym, take, true, zero, ℕ}
+use Rattle.std.proofs.Common.{◌==◌, ◌≡◌, ◌+◌, ◌∙◌, ◌∷◌, [], Bool, List, None, Option, Some, ap, arith, cond, false, filter, length, not, refl, subst, suc, sym, take, true, zero, ℕ}
 use Rattle.std.proofs.lemmas.List.Sums.{sum_by-cons}
 use Rattle.std.specs.FinMap.{get, same_map}
 use Rattle.std.specs.List.{AllByRecursion}

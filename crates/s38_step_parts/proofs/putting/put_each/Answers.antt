@@ -1,10 +1,10 @@
-use Rattle.std.proofs.Common.{◌≡◌, ◌∙◌, ◌<◌, ◌≤◌, ap, arith, inl, inr, subst}
+use Rattle.std.proofs.Common.{◌≡◌, ◌∙◌, ap, arith, inl, inr, subst}
 use Rattle.std.proofs.lemmas.Bool.{cases_lt}
 use Rattle.s38_forcing.specs.Puts.{IsAfterPuts}
 use Rattle.s38_image.specs.Faults.{ceiling_key}
 use Rattle.s38_keeping.proofs.SoFarLaws.{all_of}
 use Rattle.s38_vault.specs.Content.{Content, changed}
-use Rattle.s38_vault.specs.Directory.{Keys, changed_keys, new_keys}
+use Rattle.s38_vault.specs.Directory.{Keys, new_keys}
 use Rattle.s38_vault.specs.Vaults.{VaultShape, VaultView}
 use Rattle.s38_step_parts.proofs.BothLaws.{new_beside_all}
 use Rattle.s38_step_parts.proofs.TurnLaws.{new_apart}

@@ -1,12 +1,10 @@
 use Rattle.std.proofs.Common.{◌≡◌, ◌+◌, ◌<◌, ◌≤◌, ◌∙◌, List, ap, arith, subst, sym, ℕ}
 use Rattle.std.specs.FinMap.{get}
-use Rattle.std.specs.List.{AllByRecursion}
 use Rattle.s38_base.specs.declared.page.Change.{Change}
 use Rattle.s38_durable.specs.Durable.{Durable, durable_after}
-use Rattle.s38_image.specs.Faults.{ceiling_key}
-use Rattle.s38_keeping.proofs.SoFarLaws.{all_of as each_of, stays_on}
+use Rattle.s38_keeping.proofs.SoFarLaws.{stays_on}
 use Rattle.s38_rules.specs.State.{State}
-use Rattle.s38_vault.specs.Content.{Content, HaveObjects, changed}
+use Rattle.s38_vault.specs.Content.{Content, changed}
 use Rattle.s38_vault.specs.Directory.{Keys, new_keys}
 use Rattle.s38_vault.specs.Vaults.{VaultView}
 use Rattle.s38_step_parts.proofs.FollowedLaws.{handed}
@@ -28,7 +26,7 @@ turns_of-requires-clause-objects g c = c.in_ok-add_objects.ensures.objects
 pub put_each-requires-clause-turns : goal.put_each-requires-clause-turns
 put_each-requires-clause-turns g c =
     subst (λ (cs : List Change). AreTurns cs c.deref-3.result.now) (sym c.deref-2.ensures.value)
-    (subst (λ (cs : List Change). AreTurns c.turns_of.in-Ok.field-0.first.items cs) (sym c.deref-3.ensures.value) c.in_ok-turns_of.ensures.turns)
+    (subst (λ (cs : List Change). AreTurns c.in_ok-turns.turns.first.items cs) (sym c.deref-3.ensures.value) c.in_ok-turns.ensures.turns)
 
 pub returns-in_err-add_objects-clause-full : goal.returns-in_err-add_objects-clause-full
 returns-in_err-add_objects-clause-full g c =
@@ -96,7 +94,7 @@ returns-in_err-put_each-clause-full g c =
     let stays = stays_on old c.add_objects.new.vault c.add_ceiling.new.vault c.add_objects.ensures.stays c.add_ceiling.ensures.stays in
     let fault = c.in_err-put_each.field-0.0 in
     let sum : (keys : Keys) → new_keys keys first + new_keys keys later ≡ new_keys keys others =
-    λ keys. (λ i. new_keys keys (c.deref-2.ensures.value i) + new_keys keys (c.deref-3.ensures.value i)) ∙ c.in_ok-turns_of.ensures.keys keys in
+    λ keys. (λ i. new_keys keys (c.deref-2.ensures.value i) + new_keys keys (c.deref-3.ensures.value i)) ∙ c.in_ok-turns.ensures.keys keys in
     handed (λ (e : ForceFault). (m : Content) (d : Durable) (s : State) → V.holds old m → Precedes h us m d s
     → IsFullFor (new_keys (V.view old).keys (ceiling_changes all (get m) (durable_after all d s)) + new_keys (V.view old).keys (object_changes all (get m) (durable_after all d s))) (V.view old).free e)
     c.from_residual-in_err-put_each.result fault c.from_residual-in_err-put_each.ensures.1
@@ -120,8 +118,8 @@ returns-in_err-put_each-clause-during g c = λ m d s held p t n low high left.
     let stays = stays_on old c.add_objects.new.vault c.add_ceiling.new.vault c.add_objects.ensures.stays c.add_ceiling.ensures.stays in
     let begun = subst (λ (v : VaultView). v.moment < t) (sym stays.same) low in
     let between = subst (λ (v : VaultView). IsBetweenPuts v.shape.most m ceiling first later n) stays.same (c.put_each.ensures.during m ((stays.held m).0 held) t n begun high left) in
-    let front = c.deref-2.ensures.value ∙ c.in_ok-turns_of.ensures.first all d s p.held ∙ ap (λ (k : ℕ). first_changes k (durable_after all d s) others) c.most-most.ensures.most in
-    let back = c.deref-3.ensures.value ∙ c.in_ok-turns_of.ensures.later all d s p.held ∙ ap (λ (k : ℕ). later_changes k (durable_after all d s) others) c.most-most.ensures.most in
+    let front = c.deref-2.ensures.value ∙ c.in_ok-turns.ensures.first all d s p.held ∙ ap (λ (k : ℕ). first_changes k (durable_after all d s) others) c.most-most.ensures.most in
+    let back = c.deref-3.ensures.value ∙ c.in_ok-turns.ensures.later all d s p.held ∙ ap (λ (k : ℕ). later_changes k (durable_after all d s) others) c.most-most.ensures.most in
     during_known c.requires.numbers known (V.view old).shape.most m n d s first later held p front back between
 
 pub returns-in_err-put_each-clause-once : goal.returns-in_err-put_each-clause-once
@@ -143,8 +141,8 @@ returns-in_err-put_each-clause-once g c = λ m d s held p due small t n low high
     let begun = subst (λ (v : VaultView). v.moment < t) (sym stays.same) low in
     let between = subst (λ (v : VaultView). IsBetweenPuts v.shape.most m ceiling first later n) stays.same (c.put_each.ensures.during m ((stays.held m).0 held) t n begun high left) in
     let most : 1 ≤ (V.view old).shape.most = omega (arith, c.most-most.ensures.limits.0) in
-    let front = c.deref-2.ensures.value ∙ c.in_ok-turns_of.ensures.first all d s p.held ∙ ap (λ (k : ℕ). first_changes k (durable_after all d s) others) c.most-most.ensures.most in
-    let back = c.deref-3.ensures.value ∙ c.in_ok-turns_of.ensures.later all d s p.held ∙ ap (λ (k : ℕ). later_changes k (durable_after all d s) others) c.most-most.ensures.most in
+    let front = c.deref-2.ensures.value ∙ c.in_ok-turns.ensures.first all d s p.held ∙ ap (λ (k : ℕ). first_changes k (durable_after all d s) others) c.most-most.ensures.most in
+    let back = c.deref-3.ensures.value ∙ c.in_ok-turns.ensures.later all d s p.held ∙ ap (λ (k : ℕ). later_changes k (durable_after all d s) others) c.most-most.ensures.most in
     once_known c.requires.numbers known (V.view old).shape.most m n d s first later held p due front back most small between
 
 pub returns-clause-during : goal.returns-clause-during
@@ -165,8 +163,8 @@ returns-clause-during g c = λ m d s held p t n low high left.
     let stays = stays_on old c.add_objects.new.vault c.add_ceiling.new.vault c.add_objects.ensures.stays c.add_ceiling.ensures.stays in
     let begun = subst (λ (v : VaultView). v.moment < t) (sym stays.same) low in
     let between = subst (λ (v : VaultView). IsBetweenPuts v.shape.most m ceiling first later n) stays.same (c.put_each.ensures.during m ((stays.held m).0 held) t n begun high left) in
-    let front = c.deref-2.ensures.value ∙ c.in_ok-turns_of.ensures.first all d s p.held ∙ ap (λ (k : ℕ). first_changes k (durable_after all d s) others) c.most-most.ensures.most in
-    let back = c.deref-3.ensures.value ∙ c.in_ok-turns_of.ensures.later all d s p.held ∙ ap (λ (k : ℕ). later_changes k (durable_after all d s) others) c.most-most.ensures.most in
+    let front = c.deref-2.ensures.value ∙ c.in_ok-turns.ensures.first all d s p.held ∙ ap (λ (k : ℕ). first_changes k (durable_after all d s) others) c.most-most.ensures.most in
+    let back = c.deref-3.ensures.value ∙ c.in_ok-turns.ensures.later all d s p.held ∙ ap (λ (k : ℕ). later_changes k (durable_after all d s) others) c.most-most.ensures.most in
     during_known c.requires.numbers known (V.view old).shape.most m n d s first later held p front back between
 
 pub returns-clause-once : goal.returns-clause-once
@@ -188,8 +186,8 @@ returns-clause-once g c = λ m d s held p due small t n low high left.
     let begun = subst (λ (v : VaultView). v.moment < t) (sym stays.same) low in
     let between = subst (λ (v : VaultView). IsBetweenPuts v.shape.most m ceiling first later n) stays.same (c.put_each.ensures.during m ((stays.held m).0 held) t n begun high left) in
     let most : 1 ≤ (V.view old).shape.most = omega (arith, c.most-most.ensures.limits.0) in
-    let front = c.deref-2.ensures.value ∙ c.in_ok-turns_of.ensures.first all d s p.held ∙ ap (λ (k : ℕ). first_changes k (durable_after all d s) others) c.most-most.ensures.most in
-    let back = c.deref-3.ensures.value ∙ c.in_ok-turns_of.ensures.later all d s p.held ∙ ap (λ (k : ℕ). later_changes k (durable_after all d s) others) c.most-most.ensures.most in
+    let front = c.deref-2.ensures.value ∙ c.in_ok-turns.ensures.first all d s p.held ∙ ap (λ (k : ℕ). first_changes k (durable_after all d s) others) c.most-most.ensures.most in
+    let back = c.deref-3.ensures.value ∙ c.in_ok-turns.ensures.later all d s p.held ∙ ap (λ (k : ℕ). later_changes k (durable_after all d s) others) c.most-most.ensures.most in
     once_known c.requires.numbers known (V.view old).shape.most m n d s first later held p due front back most small between
 
 pub returns-clause-holds : goal.returns-clause-holds
@@ -209,7 +207,7 @@ returns-clause-holds g c = λ m d s held p.
     } in
     let stays = stays_on old c.add_objects.new.vault c.add_ceiling.new.vault c.add_objects.ensures.stays c.add_ceiling.ensures.stays in
     let whole : (k : Content) → changed (changed k first) later ≡ changed k others =
-    λ k. (λ i. changed (changed k (c.deref-2.ensures.value i)) (c.deref-3.ensures.value i)) ∙ c.in_ok-turns_of.ensures.same k in
+    λ k. (λ i. changed (changed k (c.deref-2.ensures.value i)) (c.deref-3.ensures.value i)) ∙ c.in_ok-turns.ensures.same k in
     subst (λ (n : Content). V.holds c.put_each.new.vault n) (whole (changed m ceiling) ∙ put_known c.requires.numbers known m d s held p) (c.in_ok-put_each.ensures.holds m ((stays.held m).0 held))
 
 pub returns-clause-told : goal.returns-clause-told
@@ -234,7 +232,7 @@ returns-clause-stands g c = λ m n d s held left p due.
     } in
     let stays = stays_on old c.add_objects.new.vault c.add_ceiling.new.vault c.add_objects.ensures.stays c.add_ceiling.ensures.stays in
     let whole : (k : Content) → changed (changed k first) later ≡ changed k others =
-    λ k. (λ i. changed (changed k (c.deref-2.ensures.value i)) (c.deref-3.ensures.value i)) ∙ c.in_ok-turns_of.ensures.same k in
+    λ k. (λ i. changed (changed k (c.deref-2.ensures.value i)) (c.deref-3.ensures.value i)) ∙ c.in_ok-turns.ensures.same k in
     let was = c.in_ok-put_each.ensures.told n left in
     let same = c.moment-moment.ensures.one was.0 m ((stays.held was.0).1 was.1.0) held in
     stands_known c.requires.numbers known m n d s held p due (was.1.1 ∙ whole (changed was.0 ceiling) ∙ ap (λ (k : Content). changed (changed k ceiling) others) same)
@@ -259,7 +257,7 @@ returns-clause-after g c = λ m n d s held p left.
     } in
     let stays = stays_on old c.add_objects.new.vault c.add_ceiling.new.vault c.add_objects.ensures.stays c.add_ceiling.ensures.stays in
     let whole : (k : Content) → changed (changed k first) later ≡ changed k others =
-    λ k. (λ i. changed (changed k (c.deref-2.ensures.value i)) (c.deref-3.ensures.value i)) ∙ c.in_ok-turns_of.ensures.same k in
+    λ k. (λ i. changed (changed k (c.deref-2.ensures.value i)) (c.deref-3.ensures.value i)) ∙ c.in_ok-turns.ensures.same k in
     c.in_ok-put_each.ensures.after m n ((stays.held m).0 held) left ∙ whole (changed m ceiling) ∙ put_known c.requires.numbers known m d s held p
 
 pub returns-in_err-put_each-clause-bad : goal.returns-in_err-put_each-clause-bad
@@ -310,8 +308,8 @@ returns-in_err-add_ceiling-clause-moved g c = λ m d s held p due more.
     let same : (V.view c.add_ceiling.new.vault).moment ≡ (V.view c.args.vault.now).moment = ap (λ (v : VaultView). v.moment) stays.same in
     absurd (omega (arith, same, more))
 
-pub returns-in_err-turns_of-clause-moved : goal.returns-in_err-turns_of-clause-moved
-returns-in_err-turns_of-clause-moved g c = λ m d s held p due more.
+pub returns-in_err-turns-clause-moved : goal.returns-in_err-turns-clause-moved
+returns-in_err-turns-clause-moved g c = λ m d s held p due more.
     let V = g.V.Vault in
     let stays = stays_on c.args.vault.now c.add_objects.new.vault c.add_ceiling.new.vault c.add_objects.ensures.stays c.add_ceiling.ensures.stays in
     let same : (V.view c.add_ceiling.new.vault).moment ≡ (V.view c.args.vault.now).moment = ap (λ (v : VaultView). v.moment) stays.same in
