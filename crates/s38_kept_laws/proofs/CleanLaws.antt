@@ -1,5 +1,5 @@
 -- What stands for what is durable but for parts that belong to nothing stands for it once they are taken away.
-use Rattle.std.proofs.Common.{◌≡◌, ◌∙◌, ℕ, zero, suc, ◌+◌, ◌*◌, ◌/◌, ◌<◌, ◌≤◌, ◌==◌, Bool, true, false, cond, not, List, [], ◌∷◌, ◌++◌, map, filter, length, lit≤, Option, Some, None, refl, sym, ap, arith}
+use Rattle.std.proofs.Common.{◌≡◌, ◌∙◌, ℕ, zero, suc, ◌*◌, ◌<◌, ◌≤◌, ◌==◌, Bool, true, false, cond, not, List, [], ◌∷◌, ◌++◌, map, filter, length, lit≤, Option, Some, None, refl, sym, ap, arith}
 use Rattle.std.proofs.lemmas.Bool.Decides.{nat_tests}
 use Rattle.std.specs.FinMap.{entries, find, get, get-entries}
 use Rattle.std.specs.List.{list_any}
@@ -17,12 +17,11 @@ use Rattle.s38_image.specs.Faults.{Group, ceiling_key, is_number, is_on_disk}
 use Rattle.s38_image.specs.Headers.{header}
 use Rattle.s38_image.specs.Images as images
 use Rattle.s38_image.specs.Pages.{cut, filled, needed, numbered, stream_parts}
-use Rattle.s38_image.specs.declared.header.Header.{Header}
 use Rattle.s38_image.specs.declared.stored.Stored.{Stored}
 use Rattle.s38_restart.specs.Parts.{all_parts, part_of}
 use Rattle.s38_step_parts.proofs.ForceLaws.{none_behind}
 use Rattle.s38_step_parts.proofs.KeptLaws.{kept_number}
-use Rattle.s38_step_parts.specs.Leftovers.{StandsBut, belongs}
+use Rattle.s38_step_parts.specs.Leftovers.{StandsBut}
 use Rattle.s38_vault.specs.Content.{Content}
 use Rattle.s38_vault.specs.Keys.{key_cmp}
 use Rattle.s38_kept_laws.proofs.StandLaws.{at_key, cleaned_page, number_same}
