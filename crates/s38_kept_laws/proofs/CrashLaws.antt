@@ -10,6 +10,8 @@ use Rattle.s38_durable.specs.Durable.{Durable, durable}
 use Rattle.s38_durable.specs.Stands.{Stands}
 use Rattle.s38_rules.specs.Legal.{AreMoments}
 use Rattle.s38_rules.specs.State.{State}
+use Rattle.s38_step_parts.proofs.LeftLaws.{all_stand}
+use Rattle.s38_step_parts.specs.Leftovers.{StandsBut}
 use Rattle.s38_vault.specs.Content.{Content}
 use Rattle.s38_kept_laws.specs.Crashes.{IsKeptPrefix, IsLeftBehind, StandsBetween, answered, led}
 
@@ -55,9 +57,9 @@ answered_behind t marks mark late =
 
 module _ (d : Durable) (s : State) (history : List Entry) (m : Content) where
   -- of the whole history only what is durable is left
-  all_left : (durable d s history).ceiling ≡ (led s history).held.ceiling → StandsBetween m (durable d s history) (led s history) (durable d s history) → Stands m (durable d s history)
+  all_left : (durable d s history).ceiling ≡ (led s history).held.ceiling → StandsBetween m (durable d s history) (led s history) (durable d s history) → StandsBut m (durable d s history)
   all_left ceiling (inl x) = x
-  all_left ceiling (inr (inl x)) = subst (λ (c : ℕ). Stands m (record (durable d s history) { ceiling = c })) (sym ceiling) x
+  all_left ceiling (inr (inl x)) = subst (λ (c : ℕ). StandsBut m (record (durable d s history) { ceiling = c })) (sym ceiling) x
   all_left ceiling (inr (inr x)) = x
 
   module _ (e : Entry) where
@@ -93,8 +95,8 @@ module _ (d : Durable) (s : State) (history : List Entry) (m : Content) where
         (subst (λ (es : List Entry). StandsBetween m (durable d s history) (led s es) (durable d s es)) (sym two) between)
 
     -- of all entries and one more
-    pub left_behind : (k : ℕ) → k ≡ length history + 1 → Stands m (durable d s more) → IsLeftBehind d s more k m
-    left_behind k at stands = inl (subst (λ (es : List Entry). Stands m (durable d s es)) (sym (whole k (omega (arith, at)))) stands)
+    pub left_behind : (k : ℕ) → k ≡ length history + 1 → StandsBut m (durable d s more) → IsLeftBehind d s more k m
+    left_behind k at stands = inl (subst (λ (es : List Entry). StandsBut m (durable d s es)) (sym (whole k (omega (arith, at)))) stands)
 
     -- what was left before is left
     pub left_more : (k : ℕ) → k ≤ length history → (durable d s history).ceiling ≡ (led s history).held.ceiling → IsLeftBehind d s history k m → IsLeftBehind d s more k m
@@ -115,7 +117,7 @@ module _ (d : Durable) (s : State) (history : List Entry) (m : Content) where
 -- ---- a crash
 
 pub begins_left : (d : Durable) (s : State) (t : ℕ) (m : Content) → Stands m d → IsKeptPrefix d s [] [] t m
-begins_left d s t m stands = inl stands
+begins_left d s t m stands = inl (all_stand m d stands)
 
 pub earlier_left : (d : Durable) (s : State) (history : List Entry) (marks : List ℕ) (e : Entry) (now t : ℕ) (m : Content) → length marks ≡ length history → (durable d s history).ceiling ≡ (led s history).held.ceiling → t < now
     → IsKeptPrefix d s history marks t m → IsKeptPrefix d s (history ++ e ∷ []) (marks ++ now ∷ []) t m
@@ -132,7 +134,7 @@ pub answered_left : (d : Durable) (s : State) (history : List Entry) (marks : Li
     → Stands m (durable d s (history ++ e ∷ [])) → IsKeptPrefix d s (history ++ e ∷ []) (marks ++ now ∷ []) t m
 answered_left d s history marks e first before now t m marked are late behind stands =
     let all = answered_all first t marks before are (omega (arith, late, behind)) in
-    left_behind d s history m e (answered t (marks ++ now ∷ [])) (answered_behind t marks now behind ∙ omega (arith, all, marked)) stands
+    left_behind d s history m e (answered t (marks ++ now ∷ [])) (answered_behind t marks now behind ∙ omega (arith, all, marked)) (all_stand m (durable d s (history ++ e ∷ [])) stands)
 
 pub earlier_stopped : (d : Durable) (s : State) (history : List Entry) (marks : List ℕ) (e : Entry) (t : ℕ) (m : Content) → length marks ≡ length history → (durable d s history).ceiling ≡ (led s history).held.ceiling
     → IsKeptPrefix d s history marks t m → IsKeptPrefix d s (history ++ e ∷ []) marks t m

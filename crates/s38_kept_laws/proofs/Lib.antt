@@ -8,6 +8,7 @@ pub mod SettleLaws
 pub mod KeepLaws
 pub mod NumberLaws
 pub mod StandLaws
+pub mod CleanLaws
 pub mod BeginLaws
 pub mod CrashLaws
 pub mod SumLaws

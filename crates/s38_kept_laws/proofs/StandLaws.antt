@@ -51,7 +51,7 @@ equal_order Greater e = absurd (cc)
 same_key : (a b : Key) → eq_by_cmp key_cmp a b ≡ true → a ≡ b
 same_key a b e = key_cmp-IsAntisymmetric a b (equal_order _ e)
 
-number_same : (a b : ℕ) → (a == b) ≡ true → a ≡ b
+pub number_same : (a b : ℕ) → (a == b) ≡ true → a ≡ b
 number_same a b h = grind (arith, nat_tests)
 
 other_key : (a b : Key) → (b.object == a.object) ≡ false → eq_by_cmp key_cmp a b ≡ false
@@ -110,7 +110,7 @@ taken_away test [] = tt
 taken_away test (x ∷ xs) = elim (test x) as (λ b. AreRemovals (map taken (cond b (x ∷ filter test xs) (filter test xs)))) [ true ↦ (refl, taken_away test xs) | false ↦ taken_away test xs ]
 
 -- a part without a page, under a key
-abbrev at_key : Key → Change
+abbrev pub at_key : Key → Change
 at_key key = record { key = key; page = None }
 
 module _ (gs : List Group) (q : Key) where
@@ -151,7 +151,7 @@ module _ (gs : List Group) (q : Key) where
       by rest false is found = passed (is_stray gs (part_of e)) (rest found)
 
 -- a content that was cleaned has the pages that belong to something
-cleaned_page : (m : Content) (q : Key) → get (cleaned m) q ≡ cond (is_stray (groups (all_parts m)) (at_key q)) None (get m q)
+pub cleaned_page : (m : Content) (q : Key) → get (cleaned m) q ≡ cond (is_stray (groups (all_parts m)) (at_key q)) None (get m q)
 cleaned_page m q =
     get_kept m (removals (all_parts m)) (taken_away (is_stray gs) (all_parts m)) q ∙ by (is_stray gs (at_key q)) refl
   where

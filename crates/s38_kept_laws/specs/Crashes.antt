@@ -4,9 +4,9 @@ use Rattle.s38_code.specs.History.{entry_after}
 use Rattle.s38_code.specs.declared.entry.Entry.{Entry}
 use Rattle.s38_code.specs.declared.event.Event.{Event}
 use Rattle.s38_durable.specs.Durable.{Durable, durable}
-use Rattle.s38_durable.specs.Stands.{Stands}
 use Rattle.s38_rules.specs.State.{State}
 use Rattle.s38_rules.specs.Step.{step}
+use Rattle.s38_step_parts.specs.Leftovers.{StandsBut}
 use Rattle.s38_step_parts.specs.Stepping.{raised}
 use Rattle.s38_vault.specs.Content.{Content}
 
@@ -32,13 +32,14 @@ answered moment marks = length (filter (λ mark. nat_le mark moment) marks)
 
 -- ---- what is left
 
--- a content stands for what was durable, for that with the ceiling of the state to which a step leads, or for what is
--- durable behind the step
+-- but for parts that belong to nothing, a content stands for what was durable, for that with the ceiling of the state to
+-- which a step leads, or for what is durable behind the step
 abbrev pub StandsBetween : Content → Durable → State → Durable → Type 0
-StandsBetween m old s new = Stands m old ⊎ (Stands m (raised old s) ⊎ Stands m new)
+StandsBetween m old s new = StandsBut m old ⊎ (StandsBut m (raised old s) ⊎ StandsBut m new)
 
--- of a run from this state, with these entries, a content is left that stands for what is durable behind the first so many
--- entries, for that with the ceiling behind one entry more, or for what is durable behind one entry more
+-- of a run from this state, with these entries, a content is left that stands, but for parts that belong to nothing, for what is
+-- durable behind the first so many entries, for that with the ceiling behind one entry more, or for what is durable behind one
+-- entry more
 abbrev pub IsLeftBehind : Durable → State → List Entry → ℕ → Content → Type 0
 IsLeftBehind d s entries count m =
     StandsBetween m (durable d s (take count entries)) (led s (take (count + 1) entries)) (durable d s (take (count + 1) entries))

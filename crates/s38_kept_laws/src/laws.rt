@@ -28,6 +28,7 @@ ghost use Rattle.s38_rules.specs.State.{State};
 ghost use Rattle.s38_rules.specs.Step.{step};
 ghost use Rattle.s38_rules.specs.Storable.{IsStorable};
 ghost use Rattle.s38_step_parts.specs.Growing.{AreBeginnings};
+ghost use Rattle.s38_step_parts.specs.Leftovers.{StandsBut};
 ghost use Rattle.s38_step_parts.specs.Numbers.{numbered};
 ghost use Rattle.s38_step_parts.specs.Stepping.{AreNumbers, HaveHeaders, IsDue, Precedes, ceiling_changes, object_changes, put_forced};
 ghost use Rattle.s38_vault.specs.Content.{Content};
@@ -47,6 +48,11 @@ pub fn a_run_begins_kept()
     ensures parts { (m : Content) → AreParts (all_parts m) → first_fault body_limit (all_parts m) ≡ None → HasParts (cleaned m) }
     ensures begins { (m : Content) (h : Held) (templates : List CheckedTemplate) (jobs : List Job) (room : Option Room) → AreParts (all_parts m) → first_fault body_limit (all_parts m) ≡ None
         → h ≡ restarted body_limit (all_parts m) → IsOpening h → Counts room (durable_in m) → IsKeptOf (origin_of h templates jobs room) (durable_in m) }
+{}
+
+/// A content that stands for what is durable but for parts that belong to nothing stands for it once they are taken away.
+pub fn what_belongs_to_nothing_can_be_taken_away()
+    ensures { (m : Content) (d : Durable) → StandsBut m d → Stands (cleaned m) d }
 {}
 
 /// What is durable goes with the state behind each step: what takes effect makes durable what it forces, and nothing else
@@ -122,10 +128,10 @@ pub fn one_more_entry_is_durable()
     ensures led_more { (s : State) (history : List Entry) (e : Entry) → led s (history ++ e ∷ []) ≡ (step (led s history) e.process e.event).state }
 {}
 
-/// What a crash leaves of a run at a moment stands for what is durable behind the entries that were answered by then, for that
-/// with the ceiling behind one entry more, or for what is durable behind one entry more. It is so as the run begins, and where
-/// one more entry is marked by a later moment, or a call is stopped: of each moment before the puts, of each moment of them,
-/// and of each moment from the mark on.
+/// What a crash leaves of a run at a moment stands, but for parts that belong to nothing, for what is durable behind the entries
+/// that were answered by then, for that with the ceiling behind one entry more, or for what is durable behind one entry more. It
+/// is so as the run begins, and where one more entry is marked by a later moment, or a call is stopped: of each moment before
+/// the puts, of each moment of them, and of each moment from the mark on.
 pub fn a_crash_leaves_a_prefix()
     ensures begins { (d : Durable) (s : State) (t : ℕ) (m : Content) → Stands m d → IsKeptPrefix d s [] [] t m }
     ensures earlier { (d : Durable) (s : State) (history : List Entry) (marks : List ℕ) (e : Entry) (now t : ℕ) (m : Content) → length marks ≡ length history

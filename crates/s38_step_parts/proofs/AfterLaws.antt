@@ -72,13 +72,17 @@ kept_behind_step all d s n rising = all_kept all s d.objects s.held.objects n (s
 
 -- ---- the parts
 
+-- it is another number than that of the ceiling
+pub apart_below : (k : ℕ) → k < ceiling_key → (k == ceiling_key) ≡ false
+apart_below k low = by (k == ceiling_key) refl
+  where
+    by : (b : Bool) → (k == ceiling_key) ≡ b → b ≡ false
+    by true is = absurd (let same : k ≡ ceiling_key = grind (arith, nat_tests) in omega (arith, same, low))
+    by false is = refl
+
 -- of a number that is not that of the ceiling
 pub parts_below : (d : Durable) (n : ℕ) → n < ceiling_key → parts_at d n ≡ parts_in (kept d.objects n)
-parts_below d n low = by (n == ceiling_key) refl
-  where
-    by : (b : Bool) → (n == ceiling_key) ≡ b → cond b (ceiling_parts d.ceiling) (parts_in (kept d.objects n)) ≡ parts_in (kept d.objects n)
-    by true is = absurd (let same : n ≡ ceiling_key = grind (arith, nat_tests) in omega (arith, same, low))
-    by false is = refl
+parts_below d n low = ap (λ b. cond b (ceiling_parts d.ceiling) (parts_in (kept d.objects n))) (apart_below n low)
 
 pub parts_behind : (all : List Forced) (d : Durable) (s : State) (n : ℕ) → AreRising s.held → n < ceiling_key → parts_at (durable_after all d s) n ≡ parts_in (kept_one all s d.objects (object s.held n))
 parts_behind all d s n rising low = parts_below (durable_after all d s) n low ∙ ap parts_in (kept_behind_step all d s n rising)

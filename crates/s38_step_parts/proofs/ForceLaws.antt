@@ -1,5 +1,5 @@
 -- What the puts of a step make of a content that stands for what was durable before it.
-use Rattle.std.proofs.Common.{◌==◌, ◌+◌, ◌≡◌, ◌⊎◌, ◌<◌, ◌≤◌, ◌-◌, ◌∙◌, ◌∷◌, ◌++◌, [], Bool, List, None, Option, ap, append-nil, arith, cond, false, inl, inr, length, lit≤, map, refl, subst, sym, true, ℕ}
+use Rattle.std.proofs.Common.{◌==◌, ◌+◌, ◌≡◌, ◌⊎◌, ◌<◌, ◌≤◌, ◌-◌, ◌*◌, ◌∙◌, ◌∷◌, ◌++◌, [], Bool, List, None, Option, ap, append-nil, arith, cond, false, inl, inr, length, lit≤, map, refl, subst, sym, take, true, ℕ}
 use Rattle.std.proofs.lemmas.Bool.Decides.{nat_tests}
 use Rattle.std.specs.FinMap.{get}
 use Rattle.std.specs.List.{AllByRecursion, list_any}
@@ -28,7 +28,7 @@ use Rattle.s38_rules.specs.State.{State}
 use Rattle.s38_commits.specs.Units.{UnitMap}
 use Rattle.s38_rules.specs.Held.{Held}
 use Rattle.s38_vault.specs.Content.{Content, changed}
-use Rattle.s38_vault.specs.Directory.{new_keys}
+use Rattle.s38_vault.specs.Directory.{Keys, new_keys}
 use Rattle.s38_vault.specs.Vaults.{VaultView}
 use Rattle.s38_step_parts.specs.Outcomes.{IfBad, IfFull, IsFullFor, IsUnread}
 use Rattle.s38_step_parts.specs.declared.fault.ForceFault.{ForceFault}
@@ -36,6 +36,10 @@ use Rattle.s38_step_parts.specs.declared.fault.ForceFault.TheVariants as faults
 use Rattle.s38_step_parts.proofs.EachLaws.{each_is}
 use Rattle.s38_step_parts.proofs.FrontLaws.{stream_from, wanted_behind}
 use Rattle.s38_step_parts.proofs.NarrowLaws.{narrowed}
+use Rattle.s38_step_parts.proofs.AfterLaws.{apart_below}
+use Rattle.s38_step_parts.proofs.LeftLaws.{first_stand, later_left, later_stand}
+use Rattle.s38_step_parts.proofs.TurnLaws.{all_taken}
+use Rattle.s38_step_parts.specs.Leftovers.{StandsBut, belongs_in, first_changes, later_changes}
 use Rattle.s38_step_parts.proofs.NumberLaws.{AreAbove, Rise, numbers_are, numbers_rise}
 use Rattle.s38_step_parts.specs.Numbers.{numbers}
 use Rattle.s38_step_parts.specs.Putting.{IsBetweenPuts}
@@ -80,13 +84,6 @@ in_order d (n ∷ []) rise = tt
 in_order d (n ∷ k ∷ ns) rise = (rise.0.0, in_order d (k ∷ ns) rise.1)
 
 -- ---- the ceiling is put
-
-apart_below : (k : ℕ) → k < ceiling_key → (k == ceiling_key) ≡ false
-apart_below k low = by (k == ceiling_key) refl
-  where
-    by : (b : Bool) → (k == ceiling_key) ≡ b → b ≡ false
-    by true is = absurd (let same : k ≡ ceiling_key = nat_same k ceiling_key is in omega (arith, same, low))
-    by false is = refl
 
 -- keys of objects have what they had
 ceiling_stays : (all : List Forced) (m : Content) (d : Durable) (key : Key) → key.object < ceiling_key → get (put_ceiling all m d) key ≡ get m key
@@ -149,7 +146,7 @@ both_put all m d ceiling others are one two =
 abbrev first_range : PartRange
 first_range = record { object = ceiling_key; first = 0; end = 1 }
 
-none_behind : (ceiling p : ℕ) → 1 ≤ p → wanted_at (ceiling_parts ceiling) (key_at ceiling_key p) ≡ None
+pub none_behind : (ceiling p : ℕ) → 1 ≤ p → wanted_at (ceiling_parts ceiling) (key_at ceiling_key p) ≡ None
 none_behind ceiling p far =
     let bytes = ceiling_page.print ceiling in
     let zeros : length {A = ℕ} (copies 496 0) ≡ 496 = length_copies {A = ℕ} 496 0 in
@@ -175,20 +172,38 @@ one_ceiling all m d s stands = by (list_any is_ceiling all)
         subst (λ (cs : List Change). length cs ≤ 1) (sym (append-nil (differences (get m) (range_of ceiling_key) parts) ∙ same)) (omega (arith, few))
     by false = omega arith
 
--- ---- what a crash leaves, where each of the two takes one put
+-- ---- what a crash leaves, where one put takes the first of the others
 
-pub once_put : (all : List Forced) (m n : Content) (d : Durable) (s : State) (most : ℕ) (ceiling others : List Change) → AreNumbers all → ceiling ≡ ceiling_changes all (get m) (durable_after all d s) → others ≡ object_changes all (get m) (durable_after all d s)
-    → Stands m d → IsDue all d s → length ceiling ≤ most → length others ≤ most → IsBetweenPuts most m ceiling others n → Stands n d ⊎ (Stands n (raised d s) ⊎ Stands n (durable_after all d s))
-once_put all m n d s most ceiling others are one two stands due few small (inl first) =
-    elim (one_put most m ceiling n few first) [
-      | inl none ↦ inl (subst (λ (c : Content). Stands c d) (sym none) stands)
-      | inr made ↦ inr (inl (subst (λ (c : Content). Stands c (raised d s)) (sym (made ∙ ap (changed m) one)) (ceiling_stands all m d s stands due)))
-    ]
-once_put all m n d s most ceiling others are one two stands due few small (inr last) =
-    elim (one_put most (changed m ceiling) others n small last) [
-      | inl none ↦ inr (inl (subst (λ (c : Content). Stands c (raised d s)) (sym (none ∙ ap (changed m) one)) (ceiling_stands all m d s stands due)))
-      | inr made ↦ inr (inr (subst (λ (c : Content). Stands c (durable_after all d s)) (sym (made ∙ both_put all m (durable_after all d s) ceiling others are one two)) (forced_stands all m d s stands due)))
-    ]
+module _ (all : List Forced) (m n : Content) (d : Durable) (s : State) (most : ℕ) (ceiling others first later : List Change) (are : AreNumbers all) (one : ceiling ≡ ceiling_changes all (get m) (durable_after all d s))
+    (two : others ≡ object_changes all (get m) (durable_after all d s)) (stands : Stands m d) (due : IsDue all d s) where
+  abbrev new : Durable
+  new = durable_after all d s
+
+  with_ceiling : Stands (changed m ceiling) (raised d s)
+  with_ceiling = subst (λ (c : Content). Stands c (raised d s)) (sym (ap (changed m) one)) (ceiling_stands all m d s stands due)
+
+  with_all : Stands (changed (changed m ceiling) others) new
+  with_all = subst (λ (c : Content). Stands c new) (sym (both_put all m new ceiling others are one two)) (forced_stands all m d s stands due)
+
+  with_first : first ≡ first_changes most new others → StandsBut (changed (changed m ceiling) first) new
+  with_first is = subst (λ (cs : List Change). StandsBut (changed (changed m ceiling) cs) new) (sym is) (first_stand most (changed m ceiling) new others with_all)
+
+  pub once_put : first ≡ first_changes most new others → later ≡ later_changes most new others → length ceiling ≤ most → length first ≤ most → IsBetweenPuts most m ceiling first later n
+      → Stands n d ⊎ (Stands n (raised d s) ⊎ StandsBut n new)
+  once_put front back few small (inl begun) =
+      elim (one_put most m ceiling n few begun) [
+        | inl none ↦ inl (subst (λ (c : Content). Stands c d) (sym none) stands)
+        | inr made ↦ inr (inl (subst (λ (c : Content). Stands c (raised d s)) (sym made) with_ceiling))
+      ]
+  once_put front back few small (inr (inl going)) =
+      elim (one_put most (changed m ceiling) first n small going) [
+        | inl none ↦ inr (inl (subst (λ (c : Content). Stands c (raised d s)) (sym none) with_ceiling))
+        | inr made ↦ inr (inr (subst (λ (c : Content). StandsBut c new) (sym made) (with_first front)))
+      ]
+  once_put front back few small (inr (inr ending)) =
+      let left = subst (λ (cs : List Change). AllByRecursion (λ c. belongs_in new c ≡ false) cs) (sym back) (later_left most new others) in
+      inr (inr (subst (λ (c : Content). StandsBut c new) (sym ending.1)
+      (later_stand (changed (changed m ceiling) first) new (take (ending.0 * most) later) (all_taken _ (ending.0 * most) later left) (with_first front))))
 
 -- ---- headers
 
@@ -214,26 +229,39 @@ module _ {holds : Content → Type 0} {all : List Forced} {h : Held} {us : UnitM
   stands_known m n d s held p due is =
       subst (λ (c : Content). Stands c (durable_after all d s)) (sym (is ∙ put_known m d s held p)) (forced_stands all m d s p.stands due)
 
-  pub during_known : (most : ℕ) (m n : Content) (d : Durable) (s : State) → holds m → Precedes h us m d s → IsBetweenPuts most m ceiling others n
-      → IsBetweenPuts most m (ceiling_changes all (get m) (durable_after all d s)) (object_changes all (get m) (durable_after all d s)) n
-  during_known most m n d s held p between = subst (λ (cs : List Change). IsBetweenPuts most m cs (object_changes all (get m) (durable_after all d s)) n) (known.first m d s held p)
-      (subst (λ (cs : List Change). IsBetweenPuts most m ceiling cs n) (known.last m d s held p) between)
+  pub during_known : (most : ℕ) (m n : Content) (d : Durable) (s : State) (first later : List Change) → holds m → Precedes h us m d s → first ≡ first_changes most (durable_after all d s) others → later ≡ later_changes most (durable_after all d s) others
+      → IsBetweenPuts most m ceiling first later n
+      → IsBetweenPuts most m (ceiling_changes all (get m) (durable_after all d s)) (first_changes most (durable_after all d s) (object_changes all (get m) (durable_after all d s))) (later_changes most (durable_after all d s) (object_changes all (get m) (durable_after all d s))) n
+  during_known most m n d s first later held p front back between =
+      let new = durable_after all d s in
+      let two = known.last m d s held p in
+      subst (λ (cs : List Change). IsBetweenPuts most m cs (first_changes most new (object_changes all (get m) new)) (later_changes most new (object_changes all (get m) new)) n) (known.first m d s held p)
+      (subst (λ (cs : List Change). IsBetweenPuts most m ceiling (first_changes most new cs) (later_changes most new cs) n) two
+      (subst (λ (cs : List Change). IsBetweenPuts most m ceiling cs (later_changes most new others) n) front (subst (λ (cs : List Change). IsBetweenPuts most m ceiling first cs n) back between)))
 
-  pub once_known : (most : ℕ) (m n : Content) (d : Durable) (s : State) → holds m → Precedes h us m d s → IsDue all d s
-      → 1 ≤ most → length (object_changes all (get m) (durable_after all d s)) ≤ most
-      → IsBetweenPuts most m ceiling others n → Stands n d ⊎ (Stands n (raised d s) ⊎ Stands n (durable_after all d s))
-  once_known most m n d s held p due few small between =
+  pub once_known : (most : ℕ) (m n : Content) (d : Durable) (s : State) (first later : List Change) → holds m → Precedes h us m d s → IsDue all d s
+      → first ≡ first_changes most (durable_after all d s) others → later ≡ later_changes most (durable_after all d s) others
+      → 1 ≤ most → length (first_changes most (durable_after all d s) (object_changes all (get m) (durable_after all d s))) ≤ most
+      → IsBetweenPuts most m ceiling first later n → Stands n d ⊎ (Stands n (raised d s) ⊎ StandsBut n (durable_after all d s))
+  once_known most m n d s first later held p due front back few small between =
+      let new = durable_after all d s in
       let one = known.first m d s held p in
       let two = known.last m d s held p in
-      once_put all m n d s most ceiling others are one two p.stands due
-      (subst (λ (cs : List Change). length cs ≤ most) (sym one) (let single = one_ceiling all m d s p.stands in omega (arith, single, few))) (subst (λ (cs : List Change). length cs ≤ most) (sym two) small) between
+      let single = one_ceiling all m d s p.stands in
+      once_put all m n d s most ceiling others first later are one two p.stands due front back
+      (subst (λ (cs : List Change). length cs ≤ most) (sym one) (omega (arith, single, few)))
+      (subst (λ (cs : List Change). length cs ≤ most) (sym (front ∙ ap (first_changes most new) two)) small) between
 
-  pub full_known : (old now : VaultView) (fault : ForceFault) (m : Content) (d : Durable) (s : State) → holds m → Precedes h us m d s → now ≡ record old { faults = now.faults }
-      → IsFullFor (new_keys now.keys ceiling + new_keys now.keys others) now.free fault
+  pub full_known : (old now : VaultView) (fault : ForceFault) (first later : List Change) (m : Content) (d : Durable) (s : State) → holds m → Precedes h us m d s → now ≡ record old { faults = now.faults }
+      → ((keys : Keys) → new_keys keys first + new_keys keys later ≡ new_keys keys others)
+      → IsFullFor (new_keys now.keys ceiling + new_keys now.keys first + new_keys now.keys later) now.free fault
       → IsFullFor (new_keys old.keys (ceiling_changes all (get m) (durable_after all d s)) + new_keys old.keys (object_changes all (get m) (durable_after all d s))) old.free fault
-  full_known old now fault m d s held p same full =
+  full_known old now fault first later m d s held p same sum full =
+      let rest = sum old.keys in
+      let whole : new_keys old.keys ceiling + new_keys old.keys first + new_keys old.keys later ≡ new_keys old.keys ceiling + new_keys old.keys others = omega (arith, rest) in
       let of_old : IsFullFor (new_keys old.keys ceiling + new_keys old.keys others) old.free fault =
-      subst (λ (v : VaultView). IsFullFor (new_keys v.keys ceiling + new_keys v.keys others) v.free fault) same full in
+      subst (λ (k : ℕ). IsFullFor k old.free fault) whole
+      (subst (λ (v : VaultView). IsFullFor (new_keys v.keys ceiling + new_keys v.keys first + new_keys v.keys later) v.free fault) same full) in
       subst (λ (cs : List Change). IsFullFor (new_keys old.keys (ceiling_changes all (get m) (durable_after all d s)) + new_keys old.keys cs) old.free fault) (known.last m d s held p)
       (subst (λ (cs : List Change). IsFullFor (new_keys old.keys cs + new_keys old.keys others) old.free fault) (known.first m d s held p) of_old)
 

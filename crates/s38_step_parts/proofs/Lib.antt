@@ -5,6 +5,8 @@ pub mod NarrowLaws
 pub mod FrontLaws
 pub mod AfterLaws
 pub mod KeptLaws
+pub mod TurnLaws
+pub mod LeftLaws
 pub mod TailLaws
 pub mod GrownLaws
 pub mod FollowedLaws

@@ -10,6 +10,7 @@ mod objects;
 mod parts;
 mod putting;
 mod step;
+mod turns;
 
 pub use fault::ForceFault;
 pub use numbers::numbered;

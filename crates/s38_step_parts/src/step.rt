@@ -8,6 +8,7 @@ ghost use Rattle.s38_image_printing.specs.Parts.{CanSettle};
 ghost use Rattle.s38_rules.specs.State.{State};
 ghost use Rattle.s38_rules.specs.Storable.{IsStorable};
 ghost use Rattle.s38_extents.specs.Forcings.{all_forced};
+ghost use Rattle.s38_step_parts.specs.Leftovers.{StandsBut, first_changes, later_changes};
 ghost use Rattle.s38_step_parts.specs.Outcomes.{IfBad, IfFull, IsFullFor};
 ghost use Rattle.s38_step_parts.specs.Putting.{IsBetweenPuts};
 ghost use Rattle.s38_step_parts.specs.Stepping.{AreNumbers, HaveHeaders, IsDue, Precedes, ceiling_changes, object_changes, put_forced, raised};
@@ -17,7 +18,8 @@ ghost use Rattle.s38_vault.specs.Directory.{new_keys};
 
 use crate::fault::ForceFault;
 use crate::objects::{add_ceiling, add_objects};
-use crate::putting::put_both;
+use crate::putting::put_each;
+use crate::turns::turns_of;
 use s38_commits::Units;
 use s38_extents::Forcing;
 use s38_objects::Objects;
@@ -26,9 +28,11 @@ use std::alloc::Global;
 
 /// Keeps what a step forces that led to these objects and units: the ceiling, objects whole, and the headers and rows of
 /// others, whose bodies stay as they are kept; what is there no more is taken away. Only pages that differ are put: first the
-/// ceiling, and then the others in the order of their keys, each in puts of as many as the vault takes. Before the first put
-/// all that differs is known, and all memory is reserved. `BadHeader` never comes of a vault that stands for what was
-/// durable. It is quadratic in how many objects are forced, of which a step has a few.
+/// ceiling, and then the others in the order of their keys. Where one put does not take all others, those that belong to
+/// something come first: headers, and parts of what is kept behind the step. So the header of an object that is there no more
+/// is taken away before its other parts. Before the first put all that differs is known, and all memory is reserved.
+/// `BadHeader` never comes of a vault that stands for what was durable. It is quadratic in how many objects are forced, of
+/// which a step has a few.
 pub fn force<V: Vault>(
     alloc: Global,
     vault: &mut V,
@@ -47,9 +51,12 @@ pub fn force<V: Vault>(
         → V.holds vault.new (put_forced (all_forced all.now) m (durable_after (all_forced all.now) d s))) }
     ensures told { OnOk result ((n : Content) → V.holds vault.new n → (m : Content) × V.holds vault.old m) }
 
-    // Each header that is kept behind the step can be read again, as before it; so it could, where the vault is full.
+    // Each header that is kept behind the step can be read again, as before it; so it can, whatever the result, once a put was
+    // begun, and so it could, where the vault is full.
     ensures headers { OnOk result ((m : Content) (d : Durable) (s : State) → V.holds vault.old m → Precedes objects.now units.now m d s → IsDue (all_forced all.now) d s
         → HaveHeaders (durable_after (all_forced all.now) d s)) }
+    ensures moved { (m : Content) (d : Durable) (s : State) → V.holds vault.old m → Precedes objects.now units.now m d s → IsDue (all_forced all.now) d s
+        → (V.view vault.old).moment < (V.view vault.new).moment → HaveHeaders (durable_after (all_forced all.now) d s) }
 
     // Where it is full, a header is bad, or memory was refused, nothing was changed; after any error it holds what it held,
     // if it still tells.
@@ -62,16 +69,19 @@ pub fn force<V: Vault>(
     ensures refused_holds { IfErr result (λ fault. fault ≢ faults.Failed → (m : Content) → V.holds vault.old m ↔ V.holds vault.new m) }
     ensures err { OnErr result ((m : Content) → V.holds vault.new m → V.holds vault.old m) }
 
-    // A crash leaves what was held after some of the puts, of which the ceiling's comes first; where one put takes all others,
-    // it leaves what stands for what was durable before the step, or with the ceiling, or behind it.
+    // A crash leaves what was held after some of the puts, of which the ceiling's comes first; where one put takes what belongs
+    // to something, it leaves what stands for what was durable before the step, or with the ceiling, or behind it but for parts
+    // that belong to nothing.
     ensures past { (t : ℕ) (m : Content) → t ≤ (V.view vault.old).moment → V.leaves vault.old t m ↔ V.leaves vault.new t m }
     ensures during { (m : Content) (d : Durable) (s : State) → V.holds vault.old m → Precedes objects.now units.now m d s
         → (t : ℕ) (n : Content) → (V.view vault.old).moment < t → t ≤ (V.view vault.new).moment → V.leaves vault.new t n
-        → IsBetweenPuts (V.view vault.old).shape.most m (ceiling_changes (all_forced all.now) (get m) (durable_after (all_forced all.now) d s)) (object_changes (all_forced all.now) (get m) (durable_after (all_forced all.now) d s)) n }
+        → IsBetweenPuts (V.view vault.old).shape.most m (ceiling_changes (all_forced all.now) (get m) (durable_after (all_forced all.now) d s))
+        (first_changes (V.view vault.old).shape.most (durable_after (all_forced all.now) d s) (object_changes (all_forced all.now) (get m) (durable_after (all_forced all.now) d s)))
+        (later_changes (V.view vault.old).shape.most (durable_after (all_forced all.now) d s) (object_changes (all_forced all.now) (get m) (durable_after (all_forced all.now) d s))) n }
     ensures once { (m : Content) (d : Durable) (s : State) → V.holds vault.old m → Precedes objects.now units.now m d s → IsDue (all_forced all.now) d s
-        → length (object_changes (all_forced all.now) (get m) (durable_after (all_forced all.now) d s)) ≤ (V.view vault.old).shape.most
+        → length (first_changes (V.view vault.old).shape.most (durable_after (all_forced all.now) d s) (object_changes (all_forced all.now) (get m) (durable_after (all_forced all.now) d s))) ≤ (V.view vault.old).shape.most
         → (t : ℕ) (n : Content) → (V.view vault.old).moment < t → t ≤ (V.view vault.new).moment → V.leaves vault.new t n
-        → Stands n d ⊎ (Stands n (raised d s) ⊎ Stands n (durable_after (all_forced all.now) d s)) }
+        → Stands n d ⊎ (Stands n (raised d s) ⊎ StandsBut n (durable_after (all_forced all.now) d s)) }
     ensures after { OnOk result ((m n : Content) (d : Durable) (s : State) → V.holds vault.old m → Precedes objects.now units.now m d s → V.leaves vault.new (V.view vault.new).moment n
         → n ≡ put_forced (all_forced all.now) m (durable_after (all_forced all.now) d s)) }
     ensures later { (V.view vault.old).moment ≤ (V.view vault.new).moment }
@@ -83,11 +93,12 @@ pub fn force<V: Vault>(
 {
     // Their contracts say that the vault holds one content, and how many changes a put takes.
     let _moment = vault.moment();
-    let _most = vault.most();
+    let most = vault.most();
     let mut others = Vec::new(alloc);
     add_objects(alloc, vault, objects, units, all, &mut others)?;
     let mut ceiling = Vec::new(alloc);
     add_ceiling(alloc, vault, objects, all, &mut ceiling)?;
-    put_both(vault, &ceiling, &others)?;
+    let turns = turns_of(alloc, objects, most, others)?;
+    put_each(vault, &ceiling, &turns.first, &turns.later)?;
     Ok(())
 }

@@ -1,30 +1,32 @@
-use Rattle.std.proofs.Common.{◌+◌, ◌<◌, ◌≤◌, ◌∙◌, List, ap, arith, subst, sym}
+use Rattle.std.proofs.Common.{◌≡◌, ◌+◌, ◌<◌, ◌≤◌, ◌∙◌, List, ap, arith, subst, sym, ℕ}
 use Rattle.std.specs.FinMap.{get}
-use Rattle.std.specs.List.{AllByRecursion}
 use Rattle.s38_base.specs.declared.page.Change.{Change}
 use Rattle.s38_durable.specs.Durable.{Durable, durable_after}
-use Rattle.s38_image.specs.Faults.{ceiling_key}
-use Rattle.s38_keeping.proofs.SoFarLaws.{all_of as each_of, stays_on}
+use Rattle.s38_keeping.proofs.SoFarLaws.{stays_on}
 use Rattle.s38_rules.specs.State.{State}
-use Rattle.s38_vault.specs.Content.{Content, HaveObjects, changed}
-use Rattle.s38_vault.specs.Directory.{new_keys}
+use Rattle.s38_vault.specs.Content.{Content, changed}
+use Rattle.s38_vault.specs.Directory.{Keys, new_keys}
 use Rattle.s38_vault.specs.Vaults.{VaultView}
 use Rattle.s38_step_parts.proofs.FollowedLaws.{handed}
 use Rattle.s38_step_parts.proofs.ForceLaws.{AreForced, during_known, full_known, headers_behind, if_full, never_bad_put, once_known, put_known, stands_known, unread_bad, unread_full, unread_less}
 use Rattle.s38_extents.specs.Forcings.{all_forced}
 use Rattle.s38_step_parts.specs.Outcomes.{IfBad, IfFull, IsFullFor}
-use Rattle.s38_step_parts.specs.Putting.{IsBetweenPuts}
+use Rattle.s38_step_parts.specs.Leftovers.{first_changes, later_changes}
+use Rattle.s38_step_parts.specs.Putting.{AreTurns, IsBetweenPuts}
 use Rattle.s38_step_parts.specs.Stepping.{HaveHeaders, IsDue, Precedes, ceiling_changes, object_changes}
 use Rattle.s38_step_parts.specs.declared.fault.ForceFault.{ForceFault}
 use Rattle.s38_step_parts.proofs.step.force.Goals as goal
 
-pub put_both-requires-clause-objects : goal.put_both-requires-clause-objects
-put_both-requires-clause-objects g c =
-    subst HaveObjects (sym c.deref-2.ensures.value) (each_of _ _ _ (λ x is. is.0) c.in_ok-add_objects.ensures.objects)
+pub turns_of-requires-clause-rising : goal.turns_of-requires-clause-rising
+turns_of-requires-clause-rising g c = c.in_ok-add_objects.ensures.rising
 
-pub put_both-requires-clause-below : goal.put_both-requires-clause-below
-put_both-requires-clause-below g c =
-    subst (λ (cs : List Change). AllByRecursion (λ x. x.key.object < ceiling_key) cs) (sym c.deref-2.ensures.value) (each_of _ _ _ (λ x is. is.1) c.in_ok-add_objects.ensures.objects)
+pub turns_of-requires-clause-objects : goal.turns_of-requires-clause-objects
+turns_of-requires-clause-objects g c = c.in_ok-add_objects.ensures.objects
+
+pub put_each-requires-clause-turns : goal.put_each-requires-clause-turns
+put_each-requires-clause-turns g c =
+    subst (λ (cs : List Change). AreTurns cs c.deref-3.result.now) (sym c.deref-2.ensures.value)
+    (subst (λ (cs : List Change). AreTurns c.in_ok-turns.turns.first.items cs) (sym c.deref-3.ensures.value) c.in_ok-turns.ensures.turns)
 
 pub returns-in_err-add_objects-clause-full : goal.returns-in_err-add_objects-clause-full
 returns-in_err-add_objects-clause-full g c =
@@ -74,62 +76,74 @@ returns-in_err-add_ceiling-clause-bad g c =
     handed (λ (e : ForceFault). IfBad ((m : Content) (d : Durable) (s : State) → V.holds old m → Precedes h us m d s → ⊥) e)
     c.from_residual-in_err-add_ceiling.result fault c.from_residual-in_err-add_ceiling.ensures.1 (unread_bad _ _ (λ bad. absurd bad) fault c.in_err-add_ceiling.ensures.bad)
 
-pub returns-in_err-put_both-clause-full : goal.returns-in_err-put_both-clause-full
-returns-in_err-put_both-clause-full g c =
+pub returns-in_err-put_each-clause-full : goal.returns-in_err-put_each-clause-full
+returns-in_err-put_each-clause-full g c =
     let V = g.V.Vault in
     let old = c.args.vault.now in
     let h = c.args.objects.now in
     let us = c.args.units.now in
     let all = all_forced c.args.all.now in
-    let first = c.deref.result.now in
-    let others = c.deref-2.result.now in
-    let known : AreForced (V.holds old) all h us first others = record {
+    let ceiling = c.deref.result.now in
+    let others = c.add_objects.new.into.items in
+    let first = c.deref-2.result.now in
+    let later = c.deref-3.result.now in
+    let known : AreForced (V.holds old) all h us ceiling others = record {
       first = λ m d s held p. c.deref.ensures.value ∙ c.in_ok-add_ceiling.ensures.told m d s ((c.add_objects.ensures.stays.held m).0 held) p.held;
-      last = λ m d s held p. c.deref-2.ensures.value ∙ c.in_ok-add_objects.ensures.told m d s held p;
+      last = λ m d s held p. c.in_ok-add_objects.ensures.told m d s held p;
     } in
     let stays = stays_on old c.add_objects.new.vault c.add_ceiling.new.vault c.add_objects.ensures.stays c.add_ceiling.ensures.stays in
-    let fault = c.in_err-put_both.field-0.0 in
+    let fault = c.in_err-put_each.field-0.0 in
+    let sum : (keys : Keys) → new_keys keys first + new_keys keys later ≡ new_keys keys others =
+    λ keys. (λ i. new_keys keys (c.deref-2.ensures.value i) + new_keys keys (c.deref-3.ensures.value i)) ∙ c.in_ok-turns.ensures.keys keys in
     handed (λ (e : ForceFault). (m : Content) (d : Durable) (s : State) → V.holds old m → Precedes h us m d s
     → IsFullFor (new_keys (V.view old).keys (ceiling_changes all (get m) (durable_after all d s)) + new_keys (V.view old).keys (object_changes all (get m) (durable_after all d s))) (V.view old).free e)
-    c.from_residual-in_err-put_both.result fault c.from_residual-in_err-put_both.ensures.1
-    (λ m d s held p. full_known c.requires.numbers known (V.view old) (V.view c.add_ceiling.new.vault) fault m d s held p stays.same c.in_err-put_both.ensures.full)
+    c.from_residual-in_err-put_each.result fault c.from_residual-in_err-put_each.ensures.1
+    (λ m d s held p. full_known c.requires.numbers known (V.view old) (V.view c.add_ceiling.new.vault) fault first later m d s held p stays.same sum c.in_err-put_each.ensures.full)
 
-pub returns-in_err-put_both-clause-during : goal.returns-in_err-put_both-clause-during
-returns-in_err-put_both-clause-during g c = λ m d s held p t n low high left.
+pub returns-in_err-put_each-clause-during : goal.returns-in_err-put_each-clause-during
+returns-in_err-put_each-clause-during g c = λ m d s held p t n low high left.
     let V = g.V.Vault in
     let old = c.args.vault.now in
     let h = c.args.objects.now in
     let us = c.args.units.now in
     let all = all_forced c.args.all.now in
-    let first = c.deref.result.now in
-    let others = c.deref-2.result.now in
-    let known : AreForced (V.holds old) all h us first others = record {
+    let ceiling = c.deref.result.now in
+    let others = c.add_objects.new.into.items in
+    let first = c.deref-2.result.now in
+    let later = c.deref-3.result.now in
+    let known : AreForced (V.holds old) all h us ceiling others = record {
       first = λ m d s held p. c.deref.ensures.value ∙ c.in_ok-add_ceiling.ensures.told m d s ((c.add_objects.ensures.stays.held m).0 held) p.held;
-      last = λ m d s held p. c.deref-2.ensures.value ∙ c.in_ok-add_objects.ensures.told m d s held p;
+      last = λ m d s held p. c.in_ok-add_objects.ensures.told m d s held p;
     } in
     let stays = stays_on old c.add_objects.new.vault c.add_ceiling.new.vault c.add_objects.ensures.stays c.add_ceiling.ensures.stays in
     let begun = subst (λ (v : VaultView). v.moment < t) (sym stays.same) low in
-    let between = subst (λ (v : VaultView). IsBetweenPuts v.shape.most m first others n) stays.same (c.put_both.ensures.during m ((stays.held m).0 held) t n begun high left) in
-    during_known c.requires.numbers known (V.view old).shape.most m n d s held p between
+    let between = subst (λ (v : VaultView). IsBetweenPuts v.shape.most m ceiling first later n) stays.same (c.put_each.ensures.during m ((stays.held m).0 held) t n begun high left) in
+    let front = c.deref-2.ensures.value ∙ c.in_ok-turns.ensures.first all d s p.held ∙ ap (λ (k : ℕ). first_changes k (durable_after all d s) others) c.most-most.ensures.most in
+    let back = c.deref-3.ensures.value ∙ c.in_ok-turns.ensures.later all d s p.held ∙ ap (λ (k : ℕ). later_changes k (durable_after all d s) others) c.most-most.ensures.most in
+    during_known c.requires.numbers known (V.view old).shape.most m n d s first later held p front back between
 
-pub returns-in_err-put_both-clause-once : goal.returns-in_err-put_both-clause-once
-returns-in_err-put_both-clause-once g c = λ m d s held p due small t n low high left.
+pub returns-in_err-put_each-clause-once : goal.returns-in_err-put_each-clause-once
+returns-in_err-put_each-clause-once g c = λ m d s held p due small t n low high left.
     let V = g.V.Vault in
     let old = c.args.vault.now in
     let h = c.args.objects.now in
     let us = c.args.units.now in
     let all = all_forced c.args.all.now in
-    let first = c.deref.result.now in
-    let others = c.deref-2.result.now in
-    let known : AreForced (V.holds old) all h us first others = record {
+    let ceiling = c.deref.result.now in
+    let others = c.add_objects.new.into.items in
+    let first = c.deref-2.result.now in
+    let later = c.deref-3.result.now in
+    let known : AreForced (V.holds old) all h us ceiling others = record {
       first = λ m d s held p. c.deref.ensures.value ∙ c.in_ok-add_ceiling.ensures.told m d s ((c.add_objects.ensures.stays.held m).0 held) p.held;
-      last = λ m d s held p. c.deref-2.ensures.value ∙ c.in_ok-add_objects.ensures.told m d s held p;
+      last = λ m d s held p. c.in_ok-add_objects.ensures.told m d s held p;
     } in
     let stays = stays_on old c.add_objects.new.vault c.add_ceiling.new.vault c.add_objects.ensures.stays c.add_ceiling.ensures.stays in
     let begun = subst (λ (v : VaultView). v.moment < t) (sym stays.same) low in
-    let between = subst (λ (v : VaultView). IsBetweenPuts v.shape.most m first others n) stays.same (c.put_both.ensures.during m ((stays.held m).0 held) t n begun high left) in
+    let between = subst (λ (v : VaultView). IsBetweenPuts v.shape.most m ceiling first later n) stays.same (c.put_each.ensures.during m ((stays.held m).0 held) t n begun high left) in
     let most : 1 ≤ (V.view old).shape.most = omega (arith, c.most-most.ensures.limits.0) in
-    once_known c.requires.numbers known (V.view old).shape.most m n d s held p due most small between
+    let front = c.deref-2.ensures.value ∙ c.in_ok-turns.ensures.first all d s p.held ∙ ap (λ (k : ℕ). first_changes k (durable_after all d s) others) c.most-most.ensures.most in
+    let back = c.deref-3.ensures.value ∙ c.in_ok-turns.ensures.later all d s p.held ∙ ap (λ (k : ℕ). later_changes k (durable_after all d s) others) c.most-most.ensures.most in
+    once_known c.requires.numbers known (V.view old).shape.most m n d s first later held p due front back most small between
 
 pub returns-clause-during : goal.returns-clause-during
 returns-clause-during g c = λ m d s held p t n low high left.
@@ -138,16 +152,20 @@ returns-clause-during g c = λ m d s held p t n low high left.
     let h = c.args.objects.now in
     let us = c.args.units.now in
     let all = all_forced c.args.all.now in
-    let first = c.deref.result.now in
-    let others = c.deref-2.result.now in
-    let known : AreForced (V.holds old) all h us first others = record {
+    let ceiling = c.deref.result.now in
+    let others = c.add_objects.new.into.items in
+    let first = c.deref-2.result.now in
+    let later = c.deref-3.result.now in
+    let known : AreForced (V.holds old) all h us ceiling others = record {
       first = λ m d s held p. c.deref.ensures.value ∙ c.in_ok-add_ceiling.ensures.told m d s ((c.add_objects.ensures.stays.held m).0 held) p.held;
-      last = λ m d s held p. c.deref-2.ensures.value ∙ c.in_ok-add_objects.ensures.told m d s held p;
+      last = λ m d s held p. c.in_ok-add_objects.ensures.told m d s held p;
     } in
     let stays = stays_on old c.add_objects.new.vault c.add_ceiling.new.vault c.add_objects.ensures.stays c.add_ceiling.ensures.stays in
     let begun = subst (λ (v : VaultView). v.moment < t) (sym stays.same) low in
-    let between = subst (λ (v : VaultView). IsBetweenPuts v.shape.most m first others n) stays.same (c.put_both.ensures.during m ((stays.held m).0 held) t n begun high left) in
-    during_known c.requires.numbers known (V.view old).shape.most m n d s held p between
+    let between = subst (λ (v : VaultView). IsBetweenPuts v.shape.most m ceiling first later n) stays.same (c.put_each.ensures.during m ((stays.held m).0 held) t n begun high left) in
+    let front = c.deref-2.ensures.value ∙ c.in_ok-turns.ensures.first all d s p.held ∙ ap (λ (k : ℕ). first_changes k (durable_after all d s) others) c.most-most.ensures.most in
+    let back = c.deref-3.ensures.value ∙ c.in_ok-turns.ensures.later all d s p.held ∙ ap (λ (k : ℕ). later_changes k (durable_after all d s) others) c.most-most.ensures.most in
+    during_known c.requires.numbers known (V.view old).shape.most m n d s first later held p front back between
 
 pub returns-clause-once : goal.returns-clause-once
 returns-clause-once g c = λ m d s held p due small t n low high left.
@@ -156,17 +174,21 @@ returns-clause-once g c = λ m d s held p due small t n low high left.
     let h = c.args.objects.now in
     let us = c.args.units.now in
     let all = all_forced c.args.all.now in
-    let first = c.deref.result.now in
-    let others = c.deref-2.result.now in
-    let known : AreForced (V.holds old) all h us first others = record {
+    let ceiling = c.deref.result.now in
+    let others = c.add_objects.new.into.items in
+    let first = c.deref-2.result.now in
+    let later = c.deref-3.result.now in
+    let known : AreForced (V.holds old) all h us ceiling others = record {
       first = λ m d s held p. c.deref.ensures.value ∙ c.in_ok-add_ceiling.ensures.told m d s ((c.add_objects.ensures.stays.held m).0 held) p.held;
-      last = λ m d s held p. c.deref-2.ensures.value ∙ c.in_ok-add_objects.ensures.told m d s held p;
+      last = λ m d s held p. c.in_ok-add_objects.ensures.told m d s held p;
     } in
     let stays = stays_on old c.add_objects.new.vault c.add_ceiling.new.vault c.add_objects.ensures.stays c.add_ceiling.ensures.stays in
     let begun = subst (λ (v : VaultView). v.moment < t) (sym stays.same) low in
-    let between = subst (λ (v : VaultView). IsBetweenPuts v.shape.most m first others n) stays.same (c.put_both.ensures.during m ((stays.held m).0 held) t n begun high left) in
+    let between = subst (λ (v : VaultView). IsBetweenPuts v.shape.most m ceiling first later n) stays.same (c.put_each.ensures.during m ((stays.held m).0 held) t n begun high left) in
     let most : 1 ≤ (V.view old).shape.most = omega (arith, c.most-most.ensures.limits.0) in
-    once_known c.requires.numbers known (V.view old).shape.most m n d s held p due most small between
+    let front = c.deref-2.ensures.value ∙ c.in_ok-turns.ensures.first all d s p.held ∙ ap (λ (k : ℕ). first_changes k (durable_after all d s) others) c.most-most.ensures.most in
+    let back = c.deref-3.ensures.value ∙ c.in_ok-turns.ensures.later all d s p.held ∙ ap (λ (k : ℕ). later_changes k (durable_after all d s) others) c.most-most.ensures.most in
+    once_known c.requires.numbers known (V.view old).shape.most m n d s first later held p due front back most small between
 
 pub returns-clause-holds : goal.returns-clause-holds
 returns-clause-holds g c = λ m d s held p.
@@ -175,18 +197,22 @@ returns-clause-holds g c = λ m d s held p.
     let h = c.args.objects.now in
     let us = c.args.units.now in
     let all = all_forced c.args.all.now in
-    let first = c.deref.result.now in
-    let others = c.deref-2.result.now in
-    let known : AreForced (V.holds old) all h us first others = record {
+    let ceiling = c.deref.result.now in
+    let others = c.add_objects.new.into.items in
+    let first = c.deref-2.result.now in
+    let later = c.deref-3.result.now in
+    let known : AreForced (V.holds old) all h us ceiling others = record {
       first = λ m d s held p. c.deref.ensures.value ∙ c.in_ok-add_ceiling.ensures.told m d s ((c.add_objects.ensures.stays.held m).0 held) p.held;
-      last = λ m d s held p. c.deref-2.ensures.value ∙ c.in_ok-add_objects.ensures.told m d s held p;
+      last = λ m d s held p. c.in_ok-add_objects.ensures.told m d s held p;
     } in
     let stays = stays_on old c.add_objects.new.vault c.add_ceiling.new.vault c.add_objects.ensures.stays c.add_ceiling.ensures.stays in
-    subst (λ (n : Content). V.holds c.put_both.new.vault n) (put_known c.requires.numbers known m d s held p) (c.in_ok-put_both.ensures.holds m ((stays.held m).0 held))
+    let whole : (k : Content) → changed (changed k first) later ≡ changed k others =
+    λ k. (λ i. changed (changed k (c.deref-2.ensures.value i)) (c.deref-3.ensures.value i)) ∙ c.in_ok-turns.ensures.same k in
+    subst (λ (n : Content). V.holds c.put_each.new.vault n) (whole (changed m ceiling) ∙ put_known c.requires.numbers known m d s held p) (c.in_ok-put_each.ensures.holds m ((stays.held m).0 held))
 
 pub returns-clause-told : goal.returns-clause-told
 returns-clause-told g c = λ n left.
-    let was = c.in_ok-put_both.ensures.told n left in
+    let was = c.in_ok-put_each.ensures.told n left in
     (was.0, (c.add_objects.ensures.stays.held was.0).1 ((c.add_ceiling.ensures.stays.held was.0).1 was.1.0))
 
 pub returns-clause-stands : goal.returns-clause-stands
@@ -196,16 +222,20 @@ returns-clause-stands g c = λ m n d s held left p due.
     let h = c.args.objects.now in
     let us = c.args.units.now in
     let all = all_forced c.args.all.now in
-    let first = c.deref.result.now in
-    let others = c.deref-2.result.now in
-    let known : AreForced (V.holds old) all h us first others = record {
+    let ceiling = c.deref.result.now in
+    let others = c.add_objects.new.into.items in
+    let first = c.deref-2.result.now in
+    let later = c.deref-3.result.now in
+    let known : AreForced (V.holds old) all h us ceiling others = record {
       first = λ m d s held p. c.deref.ensures.value ∙ c.in_ok-add_ceiling.ensures.told m d s ((c.add_objects.ensures.stays.held m).0 held) p.held;
-      last = λ m d s held p. c.deref-2.ensures.value ∙ c.in_ok-add_objects.ensures.told m d s held p;
+      last = λ m d s held p. c.in_ok-add_objects.ensures.told m d s held p;
     } in
     let stays = stays_on old c.add_objects.new.vault c.add_ceiling.new.vault c.add_objects.ensures.stays c.add_ceiling.ensures.stays in
-    let was = c.in_ok-put_both.ensures.told n left in
+    let whole : (k : Content) → changed (changed k first) later ≡ changed k others =
+    λ k. (λ i. changed (changed k (c.deref-2.ensures.value i)) (c.deref-3.ensures.value i)) ∙ c.in_ok-turns.ensures.same k in
+    let was = c.in_ok-put_each.ensures.told n left in
     let same = c.moment-moment.ensures.one was.0 m ((stays.held was.0).1 was.1.0) held in
-    stands_known c.requires.numbers known m n d s held p due (was.1.1 ∙ ap (λ (k : Content). changed (changed k first) others) same)
+    stands_known c.requires.numbers known m n d s held p due (was.1.1 ∙ whole (changed was.0 ceiling) ∙ ap (λ (k : Content). changed (changed k ceiling) others) same)
 
 pub returns-clause-headers : goal.returns-clause-headers
 returns-clause-headers g c = λ m d s held p due. headers_behind (all_forced c.args.all.now) d s p.headers due (c.in_ok-add_objects.ensures.headers m d s held p)
@@ -217,24 +247,28 @@ returns-clause-after g c = λ m n d s held p left.
     let h = c.args.objects.now in
     let us = c.args.units.now in
     let all = all_forced c.args.all.now in
-    let first = c.deref.result.now in
-    let others = c.deref-2.result.now in
-    let known : AreForced (V.holds old) all h us first others = record {
+    let ceiling = c.deref.result.now in
+    let others = c.add_objects.new.into.items in
+    let first = c.deref-2.result.now in
+    let later = c.deref-3.result.now in
+    let known : AreForced (V.holds old) all h us ceiling others = record {
       first = λ m d s held p. c.deref.ensures.value ∙ c.in_ok-add_ceiling.ensures.told m d s ((c.add_objects.ensures.stays.held m).0 held) p.held;
-      last = λ m d s held p. c.deref-2.ensures.value ∙ c.in_ok-add_objects.ensures.told m d s held p;
+      last = λ m d s held p. c.in_ok-add_objects.ensures.told m d s held p;
     } in
     let stays = stays_on old c.add_objects.new.vault c.add_ceiling.new.vault c.add_objects.ensures.stays c.add_ceiling.ensures.stays in
-    c.in_ok-put_both.ensures.after m n ((stays.held m).0 held) left ∙ put_known c.requires.numbers known m d s held p
+    let whole : (k : Content) → changed (changed k first) later ≡ changed k others =
+    λ k. (λ i. changed (changed k (c.deref-2.ensures.value i)) (c.deref-3.ensures.value i)) ∙ c.in_ok-turns.ensures.same k in
+    c.in_ok-put_each.ensures.after m n ((stays.held m).0 held) left ∙ whole (changed m ceiling) ∙ put_known c.requires.numbers known m d s held p
 
-pub returns-in_err-put_both-clause-bad : goal.returns-in_err-put_both-clause-bad
-returns-in_err-put_both-clause-bad g c =
+pub returns-in_err-put_each-clause-bad : goal.returns-in_err-put_each-clause-bad
+returns-in_err-put_each-clause-bad g c =
     let V = g.V.Vault in
     let old = c.args.vault.now in
     let h = c.args.objects.now in
     let us = c.args.units.now in
-    let fault = c.in_err-put_both.field-0.0 in
+    let fault = c.in_err-put_each.field-0.0 in
     handed (λ (e : ForceFault). IfBad ((m : Content) (d : Durable) (s : State) → V.holds old m → Precedes h us m d s → ⊥) e)
-    c.from_residual-in_err-put_both.result fault c.from_residual-in_err-put_both.ensures.1 (never_bad_put _ fault c.in_err-put_both.ensures.bad)
+    c.from_residual-in_err-put_each.result fault c.from_residual-in_err-put_each.ensures.1 (never_bad_put _ fault c.in_err-put_each.ensures.bad)
 
 pub returns-in_err-add_objects-clause-full_headers : goal.returns-in_err-add_objects-clause-full_headers
 returns-in_err-add_objects-clause-full_headers g c =
@@ -252,11 +286,37 @@ returns-in_err-add_ceiling-clause-full_headers g c =
     handed (λ (e : ForceFault). IfFull ((m : Content) (d : Durable) (s : State) → V.holds c.args.vault.now m → Precedes c.args.objects.now c.args.units.now m d s → IsDue all d s → HaveHeaders (durable_after all d s)) e)
     c.from_residual-in_err-add_ceiling.result fault c.from_residual-in_err-add_ceiling.ensures.1 (unread_less _ _ fault c.in_err-add_ceiling.ensures.bad)
 
-pub returns-in_err-put_both-clause-full_headers : goal.returns-in_err-put_both-clause-full_headers
-returns-in_err-put_both-clause-full_headers g c =
+pub returns-in_err-put_each-clause-full_headers : goal.returns-in_err-put_each-clause-full_headers
+returns-in_err-put_each-clause-full_headers g c =
     let V = g.V.Vault in
     let all = all_forced c.args.all.now in
-    let fault = c.in_err-put_both.field-0.0 in
+    let fault = c.in_err-put_each.field-0.0 in
     handed (λ (e : ForceFault). IfFull ((m : Content) (d : Durable) (s : State) → V.holds c.args.vault.now m → Precedes c.args.objects.now c.args.units.now m d s → IsDue all d s → HaveHeaders (durable_after all d s)) e)
-    c.from_residual-in_err-put_both.result fault c.from_residual-in_err-put_both.ensures.1
+    c.from_residual-in_err-put_each.result fault c.from_residual-in_err-put_each.ensures.1
     (if_full _ fault (λ m d s held p due. headers_behind all d s p.headers due (c.in_ok-add_objects.ensures.headers m d s held p)))
+
+pub returns-in_err-add_objects-clause-moved : goal.returns-in_err-add_objects-clause-moved
+returns-in_err-add_objects-clause-moved g c = λ m d s held p due more.
+    let V = g.V.Vault in
+    let same : (V.view c.add_objects.new.vault).moment ≡ (V.view c.args.vault.now).moment = ap (λ (v : VaultView). v.moment) c.add_objects.ensures.stays.same in
+    absurd (omega (arith, same, more))
+
+pub returns-in_err-add_ceiling-clause-moved : goal.returns-in_err-add_ceiling-clause-moved
+returns-in_err-add_ceiling-clause-moved g c = λ m d s held p due more.
+    let V = g.V.Vault in
+    let stays = stays_on c.args.vault.now c.add_objects.new.vault c.add_ceiling.new.vault c.add_objects.ensures.stays c.add_ceiling.ensures.stays in
+    let same : (V.view c.add_ceiling.new.vault).moment ≡ (V.view c.args.vault.now).moment = ap (λ (v : VaultView). v.moment) stays.same in
+    absurd (omega (arith, same, more))
+
+pub returns-in_err-turns-clause-moved : goal.returns-in_err-turns-clause-moved
+returns-in_err-turns-clause-moved g c = λ m d s held p due more.
+    let V = g.V.Vault in
+    let stays = stays_on c.args.vault.now c.add_objects.new.vault c.add_ceiling.new.vault c.add_objects.ensures.stays c.add_ceiling.ensures.stays in
+    let same : (V.view c.add_ceiling.new.vault).moment ≡ (V.view c.args.vault.now).moment = ap (λ (v : VaultView). v.moment) stays.same in
+    absurd (omega (arith, same, more))
+
+pub returns-in_err-put_each-clause-moved : goal.returns-in_err-put_each-clause-moved
+returns-in_err-put_each-clause-moved g c = λ m d s held p due more. headers_behind (all_forced c.args.all.now) d s p.headers due (c.in_ok-add_objects.ensures.headers m d s held p)
+
+pub returns-clause-moved : goal.returns-clause-moved
+returns-clause-moved g c = λ m d s held p due more. headers_behind (all_forced c.args.all.now) d s p.headers due (c.in_ok-add_objects.ensures.headers m d s held p)

@@ -1,8 +1,0 @@
-use Rattle.std.proofs.Common.{arith}
-use Rattle.s38_step_parts.proofs.BothLaws.{new_few}
-use Rattle.s38_step_parts.proofs.putting.count_both.Goals as goal
-
-pub overflow_add-result : goal.overflow_add-result
-overflow_add-result g c =
-    let keys = (g.V.Vault.view c.args.vault.now).keys in
-    omega (arith, c.requires.few, c.count_new.ensures, c.count_new-2.ensures, new_few keys c.args.ceiling.now, new_few keys c.args.others.now)
