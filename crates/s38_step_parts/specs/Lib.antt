@@ -4,3 +4,4 @@ pub mod Putting
 pub mod Outcomes
 pub mod Growing
 pub mod Stepping
+pub mod Leftovers
