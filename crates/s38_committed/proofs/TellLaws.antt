@@ -328,7 +328,7 @@ few_fields fields fit =
 empty_small : (fields : List Attr) → length fields ≤ 256 → image_size fields 0 ≤ body_limit
 empty_small fields few = omega (arith, few)
 
-new_small : (ops : List Operand) → IsSmall (new_data_space ops).space
+pub new_small : (ops : List Operand) → IsSmall (new_data_space ops).space
 new_small ops = empty_small (proper_fields (attributes_of (place ops 5))) (few_fields (proper_fields (attributes_of (place ops 5))) (fields_fit (attributes_of (place ops 5))))
 
 desds_tells : TellRow desds
@@ -344,9 +344,10 @@ data_spaces_tell Updsen = updsen_tells
 data_spaces_tell Deldsen = deldsen_tells
 data_spaces_tell _ = λ s p d t right limit e. tt
 
-jrnlobj_tells : TellRow jrnlobj
+-- JRNLOBJ has its rules see to what is on disk
+pub jrnlobj_journals : (s : State) (p d : ℕ) (t : Request) → refused_by jrnlobj s p d t ≡ None → JournalsTo s.held (target s.held t.operands 1) (target s.held t.operands 2) (target s.held t.operands 1)
 unfolding jrnlobj_fails
-jrnlobj_tells s p d t right limit e =
+jrnlobj_journals s p d t e =
     let both = first_none _ _ (rule_met jrnlobj s p d t e) in
     let port = target s.held t.operands 2 in
     let disks = and_parts (is_on_disk s.held port) (is_on_disk s.held (port_journal s.held port)) (not_false _ (fails_none _ _ _ both.1)) in
@@ -355,7 +356,7 @@ jrnlobj_tells s p d t right limit e =
 journals_tell : (op : Op) → TellRow (journals_row op)
 unfolding journals_row
 journals_tell Crtjs = λ s p d t right limit e. refl
-journals_tell Jrnlobj = jrnlobj_tells
+journals_tell Jrnlobj = λ s p d t right limit e. jrnlobj_journals s p d t e
 journals_tell _ = λ s p d t right limit e. tt
 
 program_new : (program : Option Program) → NewIn (option_map bodies.Program program)

@@ -32,7 +32,7 @@ use Rattle.s38_kept_laws.proofs.StandLaws.{read_images}
 
 -- ---- what is restarted has what was read
 
-followed_in : (h : Held) (ss : List Stored) (n : ℕ) → object_in (map (followed h) ss) n ≡ option_map (followed h) (kept ss n)
+pub followed_in : (h : Held) (ss : List Stored) (n : ℕ) → object_in (map (followed h) ss) n ≡ option_map (followed h) (kept ss n)
 followed_in h [] n = refl
 followed_in h (x ∷ ss) n = by (x.object.number.0 == n) (followed_in h ss n)
   where

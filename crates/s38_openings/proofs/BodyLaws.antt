@@ -10,6 +10,7 @@ use Rattle.s38_base.specs.declared.attr.Attr.{Attr}
 use Rattle.s38_base.specs.declared.id.Kind.TheVariants as kinds
 use Rattle.s38_base.specs.declared.id.Kind.{Kind}
 use Rattle.s38_base.specs.declared.words.Relation.TheVariants.{Lo}
+use Rattle.s38_code.specs.declared.program.Program.{Program}
 use Rattle.s38_codecs.proofs.CodecLaws.{both_true}
 use Rattle.s38_codecs.proofs.FormatLaws.{length_copies}
 use Rattle.s38_codecs.specs.Codec.{byte, bytes, copies, fits_each, only}
@@ -18,17 +19,18 @@ use Rattle.s38_commitment_laws.specs.Right.{IsData, IsEntryOf, IsTable}
 use Rattle.s38_dataspaces.specs.Entries as spaces
 use Rattle.s38_dataspaces.specs.Table.{DataTable, entry_len, image_size}
 use Rattle.s38_image.proofs.SpaceLaws.{length_cells}
-use Rattle.s38_image.specs.Bodies.{body_bytes, data_in, entries_part, unsequenced}
+use Rattle.s38_image.specs.Bodies.{body_bytes, data_in, entries_part, program_part, unsequenced}
 use Rattle.s38_image.specs.DataSpaces.{DataParts, data_space}
 use Rattle.s38_image.specs.Fitting.{FitsBody, FitsSpace}
 use Rattle.s38_image.specs.Headers.{longest_body}
 use Rattle.s38_image.specs.Indexes.{are_rising, index, is_index}
 use Rattle.s38_image.specs.Journals.{entry, journal}
+use Rattle.s38_image.specs.Programs.{IsCreated}
 use Rattle.s38_image.specs.Queues.{is_queue, message, queue, queue_head}
 use Rattle.s38_image.specs.Scalars.{attr}
 use Rattle.s38_image.specs.Spaces.{flags_in}
 use Rattle.s38_image_printing.proofs.DataLaws.{data_bytes}
-use Rattle.s38_image_printing.proofs.LengthLaws.{index_long, journal_long, queue_long}
+use Rattle.s38_image_printing.proofs.LengthLaws.{index_long, journal_long, queue_long, text_long}
 use Rattle.s38_image_printing.specs.Printing.{slot_bytes}
 use Rattle.s38_indexes.proofs.OrderLaws.{chained, is_less-Less}
 use Rattle.s38_indexes.specs.Entries as entries
@@ -42,6 +44,7 @@ use Rattle.s38_queues.specs.MessageQueue.{MessageQueue, is_keyed, longest_key}
 use Rattle.s38_queues.specs.declared.message.Message.{Message}
 use Rattle.s38_rules.specs.Held.{kind_of}
 use Rattle.s38_rules.specs.Parts.{data_of, index_part, queue_part, space_part}
+use Rattle.s38_rules.specs.Room.{program_size}
 use Rattle.s38_rules.specs.declared.data_body.DataBody.{DataBody}
 use Rattle.s38_rules.specs.declared.object.Body.TheVariants as bodies
 use Rattle.s38_rules.specs.declared.object.Body.{Body}
@@ -174,6 +177,10 @@ data_long port sequence table is =
 abbrev IsShort : Kind → Body → ℕ → Type 0
 IsShort k b sequence = length (body_bytes k (record { body = b; sequence = sequence })) ≤ longest_body body_limit k
 
+program_body : (p : Program) (sequence : ℕ) → FitsCase IsCreated (unsequenced program_part sequence (bodies.Program p)) → IsShort kinds.Program (bodies.Program p) sequence → program_size p ≤ body_limit
+program_body p zero h long = subst (λ (n : ℕ). n ≤ body_limit) (text_long p.template) long
+program_body p (suc n) h long = absurd h
+
 queue_body : (q : MessageQueue) (sequence : ℕ) → FitsCase (λ x. queue.fits x ≡ true) (unsequenced queue_part sequence (bodies.Queue q)) → IsShort kinds.Queue (bodies.Queue q) sequence → IsQueue body_limit q
 queue_body q zero h long = queue_fits q h long
 queue_body q (suc n) h long = absurd h
@@ -215,6 +222,8 @@ FitsAs b tags sequence k = FitsBody k tags (record { body = b; sequence = sequen
 
 pub body_fits : (k : Kind) (tags : List ℕ) (b : Body) (sequence : ℕ) → kind_of b ≡ k → FitsBody k tags (record { body = b; sequence = sequence })
     → length (body_bytes k (record { body = b; sequence = sequence })) ≤ longest_body body_limit k → IsData (data_of b) → IsBody body_limit b
+body_fits k tags (bodies.Program p) sequence kind h long of =
+    program_body p sequence (subst (FitsAs (bodies.Program p) tags sequence) (sym kind) h) (subst (λ (v : Kind). IsShort v (bodies.Program p) sequence) (sym kind) long)
 body_fits k tags (bodies.Queue q) sequence kind h long of =
     queue_body q sequence (subst (FitsAs (bodies.Queue q) tags sequence) (sym kind) h) (subst (λ (v : Kind). IsShort v (bodies.Queue q) sequence) (sym kind) long)
 body_fits k tags (bodies.Index i) sequence kind h long of =

@@ -1,6 +1,6 @@
 -- What the bodies of objects keep to: the messages of queues and the entries of indexes, and how long an image may be. That of
--- a queue, an index, a space or a data space is no longer than the limit of a body; journal spaces have at most 16,777,216
--- bytes. How long the text of a program is, is said where it can be kept; other bodies have a few bytes.
+-- a queue, an index, a space or a data space, and the text of a program, is no longer than the limit of a body; journal spaces
+-- have at most 16,777,216 bytes. Other bodies have a few bytes.
 use Rattle.std.specs.Prelude.{◌≡◌, ◌+◌, ◌*◌, ◌≤◌, ℕ, All, List, length}
 use Rattle.s38_base.specs.Limits.{cell_bytes, furthest, longest_message}
 use Rattle.s38_dataspaces.specs.Table as tables
@@ -13,6 +13,7 @@ use Rattle.s38_queues.specs.MessageQueue as queues
 use Rattle.s38_queues.specs.MessageQueue.{MessageQueue, longest_key}
 use Rattle.s38_queues.specs.declared.message.Message.{Message}
 use Rattle.s38_rules.specs.Indexes.{longest_entry}
+use Rattle.s38_rules.specs.Room.{program_size}
 use Rattle.s38_rules.specs.declared.object.Body.{Body}
 use Rattle.s38_rules.specs.declared.object.Body.TheVariants as bodies
 use Rattle.s38_rules.specs.declared.object.Object.{Object}
@@ -52,6 +53,7 @@ IsShortJournal journal = entries_len journal.entries + journal.spare ≤ furthes
 
 -- a body under a limit
 abbrev pub IsBody : ℕ → Body → Type 0
+IsBody limit (bodies.Program p) = program_size p ≤ limit
 IsBody limit (bodies.Queue q) = IsQueue limit q
 IsBody limit (bodies.Index index) = IsIndex limit index
 IsBody limit (bodies.Space cells) = IsSpace limit cells

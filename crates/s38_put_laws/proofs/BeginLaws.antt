@@ -1,5 +1,5 @@
 -- A run over a store begins with journal spaces that are kept whole, and what can be read again is short.
-use Rattle.std.proofs.Common.{◌≡◌, ◌∙◌, ℕ, ◌≤◌, ◌==◌, zero, suc, Bool, true, false, cond, List, [], ◌∷◌, map, refl, sym, ap, subst, arith}
+use Rattle.std.proofs.Common.{◌≡◌, ◌∙◌, ℕ, ◌≤◌, ◌==◌, zero, suc, Bool, true, false, cond, List, [], map, refl, sym, ap, subst, arith}
 use Rattle.std.proofs.lemmas.Bool.{and_parts, eqb-true}
 use Rattle.std.specs.Option.{option_map, unwrap_or}
 use Rattle.std.specs.Prelude.{◌&&◌, None, Option, Some, nat_le}
@@ -9,6 +9,7 @@ use Rattle.s38_base.specs.declared.id.Kind.{Kind}
 use Rattle.s38_code.specs.declared.deck.Job.{Job}
 use Rattle.s38_code.specs.declared.made.CheckedTemplate.{CheckedTemplate}
 use Rattle.s38_codecs.specs.Formats.{FitsCase, fits_from}
+use Rattle.s38_committed.specs.Linked.{AreLinked}
 use Rattle.s38_commits.specs.Units.{UnitMap}
 use Rattle.s38_durable.specs.Durable.{Durable, kept}
 use Rattle.s38_groups.specs.Stores.{first_fault}
@@ -20,6 +21,7 @@ use Rattle.s38_image.specs.Journals.{entry}
 use Rattle.s38_image.specs.declared.stored.Stored.{Stored}
 use Rattle.s38_image_printing.proofs.KindLaws.{read_printable}
 use Rattle.s38_journals.specs.Journals.{JournalList}
+use Rattle.s38_kept_laws.proofs.BeginLaws.{followed_in}
 use Rattle.s38_kept_laws.proofs.ImageLaws.{image_header}
 use Rattle.s38_kept_laws.proofs.StandLaws.{read_images}
 use Rattle.s38_kept_laws.specs.Beginning.{durable_in, origin_of}
@@ -36,6 +38,7 @@ use Rattle.s38_put_laws.specs.Fresh.{AreFresh}
 use Rattle.s38_put_laws.specs.Trails.{AreTrailing, IsTrailOf, IsTrailing}
 use Rattle.s38_put_laws.specs.Unforced.{AreLow}
 use Rattle.s38_put_laws.proofs.LongerLaws.{append_none}
+use Rattle.s38_put_laws.proofs.NamedLaws.{restarted_linked}
 use Rattle.s38_put_laws.proofs.ShapeLaws.{true_le}
 
 -- ---- what can be read again
@@ -73,14 +76,6 @@ image_short x image kind none =
     omega (arith, most, low, long)
 
 -- ---- the beginning
-
-followed_in : (h : Held) (ss : List Stored) (n : ℕ) → object_in (map (followed h) ss) n ≡ option_map (followed h) (kept ss n)
-followed_in h [] n = refl
-followed_in h (x ∷ ss) n = by (x.object.number.0 == n) (followed_in h ss n)
-  where
-    by : (b : Bool) → object_in (map (followed h) ss) n ≡ option_map (followed h) (kept ss n) → cond b (Some (followed h x)) (object_in (map (followed h) ss) n) ≡ option_map (followed h) (cond b (Some x) (kept ss n))
-    by true rest = refl
-    by false rest = rest
 
 journal_stays : (f : DataBody → DataBody) (b : Body) → journal_of (over_body data_part f b) ≡ journal_of b
 journal_stays f (bodies.DataSpace d) = refl
@@ -125,11 +120,8 @@ module _ (m : Content) (h : Held) (are : AreParts (all_parts m)) (fault : first_
   begins_low : (units : UnitMap) → units ≡ [] → AreLow h units
   begins_low units none = subst (λ (us : UnitMap). AreLow h us) (sym none) (record { opened = λ n. omega arith; bytes = λ n on. let zero_is = all_forced n in omega (arith, zero_is) })
 
-  pub begins_trail : (templates : List CheckedTemplate) (jobs : List Job) (room : Room) → IsTrailOf (origin_of h templates jobs (Some room)) d
-  begins_trail templates jobs room = record { stored = refl; trailing = begins_trailing; low = begins_low [] refl }
-
   -- each journal space is on disk
-  pub begins_fresh : AreFresh h
+  begins_fresh : AreFresh h
   begins_fresh n j is off = by (kept d.objects n) refl
     where
       seen : (r : Option Stored) → object_in (map (followed (imaged d.objects)) d.objects) n ≡ option_map (followed (imaged d.objects)) r → is_on_disk h n ≡ disk_in (option_map (followed (imaged d.objects)) r)
@@ -141,3 +133,12 @@ module _ (m : Content) (h : Held) (are : AreParts (all_parts m)) (fault : first_
           let on : is_on_disk h n ≡ true =
           seen (Some x) (followed_in (imaged d.objects) d.objects n ∙ ap (option_map (followed (imaged d.objects))) found) ∙ (image n x found).on_disk in
           absurd (let e : true ≡ false = sym on ∙ off in cc)
+
+  pub begins_trail : (templates : List CheckedTemplate) (jobs : List Job) (room : Room) → IsTrailOf (origin_of h templates jobs (Some room)) d
+  begins_trail templates jobs room = record {
+    stored = refl;
+    trailing = begins_trailing;
+    low = begins_low [] refl;
+    fresh = begins_fresh;
+    linked = subst AreLinked (sym of) (restarted_linked m are fault);
+  }

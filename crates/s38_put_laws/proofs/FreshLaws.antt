@@ -26,6 +26,8 @@ use Rattle.s38_journals.specs.declared.entry.EntryKind.TheVariants.{Commit, Deco
 use Rattle.s38_memory.specs.Tagged.{resized}
 use Rattle.s38_memory.specs.declared.cell.Cell.{Cell}
 use Rattle.s38_rules.proofs.ChargeLaws.{KeepsNumber, object_changed, object_without}
+use Rattle.s38_rules.proofs.RoomLaws.{permitted_by_rules}
+use Rattle.s38_rules.proofs.VerdictLaws.{permitted_none}
 use Rattle.s38_rules.specs.Cells.{with_cells}
 use Rattle.s38_rules.specs.Changes.{Changes, CellsPut, Committed, Decommitted, Ensured, Entered, Framed, Gone, Journaled, Locked, Made, Moved, Named, OnCursor, OnIndex, OnQueue, Profiled, Resized, Stands, Stays, Then, done, made_by, renamed_by, through_port}
 use Rattle.s38_rules.specs.Changing.{change_entry, logged, logged_in, next_sequence, number_for, with_change_logged}
@@ -40,19 +42,27 @@ use Rattle.s38_rules.specs.Parts.{cursor_lawful, cursor_part, data_lawful, data_
 use Rattle.s38_rules.specs.Rows.{row}
 use Rattle.s38_rules.specs.Standing.{standing_of, with_standing}
 use Rattle.s38_rules.specs.State.{State, process_entry}
+use Rattle.s38_rules.specs.Step.{awake_verdict}
 use Rattle.s38_rules.specs.Units.{all_decommitted, all_undone, committed, decommitted, end_entry, end_written, put_back, with_entry}
+use Rattle.s38_rules.specs.Verdict.{refused_by, ruled_verdict}
 use Rattle.s38_rules.specs.declared.creating.Creating.{Creating}
 use Rattle.s38_rules.specs.declared.object.Body.TheVariants as bodies
 use Rattle.s38_rules.specs.declared.object.Body.{Body}
 use Rattle.s38_rules.specs.declared.object.Object.{Object}
 use Rattle.s38_rules.specs.declared.process.ProcessEntry.{ProcessEntry}
+use Rattle.s38_rules.specs.declared.verdict.Verdict.TheVariants.{Permit}
 use Rattle.s38_commitment_laws.proofs.HeldLaws.{part_over, part_without}
 use Rattle.s38_commitment_laws.proofs.UnitLaws.{Both, all_found}
 use Rattle.s38_commitment_laws.specs.Right.{IsLogged, IsRight, IsUnit}
+use Rattle.s38_committed.proofs.TellLaws.{NewIn}
 use Rattle.s38_kept_laws.proofs.SameLaws.{seen_same}
-use Rattle.s38_put_laws.specs.Fresh.{AreFresh, LeadToDisk}
+use Rattle.s38_put_laws.specs.Fresh.{AreFresh}
 use Rattle.s38_put_laws.proofs.LowLaws.{journal_leads, undone_leads}
-use Rattle.s38_put_laws.proofs.ShapeLaws.{IsPlain, NewBody, SameBeside, delivered_beside, other_beside, row_plain, same_beside, space_beside}
+use Rattle.s38_put_laws.proofs.ShapeLaws.{IsPlain, SameBeside, delivered_beside, other_beside, row_plain, same_beside, space_beside}
+
+-- the journal space of each data space that is journaled is on disk
+abbrev pub LeadToDisk : Held → Type 0
+LeadToDisk h = (space journal : ℕ) → journal_for h space ≡ Some journal → is_on_disk h journal ≡ true
 
 -- ---- what goes on
 
@@ -120,11 +130,11 @@ ensured_quiets h n = header_quiets h n kept_on_disk (λ x. refl) (λ x. refl) (�
 
 -- ---- an object is made, or destroyed
 
-new_entries : (b : Body) (j : JournalList) → NewBody (Some b) → journal_of b ≡ Some j → j.entries ≡ []
+new_entries : (b : Body) (j : JournalList) → NewIn (Some b) → journal_of b ≡ Some j → j.entries ≡ []
 new_entries (bodies.Journal i) j new is = let same : i ≡ j = cc in subst (λ (x : JournalList). x.entries ≡ []) same new
 new_entries _ j new is = absurd (let e : None ≡ Some j = is in cc)
 
-added_fresh : (h : Held) (x : Object) → AreFresh h → NewBody (Some x.body) → KeepsFresh h (with_object h x)
+added_fresh : (h : Held) (x : Object) → AreFresh h → NewIn (Some x.body) → KeepsFresh h (with_object h x)
 added_fresh h x fresh new = record {
   still = λ n j off is. still n j (object h n) refl off (sym (ap (part_in journal_part) (seen n)) ∙ is);
   disk = λ n j on is. ap disk_in (seen n) ∙ there n (object h n) on;
@@ -145,7 +155,7 @@ added_fresh h x fresh new = record {
     there n None on = absurd (let e : false ≡ true = on in cc)
     there n (Some o) on = on
 
-made_fresh : (h : Held) (owner : ℕ) (made : Creating) (body : Option Body) → AreFresh h → NewBody body → KeepsFresh h (made_by h owner made body)
+made_fresh : (h : Held) (owner : ℕ) (made : Creating) (body : Option Body) → AreFresh h → NewIn body → KeepsFresh h (made_by h owner made body)
 unfolding creation_changes
 made_fresh h owner made None fresh new = quiets_fresh h h fresh (same_quiets h)
 made_fresh h owner made (Some body) fresh new = by made.id
@@ -297,14 +307,14 @@ entered_besides s p block change f disk = by (journal_for s.held change.space.0)
 own_avoids : (s : State) (block : ℕ) → IsRight s → LeadToDisk s.held → (u : CommitUnit) → unit_of s.units block ≡ Some u → Avoids (Off s.held) s.held (block, u)
 own_avoids s block right disk u found = all_found (Avoids (Off s.held) s.held) s.units block u (units_avoid s.held s.units disk right.each) found
 
-done_fresh : (x : Changes) (s : State) (p : ℕ) → IsRight s → LeadToDisk s.held → AreFresh s.held → IsPlain x → KeepsFresh s.held (done s p x).held
+done_fresh : (x : Changes) (s : State) (p : ℕ) → IsRight s → LeadToDisk s.held → AreFresh s.held → IsPlain s x → KeepsFresh s.held (done s p x).held
 done_fresh (OnQueue n f) s p right disk fresh plain = quiets_fresh s.held _ fresh (beside_quiets s.held _ (other_beside queue_part queue_lawful (λ x. refl) s.held n f))
 done_fresh (OnIndex n f) s p right disk fresh plain = quiets_fresh s.held _ fresh (beside_quiets s.held _ (other_beside index_part index_lawful (λ x. refl) s.held n f))
 done_fresh (OnCursor n f) s p right disk fresh plain = quiets_fresh s.held _ fresh (beside_quiets s.held _ (other_beside cursor_part cursor_lawful (λ x. refl) s.held n f))
 done_fresh (Resized n bytes) s p right disk fresh plain = quiets_fresh s.held _ fresh (beside_quiets s.held _ (space_beside s.held n (resized bytes)))
 done_fresh (CellsPut operand piece) s p right disk fresh plain = quiets_fresh s.held _ fresh (beside_quiets s.held _ (cells_beside s.held operand piece))
 done_fresh (Entered block change f) s p right disk fresh plain = besides_fresh s.held _ fresh (entered_besides s p block change f disk)
-done_fresh (Journaled n port) s p right disk fresh plain = quiets_fresh s.held _ fresh (beside_quiets s.held _ (other_beside data_part data_lawful (λ x. refl) s.held n (through_port port)))
+done_fresh (Journaled n port) s p right disk fresh plain = absurd plain
 done_fresh (Stands n f) s p right disk fresh plain = quiets_fresh s.held _ fresh (header_quiets s.held n (λ o. with_standing (f (standing_of o)) o) (λ x. refl) (λ x. refl) (λ x on. on))
 done_fresh (Profiled n special limit) s p right disk fresh plain = quiets_fresh s.held _ fresh (beside_quiets s.held _ (other_beside profile_part profile_lawful (λ x. refl) s.held n (λ _. (special, limit))))
 done_fresh (Named n id) s p right disk fresh plain = quiets_fresh s.held _ fresh (renamed_quiets s.held n id)
@@ -335,11 +345,12 @@ finish_besides : (s : State) (p : ℕ) (x : Option ProcessEntry) → IsRight s �
 finish_besides s p None right disk = besides_same (Off s.held) s.held
 finish_besides s p (Some x) right disk = all_besides (Off s.held) s.units s p (units_avoid s.held s.units disk right.each)
 
-pub event_fresh : (s : State) (p : ℕ) (e : Event) → IsRight s → LeadToDisk s.held → AreFresh s.held → KeepsFresh s.held (effect_of s p e).state.held
-unfolding effect_of effect
-event_fresh s p Start right disk fresh = quiets_fresh s.held _ fresh (start_quiets s p (process_entry s p))
-event_fresh s p (Act d t) right disk fresh =
+pub event_fresh : (s : State) (p : ℕ) (e : Event) → IsRight s → awake_verdict s p e ≡ Permit → LeadToDisk s.held → AreFresh s.held → KeepsFresh s.held (effect_of s p e).state.held
+unfolding effect_of effect ruled_verdict
+event_fresh s p Start right may disk fresh = quiets_fresh s.held _ fresh (start_quiets s p (process_entry s p))
+event_fresh s p (Act d t) right may disk fresh =
     let x = (row t.op).changes s p d t in
-    beside_fresh s.held (done s p x).held _ (done_fresh x s p right disk fresh (row_plain (family_of t.op) t.op s p d t))
+    let met = permitted_none s p t (refused_by (row t.op) s p d t) (permitted_by_rules s p (Act d t) may) in
+    beside_fresh s.held (done s p x).held _ (done_fresh x s p right disk fresh (row_plain (family_of t.op) t.op s p d t met))
     (delivered_beside (done s p x) (shift_at s.held t.op t.operands) (receiver_at t.op t.operands) ((row t.op).gives s p d t))
-event_fresh s p (Finish cause) right disk fresh = besides_fresh s.held _ fresh (finish_besides s p (process_entry s p) right disk)
+event_fresh s p (Finish cause) right may disk fresh = besides_fresh s.held _ fresh (finish_besides s p (process_entry s p) right disk)

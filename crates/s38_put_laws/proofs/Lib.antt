@@ -7,7 +7,11 @@ pub mod DifferLaws
 pub mod TailLaws
 pub mod PrintLaws
 pub mod ObjectLaws
+pub mod DueLaws
 pub mod OneLaws
 pub mod StepLaws
+pub mod LinkedLaws
+pub mod NamedLaws
+pub mod ShortLaws
 pub mod BeginLaws
 pub mod FreshLaws

@@ -1,10 +1,11 @@
--- What a step forces is no more parts than one put takes.
+-- What a step puts first is no more parts than one put takes.
 use Rattle.std.proofs.Common.{◌≡◌, ◌∙◌, ◌⊎◌, ℕ, ◌+◌, ◌-◌, ◌<◌, ◌≤◌, ◌==◌, Bool, true, false, cond, inl, inr, List, [], ◌∷◌, ◌++◌, length, lit≤, refl, sym, ap, subst, arith, length-append}
 use Rattle.std.proofs.lemmas.Bool.Decides.{nat_tests}
+use Rattle.std.proofs.lemmas.List.Elements.{filter-append}
 use Rattle.std.specs.FinMap.{get}
 use Rattle.std.specs.List.{AllByRecursion, list_any}
 use Rattle.std.specs.Option.{unwrap_or}
-use Rattle.std.specs.Prelude.{◌||◌, None, Option, Some, is_some}
+use Rattle.std.specs.Prelude.{◌||◌, None, Option, Some, filter, is_some, nat_le}
 use Rattle.s38_base.specs.Limits.{body_limit}
 use Rattle.s38_base.specs.declared.id.Kind.TheVariants as kinds
 use Rattle.s38_base.specs.declared.page.Change.{Change}
@@ -42,15 +43,21 @@ use Rattle.s38_step_parts.specs.Numbers.{is_numbered, numbered, numbers}
 use Rattle.s38_step_parts.specs.Stepping.{HaveHeaders, object_changes}
 use Rattle.s38_vault.specs.Content.{Content}
 use Rattle.s38_vault.specs.Vaults.{most_changes}
+use Rattle.s38_step_parts.specs.Leftovers.{belongs_in, first_changes}
 use Rattle.s38_put_laws.specs.Lengthening.{AreLonger, Lengthens}
-use Rattle.s38_put_laws.specs.OnePut.{AreShort, FirstShort, LastShort}
+use Rattle.s38_put_laws.specs.OnePut.{AreShort}
 use Rattle.s38_put_laws.specs.Spaces.{IsSpace}
 use Rattle.s38_put_laws.specs.Trails.{AreTrailing, IsTrailing}
 use Rattle.s38_put_laws.specs.Unforced.{AreLow, most_trailing}
 use Rattle.s38_put_laws.proofs.DifferLaws.{differ, none_differ}
+use Rattle.s38_put_laws.proofs.DueLaws.{due_fewer, header_due}
 use Rattle.s38_put_laws.proofs.ObjectLaws.{IsOf, all_few, header_few, page_in, pages_in, same_few, space_few}
-use Rattle.s38_put_laws.proofs.ShapeLaws.{ForcesBoth, ForcesFew, ForcesOne, longest_entry, rows_at, rows_in, unforced_in}
+use Rattle.s38_put_laws.proofs.ShapeLaws.{ForcesBoth, ForcesFew, ForcesOne, longest_entry, rows_at, rows_in, true_le, unforced_in}
 use Rattle.s38_put_laws.proofs.TrailLaws.{journal_kind, trails_at}
+
+-- a journal space that is kept for the first time has no more bytes than a body may have
+abbrev pub FirstShort : Durable → Durable → Type 0
+FirstShort d new = (n : ℕ) (x : Stored) (j : JournalList) → kept d.objects n ≡ None → kept new.objects n ≡ Some x → journal_of x.object.body ≡ Some j → image_len x.object.body ≤ body_limit
 
 -- ---- one journal space on the way
 
@@ -128,7 +135,6 @@ module _ (all : List Forced) (d : Durable) (s t : State) (k : Held) where
     pub short : AreShort d
     pub then_short : AreShort new
     pub first : FirstShort d new
-    pub last : LastShort d new
 
   module _ (led : IsLed) where
     -- how many parts of a number differ
@@ -288,29 +294,23 @@ module _ (all : List Forced) (d : Durable) (s t : State) (k : Held) where
     abbrev Grows : ℕ → Type 0
     Grows n = n < s.held.next → list_any (is_whole n) all ≡ true → unforced_in (part_at journal_part k n) ≤ unforced_in (part_at journal_part s.held n) + longest_entry
 
-    one_few : (n : ℕ) → Grows n → cost n ≤ 2176
-    one_few n grows = by (kept d.objects n) refl (kept new.objects n) refl
+    one_few : (n : ℕ) (y : Stored) → Grows n → kept new.objects n ≡ Some y → cost n ≤ 2176
+    one_few n y grows is = subst (λ (q : Option Stored). Small n (kept d.objects n) q 2176) (sym is) (by (kept d.objects n) refl)
       where
-        kept_kind : (x y : Stored) → kept d.objects n ≡ Some x → kept new.objects n ≡ Some y → (r : Option JournalList) → journal_of x.object.body ≡ r → (b : Bool) → list_any (is_whole n) all ≡ b → Small n (Some x) (Some y) 2176
-        kept_kind x y was is None body b anew =
+        kept_kind : (x : Stored) → kept d.objects n ≡ Some x → (r : Option JournalList) → journal_of x.object.body ≡ r → (b : Bool) → list_any (is_whole n) all ≡ b → Small n (Some x) (Some y) 2176
+        kept_kind x was None body b anew =
             others_few n (Some x) (Some y) was is (page_limit (image_len x.object.body) (led.short n x was body))
             (page_limit (image_len y.object.body) (led.then_short n y is (not_journal x.object.body y.object.body (same_kind n x y was is) body)))
-        kept_kind x y was is (Some i) body true anew = grown_few n x y i was is body anew (grows (led.given n x was) anew)
-        kept_kind x y was is (Some i) body false not = followed_few n x y i was is body not
+        kept_kind x was (Some i) body true anew = grown_few n x y i was is body anew (grows (led.given n x was) anew)
+        kept_kind x was (Some i) body false not = followed_few n x y i was is body not
 
-        first : (y : Stored) → kept d.objects n ≡ None → kept new.objects n ≡ Some y → (r : Option JournalList) → journal_of y.object.body ≡ r → image_len y.object.body ≤ body_limit
-        first y was is None body = led.then_short n y is body
-        first y was is (Some j) body = led.first n y j was is body
+        first : kept d.objects n ≡ None → (r : Option JournalList) → journal_of y.object.body ≡ r → image_len y.object.body ≤ body_limit
+        first was None body = led.then_short n y is body
+        first was (Some j) body = led.first n y j was is body
 
-        last : (x : Stored) → kept d.objects n ≡ Some x → kept new.objects n ≡ None → (r : Option JournalList) → journal_of x.object.body ≡ r → image_len x.object.body ≤ body_limit
-        last x was is None body = led.short n x was body
-        last x was is (Some j) body = led.last n x j was is body
-
-        by : (r : Option Stored) → kept d.objects n ≡ r → (q : Option Stored) → kept new.objects n ≡ q → Small n r q 2176
-        by None was None is = others_few n None None was is (omega arith) (omega arith)
-        by None was (Some y) is = others_few n None (Some y) was is (omega arith) (page_limit (image_len y.object.body) (first y was is (journal_of y.object.body) refl))
-        by (Some x) was None is = others_few n (Some x) None was is (page_limit (image_len x.object.body) (last x was is (journal_of x.object.body) refl)) (omega arith)
-        by (Some x) was (Some y) is = kept_kind x y was is (journal_of x.object.body) refl (list_any (is_whole n) all) refl
+        by : (r : Option Stored) → kept d.objects n ≡ r → Small n r (Some y) 2176
+        by None was = others_few n None (Some y) was is (omega arith) (page_limit (image_len y.object.body) (first was (journal_of y.object.body) refl))
+        by (Some x) was = kept_kind x was (journal_of x.object.body) refl (list_any (is_whole n) all) refl
 
     -- ---- a data space and its journal space
 
@@ -364,28 +364,47 @@ module _ (all : List Forced) (d : Durable) (s t : State) (k : Held) where
 
     -- the changes of a number are the parts that differ
     module _ (m : Content) (stands : Stands m d) where
-      real_cost : (n : ℕ) → n < ceiling_key → length (differences (get m) (aim_of new n).range (aim_of new n).wanted) ≡ cost n
+      abbrev of_number : ℕ → List Change
+      of_number n = differences (get m) (aim_of new n).range (aim_of new n).wanted
+
+      -- how many of them belong to something
+      abbrev due : ℕ → ℕ
+      due n = length (filter (belongs_in new) (of_number n))
+
+      real_cost : (n : ℕ) → n < ceiling_key → length (of_number n) ≡ cost n
       real_cost n low =
           ap (λ (cs : List Change). length (differences (get m) (aim_of new n).range cs)) (parts_below new n low)
           ∙ ap (λ (cs : List Change). length cs) (same_differences (get m) (page_in (kept d.objects n)) (parts_in (kept new.objects n)) (parts_in (kept new.objects n)) n (parts_end - 0) 0
           (λ p from before. stands.each (key_at n p) (omega (arith, before)) ∙ ap (λ (cs : List Change). wanted_at cs (key_at n p)) (parts_below d n low)) (λ p from before. refl))
 
-      first_cost : (n : ℕ) (ns : List ℕ) → n < ceiling_key → length (all_differences (get m) (aims_of new (n ∷ ns))) ≡ cost n + length (all_differences (get m) (aims_of new ns))
-      first_cost n ns low =
-          let here = real_cost n low in
-          let all_of = length-append (differences (get m) (aim_of new n).range (aim_of new n).wanted) (all_differences (get m) (aims_of new ns)) in
-          omega (arith, here, all_of)
+      due_cost : (n most : ℕ) → n < ceiling_key → cost n ≤ most → due n ≤ most
+      due_cost n most low few =
+          let fewer = due_fewer new (of_number n) in
+          let same = real_cost n low in
+          omega (arith, fewer, same, few)
+
+      due_few : (n : ℕ) → n < ceiling_key → Grows n → due n ≤ 2176
+      due_few n low grows = by (kept new.objects n) refl
+        where
+          by : (q : Option Stored) → kept new.objects n ≡ q → due n ≤ 2176
+          by None is = let one : due n ≤ 1 = header_due new n low is (get m) (aim_of new n).wanted in omega (arith, one)
+          by (Some y) is = due_cost n 2176 low (one_few n y grows is)
+
+      first_due : (n : ℕ) (ns : List ℕ) → length (filter (belongs_in new) (all_differences (get m) (aims_of new (n ∷ ns)))) ≡ due n + length (filter (belongs_in new) (all_differences (get m) (aims_of new ns)))
+      first_due n ns =
+          ap (λ (cs : List Change). length cs) (filter-append (belongs_in new) (of_number n) (all_differences (get m) (aims_of new ns)))
+          ∙ length-append (filter (belongs_in new) (of_number n)) (filter (belongs_in new) (all_differences (get m) (aims_of new ns)))
 
       abbrev Puts : List ℕ → ℕ → Type 0
-      Puts ns most = length (all_differences (get m) (aims_of new ns)) ≤ most
+      Puts ns most = length (filter (belongs_in new) (all_differences (get m) (aims_of new ns))) ≤ most
 
       -- of one object
       one_put : (ns : List ℕ) → ForcesOne s.held k all → Rise ns → AllByRecursion (λ n. (is_forced n all ≡ true) × (n < ceiling_key)) ns → Puts ns most_changes
       unfolding Rise AreAbove
       one_put [] one rise each = omega arith
       one_put (n ∷ []) one rise each =
-          let few = one_few n (one.grows n) in
-          let first = first_cost n [] each.0.1 in
+          let few = due_few n each.0.1 (one.grows n) in
+          let first = first_due n [] in
           omega (arith, few, first)
       one_put (n ∷ i ∷ ns) one rise each =
           absurd (let same = one.one n i each.0.0 each.1.0.0 in let less = rise.0.0 in omega (arith, same, less))
@@ -407,16 +426,16 @@ module _ (all : List Forced) (d : Durable) (s t : State) (k : Held) where
         apart a b (inl less) = grind (arith, nat_tests)
         apart a b (inr less) = grind (arith, nat_tests)
 
-        pair_few : (n i : ℕ) → n < i → Either n → Either i → cost n + cost i ≤ 2283
-        pair_few n i less (inl a) (inl b) = absurd (omega (arith, less, a, b))
-        pair_few n i less (inr a) (inr b) = absurd (omega (arith, less, a, b))
-        pair_few n i less (inl a) (inr b) =
-            let first = one_few n (both_grow both n) in
-            let second = subst (λ (j : ℕ). cost j ≤ 107) (sym b) (paired_few both (apart both.space both.journal (inl (omega (arith, less, a, b))))) in
+        pair_few : (n i : ℕ) → n < i → n < ceiling_key → i < ceiling_key → Either n → Either i → due n + due i ≤ 2283
+        pair_few n i less low lower (inl a) (inl b) = absurd (omega (arith, less, a, b))
+        pair_few n i less low lower (inr a) (inr b) = absurd (omega (arith, less, a, b))
+        pair_few n i less low lower (inl a) (inr b) =
+            let first = due_few n low (both_grow both n) in
+            let second = due_cost i 107 lower (subst (λ (j : ℕ). cost j ≤ 107) (sym b) (paired_few both (apart both.space both.journal (inl (omega (arith, less, a, b)))))) in
             omega (arith, first, second)
-        pair_few n i less (inr a) (inl b) =
-            let first = subst (λ (j : ℕ). cost j ≤ 107) (sym a) (paired_few both (apart both.space both.journal (inr (omega (arith, less, a, b))))) in
-            let second = one_few i (both_grow both i) in
+        pair_few n i less low lower (inr a) (inl b) =
+            let first = due_cost n 107 low (subst (λ (j : ℕ). cost j ≤ 107) (sym a) (paired_few both (apart both.space both.journal (inr (omega (arith, less, a, b)))))) in
+            let second = due_few i lower (both_grow both i) in
             omega (arith, first, second)
 
         no_third : (n i j : ℕ) → n < i → i < j → Either n → Either i → Either j → ⊥
@@ -431,13 +450,13 @@ module _ (all : List Forced) (d : Durable) (s t : State) (k : Held) where
         unfolding Rise AreAbove
         both_put [] rise each = omega arith
         both_put (n ∷ []) rise each =
-            let few = one_few n (both_grow both n) in
-            let first = first_cost n [] each.0.1 in
+            let few = due_few n each.0.1 (both_grow both n) in
+            let first = first_due n [] in
             omega (arith, few, first)
         both_put (n ∷ i ∷ []) rise each =
-            let few = pair_few n i rise.0.0 (either n each.0.0) (either i each.1.0.0) in
-            let first = first_cost n (i ∷ []) each.0.1 in
-            let second = first_cost i [] each.1.0.1 in
+            let few = pair_few n i rise.0.0 each.0.1 each.1.0.1 (either n each.0.0) (either i each.1.0.0) in
+            let first = first_due n (i ∷ []) in
+            let second = first_due i [] in
             omega (arith, few, first, second)
         both_put (n ∷ i ∷ j ∷ ns) rise each = absurd (no_third n i j rise.0.0 rise.1.0.0 (either n each.0.0) (either i each.1.0.0) (either j each.1.1.0.0))
 
@@ -465,9 +484,9 @@ module _ (all : List Forced) (d : Durable) (s t : State) (k : Held) where
           by true is rest = either_true (speaks_of n one) (is_forced n (numbered more)) (is_forced n more) rest is
           by false is rest = later (speaks_of n one) (is_forced n more) (rest is)
 
-      -- what a step forces fits in one put
-      pub step_put : ((n : ℕ) → is_forced n all ≡ true → n < ceiling_key) → length (object_changes (numbered all) (get m) new) ≤ most_changes
-      step_put low = few_put (numbers (numbered all)) (numbers_rise (numbered all)) (each_of (numbers (numbered all)) (λ n among. sym (numbers_are n (numbered all)) ∙ among))
+      -- what belongs to something fits in one put
+      step_due : ((n : ℕ) → is_forced n all ≡ true → n < ceiling_key) → length (filter (belongs_in new) (object_changes (numbered all) (get m) new)) ≤ most_changes
+      step_due low = few_put (numbers (numbered all)) (numbers_rise (numbered all)) (each_of (numbers (numbered all)) (λ n among. sym (numbers_are n (numbered all)) ∙ among))
         where
           each_of : (ns : List ℕ) → ((n : ℕ) → is_among n ns ≡ true → is_forced n (numbered all) ≡ true) → AllByRecursion (λ n. (is_forced n all ≡ true) × (n < ceiling_key)) ns
           each_of [] among = tt
@@ -478,3 +497,12 @@ module _ (all : List Forced) (d : Durable) (s t : State) (k : Held) where
               later : (b c : Bool) → c ≡ true → (b || c) ≡ true
               later true c e = refl
               later false c e = e
+
+      -- what is put first does
+      pub step_put : ((n : ℕ) → is_forced n all ≡ true → n < ceiling_key) → length (first_changes most_changes new (object_changes (numbered all) (get m) new)) ≤ most_changes
+      step_put low = by (nat_le (length (object_changes (numbered all) (get m) new)) most_changes) refl
+        where
+          by : (b : Bool) → nat_le (length (object_changes (numbered all) (get m) new)) most_changes ≡ b
+              → length (cond b (object_changes (numbered all) (get m) new) (filter (belongs_in new) (object_changes (numbered all) (get m) new))) ≤ most_changes
+          by true fits = true_le (length (object_changes (numbered all) (get m) new)) most_changes fits
+          by false more = step_due low

@@ -8,7 +8,7 @@ use Rattle.std.specs.Option.{option_map, unwrap_or}
 use Rattle.std.specs.Prelude.{◌&&◌, ◌||◌, None, Option, Some, is_some, nat_le, nat_lt}
 use Rattle.s38_base.specs.Pointers.{target_of}
 use Rattle.s38_base.specs.declared.id.Kind.{Kind}
-use Rattle.s38_base.specs.declared.op.Op.TheVariants.{Crtctx, Crtinx, Crtjs, Crtpg, Crtq, Crts, Crtup, Grant, Insdsen, Jrnlobj, Lock, Rslvsp}
+use Rattle.s38_base.specs.declared.op.Op.TheVariants.{Crtctx, Crtds, Crtinx, Crtjs, Crtpg, Crtq, Crts, Crtup, Grant, Insdsen, Jrnlobj, Lock, Rslvsp}
 use Rattle.s38_base.specs.declared.op.Op.{Op}
 use Rattle.s38_code.specs.Operations.{family_of}
 use Rattle.s38_code.specs.declared.event.Event.TheVariants.{Act, Finish, Start}
@@ -34,6 +34,8 @@ use Rattle.s38_memory.specs.declared.cell.Cell.{Cell}
 use Rattle.s38_object_laws.specs.Outline.{is_forced, speaks_of}
 use Rattle.s38_rules.proofs.ChargeLaws.{object_changed}
 use Rattle.s38_rules.proofs.PartLaws.{over_same, part_apart}
+use Rattle.s38_rules.proofs.RoomLaws.{permitted_by_rules}
+use Rattle.s38_rules.proofs.VerdictLaws.{permitted_none}
 use Rattle.s38_rules.specs.Cells.{with_bytes, with_pointer}
 use Rattle.s38_rules.specs.Changes.{Changes, Committed, Ensured, Entered, Gone, Journaled, Made, Moved, Named, OnCursor, Profiled, Stands, Then, done, made_by, through_port}
 use Rattle.s38_rules.specs.Changing.{change_entry, logged, logged_in, next_sequence, number_for, with_change_logged}
@@ -59,14 +61,18 @@ use Rattle.s38_rules.specs.Resolving.{resolving_row}
 use Rattle.s38_rules.specs.Rows.{row, row_in}
 use Rattle.s38_rules.specs.Spaces.{spaces_row}
 use Rattle.s38_rules.specs.State.{State}
+use Rattle.s38_rules.specs.Step.{awake_verdict}
 use Rattle.s38_rules.specs.Units.{committed, end_entry, end_written, with_entry}
+use Rattle.s38_rules.specs.Verdict.{refused_by, ruled_verdict}
 use Rattle.s38_rules.specs.declared.data_body.DataBody.{DataBody}
 use Rattle.s38_rules.specs.declared.object.Body.TheVariants as bodies
-use Rattle.s38_rules.specs.declared.object.Body.{Body}
 use Rattle.s38_rules.specs.declared.object.Object.{Object}
 use Rattle.s38_rules.specs.declared.port.Port.{Port}
 use Rattle.s38_rules.specs.declared.rows.PrivateRow.{PrivateRow}
+use Rattle.s38_rules.specs.declared.verdict.Verdict.TheVariants.{Permit}
 use Rattle.s38_commitment_laws.proofs.HeldLaws.{part_over}
+use Rattle.s38_committed.proofs.GoingLaws.{JournalsTo}
+use Rattle.s38_committed.proofs.TellLaws.{NewIn, jrnlobj_journals, new_small}
 use Rattle.s38_kept_laws.proofs.SameLaws.{seen_same}
 
 -- ---- one number at most
@@ -114,86 +120,84 @@ commit_one h block (Some unit) = whole_one (journal_for_block h block)
 
 -- ---- the words of each row
 
--- a new journal space has no entry
-abbrev pub NewBody : Option Body → Type 0
-NewBody None = Unit {0}
-NewBody (Some (bodies.Journal j)) = j.entries ≡ []
-NewBody (Some _) = Unit {0}
+-- of the words that are one after another the second forces nothing, or the first; what is made is new; and a data space is
+-- journaled to a port and a journal space on disk
+abbrev pub IsPlain : State → Changes → Type 0
+IsPlain s (Made owner made body) = NewIn body
+IsPlain s (Journaled n port) = ⊥
+IsPlain s (Then (Entered block change f) (OnCursor n g)) = Unit {0}
+IsPlain s (Then (Journaled n port) (Ensured m)) = JournalsTo s.held n port m
+IsPlain s (Then a b) = ⊥
+IsPlain s _ = Unit {0}
 
--- of the words that are one after another the second forces nothing, or the first; and what is made is new
-abbrev pub IsPlain : Changes → Type 0
-IsPlain (Made owner made body) = NewBody body
-IsPlain (Then (Entered block change f) (OnCursor n g)) = Unit {0}
-IsPlain (Then (Journaled n port) (Ensured m)) = Unit {0}
-IsPlain (Then a b) = ⊥
-IsPlain _ = Unit {0}
-
+-- so it is where no rule refuses the instruction
 abbrev pub PlainRow : Instruction → Type 0
-PlainRow i = (s : State) (p d : ℕ) (t : Request) → IsPlain (i.changes s p d t)
+PlainRow i = (s : State) (p d : ℕ) (t : Request) → refused_by i s p d t ≡ None → IsPlain s (i.changes s p d t)
 
 data_spaces_plain : (op : Op) → PlainRow (data_spaces_row op)
 unfolding data_spaces_row
-data_spaces_plain Insdsen = λ s p d t. tt
-data_spaces_plain _ = λ s p d t. tt
+data_spaces_plain Crtds = λ s p d t e. (refl, new_small t.operands)
+data_spaces_plain Insdsen = λ s p d t e. tt
+data_spaces_plain _ = λ s p d t e. tt
 
 journals_plain : (op : Op) → PlainRow (journals_row op)
 unfolding journals_row
-journals_plain Crtjs = λ s p d t. refl
-journals_plain Jrnlobj = λ s p d t. tt
-journals_plain _ = λ s p d t. tt
+journals_plain Crtjs = λ s p d t e. refl
+journals_plain Jrnlobj = jrnlobj_journals
+journals_plain _ = λ s p d t e. tt
 
 contexts_plain : (op : Op) → PlainRow (contexts_row op)
 unfolding contexts_row
-contexts_plain Crtctx = λ s p d t. tt
-contexts_plain _ = λ s p d t. tt
+contexts_plain Crtctx = λ s p d t e. tt
+contexts_plain _ = λ s p d t e. tt
 
 profiles_plain : (op : Op) → PlainRow (profiles_row op)
 unfolding profiles_row
-profiles_plain Crtup = λ s p d t. tt
-profiles_plain _ = λ s p d t. tt
+profiles_plain Crtup = λ s p d t e. tt
+profiles_plain _ = λ s p d t e. tt
 
 grants_plain : (op : Op) → PlainRow (grants_row op)
 unfolding grants_row
-grants_plain Grant = λ s p d t. tt
-grants_plain _ = λ s p d t. tt
+grants_plain Grant = λ s p d t e. tt
+grants_plain _ = λ s p d t e. tt
 
-program_new : (program : Option Program) → NewBody (option_map bodies.Program program)
+program_new : (program : Option Program) → NewIn (option_map bodies.Program program)
 program_new None = tt
 program_new (Some program) = tt
 
 programs_plain : (op : Op) → PlainRow (programs_row op)
 unfolding programs_row
-programs_plain Crtpg = λ s p d t. program_new (program_in (template_at s t.operands))
-programs_plain _ = λ s p d t. tt
+programs_plain Crtpg = λ s p d t e. program_new (program_in (template_at s t.operands))
+programs_plain _ = λ s p d t e. tt
 
 locks_plain : (op : Op) → PlainRow (locks_row op)
 unfolding locks_row
-locks_plain Lock = λ s p d t. tt
-locks_plain _ = λ s p d t. tt
+locks_plain Lock = λ s p d t e. tt
+locks_plain _ = λ s p d t e. tt
 
 resolving_plain : (op : Op) → PlainRow (resolving_row op)
 unfolding resolving_row
-resolving_plain Rslvsp = λ s p d t. tt
-resolving_plain _ = λ s p d t. tt
+resolving_plain Rslvsp = λ s p d t e. tt
+resolving_plain _ = λ s p d t e. tt
 
 spaces_plain : (op : Op) → PlainRow (spaces_row op)
 unfolding spaces_row
-spaces_plain Crts = λ s p d t. tt
-spaces_plain _ = λ s p d t. tt
+spaces_plain Crts = λ s p d t e. tt
+spaces_plain _ = λ s p d t e. tt
 
 queues_plain : (op : Op) → PlainRow (queues_row op)
 unfolding queues_row
-queues_plain Crtq = λ s p d t. tt
-queues_plain _ = λ s p d t. tt
+queues_plain Crtq = λ s p d t e. tt
+queues_plain _ = λ s p d t e. tt
 
 indexes_plain : (op : Op) → PlainRow (indexes_row op)
 unfolding indexes_row
-indexes_plain Crtinx = λ s p d t. tt
-indexes_plain _ = λ s p d t. tt
+indexes_plain Crtinx = λ s p d t e. tt
+indexes_plain _ = λ s p d t e. tt
 
 pub row_plain : (f : Family) (op : Op) → PlainRow (row_in f op)
 unfolding row_in
-row_plain families.Computing op = λ s p d t. tt
+row_plain families.Computing op = λ s p d t e. tt
 row_plain families.Resolving op = resolving_plain op
 row_plain families.Contexts op = contexts_plain op
 row_plain families.Profiles op = profiles_plain op
@@ -205,7 +209,7 @@ row_plain families.Queues op = queues_plain op
 row_plain families.Indexes op = indexes_plain op
 row_plain families.DataSpaces op = data_spaces_plain op
 row_plain families.Journals op = journals_plain op
-row_plain _ op = λ s p d t. tt
+row_plain _ op = λ s p d t e. tt
 
 -- ---- what a step leads from, and to
 
@@ -399,7 +403,7 @@ ensured_few h j n same = by (journal_for j n) refl
 
 -- ---- each word of change
 
-pub done_few : (x : Changes) (s : State) (p : ℕ) → IsPlain x → ForcesFew s.held (done s p x).held (forced_by s p x)
+pub done_few : (x : Changes) (s : State) (p : ℕ) → IsPlain s x → ForcesFew s.held (done s p x).held (forced_by s p x)
 done_few (Entered block change f) s p plain = inl (entered_one s p block change f)
 done_few (Stands n f) s p plain = inl (followed_one s.held (done s p (Stands n f)).held n)
 done_few (Profiled n special limit) s p plain = inl (followed_one s.held (done s p (Profiled n special limit)).held n)
@@ -444,11 +448,12 @@ few_beside h j k all same (inl one) = inl (record { one = one.one; grows = λ n 
 few_beside h j k all same (inr both) =
     inr (record { space = both.space; journal = both.journal; is = both.is; there = both.there; disk = λ n off. same.disk n ∙ both.disk n off; journals = λ n. same.journals n ∙ both.journals n; rows = λ n. same.rows n ∙ both.rows n })
 
-pub event_few : (s : State) (p : ℕ) (e : Event) → ForcesFew s.held (effect_of s p e).state.held (forced s p e)
-unfolding effect_of effect forced
-event_few s p Start = inl (none_one s.held _)
-event_few s p (Act d t) =
+pub event_few : (s : State) (p : ℕ) (e : Event) → awake_verdict s p e ≡ Permit → ForcesFew s.held (effect_of s p e).state.held (forced s p e)
+unfolding effect_of effect forced ruled_verdict
+event_few s p Start may = inl (none_one s.held _)
+event_few s p (Act d t) may =
     let x = (row t.op).changes s p d t in
+    let met = permitted_none s p t (refused_by (row t.op) s p d t) (permitted_by_rules s p (Act d t) may) in
     few_beside s.held (done s p x).held _ (forced_by s p x) (delivered_beside (done s p x) (shift_at s.held t.op t.operands) (receiver_at t.op t.operands) ((row t.op).gives s p d t))
-    (done_few x s p (row_plain (family_of t.op) t.op s p d t))
-event_few s p (Finish cause) = inl (none_one s.held _)
+    (done_few x s p (row_plain (family_of t.op) t.op s p d t met))
+event_few s p (Finish cause) may = inl (none_one s.held _)

@@ -1,10 +1,10 @@
--- Step by step what is kept of journal spaces stays their beginning, few bytes are unforced, and what is forced fits in one
+-- Step by step what is kept of journal spaces stays their beginning, few bytes are unforced, and what is put first fits in one
 -- put.
 use Rattle.std.proofs.Common.{◌≡◌, ◌∙◌, ℕ, ◌+◌, ◌*◌, ◌<◌, ◌≤◌, ◌==◌, Bool, true, false, cond, List, [], ◌∷◌, ◌++◌, length, refl, sym, ap, subst, arith}
 use Rattle.std.specs.FinMap.{get}
 use Rattle.std.specs.List.{list_any}
 use Rattle.std.specs.Option.{option_map}
-use Rattle.std.specs.Prelude.{◌||◌, None, Option, Some, is_some}
+use Rattle.std.specs.Prelude.{◌||◌, All, None, Option, Some, is_some}
 use Rattle.s38_base.specs.Limits.{body_limit}
 use Rattle.s38_base.specs.Pointers.{start_of, target_of}
 use Rattle.s38_code.specs.Operations.{family_of}
@@ -18,10 +18,10 @@ use Rattle.s38_code.specs.declared.reply.Reply.{Reply}
 use Rattle.s38_code.specs.declared.reply.Val.{Val}
 use Rattle.s38_commitment_laws.proofs.HeldLaws.{part_over}
 use Rattle.s38_commitment_laws.proofs.RowLaws.{done_right, row_may, value_carries}
-use Rattle.s38_commitment_laws.proofs.StepLaws.{step_right}
 use Rattle.s38_commitment_laws.proofs.UnitLaws.{all_stand}
 use Rattle.s38_commitment_laws.specs.Right.{IsRight}
 use Rattle.s38_commits.specs.Units.{UnitMap}
+use Rattle.s38_committed.specs.Linked.{AreLinked}
 use Rattle.s38_durable.specs.Durable.{Durable, after_reply, durable, durable_after, kept, kept_after, kept_behind, whole}
 use Rattle.s38_durable.specs.Following.{Header}
 use Rattle.s38_durable.specs.Stands.{Stands}
@@ -31,13 +31,13 @@ use Rattle.s38_journals.specs.Journals as journals
 use Rattle.s38_journals.specs.Journals.{JournalList, entries_len}
 use Rattle.s38_kept_laws.proofs.FoundLaws.{IsThere, found_all, kept_there, there_kept}
 use Rattle.s38_kept_laws.proofs.GoesLaws.{object_given}
-use Rattle.s38_kept_laws.proofs.ImageLaws.{image_header}
-use Rattle.s38_kept_laws.proofs.KeepLaws.{DurableLaws, done_kept, entry_kept, forced_low, images_behind, not_done, same_kinds}
+use Rattle.s38_kept_laws.proofs.KeepLaws.{DurableLaws, done_kept, entry_kept, forced_low, not_done, same_kinds}
 use Rattle.s38_kept_laws.proofs.SameLaws.{seen_same}
 use Rattle.s38_kept_laws.proofs.SizeLaws.{body_low}
 use Rattle.s38_kept_laws.proofs.StepLaws.{IsDone, TakesEffect, stayed, step_goes, step_room, stored_same, takes_effect, follows_room}
-use Rattle.s38_kept_laws.specs.Kept.{AllReadable, AreImages, AreNumbered, IsKeptOf, IsReadableBehind}
+use Rattle.s38_kept_laws.specs.Kept.{AreImages, AreNumbered, IsKeptOf}
 use Rattle.s38_object_laws.specs.Well.{AreWell, IsWell}
+use Rattle.s38_openings.specs.Bodies.{HoldsBody}
 use Rattle.s38_rules.proofs.ChargeLaws.{found_number}
 use Rattle.s38_rules.proofs.RoomLaws.{permitted_by_rules}
 use Rattle.s38_rules.proofs.StoreLaws.{stored_beside, stored_holds}
@@ -68,19 +68,21 @@ use Rattle.s38_step_parts.specs.Numbers.{numbered}
 use Rattle.s38_step_parts.specs.Stepping.{HaveHeaders, object_changes}
 use Rattle.s38_vault.specs.Content.{Content}
 use Rattle.s38_vault.specs.Vaults.{most_changes}
-use Rattle.s38_put_laws.specs.Fresh.{AllLeadToDisk, AreFresh, LeadToDisk}
+use Rattle.s38_put_laws.specs.Fresh.{AreFresh}
+use Rattle.s38_step_parts.specs.Leftovers.{first_changes}
 use Rattle.s38_put_laws.specs.Lengthening.{Lengthens}
-use Rattle.s38_put_laws.specs.OnePut.{AllBetween, AreShort, FirstShort, IsBetween, LastShort}
-use Rattle.s38_put_laws.specs.Puts.{AllOnePut, IsOnePutBy}
+use Rattle.s38_put_laws.specs.OnePut.{AreShort}
 use Rattle.s38_put_laws.specs.Trails.{AreTrailing, IsTrailOf}
 use Rattle.s38_put_laws.specs.Unforced.{AreLow, most_trailing}
 use Rattle.s38_put_laws.proofs.BeginLaws.{image_short}
-use Rattle.s38_put_laws.proofs.FreshLaws.{KeepsFresh, event_fresh, then_fresh}
+use Rattle.s38_put_laws.proofs.FreshLaws.{KeepsFresh, LeadToDisk, event_fresh, then_fresh}
+use Rattle.s38_put_laws.proofs.LinkedLaws.{step_linked}
 use Rattle.s38_put_laws.proofs.LongerLaws.{event_longer, value_longer}
 use Rattle.s38_put_laws.proofs.LowLaws.{AreLowBut, Covers, all_low, carried_low, done_low, few_open, journal_leads, same_leads}
-use Rattle.s38_put_laws.proofs.OneLaws.{SameEntries, step_put}
+use Rattle.s38_put_laws.proofs.OneLaws.{FirstShort, SameEntries, step_put}
 use Rattle.s38_put_laws.proofs.RowLaws.{row_open}
 use Rattle.s38_put_laws.proofs.ShapeLaws.{event_few, rows_at, rows_in, unforced_in}
+use Rattle.s38_put_laws.proofs.ShortLaws.{behind_short, settled_short}
 use Rattle.s38_put_laws.proofs.TrailLaws.{journal_kind, stored_other, trails_at, trails_behind}
 
 -- ---- few bytes are unforced behind an event
@@ -255,7 +257,7 @@ module _ (s : State) (p : ℕ) (e : Event) (right : IsRight s) (numbered_are : A
 
 -- ---- journal spaces that are not on disk
 
-pub done_fresh : (s : State) (p : ℕ) (e : Event) → IsRight s → LeadToDisk s.held → AreFresh s.held → IsDone (step s p e).reply → AreFresh (step s p e).state.held
+done_fresh : (s : State) (p : ℕ) (e : Event) → IsRight s → LeadToDisk s.held → AreFresh s.held → IsDone (step s p e).reply → AreFresh (step s p e).state.held
 done_fresh s p e right lead fresh does n j is off =
     entries (part_at journal_part effected.held n) refl
     (subst (SameEntries (part_at journal_part effected.held n)) (sym (ap (λ (h : Held). part_at journal_part h n) takes_it.held) ∙ is) (stored_entries s p e effected n))
@@ -271,7 +273,7 @@ done_fresh s p e right lead fresh does n j is off =
 
     entries : (r : Option JournalList) → part_at journal_part effected.held n ≡ r → SameEntries r (Some j) → j.entries ≡ []
     entries None seen h = absurd h
-    entries (Some k) seen h = h ∙ then_fresh s.held effected.held (event_fresh s p e right lead fresh) n k seen was_off
+    entries (Some k) seen h = h ∙ then_fresh s.held effected.held (event_fresh s p e right takes_it.permit lead fresh) n k seen was_off
 
 settled_none : (units : UnitMap) (n : ℕ) (b : Body) → journal_of b ≡ None → journal_of (settled_body units n b) ≡ None
 settled_none units n (bodies.DataSpace d) none = refl
@@ -372,6 +374,8 @@ module _ (laws : DurableLaws) (s : State) (p : ℕ) (e : Event) (d : Durable) (i
     stored = ap is_some (step_room s p e does) ∙ by s.room trail.stored;
     trailing = trail_on trail.trailing;
     low = step_low s p e is.right is.numbered trail.stored trail.low does;
+    fresh = done_fresh s p e is.right trail.linked.journal_disk trail.fresh does;
+    linked = step_linked s p e is.right trail.linked;
   }
     where
       by : (r : Option Room) → is_some r ≡ true → is_some (follows_room r all now.held.objects) ≡ true
@@ -379,14 +383,14 @@ module _ (laws : DurableLaws) (s : State) (p : ℕ) (e : Event) (d : Durable) (i
       by (Some room) some = refl
 
   -- a journal space that is kept for the first time has no entry
-  pub first_short : LeadToDisk s.held → AreFresh s.held → FirstShort d new
-  first_short lead fresh n x j none at of = by (object now.held n) refl (sym (kept_behind_step all d now n then_kept.numbered.rising) ∙ at)
+  pub first_short : IsTrailOf s d → FirstShort d new
+  first_short trail n x j none at of = by (object now.held n) refl (sym (kept_behind_step all d now n then_kept.numbered.rising) ∙ at)
     where
       same : (a b : Stored) → Some a ≡ Some b → a ≡ b
       same a b h = cc
 
       keeps : KeepsFresh s.held effected.held
-      keeps = event_fresh s p e is.right lead fresh
+      keeps = event_fresh s p e is.right takes_it.permit trail.linked.journal_disk trail.fresh
 
       entries : (r : Option JournalList) → part_at journal_part effected.held n ≡ r → (i : JournalList) → SameEntries r (Some i) → i.entries ≡ []
       entries None seen i h = absurd h
@@ -423,9 +427,35 @@ module _ (laws : DurableLaws) (s : State) (p : ℕ) (e : Event) (d : Durable) (i
       by None found h = cc
       by (Some o) found h = disk o found o.on_disk refl h
 
-  -- what it forces fits in one put
-  pub done_put : (m : Content) → IsTrailOf s d → HaveHeaders d → HaveHeaders new → AreShort d → AreShort new → FirstShort d new → LastShort d new → Stands m d → length (object_changes (numbered all) (get m) new) ≤ most_changes
-  done_put m trail headers then_headers short then_short first last stands =
+  -- where its objects keep to the limit, what is kept behind it is short
+  pub short_on : All (HoldsBody body_limit) now.held.objects → AreShort d → AreShort new
+  short_on hold short n y at = by (object now.held n) refl (sym (kept_behind_step all d now n then_kept.numbered.rising) ∙ at)
+    where
+      IsFew : Stored → Type 0
+      IsFew z = journal_of z.object.body ≡ None → image_len z.object.body ≤ body_limit
+
+      same : (a b : Stored) → Some a ≡ Some b → a ≡ b
+      same a b h = cc
+
+      as_whole : (o : Object) → object now.held n ≡ Some o → IsFew (whole now o)
+      as_whole o found = settled_short now.units o.number.0 o.body (found_all (HoldsBody body_limit) now.held.objects n o hold found)
+
+      kept_few : (o : Object) → object now.held n ≡ Some o → (b : Bool) (r : Option Stored) → kept d.objects o.number.0 ≡ r → IsFew (cond b (whole now o) (kept_behind now o r))
+      kept_few o found true r was = as_whole o found
+      kept_few o found false None was = as_whole o found
+      kept_few o found false (Some x) was = behind_short o.body x.object.body (short o.number.0 x was)
+
+      disk : (o : Object) → object now.held n ≡ Some o → (b : Bool) → cond b (Some (kept_after all now (kept d.objects o.number.0) o)) None ≡ Some y → IsFew y
+      disk o found false h = cc
+      disk o found true h = subst IsFew (same (kept_after all now (kept d.objects o.number.0) o) y h) (kept_few o found (list_any (is_whole o.number.0) all) (kept d.objects o.number.0) refl)
+
+      by : (r : Option Object) → object now.held n ≡ r → kept_one all now d.objects r ≡ Some y → IsFew y
+      by None found h = cc
+      by (Some o) found h = disk o found o.on_disk h
+
+  -- what it puts first fits in one put
+  pub done_put : (m : Content) → IsTrailOf s d → HaveHeaders d → HaveHeaders new → AreShort d → AreShort new → Stands m d → length (first_changes most_changes new (object_changes (numbered all) (get m) new)) ≤ most_changes
+  done_put m trail headers then_headers short then_short stands =
       step_put all d s now effected.held (record {
         rising = then_kept.numbered.rising;
         own = is.bodies;
@@ -440,7 +470,7 @@ module _ (laws : DurableLaws) (s : State) (p : ℕ) (e : Event) (d : Durable) (i
         entries = λ n. subst (λ (h : Held). SameEntries (part_at journal_part effected.held n) (part_at journal_part h n)) (sym takes_it.held) (stored_entries s p e effected n);
         rows = λ n. ap (λ (h : Held). rows_at h n) takes_it.held ∙ stored_rows s p e effected n;
         disk = λ n. ap (λ (h : Held). is_on_disk h n) takes_it.held ∙ (stored_same s p e effected).disk n;
-        few = event_few s p e;
+        few = event_few s p e takes_it.permit;
         trails = trail.trailing;
         low = trail.low;
         headers = headers;
@@ -448,8 +478,7 @@ module _ (laws : DurableLaws) (s : State) (p : ℕ) (e : Event) (d : Durable) (i
         ends = λ n x at. body_low x (then_headers n x at);
         short = short;
         then_short = then_short;
-        first = first;
-        last = last;
+        first = first_short trail;
       }) m stands (forced_low laws s p e d is does)
 
 -- ---- a step that takes no effect, and a history
@@ -461,6 +490,8 @@ other_trail s p e d not trail =
       stored = ap is_some stays.room ∙ trail.stored;
       trailing = subst (λ (h : Held). AreTrailing h d) (sym stays.held) trail.trailing;
       low = subst (λ (h : Held). AreLow h (step s p e).state.units) (sym stays.held) (subst (λ (us : UnitMap). AreLow s.held us) (sym stays.units) trail.low);
+      fresh = subst AreFresh (sym stays.held) trail.fresh;
+      linked = subst AreLinked (sym stays.held) trail.linked;
     }
 
 pub entry_trail : DurableLaws → (s : State) (e : Entry) (d : Durable) (r : Reply) → (step s e.process e.event).reply ≡ r → IsKeptOf s d → IsTrailOf s d → IsTrailOf (step s e.process e.event).state (after_reply d s e r)
@@ -473,66 +504,7 @@ history_trail laws s d before [] end is trail leads = subst (λ (t : State). IsT
 history_trail laws s d before (e ∷ es) end is trail leads =
     history_trail laws (step s e.process e.event).state (after_reply d s e e.reply) (before ++ e ∷ []) es end (entry_kept laws s e d e.reply leads.0.reply is) (entry_trail laws s e d e.reply leads.0.reply is trail) leads.1
 
--- ---- what each step of a history forces fits in one put
-
-pub images_headers : (d : Durable) → AreImages d → HaveHeaders d
-images_headers d images n x at = image_header x (images n x at)
+-- ---- what can be read again is short
 
 pub images_short : (s : State) (d : Durable) → IsKeptOf s d → AreImages d → AreShort d
 images_short s d is images n x at none = image_short x (images n x at) (is.bodies n x at) none
-
-entry_images : DurableLaws → (s : State) (e : Entry) (d : Durable) (r : Reply) → (step s e.process e.event).reply ≡ r → IsKeptOf s d → AreImages d → IsReadableBehind s e r → AreImages (after_reply d s e r)
-entry_images laws s e d (Done values) same is images readable = images_behind laws s e.process e.event d is (subst IsDone (sym same) tt) images readable
-entry_images laws s e d (Signal x) same is images readable = images
-entry_images laws s e d MustWait same is images readable = images
-
-entry_put : DurableLaws → (s : State) (e : Entry) (d : Durable) (r : Reply) → (step s e.process e.event).reply ≡ r → IsKeptOf s d → IsTrailOf s d → AreImages d → IsReadableBehind s e r → IsBetween FirstShort d s e r
-    → IsBetween LastShort d s e r → IsOnePutBy most_changes d s e r
-entry_put laws s e d (Done values) same is trail images readable first last =
-    let does = subst IsDone (sym same) tt in
-    let new_durable : Durable = durable_after (forced s e.process e.event) d (step s e.process e.event).state in
-    let behind_images = images_behind laws s e.process e.event d is does images readable in
-    let next = done_kept laws s e.process e.event d is does in
-    λ m stands.
-    done_put laws s e.process e.event d is does m trail (images_headers d images) (images_headers new_durable behind_images) (images_short s d is images)
-    (images_short (step s e.process e.event).state new_durable next behind_images) first last stands
-entry_put laws s e d (Signal x) same is trail images readable first last = tt
-entry_put laws s e d MustWait same is trail images readable first last = tt
-
-pub history_put : DurableLaws → (s : State) (d : Durable) (before history : List Entry) (end : State) → IsKeptOf s d → IsTrailOf s d → AreImages d → AllReadable s history → AllBetween FirstShort d s history
-    → AllBetween LastShort d s history → Leads s before history end → AllOnePut most_changes d s history
-history_put laws s d before [] end is trail images readable first last leads = tt
-history_put laws s d before (e ∷ es) end is trail images readable first last leads =
-    let same = leads.0.reply in (
-      entry_put laws s e d e.reply same is trail images readable.0 first.0 last.0,
-      history_put laws (step s e.process e.event).state (after_reply d s e e.reply) (before ++ e ∷ []) es end (entry_kept laws s e d e.reply same is) (entry_trail laws s e d e.reply same is trail)
-          (entry_images laws s e d e.reply same is images readable.0) readable.1 first.1 last.1 leads.1,
-    )
-
--- ---- journal spaces that are not on disk, over a history
-
-pub other_fresh : (s : State) (p : ℕ) (e : Event) → (IsDone (step s p e).reply → ⊥) → AreFresh s.held → AreFresh (step s p e).state.held
-other_fresh s p e not fresh = subst AreFresh (sym (stayed s p e not).held) fresh
-
-entry_fresh : (s : State) (e : Entry) (r : Reply) → (step s e.process e.event).reply ≡ r → IsRight s → LeadToDisk s.held → AreFresh s.held → AreFresh (step s e.process e.event).state.held
-entry_fresh s e (Done values) same right lead fresh = done_fresh s e.process e.event right lead fresh (subst IsDone (sym same) tt)
-entry_fresh s e (Signal x) same right lead fresh = other_fresh s e.process e.event (not_done (Signal x) (step s e.process e.event).reply same (λ h. h)) fresh
-entry_fresh s e MustWait same right lead fresh = other_fresh s e.process e.event (not_done MustWait (step s e.process e.event).reply same (λ h. h)) fresh
-
-pub history_fresh : (s : State) (before history : List Entry) (end : State) → IsRight s → AllLeadToDisk s history → AreFresh s.held → Leads s before history end → AreFresh end.held
-history_fresh s before [] end right lead fresh leads = subst (λ (t : State). AreFresh t.held) leads fresh
-history_fresh s before (e ∷ es) end right lead fresh leads =
-    history_fresh (step s e.process e.event).state (before ++ e ∷ []) es end (step_right s e.process e.event right) lead.1 (entry_fresh s e e.reply leads.0.reply right lead.0 fresh) leads.1
-
-entry_first : DurableLaws → (s : State) (e : Entry) (d : Durable) (r : Reply) → (step s e.process e.event).reply ≡ r → IsKeptOf s d → LeadToDisk s.held → AreFresh s.held → IsBetween FirstShort d s e r
-entry_first laws s e d (Done values) same is lead fresh = first_short laws s e.process e.event d is (subst IsDone (sym same) tt) lead fresh
-entry_first laws s e d (Signal x) same is lead fresh = tt
-entry_first laws s e d MustWait same is lead fresh = tt
-
-pub history_first : DurableLaws → (s : State) (d : Durable) (before history : List Entry) (end : State) → IsKeptOf s d → AllLeadToDisk s history → AreFresh s.held → Leads s before history end → AllBetween FirstShort d s history
-history_first laws s d before [] end is lead fresh leads = tt
-history_first laws s d before (e ∷ es) end is lead fresh leads =
-    let same = leads.0.reply in (
-      entry_first laws s e d e.reply same is lead.0 fresh,
-      history_first laws (step s e.process e.event).state (after_reply d s e e.reply) (before ++ e ∷ []) es end (entry_kept laws s e d e.reply same is) lead.1 (entry_fresh s e e.reply same is.right lead.0 fresh) leads.1,
-    )

@@ -1,5 +1,5 @@
 //! Laws about journal spaces on the way, and about what a step puts.
-ghost use Rattle.std.specs.Prelude.{◌≡◌, ◌+◌, ◌/◌, ◌++◌, ◌<◌, ◌≤◌, ℕ, List, None, Some, length};
+ghost use Rattle.std.specs.Prelude.{◌≡◌, ◌+◌, ◌/◌, ◌++◌, ◌<◌, ◌≤◌, ℕ, All, List, None, Some, length};
 ghost use Rattle.std.specs.FinMap.{get};
 ghost use Rattle.s38_base.specs.Limits.{body_limit, page_bytes};
 ghost use Rattle.s38_base.specs.declared.exception.Exception.{Exception};
@@ -11,6 +11,7 @@ ghost use Rattle.s38_code.specs.declared.made.CheckedTemplate.{CheckedTemplate};
 ghost use Rattle.s38_code.specs.declared.reply.Reply.TheVariants.{Done, MustWait, Signal};
 ghost use Rattle.s38_code.specs.declared.reply.Val.{Val};
 ghost use Rattle.s38_commitment_laws.specs.Right.{IsRight};
+ghost use Rattle.s38_committed.specs.Linked.{AreLinked};
 ghost use Rattle.s38_durable.specs.Durable.{Durable, after_reply, durable, durable_after};
 ghost use Rattle.s38_durable.specs.Stands.{Stands};
 ghost use Rattle.s38_forcing.specs.Differences.{wanted_at};
@@ -19,11 +20,11 @@ ghost use Rattle.s38_image.specs.Images.{body_part, parts_of};
 ghost use Rattle.s38_image.specs.declared.stored.Stored.{Stored};
 ghost use Rattle.s38_journals.specs.Journals.{entries_len};
 ghost use Rattle.s38_kept_laws.specs.Beginning.{durable_in, origin_of};
-ghost use Rattle.s38_kept_laws.specs.Kept.{AllReadable, AreImages, IsKeptOf};
-ghost use Rattle.s38_put_laws.specs.Fresh.{AllLeadToDisk, AreFresh, LeadToDisk};
+ghost use Rattle.s38_kept_laws.specs.Kept.{AreImages, IsKeptOf};
+ghost use Rattle.s38_openings.specs.Bodies.{HoldsBody};
+ghost use Rattle.s38_step_parts.specs.Leftovers.{first_changes};
 ghost use Rattle.s38_put_laws.specs.Lengthening.{AreLonger};
-ghost use Rattle.s38_put_laws.specs.OnePut.{AllBetween, AreShort, FirstShort, LastShort};
-ghost use Rattle.s38_put_laws.specs.Puts.{AllOnePut};
+ghost use Rattle.s38_put_laws.specs.OnePut.{AreShort};
 ghost use Rattle.s38_put_laws.specs.Spaces.{IsSpace};
 ghost use Rattle.s38_put_laws.specs.Trails.{IsTrailOf};
 ghost use Rattle.s38_restart.specs.Parts.{AreParts, all_parts};
@@ -77,36 +78,25 @@ pub fn pages_within_what_was_kept_stay()
         → wanted_at (parts_of x) (record { object = n; part = p }) ≡ wanted_at (parts_of y) (record { object = n; part = p }) }
 {}
 
-/// A journal space that is not on disk has no entry, and so has one that is kept for the first time, as long as the journal
-/// spaces of the data spaces that are journaled are on disk: nothing is journaled elsewhere. A restart makes all objects be
-/// on disk.
-pub fn a_journal_space_off_disk_has_no_entry()
-    ensures begins { (m : Content) (h : Held) → AreParts (all_parts m) → first_fault body_limit (all_parts m) ≡ None → h ≡ restarted body_limit (all_parts m) → AreFresh h }
-    ensures done { (s : State) (p : ℕ) (e : Event) (values : List Val) → IsRight s → LeadToDisk s.held → AreFresh s.held → (step s p e).reply ≡ Done values → AreFresh (step s p e).state.held }
-    ensures refused { (s : State) (p : ℕ) (e : Event) (x : Exception) → AreFresh s.held → (step s p e).reply ≡ Signal x → AreFresh (step s p e).state.held }
-    ensures waits { (s : State) (p : ℕ) (e : Event) → AreFresh s.held → (step s p e).reply ≡ MustWait → AreFresh (step s p e).state.held }
-    ensures histories { (s : State) (before : List Entry) (history : List Entry) (end : State) → Leads s before history end → IsRight s → AllLeadToDisk s history → AreFresh s.held → AreFresh end.held }
-    ensures first { (s : State) (p : ℕ) (e : Event) (values : List Val) (d : Durable) → IsKeptOf s d → LeadToDisk s.held → AreFresh s.held → (step s p e).reply ≡ Done values
-        → FirstShort d (durable_after (forced s p e) d (step s p e).state) }
-    ensures all_first { (s : State) (before : List Entry) (history : List Entry) (end : State) (d : Durable) → Leads s before history end → IsKeptOf s d → AllLeadToDisk s history → AreFresh s.held
-        → AllBetween FirstShort d s history }
-{
-    what_is_durable_follows();
-    room_counts_what_is_durable();
-    what_is_not_forced_stays_durable();
-}
+/// A data space that is journaled is on disk, and so are its port and its journal space, and ports and data spaces name what
+/// was given: a run over a store without a fault begins so, and each step keeps it.
+pub fn what_is_journaled_is_on_disk()
+    ensures begins { (m : Content) → AreParts (all_parts m) → first_fault body_limit (all_parts m) ≡ None → AreLinked (restarted body_limit (all_parts m)) }
+    ensures steps { (s : State) (p : ℕ) (e : Event) → IsRight s → AreLinked s.held → AreLinked (step s p e).state.held }
+{}
 
-/// What a step forces that takes effect fits in one put, besides the ceiling, if no body but that of a journal space is too
-/// long, and no journal space is that is kept for the first time, or no more. Where what was durable can be read again, no
-/// other body is too long; so each step of a history is kept by one put, where all that is kept can be read again.
-pub fn what_a_step_forces_fits_in_one_put()
+/// What a step puts first that takes effect fits in one put, besides the ceiling, if no body but that of a journal space is too
+/// long: all that differs where it fits, and else what belongs to something that is kept. Of a journal space that is destroyed
+/// this is its header alone. Where what was durable can be read again, no body is too long, and none is behind a step whose
+/// objects keep to the limit.
+pub fn what_a_step_puts_first_fits_in_one_put()
     ensures done { (s : State) (p : ℕ) (e : Event) (values : List Val) (d : Durable) (m : Content) → IsKeptOf s d → IsTrailOf s d → (step s p e).reply ≡ Done values
-        → HaveHeaders d → HaveHeaders (durable_after (forced s p e) d (step s p e).state) → AreShort d → AreShort (durable_after (forced s p e) d (step s p e).state)
-        → FirstShort d (durable_after (forced s p e) d (step s p e).state) → LastShort d (durable_after (forced s p e) d (step s p e).state) → Stands m d
-        → length (object_changes (numbered (forced s p e)) (get m) (durable_after (forced s p e) d (step s p e).state)) ≤ most_changes }
+        → HaveHeaders d → HaveHeaders (durable_after (forced s p e) d (step s p e).state) → AreShort d → AreShort (durable_after (forced s p e) d (step s p e).state) → Stands m d
+        → length (first_changes most_changes (durable_after (forced s p e) d (step s p e).state)
+        (object_changes (numbered (forced s p e)) (get m) (durable_after (forced s p e) d (step s p e).state))) ≤ most_changes }
     ensures short { (s : State) (d : Durable) → IsKeptOf s d → AreImages d → AreShort d }
-    ensures histories { (s : State) (before : List Entry) (history : List Entry) (end : State) (d : Durable) → Leads s before history end → IsKeptOf s d → IsTrailOf s d → AreImages d → AllReadable s history
-        → AllBetween FirstShort d s history → AllBetween LastShort d s history → AllOnePut most_changes d s history }
+    ensures short_after { (s : State) (p : ℕ) (e : Event) (values : List Val) (d : Durable) → IsKeptOf s d → (step s p e).reply ≡ Done values
+        → All (HoldsBody body_limit) (step s p e).state.held.objects → AreShort d → AreShort (durable_after (forced s p e) d (step s p e).state) }
 {
     what_is_durable_follows();
     room_counts_what_is_durable();

@@ -54,13 +54,14 @@ use Rattle.s38_rules.specs.Locking.{locks_row}
 use Rattle.s38_rules.specs.Operands.{bytes_at, count_at, delivered, place, put_value, whole_at}
 use Rattle.s38_rules.specs.Parts.{data_part, no_index, no_queue, over_table, table_in}
 use Rattle.s38_rules.specs.Profiles.{profiles_row}
-use Rattle.s38_rules.specs.Programs.{program_in, programs_row, template_at}
+use Rattle.s38_rules.specs.Programs.{crtpg, crtpg_fails, new_program, program_in, programs_row, size_of, template_at, template_rule}
 use Rattle.s38_rules.specs.Queues.{enq, enq_fails, new_queue, put_fails, queues_row}
 use Rattle.s38_rules.specs.Resolving.{resolving_row}
 use Rattle.s38_rules.specs.Rows.{row, row_in as instruction_in}
 use Rattle.s38_rules.specs.Spaces.{crts, crts_fails, is_space_length, length_at, length_rule, mods, mods_fails, spaces_row}
 use Rattle.s38_rules.specs.State.{State, process_entry, waits}
 use Rattle.s38_rules.specs.Step.{awake_verdict, by_verdict, by_waiting, step}
+use Rattle.s38_rules.specs.Users.{user_of}
 use Rattle.s38_rules.specs.Verdict.{refused_by, ruled_verdict}
 use Rattle.s38_rules.specs.declared.data_body.DataBody.{DataBody}
 use Rattle.s38_rules.specs.declared.object.Body.TheVariants as bodies
@@ -210,13 +211,19 @@ indexes_may _ = λ s p d t small e. tt
 
 -- ---- the other families
 
-program_so : (limit : ℕ) (x : Option Program) → MadeSo limit (option_map bodies.Program x)
-program_so limit None = tt
-program_so limit (Some program) = tt
+program_so : (limit : ℕ) (x : Option Program) → nat_lt limit (size_of x) ≡ false → MadeSo limit (option_map bodies.Program x)
+program_so limit None short = tt
+program_so limit (Some program) short = under limit (size_of (Some program)) short
+
+crtpg_may : MayRow crtpg
+unfolding crtpg_fails
+crtpg_may s p d t small e =
+    let met = first_none (creation_fails s.held (user_of s p) (new_program s.held t.operands) (template_rule (template_at s t.operands))) _ (rule_met crtpg s p d t e) in
+    program_so s.limit (program_in (template_at s t.operands)) (fails_none _ exceptions.limit_exceeded 0 met.1)
 
 programs_may : (op : Op) → MayRow (programs_row op)
 unfolding programs_row
-programs_may Crtpg = λ s p d t small e. program_so s.limit (program_in (template_at s t.operands))
+programs_may Crtpg = crtpg_may
 programs_may _ = λ s p d t small e. tt
 
 resolving_may : (op : Op) → MayRow (resolving_row op)
