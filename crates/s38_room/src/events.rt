@@ -29,10 +29,11 @@ fn contexts(world: &Core<Objects, Profiles>, act: Act<'_>) -> Forcings
     ensures { result ≡ forced_by world.now act.entry.process ((contexts_row act.entry.request.now.op).changes world.now act.entry.process act.entry.depth act.entry.request.now) }
 {
     let objects = &world.objects;
+    let number = number_at(world, act, 1);
     match act.request.op {
         Op::Crtctx => made(world, act, 2, false),
-        Op::Desctx => removed(objects, Kind::Context, number_at(world, act, 1)),
-        Op::Modadr | Op::Rename => followed(objects, number_at(world, act, 1)),
+        Op::Desctx => removed(objects, Kind::Context, number),
+        Op::Modadr | Op::Rename => followed(objects, number),
         _ => Forcings::none(),
     }
 }
@@ -43,10 +44,11 @@ fn profiles(world: &Core<Objects, Profiles>, act: Act<'_>) -> Forcings
     ensures { result ≡ forced_by world.now act.entry.process ((profiles_row act.entry.request.now.op).changes world.now act.entry.process act.entry.depth act.entry.request.now) }
 {
     let objects = &world.objects;
+    let number = number_at(world, act, 1);
     match act.request.op {
         Op::Crtup => made(world, act, 2, true),
-        Op::Desup => removed(objects, Kind::Profile, number_at(world, act, 1)),
-        Op::Modup => followed(objects, number_at(world, act, 1)),
+        Op::Desup => removed(objects, Kind::Profile, number),
+        Op::Modup => followed(objects, number),
         _ => Forcings::none(),
     }
 }
@@ -57,8 +59,9 @@ fn grants(world: &Core<Objects, Profiles>, act: Act<'_>) -> Forcings
     ensures { result ≡ forced_by world.now act.entry.process ((grants_row act.entry.request.now.op).changes world.now act.entry.process act.entry.depth act.entry.request.now) }
 {
     let objects = &world.objects;
+    let number = number_at(world, act, 1);
     match act.request.op {
-        Op::Grant | Op::Retract | Op::Xfro => followed(objects, number_at(world, act, 1)),
+        Op::Grant | Op::Retract | Op::Xfro => followed(objects, number),
         _ => Forcings::none(),
     }
 }
@@ -69,9 +72,10 @@ fn programs(world: &Core<Objects, Profiles>, act: Act<'_>) -> Forcings
     ensures { result ≡ forced_by world.now act.entry.process ((programs_row act.entry.request.now.op).changes world.now act.entry.process act.entry.depth act.entry.request.now) }
 {
     let objects = &world.objects;
+    let number = number_at(world, act, 1);
     match act.request.op {
         Op::Crtpg => made_program(world, act),
-        Op::Despg => removed(objects, Kind::Program, number_at(world, act, 1)),
+        Op::Despg => removed(objects, Kind::Program, number),
         _ => Forcings::none(),
     }
 }
@@ -82,9 +86,10 @@ fn spaces(world: &Core<Objects, Profiles>, act: Act<'_>) -> Forcings
     ensures { result ≡ forced_by world.now act.entry.process ((spaces_row act.entry.request.now.op).changes world.now act.entry.process act.entry.depth act.entry.request.now) }
 {
     let objects = &world.objects;
+    let number = number_at(world, act, 1);
     match act.request.op {
         Op::Crts => made(world, act, 3, false),
-        Op::Dess => removed(objects, Kind::Space, number_at(world, act, 1)),
+        Op::Dess => removed(objects, Kind::Space, number),
         _ => Forcings::none(),
     }
 }
@@ -95,9 +100,10 @@ fn queues(world: &Core<Objects, Profiles>, act: Act<'_>) -> Forcings
     ensures { result ≡ forced_by world.now act.entry.process ((queues_row act.entry.request.now.op).changes world.now act.entry.process act.entry.depth act.entry.request.now) }
 {
     let objects = &world.objects;
+    let number = number_at(world, act, 1);
     match act.request.op {
         Op::Crtq => made(world, act, 3, false),
-        Op::Desq => removed(objects, Kind::Queue, number_at(world, act, 1)),
+        Op::Desq => removed(objects, Kind::Queue, number),
         _ => Forcings::none(),
     }
 }
@@ -108,9 +114,10 @@ fn indexes(world: &Core<Objects, Profiles>, act: Act<'_>) -> Forcings
     ensures { result ≡ forced_by world.now act.entry.process ((indexes_row act.entry.request.now.op).changes world.now act.entry.process act.entry.depth act.entry.request.now) }
 {
     let objects = &world.objects;
+    let number = number_at(world, act, 1);
     match act.request.op {
         Op::Crtinx => made(world, act, 3, false),
-        Op::Desinx => removed(objects, Kind::Index, number_at(world, act, 1)),
+        Op::Desinx => removed(objects, Kind::Index, number),
         _ => Forcings::none(),
     }
 }
@@ -121,11 +128,12 @@ fn data_spaces(world: &Core<Objects, Profiles>, act: Act<'_>) -> Forcings
     ensures { result ≡ forced_by world.now act.entry.process ((data_spaces_row act.entry.request.now.op).changes world.now act.entry.process act.entry.depth act.entry.request.now) }
 {
     let objects = &world.objects;
+    let number = number_at(world, act, 1);
     match act.request.op {
         Op::Crtds => made(world, act, 3, false),
         Op::Crtcr => made(world, act, 3, false),
-        Op::Desds => removed(objects, Kind::DataSpace, number_at(world, act, 1)),
-        Op::Descr => removed(objects, Kind::Cursor, number_at(world, act, 1)),
+        Op::Desds => removed(objects, Kind::DataSpace, number),
+        Op::Descr => removed(objects, Kind::Cursor, number),
         Op::Insdsen => changed(world, insertion(world, act)),
         Op::Updsen => changed(world, update(world, act)),
         Op::Deldsen => changed(world, deletion(world, act)),
@@ -139,16 +147,17 @@ fn journals(world: &Core<Objects, Profiles>, act: Act<'_>) -> Forcings
     ensures { result ≡ forced_by world.now act.entry.process ((journals_row act.entry.request.now.op).changes world.now act.entry.process act.entry.depth act.entry.request.now) }
 {
     let objects = &world.objects;
+    let number = number_at(world, act, 1);
     match act.request.op {
         Op::Crtjs => made(world, act, 3, false),
         Op::Crtjp => made(world, act, 3, false),
         Op::Crtcb => made(world, act, 3, false),
-        Op::Desjs => removed(objects, Kind::Journal, number_at(world, act, 1)),
-        Op::Desjp => removed(objects, Kind::Port, number_at(world, act, 1)),
-        Op::Descb => removed(objects, Kind::Block, number_at(world, act, 1)),
-        Op::Jrnlobj => journaled(world, number_at(world, act, 1), number_at(world, act, 2)),
-        Op::Commit => committed(world, number_at(world, act, 1)),
-        Op::Ensobj => ensured(world, number_at(world, act, 1)),
+        Op::Desjs => removed(objects, Kind::Journal, number),
+        Op::Desjp => removed(objects, Kind::Port, number),
+        Op::Descb => removed(objects, Kind::Block, number),
+        Op::Jrnlobj => journaled(world, number, number_at(world, act, 2)),
+        Op::Commit => committed(world, number),
+        Op::Ensobj => ensured(world, number),
         _ => Forcings::none(),
     }
 }
