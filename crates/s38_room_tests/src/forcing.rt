@@ -2,6 +2,7 @@
 ghost use Rattle.s38_room_tests.specs.Given.{IsGiven};
 
 use crate::given::{NUMBER, alone, space};
+use s38_base::{Change, Key, Page};
 use s38_commits::Units;
 use s38_extents::{Forcing, Forcings};
 use s38_image_printing::to_parts;
@@ -45,6 +46,29 @@ fn let_go(alloc: Global, vault: &mut MapVault) -> Option<ForceFault> {
     fault_of(force(alloc, vault, &objects, &units, forced.as_slice()))
 }
 
+/// So many parts one put does not take.
+const MANY: u32 = 2300;
+
+/// Puts a page at a part of the object.
+fn put_part(vault: &mut MapVault, part: u32) -> Result<(), Fail> {
+    // Its contract says how many changes a put takes.
+    let _most = vault.most();
+    vault.reserve(1)?;
+    let key = Key {
+        object: NUMBER.0,
+        part,
+    };
+    let page = Page {
+        bytes: [0; 512],
+        tags: 0,
+    };
+    vault.put(&[Change {
+        key,
+        page: Some(page),
+    }])?;
+    Ok(())
+}
+
 /// All parts of an object are in the vault.
 fn holds(alloc: Global, vault: &mut MapVault, object: &Object) -> Result<bool, Fail>
     requires { IsGiven object.now }
@@ -68,5 +92,17 @@ fn an_object_is_kept_and_taken_away(rt: HostRuntime) -> Result<(), Fail> {
         assert!(rt; holds(alloc, &mut vault, &object)? == fault.is_none());
         assert!(rt; let_go(alloc, &mut vault).is_none() && vault.free() == parts);
     }
+    Ok(())
+}
+
+#[test]
+fn an_object_of_many_parts_is_taken_away(rt: HostRuntime) -> Result<(), Fail> {
+    let alloc = rt.alloc();
+    let mut vault = MapVault::new(alloc, MANY);
+    for part in 0..MANY {
+        put_part(&mut vault, part)?;
+    }
+    assert!(rt; vault.free() == 0);
+    assert!(rt; let_go(alloc, &mut vault).is_none() && vault.free() == MANY);
     Ok(())
 }
