@@ -2,7 +2,7 @@
 use Rattle.std.proofs.Common.{◌≡◌, ◌∙◌, ◌⊎◌, inl, inr, ℕ, ◌-◌, ◌<◌, ◌≤◌, Bool, true, false, cond, List, [], ◌∷◌, ◌++◌, length, refl, sym, ap, subst, arith, length-append}
 use Rattle.std.proofs.lemmas.Bool.{cases_lt}
 use Rattle.std.specs.Option.{option_map}
-use Rattle.std.specs.Prelude.{◌↔◌, Option, Some, slice_get}
+use Rattle.std.specs.Prelude.{◌↔◌, All, Option, Some, slice_get}
 use Rattle.s38_base.specs.Faults.{Rose}
 use Rattle.s38_code.specs.History.{entry_after}
 use Rattle.s38_code.specs.declared.entry.Entry.{Entry}
@@ -17,7 +17,8 @@ use Rattle.s38_kept_laws.proofs.KeepLaws as kept_laws
 use Rattle.s38_kept_laws.proofs.StepLaws.{IsDone}
 use Rattle.s38_kept_laws.specs.Crashes.{IsKeptPrefix, StandsBetween, led}
 use Rattle.s38_kept_laws.specs.Kept.{IsKeptOf}
-use Rattle.s38_put_laws.proofs.StepLaws.{begins_on, done_put, history_trail, short_after}
+use Rattle.s38_openings.specs.Bodies.{HoldsBody}
+use Rattle.s38_put_laws.proofs.StepLaws.{begins_on, done_put, history_trail, short_on}
 use Rattle.s38_put_laws.specs.OnePut.{AreShort}
 use Rattle.s38_put_laws.specs.Trails.{IsTrailOf}
 use Rattle.s38_machine.specs.Stored.{kept_anew}
@@ -28,6 +29,7 @@ use Rattle.s38_rules.specs.State.{State, waits}
 use Rattle.s38_rules.specs.Step.{awake_verdict, by_verdict, by_waiting, step}
 use Rattle.s38_rules.specs.declared.verdict.Verdict.TheVariants.{Permit, Refuse, Wait}
 use Rattle.s38_rules.specs.declared.verdict.Verdict.{Verdict}
+use Rattle.s38_state_laws.specs.Order.{AreInOrder}
 use Rattle.s38_step_parts.specs.Numbers.{numbered}
 use Rattle.s38_step_parts.specs.Stepping.{HaveHeaders, IsDue, Precedes}
 use Rattle.s38_vault.specs.Content.{Content}
@@ -181,9 +183,12 @@ module _ {V : Type 0} (view : V → VaultView) (holds : V → Content → Type 0
     other_is not = new_is ∙ other_by (step s p e).reply not
 
     -- no body that is kept behind it is too long
+    ordered : AreInOrder t
+    ordered = (step_stored s p e is.state).ordered
+
     short_by : (IsDone (step s p e).reply → ⊥) ⊎ IsDone (step s p e).reply → AreShort new
     short_by (inl not) = subst (λ (y : Durable). AreShort y) (sym (other_is not)) short_old
-    short_by (inr does) = subst (λ (y : Durable). AreShort y) (sym (done_is does)) (short_after laws s p e old is_old does (bodies_short t (step_stored s p e is.state).ordered) short_old)
+    short_by (inr does) = subst (λ (y : Durable). AreShort y) (sym (done_is does)) (short_on laws s p e old is_old does (subst (λ (limit : ℕ). All (HoldsBody limit) t.held.objects) ordered.limit ordered.bodies) short_old)
 
     short_new : AreShort new
     short_new = short_by (is_done (step s p e).reply)
@@ -239,7 +244,7 @@ module _ {V : Type 0} (view : V → VaultView) (holds : V → Content → Type 0
           let same = numbered_same laws s p e old is_old does in
           subst (λ (k : ℕ). FitsOnePut k held.content (numbered (forced s p e)) (durable_after (numbered (forced s p e)) old t)) (sym (ap (λ shape. shape.most) is.shape ∙ most))
           (subst (λ (y : Durable). FitsOnePut most_changes held.content (numbered (forced s p e)) y) (sym same)
-          (done_put laws s p e old held.content is_old trails_old does held.headers (subst (λ (y : Durable). HaveHeaders y) same headers) short_old
+          (done_put laws s p e old is_old does held.content trails_old held.headers (subst (λ (y : Durable). HaveHeaders y) same headers) short_old
           (subst (λ (y : Durable). AreShort y) (done_is does) short_new) held.stands))
 
       between : (view x.first).shape.most ≡ most_changes → (j : ℕ) (n : Content) → (view x.vault).moment < j → j ≤ (view v).moment → leaves v j n
