@@ -1,7 +1,7 @@
 -- How many parts of one object a close puts.
 use Rattle.std.proofs.Common.{◌≡◌, ◌∙◌, ℕ, ◌+◌, ◌≤◌, Bool, true, false, ◌++◌, length, lit≤, refl, sym, ap, subst, arith}
 use Rattle.std.specs.Option.{option_map, unwrap_or}
-use Rattle.std.specs.Prelude.{None, Option, Some}
+use Rattle.std.specs.Prelude.{All, None, Option, Some}
 use Rattle.s38_base.specs.Limits.{body_limit}
 use Rattle.s38_base.specs.declared.id.Kind.TheVariants as kinds
 use Rattle.s38_closed_laws.proofs.MarkLaws.{whole_found}
@@ -22,6 +22,7 @@ use Rattle.s38_object_laws.specs.Well.{IsWell}
 use Rattle.s38_put_laws.proofs.DifferLaws.{differ}
 use Rattle.s38_put_laws.proofs.ObjectLaws.{IsOf, all_few, page_in, pages_in, same_few}
 use Rattle.s38_put_laws.proofs.TrailLaws.{journal_kind}
+use Rattle.s38_put_laws.specs.OnePut.{AreShort}
 use Rattle.s38_put_laws.specs.Spaces.{IsSpace}
 use Rattle.s38_put_laws.specs.Trails.{IsTrailing}
 use Rattle.s38_put_laws.specs.Unforced.{most_trailing}
@@ -33,8 +34,8 @@ use Rattle.s38_rules.specs.Storable.{IsStorable}
 use Rattle.s38_rules.specs.declared.object.Body.TheVariants as bodies
 use Rattle.s38_rules.specs.declared.object.Body.{Body}
 use Rattle.s38_rules.specs.declared.object.Object.{Object}
-use Rattle.s38_step_parts.proofs.KeptLaws.{kept_number}
-use Rattle.s38_close_put_laws.specs.Ending.{IsEnding}
+use Rattle.s38_step_parts.proofs.KeptLaws.{kept_number, settled_len}
+use Rattle.s38_close_put_laws.specs.Ending.{IsEnding, IsShort}
 
 -- ---- bodies
 
@@ -56,6 +57,24 @@ settled_kind : (units : UnitMap) (n : ℕ) (b : Body) → kind_of (settled_body 
 settled_kind units n (bodies.DataSpace d) = refl
 settled_kind units n (bodies.Journal j) = refl
 settled_kind units n _ = refl
+
+-- what is kept whole is as long as the object
+pub closing_short : (s : State) → All IsShort s.held.objects → AreShort (closing s.units s.held)
+closing_short s short n x at none = by (object s.held n) refl (sym (whole_found s.units s.held s.held.objects n) ∙ at)
+  where
+    same : (a b : Stored) → Some a ≡ Some b → a ≡ b
+    same a b e = cc
+
+    by : (y : Option Object) → object s.held n ≡ y → option_map (whole s) y ≡ Some x → image_len x.object.body ≤ body_limit
+    by None found e = absurd (let h : None ≡ Some x = e in cc)
+    by (Some o) found e =
+        let is = same (whole s o) x e in
+        let body = ap (λ (z : Stored). z.object.body) is in
+        let plain = not_journal (settled_body s.units o.number.0 o.body) o.body (sym (settled_kind s.units o.number.0 o.body)) (ap journal_of body ∙ none) in
+        let few = found_all IsShort s.held.objects n o short found plain in
+        let len = settled_len s.units o.number.0 o.body in
+        let own = ap image_len body in
+        omega (arith, few, len, own)
 
 -- ---- one object
 

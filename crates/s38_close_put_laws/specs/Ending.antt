@@ -1,5 +1,6 @@
 -- What is known of a state and of what is durable of it as a run ends, and what a crash leaves while the run is closed.
-use Rattle.std.specs.Prelude.{◌≡◌, ◌++◌, List}
+use Rattle.std.specs.Prelude.{◌≡◌, ◌≤◌, ◌++◌, List, None}
+use Rattle.s38_base.specs.Limits.{body_limit}
 use Rattle.s38_closing.specs.Closing.{closing}
 use Rattle.s38_durable.specs.Durable.{Durable, closed}
 use Rattle.s38_durable.specs.Stands.{Stands}
@@ -7,10 +8,16 @@ use Rattle.s38_kept_laws.specs.Kept.{IsKeptOf}
 use Rattle.s38_put_laws.specs.Fresh.{AreFresh}
 use Rattle.s38_put_laws.specs.OnePut.{AreShort}
 use Rattle.s38_put_laws.specs.Trails.{IsTrailOf}
+use Rattle.s38_rules.specs.Parts.{journal_of}
+use Rattle.s38_rules.specs.Room.{image_len}
 use Rattle.s38_rules.specs.State.{State}
 use Rattle.s38_rules.specs.declared.object.Object.{Object}
 use Rattle.s38_step_parts.specs.Stepping.{HaveHeaders}
 use Rattle.s38_vault.specs.Content.{Content}
+
+-- the body of an object has no more bytes than a body may have, unless it is a journal space
+abbrev pub IsShort : Object → Type 0
+IsShort o = journal_of o.body ≡ None → image_len o.body ≤ body_limit
 
 -- what is durable goes with the state, and of each journal space it has a beginning, with few bytes behind it; a journal space
 -- that is not on disk has no entry; and the headers of what is durable, and of what a close keeps, can be read again, and no

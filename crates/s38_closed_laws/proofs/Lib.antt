@@ -5,3 +5,4 @@ pub mod MarkLaws
 pub mod EnsureLaws
 pub mod CloseLaws
 pub mod WholeLaws
+pub mod NamedLaws

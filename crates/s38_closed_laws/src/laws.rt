@@ -1,7 +1,10 @@
 //! Laws about the end of a run.
-ghost use Rattle.std.specs.Prelude.{◌≡◌, ◌++◌, List};
+ghost use Rattle.std.specs.Prelude.{◌≡◌, ◌++◌, ℕ, List};
+ghost use Rattle.s38_blocks.specs.Store as stores;
+ghost use Rattle.s38_blocks.specs.declared.layout.Layout.{Layout};
 ghost use Rattle.s38_closing.specs.Closing.{closing, content_of};
 ghost use Rattle.s38_closing.specs.Ensuring.{IsBehind};
+ghost use Rattle.s38_disk.specs.declared.block.Block.{Block};
 ghost use Rattle.s38_durable.specs.Durable.{Durable, closed};
 ghost use Rattle.s38_durable.specs.Stands.{Stands};
 ghost use Rattle.s38_kept_laws.specs.Kept.{IsKeptOf};
@@ -24,3 +27,8 @@ pub fn what_is_reached_is_closed()
 {
     what_is_durable_follows();
 }
+
+/// A store has no page of object 0, whatever a crash left of it.
+pub fn a_store_names_objects()
+    ensures { (lay : Layout) (f : ℕ → Block) (m : Content) → stores.Stands lay f m → NameObjects (keys_of m) }
+{}

@@ -4,4 +4,4 @@
 
 mod laws;
 
-pub use laws::what_is_reached_is_closed;
+pub use laws::{a_store_names_objects, what_is_reached_is_closed};
