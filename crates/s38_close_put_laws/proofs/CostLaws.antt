@@ -210,7 +210,7 @@ module _ (s : State) (d : Durable) (ends : IsEnding s d) where
         no_bytes : (j : JournalList) → journal_of o.body ≡ Some j → image_len (whole s o).object.body ≡ 0
         no_bytes j body =
             ap (λ (b : Body). image_len (settled_body s.units o.number.0 b)) (journal_lawful.back o.body j body)
-            ∙ ap entries_len (ends.fresh n j (ap (part_in journal_part) found ∙ body) (ap disk_in found ∙ off o.on_disk refl))
+            ∙ ap entries_len (ends.trail.fresh n j (ap (part_in journal_part) found ∙ body) (ap disk_in found ∙ off o.on_disk refl))
 
         by : (r : Option JournalList) → journal_of o.body ≡ r → image_len (whole s o).object.body ≤ body_limit
         by (Some j) body = let none = no_bytes j body in omega (arith, none)

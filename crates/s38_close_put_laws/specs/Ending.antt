@@ -5,7 +5,6 @@ use Rattle.s38_closing.specs.Closing.{closing}
 use Rattle.s38_durable.specs.Durable.{Durable, closed}
 use Rattle.s38_durable.specs.Stands.{Stands}
 use Rattle.s38_kept_laws.specs.Kept.{IsKeptOf}
-use Rattle.s38_put_laws.specs.Fresh.{AreFresh}
 use Rattle.s38_put_laws.specs.OnePut.{AreShort}
 use Rattle.s38_put_laws.specs.Trails.{IsTrailOf}
 use Rattle.s38_rules.specs.Parts.{journal_of}
@@ -19,13 +18,11 @@ use Rattle.s38_vault.specs.Content.{Content}
 abbrev pub IsShort : Object → Type 0
 IsShort o = journal_of o.body ≡ None → image_len o.body ≤ body_limit
 
--- what is durable goes with the state, and of each journal space it has a beginning, with few bytes behind it; a journal space
--- that is not on disk has no entry; and the headers of what is durable, and of what a close keeps, can be read again, and no
+-- what is durable goes with the state, and of each journal space it has a beginning, with few bytes behind it; and the headers of what is durable, and of what a close keeps, can be read again, and no
 -- body of them is too long
 pub record IsEnding (s : State) (d : Durable) : Type 0 where
   pub kept : IsKeptOf s d
   pub trail : IsTrailOf s d
-  pub fresh : AreFresh s.held
   pub headers : HaveHeaders d
   pub then_headers : HaveHeaders (closing s.units s.held)
   pub short : AreShort d

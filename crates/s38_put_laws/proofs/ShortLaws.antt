@@ -13,7 +13,7 @@ use Rattle.s38_rules.specs.declared.object.Body.{Body}
 use Rattle.s38_step_parts.proofs.KeptLaws.{settled_len}
 
 -- a body within the limit, but that of a journal space
-body_short : (b : Body) → IsBody body_limit b → journal_of b ≡ None → image_len b ≤ body_limit
+pub body_short : (b : Body) → IsBody body_limit b → journal_of b ≡ None → image_len b ≤ body_limit
 body_short bodies.Context is none = omega arith
 body_short (bodies.Program p) is none = is
 body_short (bodies.Profile special limit) is none = omega arith

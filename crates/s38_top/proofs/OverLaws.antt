@@ -1,10 +1,16 @@
 -- What a run over the store of a disk came to, and what a crash leaves of it.
 use Rattle.std.proofs.Common.{◌≡◌, ◌∙◌, inl, inr, ℕ, ◌+◌, ◌-◌, ◌<◌, ◌≤◌, List, [], ◌∷◌, ◌++◌, length, take, refl, sym, ap, subst, arith, zero, suc}
 use Rattle.std.proofs.lemmas.List.{length-take, take_all, take_min}
-use Rattle.std.specs.Prelude.{IsTrue, None, Option, Some, min, slice_get}
+use Rattle.std.proofs.lemmas.List.Elements.{All-weaker}
+use Rattle.std.specs.Prelude.{All, IsTrue, None, Option, Some, min, slice_get}
 use Rattle.s38_base.specs.Faults.{Rose}
 use Rattle.s38_blocks.specs.Store.{Stands}
 use Rattle.s38_blocks.specs.declared.layout.Layout.{Layout}
+use Rattle.s38_base.specs.Limits.{body_limit}
+use Rattle.s38_close_put_laws.specs.Ending.{IsClosedTo, IsEnding as IsEndingOf, IsShort}
+use Rattle.s38_closed_laws.proofs.NamedLaws.{store_names}
+use Rattle.s38_closing.specs.Closing.{closing}
+use Rattle.s38_closing.specs.Ensuring.{IsLeft}
 use Rattle.s38_code.specs.declared.deck.Deck.{Deck}
 use Rattle.s38_code.specs.declared.deck.Job.{Job}
 use Rattle.s38_code.specs.declared.entry.Entry.{Entry}
@@ -17,11 +23,16 @@ use Rattle.s38_durable.specs.Durable.{Durable, durable}
 use Rattle.s38_durable.specs.Stands.{Stands as IsOfDurable}
 use Rattle.s38_kept_laws.proofs.KeepLaws.{led_to}
 use Rattle.s38_kept_laws.specs.Crashes.{IsKeptPrefix, led}
+use Rattle.s38_kept_laws.specs.Kept.{IsKeptOf}
+use Rattle.s38_openings.specs.Bodies.{HoldsBody}
 use Rattle.s38_pages.proofs.Watching.{same_first}
 use Rattle.s38_pages.specs.Mounts.{layout_of}
 use Rattle.s38_pages.specs.Vaults.{PageStore, page_holds, page_leaves, page_view}
 use Rattle.s38_pages.specs.Watched.{IsWatched, WatchedStore, watched_view}
 use Rattle.s38_process.specs.Process.{ends_by_finish}
+use Rattle.s38_put_laws.proofs.ShortLaws.{body_short}
+use Rattle.s38_put_laws.specs.OnePut.{AreShort}
+use Rattle.s38_put_laws.specs.Trails.{IsTrailOf}
 use Rattle.s38_rules.specs.Legal.{AreMoments, Leads, Run}
 use Rattle.s38_rules.specs.State.{State}
 use Rattle.s38_rules.specs.Step.{step}
@@ -31,6 +42,7 @@ use Rattle.s38_stored_machine.specs.Seen.{StoredView, answered_by, run_of, witho
 use Rattle.s38_stored_machine.specs.Sound.{HoldsOf, HoldsWhile, IsEnding, IsKeptFrom, IsOf}
 use Rattle.s38_stored_machine.specs.declared.ending.Ending.{Ending}
 use Rattle.s38_stored_machine.specs.declared.ending.Ending.TheVariants.{Going, Stopped, Wanting}
+use Rattle.s38_step_parts.specs.Stepping.{HaveHeaders}
 use Rattle.s38_stores.proofs.CrashLaws.{goes_by, goes_then}
 use Rattle.s38_stores.specs.Crashes.{DuringCall, GoesOn, IsBetween}
 use Rattle.s38_stores.specs.Stores.{IsFullOf, Keeps}
@@ -49,6 +61,7 @@ use Rattle.s38_top.specs.declared.outcome.Outcome.{Outcome}
 use Rattle.s38_top.specs.declared.outcome.Outcome.TheVariants.{BadWords, BadDeck, DeckFault, NoMemory, Ran, Checked, Demonstrated, Installed, Listed, Refused, DiskFault}
 use Rattle.s38_top.specs.declared.outcome.Whole.{Whole}
 use Rattle.s38_vault.specs.Content.{Content}
+use Rattle.s38_vault.specs.Directory.{NameObjects, keys_of}
 use Rattle.s38_vault.specs.Vaults.{AreLimits, VaultShape, most_changes}
 
 -- ---- the front of a history
@@ -108,6 +121,13 @@ answered_most Stopped m = one_less m.history
 answered_most Wanting m = one_less m.history
 
 -- ---- a run over a store
+
+-- the laws of how a run is closed
+pub record ClosingLaws : Type 0 where
+  pub kept : (s : State) (before history : List Entry) (end : State) (d : Durable) → Leads s before history end → IsKeptOf s d → IsKeptOf end (durable d s history)
+  pub trail : (s : State) (before history : List Entry) (end : State) (d : Durable) → Leads s before history end → IsKeptOf s d → IsTrailOf s d → IsTrailOf end (durable d s history)
+  pub left : (s : State) (d : Durable) (m n : Content) → IsEndingOf s d → IsOfDurable m d → NameObjects (keys_of n) → IsLeft most_changes m (closing s.units s.held) s.held n → IsClosedTo s d n
+  pub short : (s : State) → All IsShort s.held.objects → AreShort (closing s.units s.held)
 
 -- the page vault that a machine gives back as it ends
 pub record WasGiven (x : StoredView WatchedStore) (r : PageStore) : Type 0 where
@@ -250,6 +270,23 @@ module _ (turns : Turns) (deck : Deck) (x : StoredView WatchedStore) (end : Halt
           kept = kept.crash most_is t one.0 (omega (arith, low)) (let here = moment_is in omega (arith, here, high)) one.1.0;
         }
 
+    -- what is known as it ends
+    ending_of : ClosingLaws → (m : Content) (d : Durable) → page_holds v m → IsOf m d s → HaveHeaders (kept_of x.machine.state) → HaveHeaders (durable d s x.machine.history) → IsEndingOf x.machine.state (durable d s x.machine.history)
+    ending_of laws m d holds of then_headers headers =
+        let ordered = went.sound.state.ordered in
+        let kept = went.sound.kept m d holds of in
+        record {
+          kept = laws.kept s [] x.machine.history x.machine.state d went.sound.sound.legal of.kept;
+          trail = laws.trail s [] x.machine.history x.machine.state d went.sound.sound.legal of.kept of.trail;
+          headers = headers;
+          then_headers = then_headers;
+          short = kept.short;
+          then_short =
+              laws.short x.machine.state
+              (All-weaker (HoldsBody body_limit) IsShort (λ o holds_body. body_short o.body holds_body) x.machine.state.held.objects
+              (subst (λ (limit : ℕ). All (HoldsBody limit) x.machine.state.held.objects) ordered.limit ordered.bodies));
+        }
+
     module _ (o : Outcome) (reported : (o ≡ NoMemory → ⊥) → (history_of o ≡ entries) × (marks_of o ≡ marks)) where
       -- nothing was kept behind it
       pub left_off : new ≡ r.disk → LeftOver turns deck v s new o
@@ -269,16 +306,22 @@ module _ (turns : Turns) (deck : Deck) (x : StoredView WatchedStore) (end : Halt
       }
 
       -- what it left was kept
-      module _ (complete : end ≡ halts.Complete) (goes : GoesOn r.disk new) (during : (m : Content) → page_holds r m → DuringCall r.disk new (IsBetween new.size m (kept_of x.machine.state) x.machine.state.held)) where
+      module _ (laws : ClosingLaws) (complete : end ≡ halts.Complete) (headers : HaveHeaders (kept_of x.machine.state)) (goes : GoesOn r.disk new) (during : (m : Content) → page_holds r m → DuringCall r.disk new (IsBetween new.size m (kept_of x.machine.state) x.machine.state.held)) where
         closing : (m : Content) (d : Durable) → page_holds v m → IsOf m d s → (t : ℕ) (g : ℕ → Block) → moment_of r.disk.past < t → t ≤ moment_of new.past → Leaves new.past t g
             → IsClosing new.size (durable d s entries) behind g
         closing m d holds of t g low high left =
             let there = held_then complete m d holds of in
             let here : page_holds r there.content = subst (λ (p : PageStore). page_holds p there.content) (sym is) there.held in
+            let between = (during there.content here).each t g low high left in
+            let stands : IsOfDurable there.content (durable d s x.machine.history) = subst (λ (es : List Entry). IsOfDurable there.content (durable d s es)) (entries_all complete) there.stands in
+            let ending = ending_of laws m d holds of headers (subst (λ (es : List Entry). HaveHeaders (durable d s es)) (entries_all complete) there.headers) in
             record {
-              begun = there.content;
-              stands = there.stands;
-              between = subst (λ (e : State). IsBetween new.size there.content (kept_of e) e.held g) (sym (state_is complete)) ((during there.content here).each t g low high left);
+              content = between.content;
+              stands = between.stands;
+              closed =
+                  subst (λ (es : List Entry). IsClosedTo behind (durable d s es) between.content) (sym (entries_all complete))
+                  (subst (λ (e : State). IsClosedTo e (durable d s x.machine.history) between.content) (sym (state_is complete))
+                  (laws.left x.machine.state (durable d s x.machine.history) there.content between.content ending stands (store_names (layout_of new.size) g between.content between.stands) between.left));
             }
 
         pub left_kept : LeftOver turns deck v s new o

@@ -1,6 +1,7 @@
 -- What a crash leaves at each moment of a call.
 use Rattle.std.specs.Prelude.{◌≡◌, ◌⊎◌, ◌+◌, ◌<◌, ◌≤◌, ℕ, List, [], length, take, Option, Some, None}
 use Rattle.s38_blocks.specs.Store.{Stands}
+use Rattle.s38_close_put_laws.specs.Ending.{IsClosedTo}
 use Rattle.s38_code.specs.declared.deck.Deck.{Deck}
 use Rattle.s38_code.specs.declared.entry.Entry.{Entry}
 use Rattle.s38_command.specs.declared.command.Command.{Command}
@@ -9,15 +10,14 @@ use Rattle.s38_command.specs.declared.turns.Turns.{Turns}
 use Rattle.s38_disk.specs.Disk.{DiskView, Leaves, moment_of}
 use Rattle.s38_disk.specs.declared.block.Block.{Block}
 use Rattle.s38_durable.specs.Durable.{Durable, durable}
-use Rattle.s38_durable.specs.Stands.{Stands as IsOfDurable}
 use Rattle.s38_kept_laws.specs.Beginning.{durable_in}
 use Rattle.s38_kept_laws.specs.Crashes.{IsKeptPrefix, led}
 use Rattle.s38_pages.specs.Mounts.{layout_of}
 use Rattle.s38_rules.specs.Legal.{Leads}
 use Rattle.s38_rules.specs.State.{State}
-use Rattle.s38_stores.specs.Crashes.{AtRest, DuringCall, GoesOn, IsBetween, IsNoneOrInstalled, IsPartlyCleaned, KeepsRestarting}
+use Rattle.s38_stores.specs.Crashes.{AtRest, DuringCall, GoesOn, IsNoneOrInstalled, IsPartlyCleaned, KeepsRestarting}
 use Rattle.s38_top.specs.Decks.{AreStoreMarks, opened}
-use Rattle.s38_top.specs.Runs.{RanTo, kept_of}
+use Rattle.s38_top.specs.Runs.{RanTo}
 use Rattle.s38_vault.specs.Content.{Content}
 
 -- ---- while a run goes on
@@ -35,12 +35,12 @@ pub record IsLeftAt (size : ℕ) (d : Durable) (s : State) (entries : List Entry
   pub stands : Stands (layout_of size) g content
   pub kept : IsKeptPrefix d s entries marks moment content
 
--- From what was durable behind all of its entries, the blocks are a store of what is behind the first objects that the run
--- left, ensured one after another, or of all that it left; or the next object needs several puts, and some of them were made.
+-- From what was durable behind all of its entries, the blocks are a store of what is durable once the machine has ensured the
+-- first objects that the run left, one after another, or all of them.
 pub record IsClosing (size : ℕ) (d : Durable) (e : State) (g : ℕ → Block) : Type 0 where
-  pub begun : Content
-  pub stands : IsOfDurable begun d
-  pub between : IsBetween size begun (kept_of e) e.held g
+  pub content : Content
+  pub stands : Stands (layout_of size) g content
+  pub closed : IsClosedTo e d content
 
 -- from one moment of the disk on, and up to another, each image is so
 abbrev pub Between : ℕ → ℕ → DiskView → (ℕ → (ℕ → Block) → Type 0) → Type 0

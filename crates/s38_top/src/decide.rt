@@ -2,6 +2,7 @@
 ghost use Rattle.std.specs.Prelude.{◌≡◌, ℕ, false, map, true};
 ghost use Rattle.s38_base.specs.Faults.{Rose};
 ghost use Rattle.s38_openings.specs.Closing.{CanClose};
+ghost use Rattle.s38_step_parts.specs.Stepping.{HaveHeaders};
 ghost use Rattle.s38_pages.specs.Mounts.{layout_of};
 ghost use Rattle.s38_pages.specs.Vaults.{page_holds, page_view};
 ghost use Rattle.s38_stores.specs.Crashes.{DuringCall, GoesOn, IsBetween};
@@ -17,11 +18,14 @@ use crate::outcome::{Outcome, RunEnd, Whole};
 use crate::prepare::{ReadyRun, prepare};
 use crate::store::Decided;
 use crate::stored::{StoredRun, run_over, run_shared_over};
+use s38_close_put_laws::{each_object_is_closed_by_one_put, headers_can_be_read};
 use s38_command::Turns;
 use s38_disk::Disk;
 use s38_io::Source;
 use s38_keeping::KeepFault;
+use s38_kept_laws::what_is_durable_is_kept;
 use s38_pages::PageVault;
+use s38_put_laws::what_is_kept_of_journal_spaces_is_their_beginning;
 use s38_stored_machine::StoredEnd;
 use s38_stores::{Kept, keep};
 use s38_vault::Vault;
@@ -49,7 +53,9 @@ fn of_whole<D: Disk>(alloc: Global, turns: Turns, whole: Whole, vault: PageVault
     ensures during { (m : Content) → page_holds vault m → DuringCall vault.disk (D.view result.disk) (IsBetween (D.view result.disk).size m (kept_of whole.state) whole.state.held) }
     ensures goes { GoesOn vault.disk (D.view result.disk) }
     ensures placed { vault.layout ≡ layout_of (D.view result.disk).size }
+    ensures headers { HaveHeaders (kept_of whole.state) }
 {
+    headers_can_be_read(&whole.state.objects, &whole.state.units);
     let Kept { disk, end } = keep(alloc, vault, &whole.state.objects, &whole.state.units);
     match run_end(end) {
         None => Decided {
@@ -93,6 +99,10 @@ fn finish<D: Disk>(alloc: Global, turns: Turns, run: StoredRun<D>) -> Decided<D>
         marks,
         state,
     } = machine.end();
+    // The laws of what is durable at its end, and of how it is closed.
+    what_is_durable_is_kept();
+    what_is_kept_of_journal_spaces_is_their_beginning();
+    each_object_is_closed_by_one_put();
     // Their contracts say that the objects are lawful, and how many changes a put takes.
     let _objects = state.objects.len();
     let _most = vault.most();

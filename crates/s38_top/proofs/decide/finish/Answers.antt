@@ -5,6 +5,7 @@ use Rattle.s38_openings.specs.Closing.{CanClose}
 use Rattle.s38_pages.specs.Mounts.{layout_of}
 use Rattle.s38_pages.specs.Vaults.{page_holds}
 use Rattle.s38_rules.specs.State.{State}
+use Rattle.s38_step_parts.specs.Stepping.{HaveHeaders}
 use Rattle.s38_stores.specs.Crashes.{DuringCall, IsBetween}
 use Rattle.s38_vault.specs.Content.{Content}
 use Rattle.s38_top.proofs.OverLaws.{came_kept, came_stopped, closes, given_back, going_faultless, left_kept, left_off, reported_kept, reported_stopped, stopped_rose}
@@ -43,7 +44,15 @@ returns-in-Complete-clause-left g c =
     left_kept c.args.turns c.args.run.deck x c.args.run.end c.requires c.end-vault-2.result given new c.of_whole.ensures.placed c.of_whole.result.outcome
     (reported_kept c.args.turns c.args.run.deck x c.args.run.end c.requires c.end-vault-2.result given new c.of_whole.ensures.placed left refl c.end-vault.ensures.history c.end-vault.ensures.marks c.in-Complete.is c.end-vault.ensures.state
     c.of_whole.ensures.goes c.of_whole.result.outcome c.of_whole.ensures.end)
-    c.in-Complete.is c.of_whole.ensures.goes
+    (record {
+      kept = λ s before history end d. c.what_is_durable_is_kept.ensures.histories s before history end d;
+      trail = λ s before history end d. c.what_is_kept_of_journal_spaces_is_their_beginning.ensures.histories s before history end d;
+      left = c.each_object_is_closed_by_one_put.ensures.left;
+      short = c.each_object_is_closed_by_one_put.ensures.short;
+    })
+    c.in-Complete.is
+    (subst (λ (s : State). HaveHeaders (kept_of s)) c.end-vault.ensures.state c.of_whole.ensures.headers)
+    c.of_whole.ensures.goes
     (λ m holds. subst (λ (s : State). DuringCall c.end-vault-2.result.disk new (IsBetween new.size m (kept_of s) s.held)) c.end-vault.ensures.state (c.of_whole.ensures.during m holds))
 
 pub returns-in-Stopped-clause-came : goal.returns-in-Stopped-clause-came

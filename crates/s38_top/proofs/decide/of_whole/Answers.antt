@@ -2,6 +2,8 @@ use Rattle.std.proofs.Common.{All, ap, refl, subst, sym, ◌∙◌}
 use Rattle.s38_image_printing.specs.Parts.{CanSettle}
 use Rattle.s38_openings.specs.Opening.{IsNumbered}
 use Rattle.s38_rules.specs.Storable.{IsStorable}
+use Rattle.s38_step_parts.specs.Stepping.{HaveHeaders}
+use Rattle.s38_top.specs.Runs.{kept_of}
 use Rattle.s38_top.specs.declared.outcome.Whole.{Whole}
 use Rattle.s38_top.proofs.SafeLaws.{kept_at}
 use Rattle.s38_top.proofs.StoreLaws.{kept_end, leaves_at}
@@ -15,6 +17,18 @@ keep-disk-requires-clause-settles g c = subst (λ (w : Whole). All (λ o. CanSet
 
 pub keep-disk-requires-clause-numbers : goal.keep-disk-requires-clause-numbers
 keep-disk-requires-clause-numbers g c = subst (λ (w : Whole). All IsNumbered w.state.held.objects) (sym c.whole.view_is) c.requires.end.numbers
+
+pub headers_can_be_read-requires-clause-storable : goal.headers_can_be_read-requires-clause-storable
+headers_can_be_read-requires-clause-storable g c = subst (λ (w : Whole). All IsStorable w.state.held.objects) (sym c.whole.view_is) c.requires.end.storable
+
+pub headers_can_be_read-requires-clause-settles : goal.headers_can_be_read-requires-clause-settles
+headers_can_be_read-requires-clause-settles g c = subst (λ (w : Whole). All (λ o. CanSettle w.state.units o.number.0 o.body) w.state.held.objects) (sym c.whole.view_is) c.requires.end.settles
+
+pub returns-in-Some-clause-headers : goal.returns-in-Some-clause-headers
+returns-in-Some-clause-headers g c = subst (λ (w : Whole). HaveHeaders (kept_of w.state)) c.whole.view_is c.headers_can_be_read.ensures
+
+pub returns-in-None-clause-headers : goal.returns-in-None-clause-headers
+returns-in-None-clause-headers g c = subst (λ (w : Whole). HaveHeaders (kept_of w.state)) c.whole.view_is c.headers_can_be_read.ensures
 
 pub returns-in-Some-clause-end : goal.returns-in-Some-clause-end
 returns-in-Some-clause-end g c =
