@@ -1,4 +1,3 @@
-mod PutLaws
 mod MarkLaws
 mod StateLaws
 mod StandLaws
