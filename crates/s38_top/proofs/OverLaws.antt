@@ -46,6 +46,7 @@ use Rattle.s38_step_parts.specs.Stepping.{HaveHeaders}
 use Rattle.s38_stores.proofs.CrashLaws.{goes_by, goes_then}
 use Rattle.s38_stores.specs.Crashes.{DuringCall, GoesOn, IsBetween}
 use Rattle.s38_stores.specs.Stores.{IsFullOf, Keeps}
+use Rattle.s38_top.specs.Closing.{ClosingLaws}
 use Rattle.s38_top.specs.Crash.{ArePlanned, Between, IsClosing, IsLeftAt}
 use Rattle.s38_objects.specs.Lawful.{IsLawful}
 use Rattle.s38_openings.proofs.CloseLaws.{end_closes}
@@ -121,13 +122,6 @@ answered_most Stopped m = one_less m.history
 answered_most Wanting m = one_less m.history
 
 -- ---- a run over a store
-
--- the laws of how a run is closed
-pub record ClosingLaws : Type 0 where
-  pub kept : (s : State) (before history : List Entry) (end : State) (d : Durable) → Leads s before history end → IsKeptOf s d → IsKeptOf end (durable d s history)
-  pub trail : (s : State) (before history : List Entry) (end : State) (d : Durable) → Leads s before history end → IsKeptOf s d → IsTrailOf s d → IsTrailOf end (durable d s history)
-  pub left : (s : State) (d : Durable) (m n : Content) → IsEndingOf s d → IsOfDurable m d → NameObjects (keys_of n) → IsLeft most_changes m (closing s.units s.held) s.held n → IsClosedTo s d n
-  pub short : (s : State) → All IsShort s.held.objects → AreShort (closing s.units s.held)
 
 -- the page vault that a machine gives back as it ends
 pub record WasGiven (x : StoredView WatchedStore) (r : PageStore) : Type 0 where

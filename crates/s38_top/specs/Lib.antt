@@ -1,5 +1,6 @@
 pub mod Decks
 pub mod Begun
+pub mod Closing
 pub mod Crash
 pub mod Outside
 pub mod Runs

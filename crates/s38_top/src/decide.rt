@@ -14,18 +14,17 @@ ghost use Rattle.s38_top.specs.Ends.{CameFrom, IsDecided, IsEnd, IsSafeOf, LeftO
 ghost use Rattle.s38_top.specs.declared.outcome.Outcome.{Outcome};
 ghost use Rattle.s38_top.specs.declared.outcome.RunEnd.{RunEnd};
 
+use crate::closing::closing_laws;
 use crate::outcome::{Outcome, RunEnd, Whole};
 use crate::prepare::{ReadyRun, prepare};
 use crate::store::Decided;
 use crate::stored::{StoredRun, run_over, run_shared_over};
-use s38_close_put_laws::{each_object_is_closed_by_one_put, headers_can_be_read};
+use s38_close_put_laws::headers_can_be_read;
 use s38_command::Turns;
 use s38_disk::Disk;
 use s38_io::Source;
 use s38_keeping::KeepFault;
-use s38_kept_laws::what_is_durable_is_kept;
 use s38_pages::PageVault;
-use s38_put_laws::what_is_kept_of_journal_spaces_is_their_beginning;
 use s38_stored_machine::StoredEnd;
 use s38_stores::{Kept, keep};
 use s38_vault::Vault;
@@ -99,10 +98,7 @@ fn finish<D: Disk>(alloc: Global, turns: Turns, run: StoredRun<D>) -> Decided<D>
         marks,
         state,
     } = machine.end();
-    // The laws of what is durable at its end, and of how it is closed.
-    what_is_durable_is_kept();
-    what_is_kept_of_journal_spaces_is_their_beginning();
-    each_object_is_closed_by_one_put();
+    closing_laws();
     // Their contracts say that the objects are lawful, and how many changes a put takes.
     let _objects = state.objects.len();
     let _most = vault.most();

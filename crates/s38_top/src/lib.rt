@@ -1,6 +1,7 @@
 //! The program as one call: the words, a deck's source, a disk and a sink come to a status, a history and its marks.
 #![tactic(auto)]
 
+mod closing;
 mod decide;
 mod lines;
 mod outcome;

@@ -44,12 +44,7 @@ returns-in-Complete-clause-left g c =
     left_kept c.args.turns c.args.run.deck x c.args.run.end c.requires c.end-vault-2.result given new c.of_whole.ensures.placed c.of_whole.result.outcome
     (reported_kept c.args.turns c.args.run.deck x c.args.run.end c.requires c.end-vault-2.result given new c.of_whole.ensures.placed left refl c.end-vault.ensures.history c.end-vault.ensures.marks c.in-Complete.is c.end-vault.ensures.state
     c.of_whole.ensures.goes c.of_whole.result.outcome c.of_whole.ensures.end)
-    (record {
-      kept = λ s before history end d. c.what_is_durable_is_kept.ensures.histories s before history end d;
-      trail = λ s before history end d. c.what_is_kept_of_journal_spaces_is_their_beginning.ensures.histories s before history end d;
-      left = c.each_object_is_closed_by_one_put.ensures.left;
-      short = c.each_object_is_closed_by_one_put.ensures.short;
-    })
+    c.closing_laws.ensures
     c.in-Complete.is
     (subst (λ (s : State). HaveHeaders (kept_of s)) c.end-vault.ensures.state c.of_whole.ensures.headers)
     c.of_whole.ensures.goes
