@@ -1,0 +1,15 @@
+-- Visits change nothing of what is kept of users.
+use Rattle.std.proofs.Common.{◌≡◌, ℕ, zero, suc, ◌+◌, refl, ◌∙◌}
+use Rattle.s38_base.specs.Faults.{counted}
+use Rattle.s38_profiles.specs.ProfileMaps.{ProfileMaps}
+use Rattle.s38_rules.specs.Held.{Held}
+use Rattle.s38_rules.specs.Kept.{Mirrors}
+use Rattle.s38_verified.specs.Places.{visited}
+
+pub mirrors_visited : (n : ℕ) (maps : ProfileMaps) (h : Held) → Mirrors maps h → Mirrors (visited n maps) h
+mirrors_visited zero maps h m = m
+mirrors_visited (suc n) maps h m = mirrors_visited n (record maps { visits = counted maps.visits }) h (record { rows = m.rows; users = m.users; unowned = m.unowned })
+
+-- one visit, and then others
+pub visited_then : (n : ℕ) (maps : ProfileMaps) → visited n (visited 1 maps) ≡ visited (suc n) maps
+visited_then n maps = refl

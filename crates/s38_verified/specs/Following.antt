@@ -1,0 +1,55 @@
+-- How counts, frame numbers and places follow an event that took effect, by what it changed.
+use Rattle.std.specs.Prelude.{ℕ, ◌-◌, Bool, true, false, ◌||◌, List, Option, Some, None, if◌then◌else◌, length, slice_get, slice_set}
+use Rattle.s38_base.specs.Faults.{counted}
+use Rattle.s38_base.specs.Ids.{same_kind}
+use Rattle.s38_base.specs.declared.id.Kind.TheVariants as kinds
+use Rattle.s38_code.specs.declared.event.Event.{Event}
+use Rattle.s38_code.specs.declared.event.Event.TheVariants.{Start, Act, Finish}
+use Rattle.s38_rules.specs.Changes.{Changes, Framed, Gone, Profiled, Stands, Then}
+use Rattle.s38_rules.specs.Invocations.{stack_of}
+use Rattle.s38_rules.specs.Rows.{row}
+use Rattle.s38_rules.specs.State.{State}
+use Rattle.s38_verified.specs.Numbers.{FrameNumbers, begun_numbers, renumbered}
+use Rattle.s38_verified.specs.Worlds.{WorldState, frames_of}
+
+-- what a change of authority is: an object stands otherwise, a user has other special authorities, or a program is gone
+abbrev pub changes_authority : Changes → Bool
+changes_authority (Stands n f) = true
+changes_authority (Profiled n special limit) = true
+changes_authority (Gone kind n) = same_kind kind kinds.Program
+changes_authority (Then a b) = changes_authority a || changes_authority b
+changes_authority _ = false
+
+-- the process has other frames
+abbrev pub changes_frames : Changes → Bool
+changes_frames (Framed f) = true
+changes_frames (Then a b) = changes_frames a || changes_frames b
+changes_frames _ = false
+
+-- the last frame of a process is new
+abbrev pub with_new_frame : WorldState → ℕ → State → List FrameNumbers
+with_new_frame w process t = slice_set w.frames (process - 1) (renumbered (length (stack_of t process) - 1) (frames_of w process))
+
+-- behind a change, which led to a state
+abbrev pub behind_change : WorldState → ℕ → Changes → State → WorldState
+behind_change w process x t = record {
+  state = t;
+  authority = if changes_authority x then counted w.authority else w.authority;
+  frames = if changes_frames x then with_new_frame w process t else w.frames;
+  places = w.places;
+}
+
+-- a process that starts has its first frame, and nothing was found for it
+abbrev pub behind_start : WorldState → ℕ → State → WorldState
+behind_start w process t = record {
+  state = t;
+  authority = w.authority;
+  frames = slice_set w.frames (process - 1) (begun_numbers (frames_of w process));
+  places = slice_set w.places (process - 1) None;
+}
+
+-- behind an event that took effect, which led to a state
+unfoldable pub behind : WorldState → ℕ → Event → State → WorldState
+behind w process Start t = behind_start w process t
+behind w process (Act depth request) t = behind_change w process ((row request.op).changes w.state process depth request) t
+behind w process (Finish cause) t = record w { state = t }

@@ -1,0 +1,11 @@
+use s38_base::{ObjNum, Rights};
+
+/// Rights that were found on an object, without those that a pointer carried, with the count of authority changes and the
+/// number of the last frame in use at that time.
+#[derive(Clone, Copy, PartialEq, Eq, Debug)]
+pub struct Verified {
+    pub object: ObjNum,
+    pub rights: Rights,
+    pub authority: u64,
+    pub frame: u64,
+}
