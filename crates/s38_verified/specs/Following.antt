@@ -37,6 +37,7 @@ behind_change w process x t = record {
   authority = if changes_authority x then counted w.authority else w.authority;
   frames = if changes_frames x then with_new_frame w process t else w.frames;
   places = w.places;
+  visits = w.visits;
 }
 
 -- a process that starts has its first frame, and nothing was found for it
@@ -46,6 +47,7 @@ behind_start w process t = record {
   authority = w.authority;
   frames = slice_set w.frames (process - 1) (begun_numbers (frames_of w process));
   places = slice_set w.places (process - 1) None;
+  visits = w.visits;
 }
 
 -- behind an event that took effect, which led to a state

@@ -1,5 +1,5 @@
 -- When what a place holds is of now, and that it is then what the rule finds from scratch.
-use Rattle.std.specs.Prelude.{◌≡◌, ◌≢◌, ◌<◌, ◌≤◌, ℕ, zero, suc, ◌-◌, ◌==◌, Bool, true, false, ◌&&◌, ◌||◌, not, List, length, Option, Some, None, if◌then◌else◌, is_some, slice_set}
+use Rattle.std.specs.Prelude.{◌≡◌, ◌≢◌, ◌<◌, ◌≤◌, ℕ, zero, suc, ◌+◌, ◌-◌, ◌==◌, Bool, true, false, ◌&&◌, ◌||◌, not, List, length, Option, Some, None, if◌then◌else◌, is_some, min, slice_set}
 use Rattle.s38_base.specs.Faults.{counted}
 use Rattle.s38_base.specs.declared.id.ObjNum.{ObjNum}
 use Rattle.s38_base.specs.declared.rights.Rights.{Rights}
@@ -12,7 +12,8 @@ use Rattle.s38_rules.specs.Held.{Held, is_there, object}
 use Rattle.s38_rules.specs.Invocations.{frames_used, stack_of}
 use Rattle.s38_rules.specs.State.{State, process_entry}
 use Rattle.s38_rules.specs.Users.{acting, user_of}
-use Rattle.s38_verified.specs.declared.verified.Verified.{Verified}
+use Rattle.s38_verified.specs.declared.found.Verified.{Verified}
+use Rattle.s38_verified.specs.declared.found.Visits.{Visits}
 use Rattle.s38_verified.specs.Numbers.{last_count, number_at}
 use Rattle.s38_verified.specs.Worlds.{WorldState, frame_of, frames_of, place_of}
 
@@ -22,10 +23,14 @@ use Rattle.s38_verified.specs.Worlds.{WorldState, frame_of, frames_of, place_of}
 abbrev pub rights_anew : State → ℕ → ℕ → ℕ → ℕ
 rights_anew s process depth n = available s.held (acting s process depth) n rights.no_rights
 
--- so many more visits
+-- so many more visits of rows
 abbrev pub visited : ℕ → ProfileMaps → ProfileMaps
 visited zero maps = maps
 visited (suc n) maps = visited n (record maps { visits = counted maps.visits })
+
+-- so many more rows were visited; where the count of the profiles has come to its end, that is not seen
+abbrev pub AreVisited : Visits → ℕ → Visits → Type 0
+AreVisited before n after = after.spent ≡ false → after.count ≡ min (before.count + n) last_count
 
 -- ---- what is of now
 
@@ -91,7 +96,7 @@ pub record ArePlacesRight (w : WorldState) : Type 0 where
   pub numbers : (process : ℕ) → is_live w.state process ≡ true → AreNumbered w process
   pub rights : (process : ℕ) → is_live w.state process ≡ true → IsRightIn w process (place_of w process)
 
--- ---- the place behind a check
+-- ---- behind a check
 
 -- what was found in a world at a depth
 abbrev pub found_now : WorldState → ℕ → ℕ → ObjNum → Verified
@@ -102,6 +107,21 @@ found_now w process depth object = record {
   frame = frame_of w process depth;
 }
 
--- a process's place has what was found, and nothing else changed
-abbrev pub checked : WorldState → ℕ → ℕ → ObjNum → WorldState
-checked w process depth object = record w { places = slice_set w.places (process - 1) (Some (found_now w process depth object)) }
+-- a process's place has what was found, and all else stays
+abbrev pub with_found : WorldState → ℕ → ℕ → ObjNum → WorldState
+with_found w process depth object = record w { places = slice_set w.places (process - 1) (Some (found_now w process depth object)) }
+
+abbrev pub VisitsBy : Bool → Visits → ℕ → Visits → Type 0
+VisitsBy true before n after = after ≡ before
+VisitsBy false before n after = AreVisited before n after
+
+-- where the place is current no row was visited, else one of each acting user
+abbrev pub VisitsRows : WorldState → ℕ → ℕ → ℕ → Visits → Type 0
+VisitsRows w process depth n after =
+    VisitsBy (is_current_in w process depth n (place_of w process)) w.visits (length (acting w.state process depth)) after
+
+-- behind a check of an object
+pub record IsChecked (w : WorldState) (process depth : ℕ) (object : ObjNum) (t : WorldState) : Type 0 where
+  pub place : t ≡ record (with_found w process depth object) { visits = t.visits }
+  pub visits : VisitsRows w process depth object.0 t.visits
+  pub right : ArePlacesRight t

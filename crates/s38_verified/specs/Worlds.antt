@@ -3,7 +3,8 @@
 use Rattle.std.specs.Prelude.{ℕ, ◌-◌, List, Option, Some, None, slice_get}
 use Rattle.s38_rules.specs.Invocations.{frames_used, stack_of}
 use Rattle.s38_rules.specs.State.{State}
-use Rattle.s38_verified.specs.declared.verified.Verified.{Verified}
+use Rattle.s38_verified.specs.declared.found.Verified.{Verified}
+use Rattle.s38_verified.specs.declared.found.Visits.{Visits}
 use Rattle.s38_verified.specs.Numbers.{FrameNumbers, no_numbers, number_at}
 
 pub record WorldState : Type 0 where
@@ -13,6 +14,8 @@ pub record WorldState : Type 0 where
   -- those of process k are at place k - 1
   pub frames : List FrameNumbers
   pub places : List (Option Verified)
+  -- the rows that were visited to find rights
+  pub visits : Visits
 
 -- ---- what there is of a process
 

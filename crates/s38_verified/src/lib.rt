@@ -1,10 +1,12 @@
 //! The machine's world: its core, and beside it what verified authorities keep.
 #![tactic(auto)]
 
+mod checks;
+mod found;
 mod numbers;
 mod rows;
-mod verified;
 mod world;
 
-pub use verified::Verified;
+pub use checks::{Missing, check, verified};
+pub use found::{Verified, Visits};
 pub use world::World;

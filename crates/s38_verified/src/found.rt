@@ -9,3 +9,12 @@ pub struct Verified {
     pub authority: u64,
     pub frame: u64,
 }
+
+/// How many rows were visited to find rights.
+#[derive(Clone, Copy, PartialEq, Eq, Debug)]
+pub struct Visits {
+    /// It stands still at its last value.
+    pub count: u64,
+    /// Whether the count of the profiles has come to its end, so that further visits are not seen.
+    pub spent: bool,
+}
