@@ -1,3 +1,5 @@
+pub mod BearLaws
+pub mod KeepLaws
 pub mod ListLaws
 pub mod PlaceLaws
 pub mod VisitLaws

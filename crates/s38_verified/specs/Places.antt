@@ -1,5 +1,5 @@
 -- When what a place holds is of now, and that it is then what the rule finds from scratch.
-use Rattle.std.specs.Prelude.{◌≡◌, ◌≢◌, ◌<◌, ◌≤◌, ℕ, zero, suc, ◌+◌, ◌-◌, ◌==◌, Bool, true, false, ◌&&◌, ◌||◌, not, List, length, Option, Some, None, if◌then◌else◌, is_some, min, slice_set}
+use Rattle.std.specs.Prelude.{◌≡◌, ◌≢◌, ◌<◌, ◌≤◌, ℕ, zero, suc, ◌+◌, ◌-◌, ◌==◌, Bool, true, false, ◌&&◌, ◌||◌, not, All, List, length, Option, Some, None, if◌then◌else◌, is_some, min, slice_set}
 use Rattle.s38_base.specs.Faults.{counted}
 use Rattle.s38_base.specs.declared.id.ObjNum.{ObjNum}
 use Rattle.s38_base.specs.declared.rights.Rights.{Rights}
@@ -95,6 +95,21 @@ pub record ArePlacesRight (w : WorldState) : Type 0 where
   pub frames : length w.frames ≡ length w.state.processes
   pub numbers : (process : ℕ) → is_live w.state process ≡ true → AreNumbered w process
   pub rights : (process : ℕ) → is_live w.state process ≡ true → IsRightIn w process (place_of w process)
+
+-- each object has a number that was given, and its owner too
+pub record AreOwned (h : Held) : Type 0 where
+  pub numbers : (n : ℕ) → is_there h n ≡ true → n < h.next
+  pub owners : (n : ℕ) (o : Object) → object h n ≡ Some o → o.owner.0 < h.next
+
+-- numbers that processes and places name were given, so that no new object gets one
+pub record AreGiven (w : WorldState) : Type 0 where
+  -- counts do not go beyond their end
+  pub authority : w.authority ≤ last_count
+  pub frames : (process : ℕ) → (frames_of w process).last ≤ last_count
+  pub objects : AreOwned w.state.held
+  pub users : (process : ℕ) → is_live w.state process ≡ true → user_of w.state process < w.state.held.next
+  pub programs : (process : ℕ) → is_live w.state process ≡ true → All (λ (f : ObjNum). f.0 < w.state.held.next) (stack_of w.state process)
+  pub found : (process : ℕ) (v : Verified) → place_of w process ≡ Some v → v.object.0 < w.state.held.next
 
 -- ---- behind a check
 
