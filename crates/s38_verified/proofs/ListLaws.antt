@@ -63,3 +63,15 @@ number_behind xs zero (suc (suc j)) n lt within = refl
 number_behind [] (suc k) (suc j) n lt within = omega (arith, within)
 number_behind (x ∷ xs) (suc k) (suc zero) n lt within = omega (arith, lt)
 number_behind (x ∷ xs) (suc k) (suc (suc j)) n lt within = number_behind xs k (suc j) n (omega (arith, lt)) (omega (arith, within))
+
+-- the first frames stay, and one is behind them
+pub take_before : {X : Type 0} (xs : List X) (k j : ℕ) (x : X) → j ≤ k → k ≤ length xs → take j (take k xs ++ x ∷ []) ≡ take j xs
+take_before xs k zero x le within = refl
+take_before [] k (suc j) x le within = absurd (omega (arith, le, within))
+take_before (y ∷ xs) zero (suc j) x le within = absurd (omega (arith, le))
+take_before (y ∷ xs) (suc k) (suc j) x le within = ap (λ zs. y ∷ zs) (take_before xs k j x (omega (arith, le)) (omega (arith, within)))
+
+pub length_new : {X : Type 0} (xs : List X) (k : ℕ) (x : X) → k ≤ length xs → length (take k xs ++ x ∷ []) ≡ suc k
+length_new xs zero x within = refl
+length_new [] (suc k) x within = absurd (omega (arith, within))
+length_new (y ∷ xs) (suc k) x within = ap suc (length_new xs k x (omega (arith, within)))
