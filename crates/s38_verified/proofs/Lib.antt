@@ -3,4 +3,5 @@ pub mod FrameLaws
 pub mod KeepLaws
 pub mod ListLaws
 pub mod PlaceLaws
+pub mod SameLaws
 pub mod VisitLaws

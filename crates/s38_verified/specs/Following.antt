@@ -1,11 +1,11 @@
 -- How counts, frame numbers and places follow an event that took effect, by what it changed.
-use Rattle.std.specs.Prelude.{ℕ, ◌-◌, Bool, true, false, ◌||◌, List, Option, Some, None, if◌then◌else◌, length, slice_get, slice_set}
+use Rattle.std.specs.Prelude.{ℕ, ◌-◌, Bool, true, false, ◌&&◌, ◌||◌, List, Option, Some, None, if◌then◌else◌, length, slice_get, slice_set}
 use Rattle.s38_base.specs.Faults.{counted}
 use Rattle.s38_base.specs.Ids.{same_kind}
 use Rattle.s38_base.specs.declared.id.Kind.TheVariants as kinds
 use Rattle.s38_code.specs.declared.event.Event.{Event}
 use Rattle.s38_code.specs.declared.event.Event.TheVariants.{Start, Act, Finish}
-use Rattle.s38_rules.specs.Changes.{Changes, Framed, Gone, Profiled, Stands, Then}
+use Rattle.s38_rules.specs.Changes.{Changes, Framed, Gone, Made, Profiled, Stands, Then}
 use Rattle.s38_rules.specs.Invocations.{stack_of}
 use Rattle.s38_rules.specs.Rows.{row}
 use Rattle.s38_rules.specs.State.{State}
@@ -25,6 +25,17 @@ abbrev pub changes_frames : Changes → Bool
 changes_frames (Framed f) = true
 changes_frames (Then a b) = changes_frames a || changes_frames b
 changes_frames _ = false
+
+-- neither owners, rights and rows of objects nor the special authorities of users are others, no object is new or gone, and
+-- no process has other frames
+abbrev pub is_quiet : Changes → Bool
+is_quiet (Stands n f) = false
+is_quiet (Profiled n special limit) = false
+is_quiet (Made owner made body) = false
+is_quiet (Gone kind n) = false
+is_quiet (Framed f) = false
+is_quiet (Then a b) = is_quiet a && is_quiet b
+is_quiet _ = true
 
 -- the last frame of a process is new
 abbrev pub with_new_frame : WorldState → ℕ → State → List FrameNumbers
