@@ -50,17 +50,19 @@ row_same None (Some y) user s = absurd s
 row_same (Some x) None user s = absurd s
 row_same (Some x) (Some y) user s = ap (λ (rows : List PrivateRow). row_of rows user) s.rows
 
-special_same : (x y : Option Object) → IsSame x y → special_in y ≡ special_in x
-special_same None None s = refl
-special_same None (Some y) s = absurd s
-special_same (Some x) None s = absurd s
-special_same (Some x) (Some y) s = ap (λ (g : Header). g.special.0) s.header
+-- a user brings the same: it has the same special authorities, and its rows count as before
+pub record IsSameUser (x y : Option Object) : Type 0 where
+  pub special : special_in y ≡ special_in x
+  pub counted : (r : ℕ) → counted y r ≡ counted x r
 
-counted_same : (x y : Option Object) (r : ℕ) → IsSame x y → counted y r ≡ counted x r
-counted_same None None r s = refl
-counted_same None (Some y) r s = absurd s
-counted_same (Some x) None r s = absurd s
-counted_same (Some x) (Some y) r s = ap (λ (b : Bool). cond b r rights.no_rights) s.user
+pub same_user : (x y : Option Object) → IsSame x y → IsSameUser x y
+same_user None None s = record { special = refl; counted = λ r. refl }
+same_user None (Some y) s = absurd s
+same_user (Some x) None s = absurd s
+same_user (Some x) (Some y) s = record {
+  special = ap (λ (g : Header). g.special.0) s.header;
+  counted = λ r. ap (λ (b : Bool). cond b r rights.no_rights) s.user;
+}
 
 pub header_same : (x y : Option Object) → IsSame x y → header_in y ≡ header_in x
 header_same None None s = refl
@@ -82,17 +84,17 @@ owner_same (Some x) (Some y) s = ap (λ (g : Header). g.owner.0) s.header
 
 -- ---- rights
 
-source_same : (h k : Held) (n user : ℕ) → IsSame (object h n) (object k n) → IsSame (object h user) (object k user) → source_by k n user ≡ source_by h n user
+source_same : (h k : Held) (n user : ℕ) → IsSame (object h n) (object k n) → IsSameUser (object h user) (object k user) → source_by k n user ≡ source_by h n user
 unfolding source_by
 source_same h k n user s u =
-    rw (special_same (object h user) (object k user) u, public_same (object h n) (object k n) s, row_same (object h n) (object k n) user s,
-    counted_same (object h user) (object k user) (row_in (object h n) user) u) refl
+    rw (u.special, public_same (object h n) (object k n) s, row_same (object h n) (object k n) user s,
+    u.counted (row_in (object h n) user)) refl
 
-sources_same : (h k : Held) (n : ℕ) (users : List ℕ) → IsSame (object h n) (object k n) → All (λ user. IsSame (object h user) (object k user)) users
+sources_same : (h k : Held) (n : ℕ) (users : List ℕ) → IsSame (object h n) (object k n) → All (λ user. IsSameUser (object h user) (object k user)) users
     → sources_by k n users ≡ sources_by h n users
 sources_same h k n [] s each = refl
 sources_same h k n (user ∷ users) s each =
-    rw (source_same h k n user s (All-head (λ u. IsSame (object h u) (object k u)) user users each), sources_same h k n users s (All-tail (λ u. IsSame (object h u) (object k u)) user users each)) refl
+    rw (source_same h k n user s (All-head (λ u. IsSameUser (object h u) (object k u)) user users each), sources_same h k n users s (All-tail (λ u. IsSameUser (object h u) (object k u)) user users each)) refl
 
 sources_on_same : (h k : Held) (n : ℕ) (users : List ℕ) (x y : Option Object) → IsSame x y → sources_by k n users ≡ sources_by h n users
     → sources_on k n users y ≡ sources_on h n users x
@@ -102,7 +104,7 @@ sources_on_same h k n users (Some x) None s e = absurd s
 sources_on_same h k n users (Some x) (Some y) s e = e
 
 -- the rights of the same users on the same object are the same
-pub available_same : (h k : Held) (users : List ℕ) (n carried : ℕ) → IsSame (object h n) (object k n) → All (λ user. IsSame (object h user) (object k user)) users
+pub available_same : (h k : Held) (users : List ℕ) (n carried : ℕ) → IsSame (object h n) (object k n) → All (λ user. IsSameUser (object h user) (object k user)) users
     → available k users n carried ≡ available h users n carried
 unfolding available
 available_same h k users n carried s each =

@@ -20,7 +20,7 @@ use Rattle.s38_verified.specs.declared.found.Verified.{Verified}
 use Rattle.s38_verified.specs.Numbers.{FrameNumbers, last_count, number_at}
 use Rattle.s38_verified.specs.Places.{AreGiven, AreNumbered, AreOwned, ArePlacesRight, IsRight, IsRightIn, is_current, is_for, is_live, is_live_in, rights_anew}
 use Rattle.s38_verified.specs.Worlds.{WorldState, frame_of, frames_in, frames_of, place_of}
-use Rattle.s38_verified.proofs.BearLaws.{AdoptsSo, Bears, IsSame, adopted_same, available_same, there_same}
+use Rattle.s38_verified.proofs.BearLaws.{AdoptsSo, IsSame, IsSameUser, adopted_same, available_same, there_same}
 use Rattle.s38_verified.proofs.PlaceLaws.{IsNow, now_parts}
 
 -- ---- what rights rest on
@@ -29,8 +29,8 @@ use Rattle.s38_verified.proofs.PlaceLaws.{IsNow, now_parts}
 pub record Leaves (s : State) (k : Held) : Type 0 where
   pub objects : (n : ℕ) → n < s.held.next → is_there k n ≡ true → IsSame (object s.held n) (object k n)
   pub programs : (n : ℕ) → n < s.held.next → AdoptsSo (object s.held n) (object k n)
-  pub owners : (n : ℕ) (o : Object) → object s.held n ≡ Some o → IsSame (object s.held o.owner.0) (object k o.owner.0)
-  pub users : (p : ℕ) → is_live s p ≡ true → IsSame (object s.held (user_of s p)) (object k (user_of s p))
+  pub owners : (n : ℕ) (o : Object) → object s.held n ≡ Some o → IsSameUser (object s.held o.owner.0) (object k o.owner.0)
+  pub users : (p : ℕ) → is_live s p ≡ true → IsSameUser (object s.held (user_of s p)) (object k (user_of s p))
 
 -- the owner that a program brings owns it
 header_there : (x : Option Object) (last : Bool) (owner : ℕ) → adoption_of last (header_in x) ≡ Some owner → (o : Object) × (x ≡ Some o) × (o.owner.0 ≡ owner)
@@ -81,7 +81,7 @@ rights_left s t p d n leaves live user frames given low there =
     let acts = acting_so s t p d user frames (All-weaker (λ (f : ObjNum). f.0 < s.held.next) (λ (f : ObjNum). AdoptsSo (object s.held f.0) (object t.held f.0)) (λ f g. leaves.programs f.0 g) _ given) in
     ap (λ (users : List ℕ). available t.held users n 0) acts
     ∙ available_same s.held t.held (acting s p d) n 0 (leaves.objects n low there)
-      (acting_all (λ u. IsSame (object s.held u) (object t.held u)) s p d (leaves.users p live) leaves.owners)
+      (acting_all (λ u. IsSameUser (object s.held u) (object t.held u)) s p d (leaves.users p live) leaves.owners)
 
 -- ---- counts
 

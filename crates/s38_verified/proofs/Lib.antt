@@ -5,3 +5,4 @@ pub mod ListLaws
 pub mod PlaceLaws
 pub mod SameLaws
 pub mod VisitLaws
+pub mod WordLaws
