@@ -1,4 +1,5 @@
 pub mod BearLaws
+pub mod FitLaws
 pub mod FrameLaws
 pub mod KeepLaws
 pub mod ListLaws
