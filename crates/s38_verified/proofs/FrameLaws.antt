@@ -17,6 +17,7 @@ use Rattle.s38_verified.specs.declared.found.Verified.{Verified}
 use Rattle.s38_verified.specs.Numbers.{FrameNumbers, last_count, number_at, renumbered}
 use Rattle.s38_verified.specs.Places.{AreGiven, AreNumbered, AreOwned, ArePlacesRight, IsRight, IsRightIn, is_current, is_for, is_live, is_live_in, rights_anew}
 use Rattle.s38_verified.specs.Worlds.{WorldState, frame_of, frames_in, frames_of, place_of}
+use Rattle.s38_verified.proofs.KeepLaws.{current_so}
 use Rattle.s38_verified.proofs.ListLaws.{length_new, number_before, number_behind, number_new, take_before}
 use Rattle.s38_verified.proofs.PlaceLaws.{IsNow, now_parts}
 
@@ -77,7 +78,7 @@ pub record HasNewFrame (w x : WorldState) (p k : ℕ) (program : ObjNum) : Type 
   pub held : x.state.held ≡ w.state.held
   pub authority : x.authority ≡ w.authority
 
-new_numbered : (w x : WorldState) (p k : ℕ) (program : ObjNum) → HasNewFrame w x p k program → (frames_of w p).last ≤ last_count → AreNumbered w p → AreNumbered x p
+pub new_numbered : (w x : WorldState) (p k : ℕ) (program : ObjNum) → HasNewFrame w x p k program → (frames_of w p).last ≤ last_count → AreNumbered w p → AreNumbered x p
 new_numbered w x p k program new low old =
     let ns = (frames_of w p).numbers in
     let last = (frames_of w p).last in
@@ -91,7 +92,7 @@ new_numbered w x p k program new low old =
           (λ a b sa sb la lb. old.apart a b sa sb (omega (arith, la, old.each)) (omega (arith, lb, old.each))) i j some more (omega (arith, one, long)) (omega (arith, two, long)));
     }
 
-acting_framed : (s t : State) (p d : ℕ) → t.held ≡ s.held → user_of t p ≡ user_of s p → in_use d (stack_of t p) ≡ in_use d (stack_of s p) → acting t p d ≡ acting s p d
+pub acting_framed : (s t : State) (p d : ℕ) → t.held ≡ s.held → user_of t p ≡ user_of s p → in_use d (stack_of t p) ≡ in_use d (stack_of s p) → acting t p d ≡ acting s p d
 unfolding acting
 acting_framed s t p d held user frames = rw (user, frames, held) refl
 
@@ -99,7 +100,7 @@ acting_framed s t p d held user frames = rw (user, frames, held) refl
 old_depth : (xs : List ObjNum) (k d : ℕ) (program : ObjNum) → k ≤ length xs → min d (suc k) ≤ k → (min d (suc k) ≡ min d (length xs)) × (d ≤ k)
 old_depth xs k d program within le = (omega (arith, within, le), omega (arith, le))
 
-new_right : (w x : WorldState) (p k : ℕ) (program : ObjNum) (v : Verified) → HasNewFrame w x p k program → (frames_of w p).last ≤ last_count → AreNumbered w p → IsRight w p v → IsRight x p v
+pub new_right : (w x : WorldState) (p k : ℕ) (program : ObjNum) (v : Verified) → HasNewFrame w x p k program → (frames_of w p).last ≤ last_count → AreNumbered w p → IsRight w p v → IsRight x p v
 new_right w x p k program v new low old right =
     let xs = stack_of w.state p in
     let ns = (frames_of w p).numbers in
@@ -133,3 +134,41 @@ new_right w x p k program v new low old right =
           (λ at. absurd (omega (arith, number, ap (λ j. number_at j (take k ns ++ counted last ∷ [])) at, number_new ns k (counted last) within, right.frame, low, parts.numbers)))
           (λ behind. absurd (omega (arith, behind)));
     }
+
+-- ---- a process whose frames stay
+
+-- all on which a process's rights rest stays
+pub record HasSameFrames (w x : WorldState) (p : ℕ) : Type 0 where
+  pub stack : stack_of x.state p ≡ stack_of w.state p
+  pub frames : frames_of x p ≡ frames_of w p
+  pub user : user_of x.state p ≡ user_of w.state p
+  pub held : x.state.held ≡ w.state.held
+  pub authority : x.authority ≡ w.authority
+
+pub same_numbered : (w x : WorldState) (p : ℕ) → HasSameFrames w x p → AreNumbered w p → AreNumbered x p
+same_numbered w x p same old = record {
+  some = rw same.stack old.some;
+  each = rw (same.frames, same.stack) old.each;
+  given = rw same.frames old.given;
+  apart = rw (same.frames, same.stack) old.apart;
+}
+
+pub same_right : (w x : WorldState) (p : ℕ) (v : Verified) → HasSameFrames w x p → IsRight w p v → IsRight x p v
+same_right w x p v same right = record {
+  authority = rw same.authority right.authority;
+  frame = rw same.frames right.frame;
+  rights = λ d now there.
+      let before : is_current w p d v.object.0 v ≡ true = current_so w x p d v.object.0 v same.frames same.authority same.stack now in
+      let was : is_there w.state.held v.object.0 ≡ true = subst (λ (h : Held). is_there h v.object.0 ≡ true) same.held there in
+      right.rights d before was
+      ∙ sym (ap (λ (users : List ℕ). available x.state.held users v.object.0 0) (acting_framed w.state x.state p d same.held same.user (ap (in_use d) same.stack))
+        ∙ ap (λ (h : Held). available h (acting w.state p d) v.object.0 0) same.held);
+}
+
+pub same_right_in : (w x : WorldState) (p : ℕ) (v : Option Verified) → HasSameFrames w x p → IsRightIn w p v → IsRightIn x p v
+same_right_in w x p None same right = tt
+same_right_in w x p (Some v) same right = same_right w x p v same right
+
+pub new_right_in : (w x : WorldState) (p k : ℕ) (program : ObjNum) (v : Option Verified) → HasNewFrame w x p k program → (frames_of w p).last ≤ last_count → AreNumbered w p → IsRightIn w p v → IsRightIn x p v
+new_right_in w x p k program None new low old right = tt
+new_right_in w x p k program (Some v) new low old right = new_right w x p k program v new low old right

@@ -113,10 +113,10 @@ user_so : (s t : State) (p : ℕ) → process_entry t p ≡ process_entry s p �
 user_so s t p e = ap (λ (x : Option ProcessEntry). user_in (started_in x)) e
 
 -- a place is current by the frames and the counts
-current_so : (w x : WorldState) (p d n : ℕ) (v : Verified) → x.frames ≡ w.frames → x.authority ≡ w.authority → stack_of x.state p ≡ stack_of w.state p
+pub current_so : (w x : WorldState) (p d n : ℕ) (v : Verified) → frames_of x p ≡ frames_of w p → x.authority ≡ w.authority → stack_of x.state p ≡ stack_of w.state p
     → is_current x p d n v ≡ true → is_current w p d n v ≡ true
 current_so w x p d n v frames authority stack now =
-    subst (λ (fs : List FrameNumbers). is_for n w.authority (frames_used d (stack_of w.state p)) (number_at (frames_used d (stack_of w.state p)) (frames_in (slice_get fs (p - 1))).numbers) v ≡ true) frames
+    subst (λ (f : FrameNumbers). is_for n w.authority (frames_used d (stack_of w.state p)) (number_at (frames_used d (stack_of w.state p)) f.numbers) v ≡ true) frames
     (subst (λ (a : ℕ). is_for n a (frames_used d (stack_of w.state p)) (number_at (frames_used d (stack_of w.state p)) (frames_of x p).numbers) v ≡ true) authority
     (subst (λ (os : List ObjNum). is_for n x.authority (frames_used d os) (number_at (frames_used d os) (frames_of x p).numbers) v ≡ true) stack now))
 

@@ -1,4 +1,5 @@
 pub mod BearLaws
+pub mod ChangeLaws
 pub mod FitLaws
 pub mod FrameLaws
 pub mod KeepLaws

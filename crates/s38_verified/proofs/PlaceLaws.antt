@@ -100,7 +100,7 @@ acting_at : (s : State) (p q d : ℕ) → q - 1 ≡ p - 1 → acting s q d ≡ a
 unfolding acting
 acting_at s p q d same = rw same refl
 
-live_within : (xs : List ProcessEntry) (k : ℕ) → is_live_in (slice_get xs k) ≡ true → k < length xs
+pub live_within : (xs : List ProcessEntry) (k : ℕ) → is_live_in (slice_get xs k) ≡ true → k < length xs
 live_within xs k live = by (slice_get xs k) refl live
   where
     by : (x : Option ProcessEntry) → slice_get xs k ≡ x → is_live_in x ≡ true → k < length xs

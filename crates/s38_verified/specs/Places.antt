@@ -111,6 +111,11 @@ pub record AreGiven (w : WorldState) : Type 0 where
   pub programs : (process : ℕ) → is_live w.state process ≡ true → All (λ (f : ObjNum). f.0 < w.state.held.next) (stack_of w.state process)
   pub found : (process : ℕ) (v : Verified) → place_of w process ≡ Some v → v.object.0 < w.state.held.next
 
+-- what a machine's world keeps to
+pub record IsSteady (w : WorldState) : Type 0 where
+  pub right : ArePlacesRight w
+  pub given : AreGiven w
+
 -- ---- behind a check
 
 -- what was found in a world at a depth
