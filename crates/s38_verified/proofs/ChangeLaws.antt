@@ -55,7 +55,7 @@ same_steady w t steady same processes =
     following_steady w t steady (same_following w.state t.held same steady.given.objects) (stand_so w.state t processes) (ap length processes)
 
 -- authority changes
-raised_steady : (w : WorldState) (t : State) → IsSteady w → AreOwned t.held → w.state.held.next ≤ t.held.next → t.processes ≡ w.state.processes → IsSteady (record w { state = t; authority = counted w.authority })
+pub raised_steady : (w : WorldState) (t : State) → IsSteady w → AreOwned t.held → w.state.held.next ≤ t.held.next → t.processes ≡ w.state.processes → IsSteady (record w { state = t; authority = counted w.authority })
 raised_steady w t steady owned next processes =
     step_steady w t (counted w.authority) steady (inr refl) (omega arith) owned next (stand_so w.state t processes) (ap length processes)
 
@@ -81,7 +81,7 @@ quiet_frames (Then a b) quiet =
     or_off (changes_frames a) (changes_frames b) (quiet_frames a both.0) (quiet_frames b both.1)
 quiet_frames _ quiet = refl
 
-quiet_steady : (w : WorldState) (p : ℕ) (x : Changes) → is_quiet x ≡ true → IsSteady w → IsSteady (behind_change w p x (done w.state p x))
+pub quiet_steady : (w : WorldState) (p : ℕ) (x : Changes) → is_quiet x ≡ true → IsSteady w → IsSteady (behind_change w p x (done w.state p x))
 quiet_steady w p x quiet steady =
     rw (quiet_authority x quiet, quiet_frames x quiet) (same_steady w (done w.state p x) steady (done_same x w.state p quiet) (quiet_processes x w.state p quiet))
 
@@ -213,7 +213,7 @@ framed_each w p f fit steady q live = by_place (IsFramed w x p q) (q - 1) (p - 1
         let fresh : HasNewFrame w x q fit.stays fit.program = record { within = within; stack = stack; frames = frames; user = user; held = held; authority = refl } in
         framed_own w x p q fit.stays fit.program steady was fresh (fit.given (omega (arith, steady.given.users q was)))
 
-last_set : (fs : List FrameNumbers) (k j : ℕ) (f : FrameNumbers) → f.last ≤ last_count → (frames_in (slice_get fs j)).last ≤ last_count → (frames_in (slice_get (slice_set fs k f) j)).last ≤ last_count
+pub last_set : (fs : List FrameNumbers) (k j : ℕ) (f : FrameNumbers) → f.last ≤ last_count → (frames_in (slice_get fs j)).last ≤ last_count → (frames_in (slice_get (slice_set fs k f) j)).last ≤ last_count
 last_set [] k j f new old = old
 last_set (x ∷ fs) zero zero f new old = new
 last_set (x ∷ fs) zero (suc j) f new old = old

@@ -1,5 +1,6 @@
 pub mod BearLaws
 pub mod ChangeLaws
+pub mod EventLaws
 pub mod FitLaws
 pub mod FrameLaws
 pub mod KeepLaws
