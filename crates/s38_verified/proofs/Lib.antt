@@ -6,6 +6,7 @@ pub mod FrameLaws
 pub mod KeepLaws
 pub mod ListLaws
 pub mod PlaceLaws
+pub mod RowLaws
 pub mod SameLaws
 pub mod VisitLaws
 pub mod WordLaws

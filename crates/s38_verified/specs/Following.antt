@@ -3,6 +3,8 @@ use Rattle.std.specs.Prelude.{ℕ, ◌-◌, Bool, true, false, ◌&&◌, ◌||�
 use Rattle.s38_base.specs.Faults.{counted}
 use Rattle.s38_base.specs.Ids.{same_kind}
 use Rattle.s38_base.specs.declared.id.Kind.TheVariants as kinds
+use Rattle.s38_base.specs.declared.op.Op.TheVariants.{Callx, Despg, Grant, Modup, Retract, Xctl, Xfro}
+use Rattle.s38_base.specs.declared.op.Op.{Op}
 use Rattle.s38_code.specs.declared.event.Event.{Event}
 use Rattle.s38_code.specs.declared.event.Event.TheVariants.{Start, Act, Finish}
 use Rattle.s38_rules.specs.Changes.{Changes, Framed, Gone, Made, Profiled, Stands, Then}
@@ -20,11 +22,26 @@ changes_authority (Gone kind n) = same_kind kind kinds.Program
 changes_authority (Then a b) = changes_authority a || changes_authority b
 changes_authority _ = false
 
+-- the instructions by which authority changes
+abbrev pub is_of_authority : Op → Bool
+is_of_authority Modup = true
+is_of_authority Grant = true
+is_of_authority Retract = true
+is_of_authority Xfro = true
+is_of_authority Despg = true
+is_of_authority _ = false
+
 -- the process has other frames
 abbrev pub changes_frames : Changes → Bool
 changes_frames (Framed f) = true
 changes_frames (Then a b) = changes_frames a || changes_frames b
 changes_frames _ = false
+
+-- the instructions that store a frame
+abbrev pub is_of_frames : Op → Bool
+is_of_frames Callx = true
+is_of_frames Xctl = true
+is_of_frames _ = false
 
 -- neither owners, rights and rows of objects nor the special authorities of users are others, no object is new or gone, and
 -- no process has other frames
