@@ -23,9 +23,9 @@ use Rattle.s38_rules.specs.declared.process.ProcessEntry.{ProcessEntry}
 use Rattle.s38_rules.specs.declared.process.Started.{Started}
 use Rattle.s38_verified.specs.declared.found.Verified.{Verified}
 use Rattle.s38_verified.specs.Following.{behind_change, changes_authority, changes_frames, is_quiet}
-use Rattle.s38_verified.specs.Numbers.{FrameNumbers, last_count, renumbered}
+use Rattle.s38_verified.specs.Numbers.{FrameNumbers, frames_in, last_count, renumbered}
 use Rattle.s38_verified.specs.Places.{AreGiven, AreNumbered, AreOwned, ArePlacesRight, IsRight, IsRightIn, IsSteady, is_current, is_live, is_live_in}
-use Rattle.s38_verified.specs.Worlds.{WorldState, frames_in, frames_of, place_in, place_of}
+use Rattle.s38_verified.specs.Worlds.{WorldState, frames_of, place_in, place_of}
 use Rattle.s38_verified.proofs.FitLaws.{IsFit, KeepsFrames}
 use Rattle.s38_verified.proofs.FrameLaws.{HasNewFrame, HasSameFrames, new_numbered, new_right_in, same_numbered, same_right_in}
 use Rattle.s38_verified.proofs.KeepLaws.{IsFollowed, StandSo, given_kept, kept}

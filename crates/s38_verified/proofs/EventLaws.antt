@@ -48,9 +48,9 @@ use Rattle.s38_rules.specs.declared.verdict.Verdict.{Verdict}
 use Rattle.s38_rules.specs.declared.verdict.Verdict.TheVariants.{Permit, Wait, Refuse}
 use Rattle.s38_verified.specs.declared.found.Verified.{Verified}
 use Rattle.s38_verified.specs.Following.{behind, behind_change, behind_start, changes_authority, is_quiet}
-use Rattle.s38_verified.specs.Numbers.{FrameNumbers, begun_numbers, last_count, number_at}
+use Rattle.s38_verified.specs.Numbers.{FrameNumbers, begun_numbers, frames_in, last_count, number_at}
 use Rattle.s38_verified.specs.Places.{AreGiven, AreNumbered, AreOwned, ArePlacesRight, IsRightIn, IsSteady, is_live, is_live_in}
-use Rattle.s38_verified.specs.Worlds.{WorldState, frames_in, frames_of, place_in, place_of}
+use Rattle.s38_verified.specs.Worlds.{WorldState, frames_of, place_in, place_of}
 use Rattle.s38_verified.proofs.ChangeLaws.{following_steady, framed_steady, last_set, quiet_steady, raised_steady, same_steady}
 use Rattle.s38_verified.proofs.FitLaws.{IsFit, row_fit}
 use Rattle.s38_verified.proofs.FrameLaws.{HasSameFrames, same_numbered, same_right_in}

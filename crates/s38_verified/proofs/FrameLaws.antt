@@ -14,9 +14,9 @@ use Rattle.s38_rules.specs.Invocations.{frames_used, in_use, stack_in, stack_of,
 use Rattle.s38_rules.specs.State.{State, process_entry, started_in}
 use Rattle.s38_rules.specs.Users.{acting, adopted, user_in, user_of}
 use Rattle.s38_verified.specs.declared.found.Verified.{Verified}
-use Rattle.s38_verified.specs.Numbers.{FrameNumbers, last_count, number_at, renumbered}
+use Rattle.s38_verified.specs.Numbers.{FrameNumbers, frames_in, last_count, number_at, renumbered}
 use Rattle.s38_verified.specs.Places.{AreGiven, AreNumbered, AreOwned, ArePlacesRight, IsRight, IsRightIn, is_current, is_for, is_live, is_live_in, rights_anew}
-use Rattle.s38_verified.specs.Worlds.{WorldState, frame_of, frames_in, frames_of, place_of}
+use Rattle.s38_verified.specs.Worlds.{WorldState, frame_of, frames_of, place_of}
 use Rattle.s38_verified.proofs.KeepLaws.{current_so}
 use Rattle.s38_verified.proofs.ListLaws.{length_new, number_before, number_behind, number_new, take_before}
 use Rattle.s38_verified.proofs.PlaceLaws.{IsNow, now_parts}

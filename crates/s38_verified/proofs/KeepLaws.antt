@@ -17,9 +17,9 @@ use Rattle.s38_rules.specs.Invocations.{frames_used, in_use, stack_in, stack_of}
 use Rattle.s38_rules.specs.State.{State, process_entry, started_in}
 use Rattle.s38_rules.specs.Users.{acting, adopted, adoption_of, frame_header, user_in, user_of, with_owner}
 use Rattle.s38_verified.specs.declared.found.Verified.{Verified}
-use Rattle.s38_verified.specs.Numbers.{FrameNumbers, last_count, number_at}
+use Rattle.s38_verified.specs.Numbers.{FrameNumbers, frames_in, last_count, number_at}
 use Rattle.s38_verified.specs.Places.{AreGiven, AreNumbered, AreOwned, ArePlacesRight, IsRight, IsRightIn, is_current, is_for, is_live, is_live_in, rights_anew}
-use Rattle.s38_verified.specs.Worlds.{WorldState, frame_of, frames_in, frames_of, place_of}
+use Rattle.s38_verified.specs.Worlds.{WorldState, frame_of, frames_of, place_of}
 use Rattle.s38_verified.proofs.BearLaws.{AdoptsSo, IsSame, IsSameUser, adopted_same, available_same, there_same}
 use Rattle.s38_verified.proofs.PlaceLaws.{IsNow, now_parts}
 

@@ -1,6 +1,7 @@
 -- Elements of lists of which one is set, and numbers of frames of which one is new.
-use Rattle.std.proofs.Common.{◌≡◌, ◌≢◌, ◌<◌, ◌≤◌, ℕ, zero, suc, ◌+◌, ◌-◌, ◌==◌, Bool, true, false, List, [], ◌∷◌, ◌++◌, length, refl, sym, ap, take, arith}
+use Rattle.std.proofs.Common.{◌≡◌, ◌≢◌, ◌<◌, ◌≤◌, ℕ, zero, suc, ◌+◌, ◌-◌, ◌==◌, Bool, true, false, List, [], ◌∷◌, ◌++◌, length, refl, sym, ap, ◌∙◌, replicate, take, arith}
 use Rattle.std.proofs.lemmas.Bool.Decides.{nat_tests}
+use Rattle.std.proofs.lemmas.List.{replicate-append-replicate}
 use Rattle.std.specs.Prelude.{Option, Some, None, slice_get, slice_set}
 use Rattle.s38_verified.specs.Numbers.{number_at, number_in}
 
@@ -75,3 +76,8 @@ pub length_new : {X : Type 0} (xs : List X) (k : ℕ) (x : X) → k ≤ length x
 length_new xs zero x within = refl
 length_new [] (suc k) x within = absurd (omega (arith, within))
 length_new (y ∷ xs) (suc k) x within = ap suc (length_new xs k x (omega (arith, within)))
+
+-- ---- as many of one
+
+pub replicate_more : {X : Type 0} (n m : ℕ) (x : X) → m ≡ n + 1 → replicate n x ++ x ∷ [] ≡ replicate m x
+replicate_more n m x more = replicate-append-replicate n 1 x ∙ ap (λ k. replicate k x) (sym more)

@@ -13,9 +13,9 @@ use Rattle.s38_rules.specs.Users.{acting}
 use Rattle.s38_rules.specs.declared.process.ProcessEntry.{ProcessEntry}
 use Rattle.s38_verified.specs.declared.found.Verified.{Verified}
 use Rattle.s38_verified.specs.declared.found.Visits.{Visits}
-use Rattle.s38_verified.specs.Numbers.{last_count, number_at}
+use Rattle.s38_verified.specs.Numbers.{frames_in, last_count, number_at}
 use Rattle.s38_verified.specs.Places.{AreNumbered, ArePlacesRight, AreVisited, IsChecked, IsRight, IsRightIn, VisitsBy, found_now, is_current, is_current_in, is_for, is_live, is_live_in, is_of_now, is_told_apart, rights_anew, with_found}
-use Rattle.s38_verified.specs.Worlds.{WorldState, frame_of, frames_in, frames_of, place_in, place_of}
+use Rattle.s38_verified.specs.Worlds.{WorldState, frame_of, frames_of, place_in, place_of}
 use Rattle.s38_verified.proofs.ListLaws.{by_place, get_set_other, get_set_same, get_within, set_there}
 
 -- what it is to be current, part by part

@@ -17,7 +17,8 @@ use Rattle.s38_rules.specs.Resolving.{resolving_row}
 use Rattle.s38_rules.specs.Rows.{row, row_in}
 use Rattle.s38_rules.specs.Spaces.{spaces_row}
 use Rattle.s38_rules.specs.State.{State}
-use Rattle.s38_verified.specs.Following.{changes_authority, changes_frames, is_of_authority, is_of_frames}
+use Rattle.s38_verified.specs.Following.{behind_change, behind_op, changes_authority, changes_frames, is_of_authority, is_of_frames}
+use Rattle.s38_verified.specs.Worlds.{WorldState}
 
 pub authority_of : (op : Op) (s : State) (p d : ℕ) (r : Request) → changes_authority ((row op).changes s p d r) ≡ is_of_authority op
 unfolding row_in family_of contexts_row data_spaces_row grants_row indexes_row journals_row locks_row profiles_row programs_row queues_row resolving_row spaces_row
@@ -28,3 +29,7 @@ pub frames_of_op : (op : Op) (s : State) (p d : ℕ) (r : Request) → changes_f
 unfolding row_in family_of contexts_row data_spaces_row grants_row indexes_row journals_row locks_row profiles_row programs_row queues_row resolving_row spaces_row
 frames_of_op Callx s p d r = refl
 frames_of_op _ s p d r = refl
+
+-- what follows an instruction is what follows its change
+pub behind_act : (w : WorldState) (s : State) (p d : ℕ) (r : Request) (t : State) → behind_op w p r.op t ≡ behind_change (record w { state = s }) p ((row r.op).changes s p d r) t
+behind_act w s p d r t = rw (authority_of r.op s p d r, frames_of_op r.op s p d r) refl

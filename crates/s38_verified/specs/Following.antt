@@ -68,6 +68,16 @@ behind_change w process x t = record {
   visits = w.visits;
 }
 
+-- the same by the instruction
+abbrev pub behind_op : WorldState → ℕ → Op → State → WorldState
+behind_op w process op t = record {
+  state = t;
+  authority = if is_of_authority op then counted w.authority else w.authority;
+  frames = if is_of_frames op then with_new_frame w process t else w.frames;
+  places = w.places;
+  visits = w.visits;
+}
+
 -- a process that starts has its first frame, and nothing was found for it
 abbrev pub behind_start : WorldState → ℕ → State → WorldState
 behind_start w process t = record {

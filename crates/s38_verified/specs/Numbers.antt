@@ -17,6 +17,10 @@ pub record FrameNumbers : Type 0 where
 abbrev pub no_numbers : FrameNumbers
 no_numbers = record { numbers = []; last = 0 }
 
+abbrev pub frames_in : Option FrameNumbers → FrameNumbers
+frames_in None = no_numbers
+frames_in (Some f) = f
+
 abbrev pub number_in : Option ℕ → ℕ
 number_in None = 0
 number_in (Some number) = number

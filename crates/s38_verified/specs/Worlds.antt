@@ -1,11 +1,11 @@
 -- What stands beside a machine's state, so that rights which were found are used again: how often authority changed, the
 -- numbers of the frames of each process, and a place for each process.
-use Rattle.std.specs.Prelude.{ℕ, ◌-◌, List, Option, Some, None, slice_get}
+use Rattle.std.specs.Prelude.{ℕ, ◌-◌, false, List, Option, Some, None, length, replicate, slice_get}
 use Rattle.s38_rules.specs.Invocations.{frames_used, stack_of}
 use Rattle.s38_rules.specs.State.{State}
 use Rattle.s38_verified.specs.declared.found.Verified.{Verified}
 use Rattle.s38_verified.specs.declared.found.Visits.{Visits}
-use Rattle.s38_verified.specs.Numbers.{FrameNumbers, no_numbers, number_at}
+use Rattle.s38_verified.specs.Numbers.{FrameNumbers, frames_in, no_numbers, number_at}
 
 pub record WorldState : Type 0 where
   pub state : State
@@ -18,10 +18,6 @@ pub record WorldState : Type 0 where
   pub visits : Visits
 
 -- ---- what there is of a process
-
-abbrev pub frames_in : Option FrameNumbers → FrameNumbers
-frames_in None = no_numbers
-frames_in (Some f) = f
 
 abbrev pub frames_of : WorldState → ℕ → FrameNumbers
 frames_of w process = frames_in (slice_get w.frames (process - 1))
@@ -36,3 +32,19 @@ place_of w process = place_in (slice_get w.places (process - 1))
 -- the number of the last frame in use at a depth
 abbrev pub frame_of : WorldState → ℕ → ℕ → ℕ
 frame_of w process depth = number_at (frames_used depth (stack_of w.state process)) (frames_of w process).numbers
+
+-- ---- where nothing was done yet
+
+-- no row was visited
+abbrev pub no_visits : Visits
+no_visits = record { count = 0; spent = false }
+
+-- authority never changed, no process has a frame, and nothing was found
+abbrev pub begun_world : State → WorldState
+begun_world s = record {
+  state = s;
+  authority = 0;
+  frames = replicate (length s.processes) no_numbers;
+  places = replicate (length s.processes) None;
+  visits = no_visits;
+}

@@ -2,6 +2,7 @@
 #![tactic(auto)]
 
 mod checks;
+mod following;
 mod found;
 mod numbers;
 mod rows;

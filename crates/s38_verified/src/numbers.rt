@@ -1,7 +1,9 @@
 //! The numbers of the frames of a process.
-ghost use Rattle.std.specs.Prelude.{◌≡◌, ◌<◌, ◌≤◌, ◌++◌, ◌∷◌, [], length, take};
-ghost use Rattle.s38_verified.specs.Numbers.{begun_numbers, no_numbers, number_at, renumbered};
+ghost use Rattle.std.specs.Prelude.{◌≡◌, ◌<◌, ◌≤◌, ◌++◌, ◌∷◌, [], IfOk, length, replicate, slice_get, slice_set, take};
+ghost use Rattle.s38_verified.specs.Numbers.{begun_numbers, frames_in, no_numbers, number_at, renumbered};
 
+use s38_base::NoMemory;
+use std::alloc::Global;
 use std::marker::Model;
 
 /// How many frames a process has at most.
@@ -76,13 +78,49 @@ impl Numbers {
     }
 
     /// The frame behind so many others is new.
+    #[tactic(auto, using(std::proofs::lemmas::List::take_min))]
     pub fn renumber(&mut self, place: usize)
-        requires within { place ≤ length self.old.numbers }
-        requires few { place < 64 }
+        requires { place < 64 }
         ensures { self.new ≡ renumbered place self.old }
     {
         let number = self.last.saturating_add(1);
+        let place = place.min(self.count);
         self.end_with(place, number);
         self.last = number;
+    }
+}
+
+/// The numbers of so many processes, none of which has a frame.
+#[tactic(auto, using(crate::proofs::ListLaws::replicate_more))]
+pub fn no_numbers(alloc: Global, processes: usize) -> Result<Vec<Numbers>, NoMemory>
+    ensures { IfOk result (λ made. made.items ≡ replicate processes no_numbers) }
+{
+    let mut made = Vec::new(alloc);
+    while made.len() < processes {
+        made.push(Numbers::none())?;
+    }
+    Ok(made)
+}
+
+/// A process begins: its first frame has the number 0.
+#[tactic(auto, using(std::proofs::lemmas::List::set_past))]
+pub fn begin_at(frames: &mut [Numbers], place: usize)
+    ensures { frames.new ≡ slice_set frames.old place (begun_numbers (frames_in (slice_get frames.old place))) }
+{
+    if place < frames.len() {
+        let own = &mut frames[place];
+        own.begin();
+    }
+}
+
+/// The frame of a process behind so many others is new.
+#[tactic(auto, using(std::proofs::lemmas::List::set_past))]
+pub fn renumber_at(frames: &mut [Numbers], place: usize, behind: usize)
+    requires { behind < 64 }
+    ensures { frames.new ≡ slice_set frames.old place (renumbered behind (frames_in (slice_get frames.old place))) }
+{
+    if place < frames.len() {
+        let own = &mut frames[place];
+        own.renumber(behind);
     }
 }

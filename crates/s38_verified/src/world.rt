@@ -1,19 +1,20 @@
-ghost use Rattle.std.specs.Prelude.{◌≡◌, ◌+◌, ◌-◌, ◌<◌, ◌≤◌, ℕ, IfSome, Some, is_some, length, min, slice_get, slice_set, true};
+ghost use Rattle.std.specs.Prelude.{◌≡◌, ◌+◌, ◌-◌, ◌<◌, ◌≤◌, ℕ, IfOk, IfSome, Some, is_some, length, min, slice_get, slice_set, true};
 ghost use Rattle.std.specs.Option.{option_copied};
 ghost use Rattle.s38_rules.specs.Held.{is_there};
 ghost use Rattle.s38_rules.specs.Invocations.{frames_used, stack_of};
 ghost use Rattle.s38_rules.specs.Users.{acting};
-ghost use Rattle.s38_verified.specs.Numbers.{last_count, number_at};
+ghost use Rattle.s38_verified.specs.Numbers.{frames_in, last_count, number_at};
 ghost use Rattle.s38_verified.specs.Places.{ArePlacesRight, AreVisited, IsChecked, found_now, is_current_in, is_for, is_live, rights_anew, with_found};
-ghost use Rattle.s38_verified.specs.Worlds.{frame_of, frames_in, frames_of, place_in, place_of};
+ghost use Rattle.s38_verified.specs.Worlds.{begun_world, frame_of, place_in, place_of};
 
-use crate::numbers::Numbers;
+use crate::numbers::{Numbers, no_numbers};
 use crate::rows::{read_rights, stack_of, user_of};
 use crate::found::{Verified, Visits};
-use s38_base::{ObjNum, Rights};
+use s38_base::{NoMemory, ObjNum, Rights};
 use s38_invoke::Core;
 use s38_profiles::CountedRows;
 use s38_rules::Table;
+use std::alloc::Global;
 use std::marker::Model;
 
 /// The core of a machine, and beside it what verified authorities keep: how often authority changed, the numbers of
@@ -86,6 +87,29 @@ fn rights_anew<T: Table, P: CountedRows>(
         rights,
         before,
         after,
+    }
+}
+
+impl<T: Table + Drop, P: CountedRows + Drop> World<T, P> {
+    /// The world of this core: authority never changed, no process has a frame, and nothing was found. `NoMemory` where
+    /// memory was refused.
+    pub fn new(alloc: Global, core: Core<T, P>) -> Result<World<T, P>, NoMemory>
+        ensures { IfOk result (λ world. world ≡ begun_world core) }
+    {
+        let count = core.processes.len();
+        let frames = no_numbers(alloc, count)?;
+        let mut places = Vec::new(alloc);
+        places.resize(count, None)?;
+        Ok(World {
+            core,
+            authority: 0,
+            frames,
+            places,
+            visits: Visits {
+                count: 0,
+                spent: false,
+            },
+        })
     }
 }
 
