@@ -1,3 +1,4 @@
+pub mod AskLaws
 pub mod BearLaws
 pub mod ChangeLaws
 pub mod EventLaws

@@ -116,6 +116,15 @@ pub record IsSteady (w : WorldState) : Type 0 where
   pub right : ArePlacesRight w
   pub given : AreGiven w
 
+-- no process has started that has not ended
+abbrev pub NobodyLives : State → Type 0
+NobodyLives s = (process : ℕ) → is_live s process ≡ false
+
+-- at most the place of a process and the visits are others, and places are right
+pub record IsAsked (w : WorldState) (process : ℕ) (t : WorldState) : Type 0 where
+  pub rest : t ≡ record w { places = slice_set w.places (process - 1) (place_of t process); visits = t.visits }
+  pub steady : IsSteady t
+
 -- ---- behind a check
 
 -- what was found in a world at a depth
