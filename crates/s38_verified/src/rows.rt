@@ -8,7 +8,7 @@ ghost use Rattle.s38_rules.specs.Invocations.{most_frames, stack_in};
 ghost use Rattle.s38_rules.specs.Kept.{Mirrors};
 ghost use Rattle.s38_rules.specs.State.{started_in};
 ghost use Rattle.s38_rules.specs.Users.{adopted, adoption_of, frame_header, user_in};
-ghost use Rattle.s38_verified.specs.Places.{visited};
+ghost use Rattle.s38_verified.specs.Places.{is_live_in, visited};
 
 use s38_authority::has_rights;
 use s38_base::{ObjNum, Rights, Special, UserNum};
@@ -143,6 +143,16 @@ pub fn stack_of(processes: &[ProcessEntry], process: u32) -> &[ObjNum]
     ensures few { length result.now ≤ most_frames }
 {
     stack_in(started_in(entry_in(processes, process)))
+}
+
+/// Whether a process has started, and has not ended.
+pub fn is_live(processes: &[ProcessEntry], process: u32) -> bool
+    ensures { result ≡ is_live_in (slice_get processes.now (process - 1)) }
+{
+    match entry_in(processes, process) {
+        None => false,
+        Some(entry) => entry.started.is_some() && !entry.ended,
+    }
 }
 
 /// The rights of everybody on the object of a number, none without it.

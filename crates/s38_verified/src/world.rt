@@ -1,14 +1,15 @@
 ghost use Rattle.std.specs.Prelude.{◌≡◌, ◌+◌, ◌-◌, ◌<◌, ◌≤◌, ℕ, IfOk, IfSome, Some, is_some, length, min, slice_get, slice_set, true};
 ghost use Rattle.std.specs.Option.{option_copied};
+ghost use Rattle.s38_rules.specs.Authority.{available};
 ghost use Rattle.s38_rules.specs.Held.{is_there};
 ghost use Rattle.s38_rules.specs.Invocations.{frames_used, stack_of};
 ghost use Rattle.s38_rules.specs.Users.{acting};
 ghost use Rattle.s38_verified.specs.Numbers.{frames_in, last_count, number_at};
-ghost use Rattle.s38_verified.specs.Places.{ArePlacesRight, AreVisited, IsChecked, found_now, is_current_in, is_for, is_live, rights_anew, with_found};
+ghost use Rattle.s38_verified.specs.Places.{ArePlacesRight, AreVisited, IsAsked, IsChecked, IsSteady, found_now, is_current_in, is_for, is_live, rights_anew, with_found};
 ghost use Rattle.s38_verified.specs.Worlds.{begun_world, frame_of, place_in, place_of};
 
 use crate::numbers::{Numbers, no_numbers};
-use crate::rows::{read_rights, stack_of, user_of};
+use crate::rows::{is_live, read_rights, stack_of, user_of};
 use crate::found::{Verified, Visits};
 use s38_base::{NoMemory, ObjNum, Rights};
 use s38_invoke::Core;
@@ -136,6 +137,13 @@ impl<T: Table, P: CountedRows> World<T, P> {
         number_in(self.frames.get((process as usize).saturating_sub(1)), used)
     }
 
+    /// Whether a process has started, and has not ended.
+    pub fn is_live(&self, process: u32) -> bool
+        ensures { result ≡ is_live self.now.state process }
+    {
+        is_live(&self.core.processes, process)
+    }
+
     /// What was found for a process, None exactly where its place is empty.
     pub fn place(&self, process: u32) -> Option<Verified>
         ensures { result ≡ place_of self.now process }
@@ -210,6 +218,26 @@ impl<T: Table, P: CountedRows> World<T, P> {
             Some(found) => found.rights,
             None => self.find(process, depth, object).rights,
         }
+    }
+
+    /// The rights that are available to a process on an object that is there, with those that a pointer carries.
+    #[tactic(auto, using(crate::proofs::AskLaws::checked_asked), unfolding(s38_rules::specs::Authority::available))]
+    pub fn available(
+        &mut self,
+        process: u32,
+        depth: u16,
+        object: ObjNum,
+        carried: Rights,
+    ) -> Rights
+        requires live { is_live self.old.state process ≡ true }
+        requires depth { 0 < depth }
+        requires there { is_there self.old.state.held object.0 ≡ true }
+        requires steady { IsSteady self.old }
+        ensures rights { result.0 ≡ available self.old.state.held (acting self.old.state process depth) object.0 carried.0 }
+        ensures checked { IsChecked self.old process depth object self.new }
+        ensures asked { IsAsked self.old process self.new }
+    {
+        Rights(carried.0 | self.verify(process, depth, object).0)
     }
 }
 
