@@ -117,3 +117,6 @@ checked_asked w t p d o steady live there checked = record {
 
     own : place_of t p ≡ Some found
     own = ap (λ (z : WorldState). place_of z p) checked.place ∙ ap place_in (get_set_same w.places (p - 1) (Some found) low)
+
+pub asked_state : (w t : WorldState) (p : ℕ) → IsAsked w p t → t.state ≡ w.state
+asked_state w t p asked = ap (λ (z : WorldState). z.state) asked.rest
