@@ -18,8 +18,11 @@ none_live [] k = refl
 none_live (job ∷ jobs) zero = refl
 none_live (job ∷ jobs) (suc k) = none_live jobs k
 
+pub nobody_in : (xs : List ProcessEntry) (jobs : List Job) → xs ≡ process_entries jobs → (p : ℕ) → is_live_in (slice_get xs (p - 1)) ≡ false
+nobody_in xs jobs is p = ap (λ (ys : List ProcessEntry). is_live_in (slice_get ys (p - 1))) is ∙ none_live jobs (p - 1)
+
 pub nobody_of : (s : State) (jobs : List Job) → s.processes ≡ process_entries jobs → NobodyLives s
-nobody_of s jobs is = λ p. ap (λ (xs : List ProcessEntry). is_live_in (slice_get xs (p - 1))) is ∙ none_live jobs (p - 1)
+nobody_of s jobs is = nobody_in s.processes jobs is
 
 -- a number that is found was given
 below_in : (next n : ℕ) (os : List Object) → All (λ o. number_of o < next) os → is_some (object_in os n) ≡ true → n < next

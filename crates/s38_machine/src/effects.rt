@@ -1,5 +1,5 @@
 //! A permitted event takes effect.
-ghost use Rattle.std.specs.Prelude.{◌≡◌, ℕ, None, IfOk, OnOk, OnErr, length};
+ghost use Rattle.std.specs.Prelude.{◌≡◌, ◌∷◌, ℕ, None, IfOk, OnOk, OnErr, length};
 ghost use Rattle.s38_code.specs.declared.event.Event.{Event};
 ghost use Rattle.s38_rules.specs.declared.verdict.Verdict.{Verdict};
 ghost use Rattle.s38_rules.specs.Computing.{receiver_at};
@@ -185,7 +185,6 @@ pub fn apply(
 }
 
 /// The same in a world, whose counts, frame numbers and places follow.
-#[tactic(auto, using(crate::proofs::FollowedLaws::followed))]
 pub fn take_up(
     alloc: Global,
     world: &mut World<Objects, Profiles>,
@@ -208,4 +207,28 @@ pub fn take_up(
     let all = apply(alloc, &mut world.core, process, event, value)?;
     world.follow(process, event);
     Ok(all)
+}
+
+/// A process joins those that wait, in a core.
+fn join(core: &mut Core<Objects, Profiles>, process: u32) -> Result<(), NoMemory>
+    ensures ok { OnOk result (core.new ≡ record core.old { waiting = process ∷ core.old.waiting }) }
+    ensures err { OnErr result (core.new ≡ core.old) }
+{
+    match core.waiting.insert(0, process) {
+        Ok(()) => Ok(()),
+        Err(_) => Err(NoMemory),
+    }
+}
+
+/// A process joins those that wait.
+pub fn wait(world: &mut World<Objects, Profiles>, process: u32) -> Result<(), NoMemory>
+    requires fits { FitsStore world.old.state }
+    requires steady { IsSteady world.old }
+    ensures ok { OnOk result (world.new ≡ record world.old { state = record world.old.state { waiting = process ∷ world.old.state.waiting } }) }
+    ensures err { OnErr result (world.new ≡ world.old) }
+    ensures fits { OnOk result (FitsStore world.new.state) }
+    ensures steady { OnOk result (IsSteady world.new) }
+{
+    join(&mut world.core, process)?;
+    Ok(())
 }

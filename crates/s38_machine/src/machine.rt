@@ -13,7 +13,7 @@ ghost use Rattle.s38_rules.specs.Step.{awake_verdict, by_verdict, step, verdict_
 ghost use Rattle.s38_verified.specs.Places.{AreOwned, NobodyLives};
 
 use crate::asking::ask_verdict;
-use crate::effects::{parted_values, take_up};
+use crate::effects::{parted_values, take_up, wait};
 use crate::log::Log;
 use crate::opening::opened;
 use crate::verdicts::verdict_of;
@@ -277,10 +277,7 @@ impl Machine {
         ensures err { OnErr result (self.new ≡ self.old) }
     {
         self.log.reserve()?;
-        match self.world.core.waiting.insert(0, process) {
-            Ok(()) => {}
-            Err(_) => return Err(NoMemory),
-        }
+        wait(&mut self.world, process)?;
         self.log.push(process, event, Reply::MustWait);
         Ok(())
     }
