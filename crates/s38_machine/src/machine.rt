@@ -10,7 +10,7 @@ ghost use Rattle.s38_rules.specs.Legal.{IsProcess, IsSound, after, after_by, beg
 ghost use Rattle.s38_rules.specs.Opening.{state_of};
 ghost use Rattle.s38_rules.specs.State.{ready, ready_list};
 ghost use Rattle.s38_rules.specs.Step.{awake_verdict, by_verdict, step, verdict_of};
-ghost use Rattle.s38_verified.specs.Places.{AreOwned, NobodyLives};
+ghost use Rattle.s38_verified.specs.Places.{AreOwned, IsSteady, NobodyLives};
 
 use crate::asking::ask_verdict;
 use crate::effects::{parted_values, take_up, wait};
@@ -126,6 +126,14 @@ impl Machine {
         ensures { result.now ≡ self.now.state.held }
     {
         &self.world.core.objects
+    }
+
+    /// The state, and what is kept beside it of rights that were found, which are those that the rules find now.
+    pub fn world(&self) -> &World<Objects, Profiles>
+        ensures state { result.now.state ≡ self.now.state }
+        ensures steady { IsSteady result.now }
+    {
+        &self.world
     }
 
     /// The units of changes that are not committed.

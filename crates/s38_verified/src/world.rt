@@ -137,6 +137,13 @@ impl<T: Table, P: CountedRows> World<T, P> {
         number_in(self.frames.get((process as usize).saturating_sub(1)), used)
     }
 
+    /// How many rows were visited to find rights.
+    pub fn visits(&self) -> Visits
+        ensures { result ≡ self.now.visits }
+    {
+        self.visits
+    }
+
     /// Whether a process has started, and has not ended.
     pub fn is_live(&self, process: u32) -> bool
         ensures { result ≡ is_live self.now.state process }
