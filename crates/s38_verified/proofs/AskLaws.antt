@@ -1,17 +1,16 @@
 -- A world begins with places that are right, and checks leave all but a place and the visits.
-use Rattle.std.proofs.Common.{◌≡◌, ◌≢◌, ◌<◌, ◌≤◌, ℕ, zero, suc, ◌+◌, ◌-◌, Bool, true, false, List, [], ◌∷◌, length, refl, sym, ap, ◌∙◌, subst, replicate, arith}
+use Rattle.std.proofs.Common.{◌≡◌, ◌<◌, ◌≤◌, ℕ, zero, suc, ◌-◌, true, List, [], ◌∷◌, length, refl, sym, ap, ◌∙◌, subst, replicate, arith}
 use Rattle.std.proofs.lemmas.Bool.{true≢false}
-use Rattle.std.proofs.lemmas.List.{length-replicate, set_past}
+use Rattle.std.proofs.lemmas.List.{length-replicate}
 use Rattle.std.specs.Prelude.{Option, Some, None, slice_get, slice_set}
 use Rattle.s38_base.specs.declared.id.ObjNum.{ObjNum}
 use Rattle.s38_rules.specs.Held.{is_there}
 use Rattle.s38_rules.specs.State.{State}
 use Rattle.s38_verified.specs.declared.found.Verified.{Verified}
-use Rattle.s38_verified.specs.declared.found.Visits.{Visits}
 use Rattle.s38_verified.specs.Numbers.{frames_in, last_count, no_numbers}
-use Rattle.s38_verified.specs.Places.{AreGiven, AreOwned, ArePlacesRight, IsAsked, IsChecked, IsSteady, NobodyLives, found_now, is_live}
+use Rattle.s38_verified.specs.Places.{AreGiven, AreOwned, IsAsked, IsChecked, IsSteady, NobodyLives, found_now, is_live}
 use Rattle.s38_verified.specs.Worlds.{WorldState, begun_world, place_in, place_of}
-use Rattle.s38_verified.proofs.ListLaws.{by_place, get_set_other, get_set_same, get_within, set_there}
+use Rattle.s38_verified.proofs.ListLaws.{get_set_same, set_there}
 use Rattle.s38_verified.proofs.PlaceLaws.{live_within}
 
 -- ---- the beginning

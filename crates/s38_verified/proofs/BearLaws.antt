@@ -1,5 +1,5 @@
 -- Objects that are told apart by nothing on which rights rest, and rights that are then the same.
-use Rattle.std.proofs.Common.{◌≡◌, ℕ, ◌==◌, ◌&&◌, ◌||◌, Bool, true, false, cond, List, [], ◌∷◌, length, refl, sym, ap, ◌∙◌, subst, arith}
+use Rattle.std.proofs.Common.{◌≡◌, ℕ, ◌==◌, Bool, true, false, cond, List, [], ◌∷◌, length, refl, ap, ◌∙◌}
 use Rattle.std.proofs.lemmas.List.Elements.{All-head, All-tail}
 use Rattle.std.specs.Prelude.{All, Option, Some, None, bit_or, is_some}
 use Rattle.s38_base.specs.declared.id.ObjNum.{ObjNum}
@@ -7,11 +7,11 @@ use Rattle.s38_base.specs.RightNames as rights
 use Rattle.s38_rules.specs.declared.object.Object.{Object}
 use Rattle.s38_rules.specs.declared.rows.PrivateRow.{PrivateRow}
 use Rattle.s38_rules.specs.declared.table.Header.{Header}
-use Rattle.s38_rules.specs.Authority.{available, counted, has_rights, has_special, is_profile, row_on, source_by, sources_by, sources_on}
+use Rattle.s38_rules.specs.Authority.{available, counted, is_profile, source_by, sources_by, sources_on}
 use Rattle.s38_rules.specs.Headers.{header_in, header_of, public_in, row_in, special_in}
-use Rattle.s38_rules.specs.Held.{Held, is_there, object, owner_in}
+use Rattle.s38_rules.specs.Held.{Held, object, owner_in}
 use Rattle.s38_rules.specs.PrivateRows.{row_of}
-use Rattle.s38_rules.specs.Users.{adopted, adoption_of, frame_header, with_owner}
+use Rattle.s38_rules.specs.Users.{adopted, adoption_of, frame_header}
 
 -- what is said of an object, its rows, and whether it is a user
 pub record Bears (x y : Object) : Type 0 where

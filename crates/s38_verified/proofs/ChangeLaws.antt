@@ -1,38 +1,29 @@
 -- Behind each change that the rules permit, with the counts that follow it, places are right.
-use Rattle.std.proofs.Common.{◌≡◌, ◌≢◌, ◌<◌, ◌≤◌, ◌⊎◌, inl, inr, ℕ, zero, suc, ◌+◌, ◌-◌, ◌==◌, ◌&&◌, ◌||◌, ◌++◌, Bool, true, false, not, cond, List, [], ◌∷◌, length, refl, sym, ap, ◌∙◌, subst, take, min, arith}
-use Rattle.std.proofs.lemmas.Bool.Decides.{nat_tests}
-use Rattle.std.proofs.lemmas.Bool.{and_parts, cond_both}
-use Rattle.std.proofs.lemmas.List.Elements.{All-append, All-cons, All-head, All-nil, All-tail, All-weaker}
+use Rattle.std.proofs.Common.{◌≡◌, ◌≢◌, ◌<◌, ◌≤◌, inl, inr, ℕ, zero, suc, ◌-◌, ◌&&◌, ◌||◌, ◌++◌, Bool, true, false, not, List, [], ◌∷◌, length, refl, sym, ap, ◌∙◌, subst, take, arith}
+use Rattle.std.proofs.lemmas.Bool.{and_parts}
+use Rattle.std.proofs.lemmas.List.Elements.{All-append, All-cons, All-head, All-nil, All-tail}
 use Rattle.std.proofs.lemmas.List.{length-set}
 use Rattle.std.specs.Option.{option_map}
 use Rattle.std.specs.Prelude.{All, Option, Some, None, is_some, slice_get, slice_set}
 use Rattle.s38_base.specs.Faults.{counted}
-use Rattle.s38_base.specs.Ids.{same_kind}
-use Rattle.s38_base.specs.declared.id.Kind.TheVariants as kinds
-use Rattle.s38_base.specs.declared.id.Kind.{Kind}
 use Rattle.s38_base.specs.declared.id.ObjNum.{ObjNum}
-use Rattle.s38_rules.specs.Changes.{Changes, CellsPut, Committed, Decommitted, Ensured, Entered, Framed, Gone, Journaled, Locked, Made, Moved, Named, OnCursor, OnIndex, OnQueue, Profiled, Resized, Stands, Stays, Then, done}
-use Rattle.s38_rules.specs.Creation.{destroyed}
-use Rattle.s38_rules.specs.Held.{Held}
+use Rattle.s38_rules.specs.Changes.{Changes, Framed, Gone, Profiled, Stands, Then, done}
 use Rattle.s38_rules.specs.Invocations.{restack, restack_at, restacked, stack_in, stack_of, with_stack}
 use Rattle.s38_rules.specs.State.{State, process_entry, started_in}
 use Rattle.s38_rules.specs.Users.{user_in, user_of}
-use Rattle.s38_rules.specs.declared.creating.Creating.{Creating}
-use Rattle.s38_rules.specs.declared.object.Body.{Body}
 use Rattle.s38_rules.specs.declared.process.ProcessEntry.{ProcessEntry}
 use Rattle.s38_rules.specs.declared.process.Started.{Started}
-use Rattle.s38_verified.specs.declared.found.Verified.{Verified}
 use Rattle.s38_verified.specs.Following.{behind_change, changes_authority, changes_frames, is_quiet}
 use Rattle.s38_verified.specs.Numbers.{FrameNumbers, frames_in, last_count, renumbered}
-use Rattle.s38_verified.specs.Places.{AreGiven, AreNumbered, AreOwned, ArePlacesRight, IsRight, IsRightIn, IsSteady, is_current, is_live, is_live_in}
-use Rattle.s38_verified.specs.Worlds.{WorldState, frames_of, place_in, place_of}
-use Rattle.s38_verified.proofs.FitLaws.{IsFit, KeepsFrames}
+use Rattle.s38_verified.specs.Places.{AreNumbered, AreOwned, IsRightIn, IsSteady, is_live, is_live_in}
+use Rattle.s38_verified.specs.Worlds.{WorldState, frames_of, place_of}
+use Rattle.s38_verified.proofs.FitLaws.{KeepsFrames}
 use Rattle.s38_verified.proofs.FrameLaws.{HasNewFrame, HasSameFrames, new_numbered, new_right_in, same_numbered, same_right_in}
 use Rattle.s38_verified.proofs.KeepLaws.{IsFollowed, StandSo, given_kept, kept}
 use Rattle.s38_verified.proofs.ListLaws.{by_place, get_set_other, get_set_same, get_within, length_new}
 use Rattle.s38_verified.proofs.PlaceLaws.{live_within}
-use Rattle.s38_verified.proofs.SameLaws.{Same, done_same, quiet_processes, same_held}
-use Rattle.s38_verified.proofs.WordLaws.{IsFollowing, created_following, destroyed_following, destroyed_next, destroyed_owned, profiled_owned, same_following, stands_owned}
+use Rattle.s38_verified.proofs.SameLaws.{Same, done_same, quiet_processes}
+use Rattle.s38_verified.proofs.WordLaws.{IsFollowing, same_following}
 
 -- ---- a step that leaves processes
 

@@ -1,23 +1,19 @@
 -- Behind each event that the rules permit, with the counts, frame numbers and places that follow it, places are right.
-use Rattle.std.proofs.Common.{◌≡◌, ◌≢◌, ◌<◌, ◌≤◌, ◌⊎◌, inl, inr, ℕ, zero, suc, ◌+◌, ◌-◌, ◌==◌, ◌&&◌, ◌||◌, ◌++◌, Bool, true, false, not, cond, List, [], ◌∷◌, length, refl, sym, ap, ◌∙◌, subst, arith}
+use Rattle.std.proofs.Common.{◌≡◌, ◌<◌, ◌≤◌, ℕ, zero, suc, ◌-◌, ◌==◌, ◌&&◌, Bool, true, false, cond, List, [], ◌∷◌, length, refl, sym, ap, ◌∙◌, subst, arith}
 use Rattle.std.proofs.lemmas.Bool.Decides.{nat_tests}
-use Rattle.std.proofs.lemmas.Bool.{and_parts, cond_both}
 use Rattle.std.proofs.lemmas.List.Elements.{All-cons, All-nil}
 use Rattle.std.proofs.lemmas.List.{length-set}
-use Rattle.std.specs.Option.{option_map, unwrap_or}
+use Rattle.std.specs.Option.{unwrap_or}
 use Rattle.std.specs.Prelude.{All, Option, Some, None, find, is_some, slice_get, slice_set}
-use Rattle.s38_base.specs.Exceptions as exceptions
 use Rattle.s38_base.specs.Faults.{counted}
 use Rattle.s38_base.specs.Ids.{same_kind}
 use Rattle.s38_base.specs.Limits.{machine_context}
-use Rattle.s38_base.specs.Signals.{first, plain}
 use Rattle.s38_base.specs.declared.exception.Exception.{Exception}
 use Rattle.s38_base.specs.declared.id.Id.{Id}
 use Rattle.s38_base.specs.declared.id.Kind.TheVariants as kinds
 use Rattle.s38_base.specs.declared.id.Kind.{Kind}
 use Rattle.s38_base.specs.declared.id.ObjNum.{ObjNum}
 use Rattle.s38_code.specs.Operations.{family_of}
-use Rattle.s38_code.specs.declared.event.EndCause.{EndCause}
 use Rattle.s38_code.specs.declared.event.Event.{Event}
 use Rattle.s38_code.specs.declared.event.Event.TheVariants.{Start, Act, Finish}
 use Rattle.s38_code.specs.declared.event.Request.{Request}
@@ -30,7 +26,7 @@ use Rattle.s38_rules.specs.Changes.{Changes, CellsPut, Committed, Decommitted, E
 use Rattle.s38_rules.specs.Computing.{receiver_at, shift_at}
 use Rattle.s38_rules.specs.Creation.{destroyed}
 use Rattle.s38_rules.specs.Effect.{effect, effect_of, end_at, start_at, started_as}
-use Rattle.s38_rules.specs.Held.{Held, found_in, has_number, is_named, is_there, number_found, number_in, object, object_in}
+use Rattle.s38_rules.specs.Held.{Held, found_in, has_number, is_named, is_there, number_found, number_in, object_in}
 use Rattle.s38_rules.specs.Invocations.{stack_in, stack_of}
 use Rattle.s38_rules.specs.Rows.{row}
 use Rattle.s38_rules.specs.State.{State, is_early, process_entry, set_process, started_in}
@@ -44,12 +40,11 @@ use Rattle.s38_rules.specs.declared.object.Object.{Object}
 use Rattle.s38_rules.specs.declared.process.ProcessEntry.{ProcessEntry}
 use Rattle.s38_journals.specs.Journals as journals
 use Rattle.s38_rules.specs.declared.process.Started.{Started}
-use Rattle.s38_rules.specs.declared.verdict.Verdict.{Verdict}
-use Rattle.s38_rules.specs.declared.verdict.Verdict.TheVariants.{Permit, Wait, Refuse}
+use Rattle.s38_rules.specs.declared.verdict.Verdict.TheVariants.{Permit, Wait}
 use Rattle.s38_verified.specs.declared.found.Verified.{Verified}
-use Rattle.s38_verified.specs.Following.{behind, behind_change, behind_start, changes_authority, is_quiet}
+use Rattle.s38_verified.specs.Following.{behind, behind_change, behind_start}
 use Rattle.s38_verified.specs.Numbers.{FrameNumbers, begun_numbers, frames_in, last_count, number_at}
-use Rattle.s38_verified.specs.Places.{AreGiven, AreNumbered, AreOwned, ArePlacesRight, IsRightIn, IsSteady, is_live, is_live_in}
+use Rattle.s38_verified.specs.Places.{AreNumbered, AreOwned, IsRightIn, IsSteady, is_live, is_live_in}
 use Rattle.s38_verified.specs.Worlds.{WorldState, frames_of, place_in, place_of}
 use Rattle.s38_verified.proofs.ChangeLaws.{following_steady, framed_steady, last_set, quiet_steady, raised_steady, same_steady}
 use Rattle.s38_verified.proofs.FitLaws.{IsFit, row_fit}
@@ -57,7 +52,7 @@ use Rattle.s38_verified.proofs.FrameLaws.{HasSameFrames, same_numbered, same_rig
 use Rattle.s38_verified.proofs.KeepLaws.{StandSo}
 use Rattle.s38_verified.proofs.ListLaws.{by_place, get_set_other, get_set_same, get_within}
 use Rattle.s38_verified.proofs.SameLaws.{Same, all_decommitted_same, delivered_processes, delivered_same, journal_same, same_held, same_then}
-use Rattle.s38_verified.proofs.WordLaws.{IsFollowing, created_following, destroyed_following, destroyed_next, destroyed_owned, profiled_owned, same_following, stands_owned}
+use Rattle.s38_verified.proofs.WordLaws.{created_following, destroyed_following, destroyed_next, destroyed_owned, profiled_owned, same_following, stands_owned}
 
 -- ---- each word of change
 

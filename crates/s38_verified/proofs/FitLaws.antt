@@ -1,18 +1,16 @@
 -- What the rules of an instruction say of a change that is not quiet: who owns an object was given a number, a user that
 -- goes is not needed, and frames stay but for a new last one. One case for each row.
-use Rattle.std.proofs.Common.{◌+◌, ◌-◌, ◌<◌, ◌≤◌, ◌==◌, ◌∙◌, ◌∷◌, ◌++◌, ◌≡◌, ◌&&◌, ◌||◌, Bool, List, [], ap, arith, cond, false, length, min, not, refl, subst, suc, sym, take, true, zero, ℕ}
+use Rattle.std.proofs.Common.{◌+◌, ◌-◌, ◌<◌, ◌≤◌, ◌∷◌, ◌++◌, ◌≡◌, Bool, List, [], arith, cond, false, length, min, refl, subst, sym, take, true, ℕ}
 use Rattle.std.proofs.lemmas.Bool.Decides.{nat_tests}
-use Rattle.std.specs.Option.{option_map}
-use Rattle.std.specs.Prelude.{None, Option, Some, filter, is_some, nat_lt, slice_get}
+use Rattle.std.specs.Prelude.{None, Option, Some, is_some, nat_lt}
 use Rattle.s38_base.specs.Exceptions as exceptions
 use Rattle.s38_base.specs.Ids.{same_kind}
 use Rattle.s38_base.specs.Limits.{last_operand}
 use Rattle.s38_base.specs.Pointers.{object_of, target_of}
 use Rattle.s38_base.specs.RightNames as rights
-use Rattle.s38_base.specs.Signals.{fails, first, plain}
+use Rattle.s38_base.specs.Signals.{first, plain}
 use Rattle.s38_base.specs.declared.exception.Exception.{Exception}
 use Rattle.s38_base.specs.declared.id.Kind.TheVariants as kinds
-use Rattle.s38_base.specs.declared.id.Kind.{Kind}
 use Rattle.s38_base.specs.declared.id.ObjNum.{ObjNum}
 use Rattle.s38_base.specs.declared.op.Op.TheVariants.{Callx, Crtcb, Crtcr, Crtctx, Crtds, Crtinx, Crtjp, Crtjs, Crtpg, Crtq, Crts, Crtup, Descb, Descr, Desctx, Desds, Desinx, Desjp, Desjs, Despg, Desq, Dess, Desup, Grant, Insdsen, Jrnlobj, Lock, Retract, Rslvsp, Xctl, Xfro}
 use Rattle.s38_base.specs.declared.op.Op.{Op}
@@ -22,7 +20,6 @@ use Rattle.s38_code.specs.declared.event.Request.{Request}
 use Rattle.s38_code.specs.declared.family.Family.TheVariants as families
 use Rattle.s38_code.specs.declared.family.Family.{Family}
 use Rattle.s38_code.specs.declared.operand.Operand.{Operand}
-use Rattle.s38_code.specs.declared.program.Program.{Program}
 use Rattle.s38_rules.proofs.ChargeLaws.{some_page}
 use Rattle.s38_rules.proofs.RuleLaws.{fails_none, first_none}
 use Rattle.s38_rules.proofs.VerdictLaws.{rule_met}
@@ -30,11 +27,11 @@ use Rattle.s38_rules.specs.Changes.{Changes, Framed, Gone, Made, Stands, Then}
 use Rattle.s38_rules.specs.Contexts.{contexts_row, crtctx, crtctx_fails, new_context}
 use Rattle.s38_rules.specs.Creation.{creation_fails, creation_limits, limit_in, name_rule, number_rule, pages_rule}
 use Rattle.s38_rules.specs.DataSpaces.{created_cursor, created_data_space, crtcr, crtcr_fails, crtds, crtds_fails, data_spaces_row}
-use Rattle.s38_rules.specs.Grants.{given_to, grants_row, taker_rule, user_at, with_rights, xfro, xfro_fails}
+use Rattle.s38_rules.specs.Grants.{grants_row, taker_rule, user_at, with_rights, xfro, xfro_fails}
 use Rattle.s38_rules.specs.Held.{Held, charge_in, is_there, object, pages_of, without_in}
 use Rattle.s38_rules.specs.Indexes.{created_index, crtinx, crtinx_fails, indexes_row}
 use Rattle.s38_rules.specs.Instruction.{Instruction}
-use Rattle.s38_rules.specs.Invocations.{frames_used, pushed, replaced, stack_of}
+use Rattle.s38_rules.specs.Invocations.{frames_used, stack_of}
 use Rattle.s38_rules.specs.Journals.{created_block, created_journal, created_port, crtcb, crtcb_fails, crtjp, crtjp_fails, crtjs, crtjs_fails, journals_row}
 use Rattle.s38_rules.specs.Locking.{locks_row}
 use Rattle.s38_rules.specs.Operands.{is_given, pointer_at, target}

@@ -1,25 +1,20 @@
 -- Places stay right where a process gets another last frame, since that has a new number, and where a process starts.
-use Rattle.std.proofs.Common.{◌≡◌, ◌≢◌, ◌<◌, ◌≤◌, ◌⊎◌, inl, inr, ℕ, zero, suc, ◌+◌, ◌-◌, ◌==◌, ◌&&◌, ◌||◌, Bool, true, false, not, cond, List, [], ◌∷◌, ◌++◌, length, refl, sym, ap, ◌∙◌, subst, take, min, arith}
-use Rattle.std.proofs.lemmas.Bool.Decides.{nat_tests}
-use Rattle.std.proofs.lemmas.List.Elements.{All-append, All-cons, All-head, All-nil, All-tail, All-weaker}
-use Rattle.std.proofs.lemmas.List.{length-set}
-use Rattle.std.specs.Prelude.{All, Option, Some, None, slice_get, slice_set}
+use Rattle.std.proofs.Common.{◌≡◌, ◌≢◌, ◌<◌, ◌≤◌, ℕ, zero, suc, true, List, [], ◌∷◌, ◌++◌, length, refl, sym, ap, ◌∙◌, subst, take, min, arith}
+use Rattle.std.specs.Prelude.{Option, Some, None}
 use Rattle.s38_base.specs.Faults.{counted}
 use Rattle.s38_base.specs.declared.id.ObjNum.{ObjNum}
-use Rattle.s38_rules.specs.declared.process.ProcessEntry.{ProcessEntry}
-use Rattle.s38_rules.specs.declared.process.Started.{Started}
 use Rattle.s38_rules.specs.Authority.{available}
-use Rattle.s38_rules.specs.Held.{Held, is_there, object}
-use Rattle.s38_rules.specs.Invocations.{frames_used, in_use, stack_in, stack_of, with_stack}
-use Rattle.s38_rules.specs.State.{State, process_entry, started_in}
-use Rattle.s38_rules.specs.Users.{acting, adopted, user_in, user_of}
+use Rattle.s38_rules.specs.Held.{Held, is_there}
+use Rattle.s38_rules.specs.Invocations.{frames_used, in_use, stack_of}
+use Rattle.s38_rules.specs.State.{State}
+use Rattle.s38_rules.specs.Users.{acting, user_of}
 use Rattle.s38_verified.specs.declared.found.Verified.{Verified}
-use Rattle.s38_verified.specs.Numbers.{FrameNumbers, frames_in, last_count, number_at, renumbered}
-use Rattle.s38_verified.specs.Places.{AreGiven, AreNumbered, AreOwned, ArePlacesRight, IsRight, IsRightIn, is_current, is_for, is_live, is_live_in, rights_anew}
-use Rattle.s38_verified.specs.Worlds.{WorldState, frame_of, frames_of, place_of}
+use Rattle.s38_verified.specs.Numbers.{FrameNumbers, last_count, number_at, renumbered}
+use Rattle.s38_verified.specs.Places.{AreNumbered, IsRight, IsRightIn, is_current, is_for, rights_anew}
+use Rattle.s38_verified.specs.Worlds.{WorldState, frames_of}
 use Rattle.s38_verified.proofs.KeepLaws.{current_so}
 use Rattle.s38_verified.proofs.ListLaws.{length_new, number_before, number_behind, number_new, take_before}
-use Rattle.s38_verified.proofs.PlaceLaws.{IsNow, now_parts}
+use Rattle.s38_verified.proofs.PlaceLaws.{now_parts}
 
 -- ---- numbers behind a new one
 

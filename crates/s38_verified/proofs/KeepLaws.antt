@@ -1,15 +1,12 @@
 -- Places that are right stay right where a state becomes another one that leaves what they rest on, or where the count of
 -- authority changes rises.
-use Rattle.std.proofs.Common.{◌≡◌, ◌≢◌, ◌<◌, ◌≤◌, ◌⊎◌, inl, inr, ℕ, zero, suc, ◌+◌, ◌-◌, ◌==◌, ◌&&◌, ◌||◌, Bool, true, false, not, cond, List, [], ◌∷◌, length, refl, sym, ap, ◌∙◌, subst, take, min, arith}
-use Rattle.std.proofs.lemmas.Bool.Decides.{nat_tests}
-use Rattle.std.proofs.lemmas.Bool.{and_parts, cond_both}
+use Rattle.std.proofs.Common.{◌≡◌, ◌≢◌, ◌<◌, ◌≤◌, ◌⊎◌, inl, inr, ℕ, zero, suc, ◌==◌, ◌&&◌, ◌||◌, Bool, true, false, cond, List, [], ◌∷◌, length, refl, sym, ap, ◌∙◌, subst, take, arith}
 use Rattle.std.proofs.lemmas.List.Elements.{All-cons, All-head, All-nil, All-tail, All-weaker}
-use Rattle.std.specs.Prelude.{All, Option, Some, None, slice_get, slice_set}
+use Rattle.std.specs.Prelude.{All, Option, Some, None}
 use Rattle.s38_base.specs.Faults.{counted}
 use Rattle.s38_base.specs.declared.id.ObjNum.{ObjNum}
 use Rattle.s38_rules.specs.declared.object.Object.{Object}
 use Rattle.s38_rules.specs.declared.process.ProcessEntry.{ProcessEntry}
-use Rattle.s38_rules.specs.declared.table.Header.{Header}
 use Rattle.s38_rules.specs.Authority.{available}
 use Rattle.s38_rules.specs.Headers.{header_in, header_of}
 use Rattle.s38_rules.specs.Held.{Held, is_there, object}
@@ -17,11 +14,11 @@ use Rattle.s38_rules.specs.Invocations.{frames_used, in_use, stack_in, stack_of}
 use Rattle.s38_rules.specs.State.{State, process_entry, started_in}
 use Rattle.s38_rules.specs.Users.{acting, adopted, adoption_of, frame_header, user_in, user_of, with_owner}
 use Rattle.s38_verified.specs.declared.found.Verified.{Verified}
-use Rattle.s38_verified.specs.Numbers.{FrameNumbers, frames_in, last_count, number_at}
-use Rattle.s38_verified.specs.Places.{AreGiven, AreNumbered, AreOwned, ArePlacesRight, IsRight, IsRightIn, is_current, is_for, is_live, is_live_in, rights_anew}
-use Rattle.s38_verified.specs.Worlds.{WorldState, frame_of, frames_of, place_of}
+use Rattle.s38_verified.specs.Numbers.{FrameNumbers, last_count, number_at}
+use Rattle.s38_verified.specs.Places.{AreGiven, AreOwned, ArePlacesRight, IsRight, IsRightIn, is_current, is_for, is_live, is_live_in, rights_anew}
+use Rattle.s38_verified.specs.Worlds.{WorldState, frames_of, place_of}
 use Rattle.s38_verified.proofs.BearLaws.{AdoptsSo, IsSame, IsSameUser, adopted_same, available_same, there_same}
-use Rattle.s38_verified.proofs.PlaceLaws.{IsNow, now_parts}
+use Rattle.s38_verified.proofs.PlaceLaws.{now_parts}
 
 -- ---- what rights rest on
 

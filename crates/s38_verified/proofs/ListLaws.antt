@@ -1,9 +1,9 @@
 -- Elements of lists of which one is set, and numbers of frames of which one is new.
-use Rattle.std.proofs.Common.{◌≡◌, ◌≢◌, ◌<◌, ◌≤◌, ℕ, zero, suc, ◌+◌, ◌-◌, ◌==◌, Bool, true, false, List, [], ◌∷◌, ◌++◌, length, refl, sym, ap, ◌∙◌, replicate, take, arith}
+use Rattle.std.proofs.Common.{◌≡◌, ◌≢◌, ◌<◌, ◌≤◌, ℕ, zero, suc, ◌+◌, ◌==◌, Bool, true, false, List, [], ◌∷◌, ◌++◌, length, refl, sym, ap, ◌∙◌, replicate, take, arith}
 use Rattle.std.proofs.lemmas.Bool.Decides.{nat_tests}
 use Rattle.std.proofs.lemmas.List.{replicate-append-replicate}
-use Rattle.std.specs.Prelude.{Option, Some, None, slice_get, slice_set}
-use Rattle.s38_verified.specs.Numbers.{number_at, number_in}
+use Rattle.std.specs.Prelude.{Some, slice_get, slice_set}
+use Rattle.s38_verified.specs.Numbers.{number_at}
 
 -- two places are one, or two
 pub by_place : (P : Type 0) (j i : ℕ) → (j ≡ i → P) → (j ≢ i → P) → P

@@ -1,11 +1,11 @@
 -- A current place has what would be found now, and a place with what was found now is right.
-use Rattle.std.proofs.Common.{◌≡◌, ◌≢◌, ◌<◌, ◌≤◌, ℕ, zero, suc, ◌+◌, ◌-◌, ◌==◌, ◌&&◌, ◌||◌, Bool, true, false, not, List, [], ◌∷◌, length, refl, sym, ap, ◌∙◌, subst, take, min, arith}
+use Rattle.std.proofs.Common.{◌≡◌, ◌≢◌, ◌<◌, ℕ, zero, suc, ◌-◌, ◌==◌, ◌&&◌, ◌||◌, Bool, true, false, not, List, length, refl, sym, ap, ◌∙◌, subst, arith}
 use Rattle.std.proofs.lemmas.Bool.Decides.{nat_tests}
 use Rattle.std.proofs.lemmas.Bool.{and_parts}
 use Rattle.std.proofs.lemmas.List.{length-set}
 use Rattle.std.specs.Prelude.{Option, Some, None, slice_get, slice_set}
 use Rattle.s38_base.specs.declared.id.ObjNum.{ObjNum}
-use Rattle.s38_rules.specs.Held.{Held, is_there}
+use Rattle.s38_rules.specs.Held.{is_there}
 use Rattle.s38_rules.specs.Authority.{available}
 use Rattle.s38_rules.specs.Invocations.{frames_used, stack_in, stack_of}
 use Rattle.s38_rules.specs.State.{State, started_in}
@@ -14,7 +14,7 @@ use Rattle.s38_rules.specs.declared.process.ProcessEntry.{ProcessEntry}
 use Rattle.s38_verified.specs.declared.found.Verified.{Verified}
 use Rattle.s38_verified.specs.declared.found.Visits.{Visits}
 use Rattle.s38_verified.specs.Numbers.{frames_in, last_count, number_at}
-use Rattle.s38_verified.specs.Places.{AreNumbered, ArePlacesRight, AreVisited, IsChecked, IsRight, IsRightIn, VisitsBy, found_now, is_current, is_current_in, is_for, is_live, is_live_in, is_of_now, is_told_apart, rights_anew, with_found}
+use Rattle.s38_verified.specs.Places.{ArePlacesRight, AreVisited, IsChecked, IsRight, IsRightIn, VisitsBy, found_now, is_current, is_current_in, is_for, is_live, is_live_in, is_of_now, is_told_apart, rights_anew, with_found}
 use Rattle.s38_verified.specs.Worlds.{WorldState, frame_of, frames_of, place_in, place_of}
 use Rattle.s38_verified.proofs.ListLaws.{by_place, get_set_other, get_set_same, get_within, set_there}
 

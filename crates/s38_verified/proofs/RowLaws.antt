@@ -1,5 +1,5 @@
 -- Which instructions change authority, and which store a frame.
-use Rattle.std.proofs.Common.{◌≡◌, ℕ, Bool, true, false, refl}
+use Rattle.std.proofs.Common.{◌≡◌, ℕ, refl}
 use Rattle.s38_base.specs.declared.op.Op.TheVariants.{Callx, Modup}
 use Rattle.s38_base.specs.declared.op.Op.{Op}
 use Rattle.s38_code.specs.Operations.{family_of}

@@ -1,11 +1,10 @@
 -- What most words of change leave of objects is all on which rights rest: one case for each word.
-use Rattle.std.proofs.Common.{arith, ◌+◌, ◌-◌, ◌<◌, ◌==◌, ◌&&◌, ◌∙◌, ◌∷◌, ◌≡◌, Bool, List, [], cond, false, refl, subst, sym, true, ℕ}
+use Rattle.std.proofs.Common.{◌+◌, ◌==◌, ◌∙◌, ◌∷◌, ◌≡◌, List, [], false, refl, subst, sym, true, ℕ}
 use Rattle.std.proofs.lemmas.Bool.{and_parts, cond_both}
 use Rattle.std.specs.Option.{option_map}
-use Rattle.std.specs.Prelude.{None, Option, Some, not}
+use Rattle.std.specs.Prelude.{None, Option, Some}
 use Rattle.s38_base.specs.Pointers.{start_of, target_of}
 use Rattle.s38_base.specs.declared.id.Id.{Id}
-use Rattle.s38_base.specs.declared.id.ObjNum.{ObjNum}
 use Rattle.s38_code.specs.declared.operand.Operand.TheVariants as operands
 use Rattle.s38_code.specs.declared.operand.Operand.{Operand}
 use Rattle.s38_code.specs.declared.reply.Val.TheVariants as vals
@@ -26,7 +25,7 @@ use Rattle.s38_rules.specs.Cells.{with_bytes, with_cells, with_pointer}
 use Rattle.s38_rules.specs.Changes.{Changes, CellsPut, Committed, Decommitted, Ensured, Entered, Framed, Gone, Journaled, Locked, Made, Moved, Named, OnCursor, OnIndex, OnQueue, Profiled, Resized, Stands, Stays, Then, done, renamed_by, through_port}
 use Rattle.s38_rules.specs.Changing.{logged, logged_in}
 use Rattle.s38_rules.specs.Headers.{header_of}
-use Rattle.s38_rules.specs.Held.{Held, change, ensured, kept_on_disk, moved, object}
+use Rattle.s38_rules.specs.Held.{Held, change, kept_on_disk, object}
 use Rattle.s38_rules.specs.Journaling.{journal_for, journal_for_block}
 use Rattle.s38_rules.specs.Operands.{cells_put, deliver, delivered, put_value}
 use Rattle.s38_rules.specs.Parts.{IsPart, Part, cursor_lawful, cursor_part, data_lawful, data_part, index_lawful, index_part, journal_lawful, journal_part, over, over_object, over_part, over_table, queue_lawful, queue_part, space_lawful, space_part}

@@ -1,5 +1,5 @@
 -- Visits change nothing of what is kept of users.
-use Rattle.std.proofs.Common.{◌≡◌, ◌≤◌, ℕ, zero, suc, ◌+◌, refl, ◌∙◌, min, arith}
+use Rattle.std.proofs.Common.{◌≡◌, ◌≤◌, ℕ, zero, suc, ◌+◌, refl, min, arith}
 use Rattle.s38_base.specs.Faults.{counted}
 use Rattle.s38_profiles.specs.ProfileMaps.{ProfileMaps}
 use Rattle.s38_rules.specs.Held.{Held}

@@ -1,5 +1,5 @@
 -- What the words of change that are not quiet do to objects, owners and users.
-use Rattle.std.proofs.Common.{◌≡◌, ◌≢◌, ◌<◌, ◌≤◌, ◌⊎◌, inl, inr, ℕ, zero, suc, ◌+◌, ◌-◌, ◌==◌, ◌&&◌, ◌||◌, ◌++◌, Bool, true, false, not, cond, List, [], ◌∷◌, length, refl, sym, ap, ◌∙◌, subst, arith}
+use Rattle.std.proofs.Common.{◌≡◌, ◌<◌, ◌≤◌, ℕ, zero, suc, ◌+◌, ◌-◌, ◌==◌, ◌&&◌, ◌||◌, Bool, true, false, not, cond, List, [], ◌∷◌, refl, sym, ap, ◌∙◌, subst, arith}
 use Rattle.std.proofs.lemmas.Bool.Decides.{nat_tests}
 use Rattle.std.proofs.lemmas.Bool.{cond_both, true≢false}
 use Rattle.std.proofs.lemmas.List.Folds.{find-append}
@@ -10,17 +10,16 @@ use Rattle.s38_base.specs.Ids.{same_kind}
 use Rattle.s38_base.specs.declared.id.Id.{Id}
 use Rattle.s38_base.specs.declared.id.Kind.{Kind}
 use Rattle.s38_base.specs.declared.id.Kind.TheVariants as kinds
-use Rattle.s38_base.specs.declared.id.ObjNum.{ObjNum}
 use Rattle.s38_base.specs.declared.rights.Special.{Special}
 use Rattle.s38_rules.proofs.ChargeLaws.{KeepsNumber, object_changed, object_without}
-use Rattle.s38_rules.specs.Authority.{counted, is_profile}
+use Rattle.s38_rules.specs.Authority.{is_profile}
 use Rattle.s38_rules.specs.Creation.{created, creation_changes, destroyed, is_of_kind, new_object}
-use Rattle.s38_rules.specs.Headers.{adopts, header_in, special_in}
+use Rattle.s38_rules.specs.Headers.{header_in}
 use Rattle.s38_rules.specs.Held.{Held, change, has_number, is_there, kind_of, object, object_in, with_object, without}
 use Rattle.s38_rules.specs.Parts.{over_object, profile_part}
 use Rattle.s38_rules.specs.Profiles.{is_live as is_live_for, is_needed, officer, is_owner, is_profile_in, is_user, owns}
 use Rattle.s38_rules.specs.Standing.{Standing, restand, standing_of, with_standing}
-use Rattle.s38_rules.specs.State.{State, process_entry, started_in}
+use Rattle.s38_rules.specs.State.{State, started_in}
 use Rattle.s38_rules.specs.Users.{adoption_of, user_in, user_of}
 use Rattle.s38_rules.specs.declared.creating.Creating.{Creating}
 use Rattle.s38_rules.specs.declared.object.Body.TheVariants as bodies
@@ -29,7 +28,7 @@ use Rattle.s38_rules.specs.declared.object.Object.{Object}
 use Rattle.s38_rules.specs.declared.process.ProcessEntry.{ProcessEntry}
 use Rattle.s38_rules.specs.declared.process.Started.{Started}
 use Rattle.s38_verified.specs.Places.{AreOwned, is_live, is_live_in}
-use Rattle.s38_verified.proofs.BearLaws.{AdoptsSo, IsSame, IsSameUser, adopts_same, header_same, owner_same, same_bears, same_user, there_same}
+use Rattle.s38_verified.proofs.BearLaws.{AdoptsSo, IsSame, IsSameUser, adopts_same, owner_same, same_bears, same_user, there_same}
 use Rattle.s38_verified.proofs.KeepLaws.{Leaves}
 use Rattle.s38_verified.proofs.SameLaws.{Same}
 

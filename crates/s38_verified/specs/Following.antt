@@ -1,5 +1,5 @@
 -- How counts, frame numbers and places follow an event that took effect, by what it changed.
-use Rattle.std.specs.Prelude.{ℕ, ◌-◌, Bool, true, false, ◌&&◌, ◌||◌, List, Option, Some, None, if◌then◌else◌, length, slice_get, slice_set}
+use Rattle.std.specs.Prelude.{ℕ, ◌-◌, Bool, true, false, ◌&&◌, ◌||◌, List, None, if◌then◌else◌, length, slice_set}
 use Rattle.s38_base.specs.Faults.{counted}
 use Rattle.s38_base.specs.Ids.{same_kind}
 use Rattle.s38_base.specs.declared.id.Kind.TheVariants as kinds

@@ -1,6 +1,6 @@
 -- The numbers of the frames of a process. Each frame that is stored gets a new number, until the count of numbers comes to
 -- its end.
-use Rattle.std.specs.Prelude.{◌≡◌, ℕ, zero, suc, ◌-◌, ◌^◌, List, [], ◌∷◌, ◌++◌, take, Option, Some, None, slice_get}
+use Rattle.std.specs.Prelude.{ℕ, zero, suc, ◌-◌, ◌^◌, List, [], ◌∷◌, ◌++◌, take, Option, Some, None, slice_get}
 use Rattle.s38_base.specs.Faults.{counted}
 
 -- where a count stands still
