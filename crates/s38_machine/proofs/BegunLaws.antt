@@ -1,8 +1,8 @@
 -- Where no process has started, nobody lives; and the objects of a core and their owners have numbers that were given.
-use Rattle.std.proofs.Common.{◌≡◌, ◌<◌, ◌≤◌, ◌+◌, ◌-◌, ◌==◌, ℕ, zero, suc, Bool, true, false, cond, List, [], ◌∷◌, map, refl, sym, ap, ◌∙◌, subst, arith}
+use Rattle.std.proofs.Common.{◌≡◌, ◌<◌, ◌≤◌, ◌-◌, ◌==◌, ℕ, zero, suc, Bool, true, false, cond, List, [], ◌∷◌, refl, ap, ◌∙◌, arith}
 use Rattle.std.proofs.lemmas.Bool.Decides.{nat_tests}
 use Rattle.std.proofs.lemmas.List.Elements.{All-head, All-tail}
-use Rattle.std.specs.Prelude.{All, Option, Some, None, is_some, nat_lt, slice_get}
+use Rattle.std.specs.Prelude.{All, Some, is_some, nat_lt, slice_get}
 use Rattle.s38_code.specs.declared.deck.Job.{Job}
 use Rattle.s38_objects.specs.Lawful.{IsLawful, number_of}
 use Rattle.s38_rules.proofs.ChargeLaws.{own_pages, pages_within, some_page}
