@@ -1,5 +1,5 @@
 //! A permitted event takes effect.
-ghost use Rattle.std.specs.Prelude.{◌≡◌, ℕ, None, IfOk, OnOk, OnErr, length};
+ghost use Rattle.std.specs.Prelude.{◌≡◌, ◌∷◌, ℕ, None, IfOk, OnOk, OnErr, length};
 ghost use Rattle.s38_code.specs.declared.event.Event.{Event};
 ghost use Rattle.s38_rules.specs.declared.verdict.Verdict.{Verdict};
 ghost use Rattle.s38_rules.specs.Computing.{receiver_at};
@@ -11,6 +11,8 @@ ghost use Rattle.s38_rules.specs.Step.{awake, awake_verdict};
 ghost use Rattle.s38_rules.specs.Storing.{stored};
 ghost use Rattle.s38_machine.specs.Events.{GoesAsThatOf};
 ghost use Rattle.s38_machine.specs.Stored.{FitsStore, IsPrepared, anew};
+ghost use Rattle.s38_verified.specs.Following.{behind};
+ghost use Rattle.s38_verified.specs.Places.{IsSteady};
 
 use crate::deliveries::{parted, put};
 use crate::rows;
@@ -22,6 +24,7 @@ use s38_invoke::{Core, Profiles, start};
 use s38_objects::Objects;
 use s38_operands::{Act, receiver_at, shift_at};
 use s38_units::end;
+use s38_verified::World;
 use std::alloc::Global;
 
 /// The values of the reply to an instruction, and what goes into the space of its receiver.
@@ -179,4 +182,53 @@ pub fn apply(
             Ok(all)
         }
     }
+}
+
+/// The same in a world, whose counts, frame numbers and places follow.
+pub fn take_up(
+    alloc: Global,
+    world: &mut World<Objects, Profiles>,
+    process: u32,
+    event: &Event,
+    value: Option<Val>,
+) -> Result<Forcings, NoMemory>
+    requires permit { awake_verdict world.old.state process event.now ≡ Verdict.Permit }
+    requires value { GoesAsThatOf world.old.state process event.now value }
+    requires fits { FitsStore world.old.state }
+    requires steady { IsSteady world.old }
+    ensures ok { OnOk result (world.new ≡ behind world.old process event.now (awake (stored world.old.state process event.now (effect_of world.old.state process event.now).state))) }
+    ensures state { OnOk result (world.new.state ≡ awake (stored world.old.state process event.now (effect_of world.old.state process event.now).state)) }
+    ensures anew { IfOk result (λ all. all ≡ anew world.old.state process event.now) }
+    ensures err { OnErr result (world.new ≡ world.old) }
+    ensures kept { OnOk result (length world.new.state.processes ≡ length world.old.state.processes) }
+    ensures fits { OnOk result (FitsStore world.new.state) }
+    ensures steady { OnOk result (IsSteady world.new) }
+{
+    let all = apply(alloc, &mut world.core, process, event, value)?;
+    world.follow(process, event);
+    Ok(all)
+}
+
+/// A process joins those that wait, in a core.
+fn join(core: &mut Core<Objects, Profiles>, process: u32) -> Result<(), NoMemory>
+    ensures ok { OnOk result (core.new ≡ record core.old { waiting = process ∷ core.old.waiting }) }
+    ensures err { OnErr result (core.new ≡ core.old) }
+{
+    match core.waiting.insert(0, process) {
+        Ok(()) => Ok(()),
+        Err(_) => Err(NoMemory),
+    }
+}
+
+/// A process joins those that wait.
+pub fn wait(world: &mut World<Objects, Profiles>, process: u32) -> Result<(), NoMemory>
+    requires fits { FitsStore world.old.state }
+    requires steady { IsSteady world.old }
+    ensures ok { OnOk result (world.new ≡ record world.old { state = record world.old.state { waiting = process ∷ world.old.state.waiting } }) }
+    ensures err { OnErr result (world.new ≡ world.old) }
+    ensures fits { OnOk result (FitsStore world.new.state) }
+    ensures steady { OnOk result (IsSteady world.new) }
+{
+    join(&mut world.core, process)?;
+    Ok(())
 }

@@ -2,6 +2,7 @@
 #![tactic(auto)]
 
 mod addresses;
+mod asking;
 mod blocking;
 mod by_operand;
 mod deliveries;

@@ -10,11 +10,13 @@ ghost use Rattle.s38_rules.specs.Legal.{IsProcess, IsSound, after, after_by, beg
 ghost use Rattle.s38_rules.specs.Opening.{state_of};
 ghost use Rattle.s38_rules.specs.State.{ready, ready_list};
 ghost use Rattle.s38_rules.specs.Step.{awake_verdict, by_verdict, step, verdict_of};
+ghost use Rattle.s38_verified.specs.Places.{AreOwned, IsSteady, NobodyLives};
 
-use crate::effects::{apply, parted_values};
+use crate::asking::ask_verdict;
+use crate::effects::{parted_values, take_up, wait};
 use crate::log::Log;
 use crate::opening::opened;
-use crate::verdicts::{awake_verdict, verdict_of};
+use crate::verdicts::verdict_of;
 use s38_base::{Exception, NoMemory, TryClone, try_clones};
 use s38_code::{Asked, Checked, Entry, Event, Job, Reply, StepFault, Stepper, Val, Vals};
 use s38_commits::Units;
@@ -49,31 +51,44 @@ impl Model for Machine {
     ghost use Rattle.std.specs.Prelude.{◌≡◌, length};
     ghost use Rattle.s38_machine.specs.Stored.{FitsStore};
     ghost use Rattle.s38_rules.specs.Legal.{Run};
+    ghost use Rattle.s38_verified.specs.Places.{IsSteady};
 
     ghost Value = { Run };
 
     ghost view = { λ m. record { origin = m.origin.value; state = m.world.state; history = m.log.history; marks = m.log.marks; first = m.log.first; moment = m.log.moment } };
 
-    ghost invariant = { λ m. (m.log.processes ≡ length m.world.state.processes) × FitsStore m.world.state };
+    ghost invariant = { λ m. (m.log.processes ≡ length m.world.state.processes) × FitsStore m.world.state × IsSteady m.world };
+}
+
+/// The objects of a core and their owners have numbers that were given.
+fn are_owned(core: &State)
+    ensures { AreOwned core.now.held }
+{
+    let _count = core.objects.len();
 }
 
 impl Machine {
     /// A machine that begins from this core, at a moment of its store.
+    #[tactic(auto, using(s38_verified::proofs::AskLaws::begun_steady))]
     fn begin(alloc: Global, core: State, moment: u64) -> Result<Machine, NoMemory>
-        requires { FitsStore core }
+        requires fits { FitsStore core }
+        requires nobody { NobodyLives core }
         ensures { IfOk result (λ machine. machine ≡ begun moment core) }
     {
         let log = Log::new(alloc, core.processes.len(), moment)?;
         let origin = Snapshot::of(&core);
+        are_owned(&core);
+        let world = World::new(alloc, core)?;
         Ok(Machine {
             alloc,
-            world: World { core },
+            world,
             log,
             origin,
         })
     }
 
     /// A machine without a store, with the objects that it begins with, the templates of a deck, each checked, and its jobs.
+    #[tactic(auto, using(crate::proofs::BegunLaws::nobody_of))]
     pub fn start(
         alloc: Global,
         objects: Objects,
@@ -88,6 +103,7 @@ impl Machine {
     }
 
     /// The same over a store that has this room and is at this moment.
+    #[tactic(auto, using(crate::proofs::BegunLaws::nobody_of))]
     pub fn start_stored(
         alloc: Global,
         objects: Objects,
@@ -110,6 +126,14 @@ impl Machine {
         ensures { result.now ≡ self.now.state.held }
     {
         &self.world.core.objects
+    }
+
+    /// The state, and what is kept beside it of rights that were found, which are those that the rules find now.
+    pub fn world(&self) -> &World<Objects, Profiles>
+        ensures state { result.now.state ≡ self.now.state }
+        ensures steady { IsSteady result.now }
+    {
+        &self.world
     }
 
     /// The units of changes that are not committed.
@@ -205,10 +229,7 @@ impl Machine {
         ensures err { OnErr result (self.new ≡ self.old) }
     {
         self.log.reserve()?;
-        let all = match apply(self.alloc, &mut self.world.core, process, &event, value) {
-            Ok(all) => all,
-            Err(fault) => return Err(fault),
-        };
+        let all = take_up(self.alloc, &mut self.world, process, &event, value)?;
         self.log.push(process, event, Reply::Done(values));
         Ok(all)
     }
@@ -264,12 +285,17 @@ impl Machine {
         ensures err { OnErr result (self.new ≡ self.old) }
     {
         self.log.reserve()?;
-        match self.world.core.waiting.insert(0, process) {
-            Ok(()) => {}
-            Err(_) => return Err(NoMemory),
-        }
+        wait(&mut self.world, process)?;
         self.log.push(process, event, Reply::MustWait);
         Ok(())
+    }
+
+    /// What becomes of an event of a process that doesn't wait. What is found of its rights stands in the process's place.
+    fn judge(&mut self, process: u32, event: &Event) -> Verdict
+        ensures verdict { result ≡ awake_verdict self.old.state process event.now }
+        ensures same { self.new ≡ self.old }
+    {
+        ask_verdict(&mut self.world, process, event)
     }
 
     /// An event that was given this verdict is entered; what the store is to keep anew is given back.
@@ -308,7 +334,7 @@ impl Machine {
         if self.world.core.waits(process) {
             return Ok((Asked::WaitsStill, Forcings::none()));
         }
-        let verdict = awake_verdict(&self.world.core, process, &event);
+        let verdict = self.judge(process, &event);
         match self.answer(process, event, verdict) {
             Ok(all) => Ok((Asked::Entered, all)),
             Err(fault) => Err(fault),
@@ -376,7 +402,7 @@ impl Machine {
         if self.world.core.waits(process) {
             return Ok(Reply::MustWait);
         }
-        let verdict = awake_verdict(&self.world.core, process, event);
+        let verdict = self.judge(process, event);
         let own = event.try_clone(self.alloc)?;
         match self.answer_copied(process, own, verdict) {
             Ok(reply) => Ok(reply),

@@ -27,7 +27,7 @@ fn names_owners(rights: Rights) -> bool
 
 /// Who neither owns the object nor has all-object authority needs object management and what it gives or takes, and
 /// leaves the owner's own rights alone.
-fn granting_rule(owns: bool, operand: u8, rights: Rights, there: Rights) -> Option<Exception>
+pub fn granting_rule(owns: bool, operand: u8, rights: Rights, there: Rights) -> Option<Exception>
     ensures { result ≡ granting_rule owns operand rights.0 there.0 }
 {
     if owns {
@@ -42,7 +42,7 @@ fn granting_rule(owns: bool, operand: u8, rights: Rights, there: Rights) -> Opti
 
 /// The rights of everybody on an object, where there is one.
 #[inline(always)]
-fn public_of(found: Option<Facts>) -> Option<Rights>
+pub fn public_of(found: Option<Facts>) -> Option<Rights>
     ensures { (o : Option Object) → found ≡ option_map facts_of o → result ≡ public_of o }
 {
     match found {

@@ -145,7 +145,7 @@ fn refused_by(world: &Core<Objects, Profiles>, act: Act<'_>) -> Option<Exception
     }
 }
 
-fn of_failure(failure: Option<Exception>) -> Verdict
+pub fn of_failure(failure: Option<Exception>) -> Verdict
     ensures { result ≡ of_failure failure }
 {
     match failure {
@@ -186,7 +186,7 @@ fn unless_last(is_last: bool) -> Verdict
 
 /// What becomes of a request that fails so.
 #[tactic(auto, unfolding(s38_rules::specs::Verdict::of_request))]
-fn of_request(
+pub fn of_request(
     world: &Core<Objects, Profiles>,
     process: u32,
     request: &Request,
@@ -206,7 +206,7 @@ fn of_request(
     }
 }
 
-fn start_verdict(
+pub fn start_verdict(
     world: &Core<Objects, Profiles>,
     process: u32,
     entry: Option<&ProcessEntry>,
@@ -245,7 +245,7 @@ fn ruled_verdict(world: &Core<Objects, Profiles>, process: u32, event: &Event) -
 }
 
 /// The exception of a permitted event for which the store has no room; none without a store.
-fn store_failure(world: &Core<Objects, Profiles>, process: u32, event: &Event) -> Option<Exception>
+pub fn store_failure(world: &Core<Objects, Profiles>, process: u32, event: &Event) -> Option<Exception>
     requires { FitsStore world.now }
     ensures { result ≡ store_rule world.now.room (forced world.now process event.now) (effect_of world.now process event.now).state.held.objects }
 {

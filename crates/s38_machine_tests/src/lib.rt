@@ -9,3 +9,5 @@ mod given;
 mod objects;
 #[cfg(test)]
 mod operands;
+#[cfg(test)]
+mod puts;

@@ -1,1 +1,4 @@
 pub mod Worlds
+pub mod Numbers
+pub mod Places
+pub mod Following

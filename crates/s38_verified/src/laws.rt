@@ -1,0 +1,28 @@
+//! What every world promises: places stay right, and counts rise by what changes authority.
+ghost use Rattle.s38_base.specs.declared.op.Op.{Op};
+ghost use Rattle.s38_code.specs.declared.event.Event.{Event};
+ghost use Rattle.s38_code.specs.declared.event.Request.{Request};
+ghost use Rattle.s38_rules.specs.Effect.{effect_of};
+ghost use Rattle.s38_rules.specs.Rows.{row};
+ghost use Rattle.s38_rules.specs.State.{State};
+ghost use Rattle.s38_rules.specs.Step.{awake, awake_verdict};
+ghost use Rattle.s38_rules.specs.Storing.{stored};
+ghost use Rattle.s38_rules.specs.declared.verdict.Verdict.{Verdict};
+ghost use Rattle.s38_verified.specs.Following.{behind, changes_authority, changes_frames, is_of_authority, is_of_frames};
+ghost use Rattle.s38_verified.specs.Places.{AreOwned, IsSteady, NobodyLives};
+ghost use Rattle.s38_verified.specs.Worlds.{WorldState, begun_world};
+ghost use Rattle.std.specs.Prelude.{◌≡◌, ℕ};
+
+/// Places are right where a world begins whose objects and owners have numbers that were given, and stay right behind each
+/// event that the rules permit, with the counts, frame numbers and places that follow it.
+pub fn places_stay_right()
+    ensures begins { (s : State) → AreOwned s.held → NobodyLives s → IsSteady (begun_world s) }
+    ensures events { (w : WorldState) (p : ℕ) (e : Event) → awake_verdict w.state p e ≡ Verdict.Permit → IsSteady w
+        → IsSteady (behind w p e (awake (stored w.state p e (effect_of w.state p e).state))) }
+{}
+
+/// The count of authority changes follows exactly five instructions, and frames are stored by two.
+pub fn counts_follow()
+    ensures authority { (op : Op) (s : State) (p : ℕ) (d : ℕ) (r : Request) → changes_authority ((row op).changes s p d r) ≡ is_of_authority op }
+    ensures frames { (op : Op) (s : State) (p : ℕ) (d : ℕ) (r : Request) → changes_frames ((row op).changes s p d r) ≡ is_of_frames op }
+{}
