@@ -1,0 +1,7 @@
+//! What is durable at each moment of a run can be restarted: what a restart asks of it, that a content that has its pages is
+//! restarted to it without a fault, and that it stays so behind each step. Definitions and proofs alone.
+#![tactic(auto)]
+
+mod laws;
+
+pub use laws::what_can_restart_restarts;
