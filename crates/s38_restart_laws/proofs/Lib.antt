@@ -5,3 +5,15 @@ pub mod CeilingLaws
 pub mod GroupLaws
 pub mod FaultLaws
 pub mod RestartLaws
+pub mod KindLaws
+pub mod LinkLaws
+pub mod QuietLaws
+pub mod NewLaws
+pub mod RowLaws
+pub mod WordLaws
+pub mod BehindLaws
+pub mod HeldLaws
+pub mod CanLaws
+pub mod StepLaws
+pub mod SoundLaws
+pub mod BeginLaws
