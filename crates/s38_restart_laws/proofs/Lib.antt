@@ -17,3 +17,4 @@ pub mod CanLaws
 pub mod StepLaws
 pub mod SoundLaws
 pub mod BeginLaws
+pub mod CrashLaws
