@@ -1,27 +1,22 @@
 -- What a restart reads of a content without a fault can restart, and a run that begins with it keeps it so.
-use Rattle.std.proofs.Common.{◌≡◌, ◌∙◌, ◌<◌, ◌≤◌, ◌==◌, ◌+◌, ℕ, Bool, true, false, cond, List, [], ◌∷◌, Option, Some, None, map, refl, sym, ap, subst, arith}
+use Rattle.std.proofs.Common.{◌≡◌, ◌∙◌, ◌<◌, ℕ, true, false, List, [], ◌∷◌, Option, Some, None, map, refl, sym, ap, subst, arith}
 use Rattle.std.specs.List.Sorted.{IsStrictlyIncreasing}
 use Rattle.std.specs.Option.{option_map}
-use Rattle.std.specs.Prelude.{◌||◌, is_some}
+use Rattle.std.specs.Prelude.{is_some}
 use Rattle.s38_base.specs.Ids.{same_kind}
 use Rattle.s38_base.specs.Limits.{body_limit, machine_context}
 use Rattle.s38_base.specs.declared.id.Kind.TheVariants as kinds
 use Rattle.s38_base.specs.declared.id.Kind.{Kind}
 use Rattle.s38_code.specs.declared.deck.Job.{Job}
 use Rattle.s38_code.specs.declared.made.CheckedTemplate.{CheckedTemplate}
-use Rattle.s38_committed.proofs.BeginLaws.{restarts_to}
 use Rattle.s38_committed.proofs.FoundLaws.{followed_object}
 use Rattle.s38_committed.proofs.LinkLaws.{behind_there}
-use Rattle.s38_committed.specs.Found.{restart_of}
-use Rattle.s38_committed.specs.Linked.{AreLinked}
-use Rattle.s38_dataspaces.specs.Table.{DataTable}
 use Rattle.s38_durable.specs.Durable.{Durable, kept}
 use Rattle.s38_durable.specs.Following.{number_of}
 use Rattle.s38_groups.specs.Stores.{first_fault}
 use Rattle.s38_image.specs.Fitting.{IsImage}
 use Rattle.s38_image.specs.declared.stored.Stored.{Stored}
 use Rattle.s38_image_printing.proofs.KindLaws.{read_printable}
-use Rattle.s38_journals.specs.Journals.{JournalList}
 use Rattle.s38_kept_laws.proofs.BeginLaws.{begins_kept, opening_numbered}
 use Rattle.s38_kept_laws.proofs.StandLaws.{read_images}
 use Rattle.s38_kept_laws.specs.Beginning.{durable_in, origin_of}

@@ -1,13 +1,11 @@
 -- What is kept behind a step: numbers rise, and each object is kept anew as it stands, or keeps its image.
-use Rattle.std.proofs.Common.{◌≡◌, ◌∙◌, ◌⊎◌, ◌<◌, ◌==◌, ℕ, Bool, true, false, cond, inl, inr, List, [], ◌∷◌, ◌++◌, Option, Some, None, map, refl, sym, ap, subst, arith}
+use Rattle.std.proofs.Common.{◌≡◌, ◌∙◌, ◌⊎◌, ℕ, Bool, true, false, cond, inl, inr, List, [], ◌∷◌, ◌++◌, Option, Some, None, map, refl, sym, ap, subst}
 use Rattle.std.proofs.lemmas.Map.Keys.{IsStrictlyIncreasing-from_sorted, sorted_from_strictly_increasing, sorted_head, sorted_tail}
 use Rattle.std.specs.List.{AllByRecursion, flat_map, list_any}
 use Rattle.std.specs.List.Sorted.{IsStrictlyIncreasing, IsStrictlySortedBy}
 use Rattle.std.specs.Option.{option_map}
 use Rattle.std.specs.Ordering.{nat_cmp}
 use Rattle.std.specs.declared.cmp.Ordering.TheVariants.{Less}
-use Rattle.s38_base.specs.declared.id.ObjNum.{ObjNum}
-use Rattle.s38_base.specs.declared.id.Kind.{Kind}
 use Rattle.s38_durable.specs.Durable.{Durable, durable_after, followed, kept, kept_after, kept_behind, kept_of, whole}
 use Rattle.s38_durable.specs.Following.{AreRising, Follows, Header, header_in, header_kept, header_of, number_of}
 use Rattle.s38_image.specs.declared.stored.Stored.{Stored}

@@ -1,5 +1,5 @@
 -- What is durable in a state of a run can restart.
-use Rattle.std.proofs.Common.{◌≡◌, ◌∙◌, ◌<◌, ◌≤◌, ◌==◌, ◌+◌, ℕ, zero, suc, Bool, true, false, cond, not, List, Option, Some, None, map, length, refl, sym, ap, subst, arith}
+use Rattle.std.proofs.Common.{◌≡◌, ◌∙◌, ◌<◌, ◌≤◌, ◌==◌, ◌+◌, ℕ, zero, suc, Bool, true, false, not, Option, Some, None, refl, sym, ap, subst, arith}
 use Rattle.std.proofs.lemmas.Bool.Decides.{nat_tests}
 use Rattle.std.specs.Prelude.{◌&&◌, ◌||◌, ◌≢◌, All, is_some}
 use Rattle.s38_base.specs.Ids.{kind_code, same_id, same_kind}
@@ -11,27 +11,22 @@ use Rattle.s38_base.specs.declared.id.ObjNum.{ObjNum}
 use Rattle.s38_durable.specs.Durable.{Durable, kept}
 use Rattle.s38_durable.specs.Following.{Header}
 use Rattle.s38_image.specs.declared.stored.Stored.{Stored}
-use Rattle.s38_journals.specs.Journals.{JournalList}
 use Rattle.s38_kept_laws.proofs.GoesLaws.{object_given}
 use Rattle.s38_kept_laws.specs.Kept.{AreImages, IsKeptOf}
-use Rattle.s38_object_laws.specs.Well.{IsWell}
 use Rattle.s38_objects.specs.Lawful.{IsLawful}
 use Rattle.s38_openings.specs.Fitting.{FitTogether, IsPlaced, is_context_or_gone}
 use Rattle.s38_openings.specs.Opening.{IsNumbered}
 use Rattle.s38_rules.specs.Contexts.{is_at_home}
 use Rattle.s38_rules.specs.Creation.{is_of_kind}
-use Rattle.s38_rules.specs.Held.{Held, is_in_context, is_named, is_on_disk, is_there, kind_of, object}
-use Rattle.s38_rules.specs.Parts.{data_of, port_of}
+use Rattle.s38_rules.specs.Held.{Held, is_named, is_there, kind_of, object}
 use Rattle.s38_rules.specs.Profiles.{officer}
 use Rattle.s38_rules.specs.State.{State}
-use Rattle.s38_rules.specs.declared.data_body.DataBody.{DataBody}
 use Rattle.s38_rules.specs.declared.object.Object.{Object}
-use Rattle.s38_rules.specs.declared.port.Port.{Port}
 use Rattle.s38_state_laws.proofs.FitLaws.{Fits}
 use Rattle.s38_state_laws.proofs.SeenLaws.{seen}
 use Rattle.s38_step_parts.specs.Stepping.{raised}
 use Rattle.s38_restart_laws.specs.Restartable.{IsRestartable}
-use Rattle.s38_restart_laws.specs.Restarting.{AreNamedAlike, CanRestart, FitsAmong, is_kind_kept, is_kind_or_none, journal_kept_behind, stands_at_home}
+use Rattle.s38_restart_laws.specs.Restarting.{AreNamedAlike, CanRestart, FitsAmong, is_kind_kept, is_kind_or_none, stands_at_home}
 use Rattle.s38_restart_laws.proofs.BehindLaws.{IsInPlace, in_place, kept_kind, on_kept}
 
 same_back : (a b : Kind) → same_kind a b ≡ same_kind b a

@@ -1,8 +1,8 @@
 -- A ceiling that a store can keep is read as it was printed.
-use Rattle.std.proofs.Common.{◌≡◌, ◌∙◌, ◌+◌, ◌*◌, ◌≤◌, ◌^◌, ℕ, Bool, true, List, [], ◌∷◌, Some, length, refl, sym, ap, subst, arith}
+use Rattle.std.proofs.Common.{◌≡◌, ◌∙◌, ◌+◌, ◌*◌, ◌≤◌, ◌^◌, ℕ, true, List, [], ◌∷◌, Some, length, refl, sym, ap, subst, arith}
 use Rattle.std.proofs.lemmas.Bool.Decides.{nat_tests}
 use Rattle.std.specs.List.{list_all}
-use Rattle.std.specs.Prelude.{◌&&◌, ◌==◌, nat_le, nat_lt}
+use Rattle.std.specs.Prelude.{◌==◌, nat_le, nat_lt}
 use Rattle.s38_base.specs.Limits.{ceiling_step, last_number, page_bytes}
 use Rattle.s38_codecs.proofs.CodecLaws.{and_true}
 use Rattle.s38_codecs.proofs.FormatLaws.{copies_zero, length_copies}

@@ -1,9 +1,9 @@
 -- Objects that are kept and fit one another have no fault.
-use Rattle.std.proofs.Common.{◌≡◌, ◌∙◌, ◌<◌, ◌≤◌, ◌==◌, ℕ, Bool, true, false, cond, not, List, [], ◌∷◌, Option, Some, None, map, length, refl, sym, ap, subst, arith}
+use Rattle.std.proofs.Common.{◌≡◌, ◌∙◌, ◌<◌, ◌≤◌, ◌==◌, ℕ, Bool, true, false, cond, not, List, [], ◌∷◌, Option, Some, None, map, length, refl, sym, ap, arith}
 use Rattle.std.proofs.lemmas.Bool.Decides.{nat_tests}
 use Rattle.std.specs.List.{AllByRecursion, list_any}
 use Rattle.std.specs.Option.{option_and_then, option_map}
-use Rattle.std.specs.Prelude.{◌&&◌, ◌||◌, Err, Ok, Result, filter_map, is_some, nat_lt}
+use Rattle.std.specs.Prelude.{◌&&◌, ◌||◌, Ok, Result, filter_map, is_some, nat_lt}
 use Rattle.s38_base.specs.Ids.{same_id, same_kind}
 use Rattle.s38_base.specs.Limits.{body_limit, machine_context}
 use Rattle.s38_base.specs.declared.id.Id.{Id}
@@ -14,7 +14,7 @@ use Rattle.s38_base.specs.declared.page.Change.{Change}
 use Rattle.s38_durable.specs.Durable.{Durable, kept}
 use Rattle.s38_image.proofs.AgainLaws.{object_again}
 use Rattle.s38_image.proofs.ImageLaws.{fault_ok, then_ok}
-use Rattle.s38_image.specs.Faults.{Group, fault_after, fault_by, fault_of, first_of, group, has_same, header, header_at, is_bad_body, is_bad_header, is_kind, is_no_context, is_number, is_on_disk, is_other_kind, is_outside, is_past, is_same_in, is_twice, journal_behind, last_behind, last_in, or_next, sound, sound_at, sound_by}
+use Rattle.s38_image.specs.Faults.{Group, fault_after, fault_by, fault_of, first_of, group, has_same, header, header_at, is_bad_body, is_bad_header, is_kind, is_no_context, is_on_disk, is_other_kind, is_outside, is_past, is_same_in, is_twice, journal_behind, last_behind, last_in, or_next, sound, sound_at, sound_by}
 use Rattle.s38_image.specs.Fitting.{IsImage}
 use Rattle.s38_image.specs.Images.{◌>>>◌, after_leading, header_in, leading, limited, object_of, or_fault, parts_of, rows_part, with_all}
 use Rattle.s38_image.specs.declared.header.Header.{Header}
@@ -22,12 +22,11 @@ use Rattle.s38_image.specs.declared.stored.Stored.{Stored}
 use Rattle.s38_journals.specs.Journals.{JournalList}
 use Rattle.s38_restart.proofs.StoredLaws.{object_made}
 use Rattle.s38_rules.specs.Parts.{data_of, journal_of, port_of}
-use Rattle.s38_rules.specs.declared.data_body.DataBody.{DataBody}
 use Rattle.s38_rules.specs.declared.object.Body.TheVariants as bodies
 use Rattle.s38_rules.specs.declared.object.Body.{Body}
 use Rattle.s38_rules.specs.declared.port.Port.{Port}
 use Rattle.s38_step_parts.proofs.KeptLaws.{kept_number}
-use Rattle.s38_restart_laws.specs.Restarting.{CanRestart, FitsAmong, is_kind_kept, is_kind_or_none, journal_kept, journal_kept_behind, port_kept, stands_at_home}
+use Rattle.s38_restart_laws.specs.Restarting.{CanRestart, FitsAmong, is_kind_kept, is_kind_or_none, journal_kept, journal_kept_behind, stands_at_home}
 use Rattle.s38_restart_laws.proofs.GroupLaws.{group_of_stored, groups_kept}
 use Rattle.s38_restart_laws.proofs.NumberLaws.{IsKeptIn}
 

@@ -1,18 +1,16 @@
 -- The groups of a content that has the pages of what is durable are the objects that are kept.
-use Rattle.std.proofs.Common.{◌≡◌, ◌∙◌, ◌<◌, ◌≤◌, ◌==◌, ◌+◌, ◌^◌, ℕ, Bool, true, false, cond, not, List, [], ◌∷◌, Option, Some, None, filter, map, refl, sym, ap, subst, arith, lit≤}
+use Rattle.std.proofs.Common.{◌≡◌, ◌∙◌, ◌<◌, ◌≤◌, ◌==◌, ◌+◌, ℕ, Bool, true, false, cond, not, List, [], ◌∷◌, Option, Some, None, filter, map, refl, sym, ap, arith, lit≤}
 use Rattle.std.proofs.lemmas.Bool.Decides.{nat_tests}
 use Rattle.std.proofs.lemmas.Map.Keys.{sorted_from_strictly_increasing}
-use Rattle.std.specs.FinMap.{get}
-use Rattle.std.specs.List.{AllByRecursion, list_any}
+use Rattle.std.specs.List.{AllByRecursion}
 use Rattle.std.specs.Ordering.{eq_by_cmp}
 use Rattle.std.specs.Prelude.{◌&&◌, ◌||◌, is_some}
 use Rattle.s38_base.specs.Limits.{ceiling_step, last_number}
 use Rattle.s38_base.specs.declared.page.Change.{Change}
 use Rattle.s38_base.specs.declared.page.Key.{Key}
-use Rattle.s38_base.specs.declared.page.Page.{Page}
 use Rattle.s38_closing.proofs.PartLaws.{ceiling_wanted}
 use Rattle.s38_durable.specs.Durable.{Durable, kept}
-use Rattle.s38_durable.specs.Stands.{ceiling_parts, page_of, parts_at, parts_in}
+use Rattle.s38_durable.specs.Stands.{ceiling_parts, parts_at, parts_in}
 use Rattle.s38_forcing.proofs.WalkLaws.{key_at}
 use Rattle.s38_forcing.specs.Differences.{wanted_at}
 use Rattle.s38_groups.proofs.RunLaws.{groups_rise, in_order}

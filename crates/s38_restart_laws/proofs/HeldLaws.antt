@@ -1,5 +1,5 @@
 -- What links say of what is kept goes on behind a step that takes effect.
-use Rattle.std.proofs.Common.{◌≡◌, ◌∙◌, ◌⊎◌, ◌<◌, ◌≤◌, ◌==◌, ◌+◌, ℕ, Bool, true, false, cond, inl, inr, List, ◌++◌, Option, Some, None, length, refl, sym, ap, subst, arith}
+use Rattle.std.proofs.Common.{◌≡◌, ◌∙◌, ◌⊎◌, ◌<◌, ◌≤◌, ◌==◌, ◌+◌, ℕ, Bool, true, false, cond, inl, inr, List, Option, Some, None, length, refl, sym, ap, subst, arith}
 use Rattle.std.proofs.lemmas.List.{length-append}
 use Rattle.std.specs.List.{list_any}
 use Rattle.std.specs.Option.{option_and_then, unwrap_or}
@@ -8,17 +8,16 @@ use Rattle.s38_base.specs.declared.id.Kind.TheVariants as kinds
 use Rattle.s38_base.specs.declared.id.Kind.{Kind}
 use Rattle.s38_commits.specs.Units.{UnitMap}
 use Rattle.s38_committed.proofs.RenewLaws.{data_behind_body, journal_behind_body}
-use Rattle.s38_durable.specs.Durable.{Durable, body_behind, durable_after, followed, kept, last_in, whole}
+use Rattle.s38_durable.specs.Durable.{Durable, body_behind, durable_after, kept, last_in}
 use Rattle.s38_image.specs.Settled.{settled_body, settled_sequence}
 use Rattle.s38_image.specs.declared.stored.Stored.{Stored}
-use Rattle.s38_journals.specs.Entries.{Entry}
 use Rattle.s38_journals.specs.Journals.{JournalList}
 use Rattle.s38_kept_laws.proofs.GoesLaws.{Goes, object_given}
 use Rattle.s38_kept_laws.proofs.SameLaws.{kind_at, kind_in}
 use Rattle.s38_kept_laws.specs.Kept.{IsKeptOf}
 use Rattle.s38_rules.proofs.ChargeLaws.{found_number}
 use Rattle.s38_rules.specs.Forcing.{Forced, is_whole}
-use Rattle.s38_rules.specs.Held.{Held, is_on_disk, kind_of, object}
+use Rattle.s38_rules.specs.Held.{is_on_disk, kind_of}
 use Rattle.s38_rules.specs.Journaling.{data_port, data_port_in, is_journal, journal_behind, journal_for, journal_named}
 use Rattle.s38_rules.specs.Parts.{data_of, data_part, journal_at, journal_of, journal_part, no_journal, part_at, part_in, port_of, port_part}
 use Rattle.s38_rules.specs.State.{State}
@@ -30,8 +29,8 @@ use Rattle.s38_rules.specs.declared.port.Port.{Port}
 use Rattle.s38_step_parts.specs.Growing.{AreBeginnings}
 use Rattle.s38_restart_laws.specs.Restartable.{AreCounted, AreKeptLinks, IsRestartable}
 use Rattle.s38_restart_laws.specs.Restarting.{journal_kept, journal_kept_behind, port_kept}
-use Rattle.s38_restart_laws.proofs.BehindLaws.{IsAnew, IsAsItWas, IsInPlace, in_place, kept_either, kept_kind, on_kept}
-use Rattle.s38_restart_laws.proofs.KindLaws.{data_body, data_kind, journal_body, journal_kind, kind_back, kind_journal_at, journal_at_kind, port_body, port_kind}
+use Rattle.s38_restart_laws.proofs.BehindLaws.{IsAnew, IsAsItWas, in_place, kept_either, kept_kind, on_kept}
+use Rattle.s38_restart_laws.proofs.KindLaws.{data_body, data_kind, journal_body, journal_kind, kind_back, journal_at_kind, port_body, port_kind}
 use Rattle.s38_restart_laws.proofs.LinkLaws.{Links, behind_back, named_in}
 
 -- ---- bodies

@@ -1,19 +1,18 @@
 -- How the links between data spaces, ports and journal spaces go on, and who is on disk: where nothing of it changes, and where
 -- one change follows another.
-use Rattle.std.proofs.Common.{◌≡◌, ◌∙◌, ◌⊎◌, ◌<◌, ◌≤◌, ◌==◌, ◌+◌, ℕ, Bool, true, false, cond, inl, inr, List, [], ◌∷◌, ◌++◌, Option, Some, None, refl, sym, ap, subst, arith}
+use Rattle.std.proofs.Common.{◌≡◌, ◌∙◌, ◌⊎◌, ◌<◌, ◌≤◌, ◌==◌, ℕ, Bool, true, false, cond, inl, inr, List, [], ◌∷◌, ◌++◌, Option, Some, None, refl, sym, ap, arith}
 use Rattle.std.specs.List.{list_any}
-use Rattle.std.specs.Prelude.{◌||◌, is_some}
+use Rattle.std.specs.Prelude.{◌||◌}
 use Rattle.s38_base.specs.Limits.{machine_context}
 use Rattle.s38_base.specs.declared.id.Kind.TheVariants as kinds
 use Rattle.s38_base.specs.declared.id.Kind.{Kind}
 use Rattle.s38_committed.proofs.LinkLaws.{Keeps, keeps_behind, linked_kept}
-use Rattle.s38_committed.specs.Linked.{AreLinked}
 use Rattle.s38_kept_laws.proofs.GoesLaws.{Goes, any_either, any_none}
 use Rattle.s38_kept_laws.proofs.SameLaws.{kind_at}
 use Rattle.s38_object_laws.specs.Outline.{is_forced, speaks_of}
 use Rattle.s38_rules.specs.Creation.{is_of_kind}
 use Rattle.s38_rules.specs.Forcing.{Ceiling, Forced, Header, Removed, Whole, is_whole}
-use Rattle.s38_rules.specs.Held.{Held, is_on_disk, object}
+use Rattle.s38_rules.specs.Held.{Held, object}
 use Rattle.s38_rules.specs.Journaling.{data_port, data_port_in, is_journal, journal_behind, journal_named}
 use Rattle.s38_rules.specs.Parts.{data_part, part_at, port_part}
 use Rattle.s38_rules.specs.Profiles.{officer}

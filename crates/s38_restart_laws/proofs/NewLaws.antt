@@ -1,5 +1,5 @@
 -- Links, where an object is made, destroyed or ensured, and where a data space is journaled.
-use Rattle.std.proofs.Common.{◌≡◌, ◌∙◌, ◌<◌, ◌≤◌, ◌==◌, ◌+◌, ℕ, Bool, true, false, cond, inl, inr, List, [], ◌∷◌, ◌++◌, Option, Some, None, refl, sym, ap, subst, arith}
+use Rattle.std.proofs.Common.{◌≡◌, ◌∙◌, ◌<◌, ◌≤◌, ◌==◌, ◌+◌, ℕ, Bool, true, false, cond, inl, inr, [], ◌∷◌, ◌++◌, Option, Some, None, refl, sym, ap, subst, arith}
 use Rattle.std.proofs.lemmas.Bool.Decides.{nat_tests}
 use Rattle.std.specs.List.{list_any}
 use Rattle.std.specs.Option.{option_map}
@@ -25,9 +25,9 @@ use Rattle.s38_rules.proofs.ChargeLaws.{object_without}
 use Rattle.s38_rules.specs.Authority.{is_profile}
 use Rattle.s38_rules.specs.Changes.{made_by, through_port}
 use Rattle.s38_rules.specs.Creation.{created, creation_changes, destroyed, is_of_kind, new_object}
-use Rattle.s38_rules.specs.Forcing.{Ceiling, Forced, Whole, creation_forces, is_whole, removed, whole_if}
+use Rattle.s38_rules.specs.Forcing.{Ceiling, Whole, creation_forces, is_whole, removed, whole_if}
 use Rattle.s38_rules.specs.Held.{Held, disk_in, ensured, is_on_disk, kept_on_disk, kind_of, object, with_object, without}
-use Rattle.s38_rules.specs.Journaling.{data_port, data_port_in, is_journal, journal_behind, journal_for, journal_named}
+use Rattle.s38_rules.specs.Journaling.{data_port, data_port_in, journal_behind, journal_for, journal_named}
 use Rattle.s38_rules.specs.Parts.{data_lawful, data_of, data_part, on_data, over_object, part_at, part_in, port_of, port_part}
 use Rattle.s38_rules.specs.Profiles.{officer}
 use Rattle.s38_rules.specs.declared.creating.Creating.{Creating}
@@ -39,7 +39,7 @@ use Rattle.s38_rules.specs.declared.port.Port.{Port}
 use Rattle.s38_state_laws.proofs.HeadLaws.{one_kind}
 use Rattle.s38_restart_laws.specs.Restartable.{AreReady}
 use Rattle.s38_restart_laws.proofs.KindLaws.{apart_kinds, data_at_kind, it_of_kind, journal_at_kind, kind_of_it}
-use Rattle.s38_restart_laws.proofs.LinkLaws.{Links, Quiet, named_in, quiet_links, ready_quiet}
+use Rattle.s38_restart_laws.proofs.LinkLaws.{Links, Quiet, named_in, ready_quiet}
 use Rattle.s38_restart_laws.proofs.QuietLaws.{behind_whole, removed_whole}
 
 either_true : (a b : Bool) → (a || b) ≡ true → (a ≡ true) ⊎ (b ≡ true)

@@ -1,7 +1,7 @@
 -- The parts of a number in a content are those that are wanted of it, where each has its page.
-use Rattle.std.proofs.Common.{◌≡◌, ◌∙◌, ◌<◌, ◌==◌, ℕ, ◌+◌, ◌*◌, Bool, true, false, cond, List, [], ◌∷◌, ◌++◌, Option, Some, None, length, map, refl, sym, ap, subst, arith}
+use Rattle.std.proofs.Common.{◌≡◌, ◌∙◌, ◌<◌, ◌==◌, ℕ, ◌+◌, ◌*◌, Bool, true, false, cond, List, [], ◌∷◌, ◌++◌, Option, length, map, refl, sym, ap, arith}
 use Rattle.std.proofs.lemmas.Bool.Decides.{nat_tests}
-use Rattle.std.specs.FinMap.{contains_key, entries, get}
+use Rattle.std.specs.FinMap.{entries, get}
 use Rattle.std.specs.List.{AllByRecursion}
 use Rattle.std.specs.Ordering.{eq_by_cmp}
 use Rattle.std.specs.Prelude.{is_some}
@@ -13,7 +13,7 @@ use Rattle.s38_forcing.proofs.WalkLaws.{key_itself, one_key}
 use Rattle.s38_forcing.proofs.WantedLaws.{in_range, inside, pages_held}
 use Rattle.s38_forcing.specs.Differences.{IsWanted, is_in_range, wanted_at}
 use Rattle.s38_forcing.specs.declared.range.PartRange.{PartRange}
-use Rattle.s38_groups.proofs.RunLaws.{AreInOrder, in_order}
+use Rattle.s38_groups.proofs.RunLaws.{in_order}
 use Rattle.s38_groups.specs.Groups.{is_of, parts_of}
 use Rattle.s38_image.specs.Images as images
 use Rattle.s38_image.specs.Bodies.{body, body_tags}
@@ -25,7 +25,7 @@ use Rattle.s38_keeping.specs.Replacing.{range_of}
 use Rattle.s38_kept_laws.proofs.StandLaws.{pages_of}
 use Rattle.s38_kept_laws.specs.Kept.{HasParts}
 use Rattle.s38_restart.specs.Parts.{AreParts, all_parts, part_of}
-use Rattle.s38_vault.specs.Content.{AreRising, Content}
+use Rattle.s38_vault.specs.Content.{Content}
 use Rattle.s38_vault.specs.Directory.{keys_of}
 use Rattle.s38_vault.specs.Keys.{key_cmp}
 use Rattle.s38_restart_laws.proofs.WantedLaws.{IsPageIn, each_passing, filter_in_order, same_pages}
@@ -80,9 +80,9 @@ own_parts n key (c ∷ cs) own = by (is_of n c) refl (own_parts n key cs own)
   where
     other : is_of n c ≡ false → (b : Bool) → eq_by_cmp key_cmp key c.key ≡ b → b ≡ false
     other off true is = absurd (
-      let same : c.key.object ≡ n = sym (ap (λ (k : Key). k.object) (one_key key c.key is)) ∙ own in
-      let e : (c.key.object == n) ≡ true = grind (arith, nat_tests) in
-      cc)
+        let same : c.key.object ≡ n = sym (ap (λ (k : Key). k.object) (one_key key c.key is)) ∙ own in
+        let e : (c.key.object == n) ≡ true = grind (arith, nat_tests) in
+        cc)
     other off false is = refl
 
     by : (b : Bool) → is_of n c ≡ b → wanted_at (parts_of n cs) key ≡ wanted_at cs key → wanted_at (cond b (c ∷ parts_of n cs) (parts_of n cs)) key ≡ wanted_at (c ∷ cs) key
@@ -124,5 +124,5 @@ module _ (m : Content) (are : AreParts (all_parts m)) (low : HasParts m) where
       same_pages (range_of n) (parts_of n (all_parts m)) cs (filter_in_order (is_of n) (all_parts m) (in_order (all_parts m) are.rising)) (in_order cs wanted.rising)
       (own_pages n) (both_each (range_of n) cs wanted.in_range pages)
       (λ q own.
-          let here = inside (range_of n) q own in
-          own_parts n q (all_parts m) here.object ∙ pages_of m q ∙ same q here.object here.before)
+      let here = inside (range_of n) q own in
+      own_parts n q (all_parts m) here.object ∙ pages_of m q ∙ same q here.object here.before)

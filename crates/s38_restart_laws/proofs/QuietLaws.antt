@@ -1,5 +1,5 @@
 -- The words of change that leave links, kinds and what is on disk as they are.
-use Rattle.std.proofs.Common.{◌≡◌, ◌∙◌, ◌==◌, ℕ, Bool, true, false, cond, List, [], ◌∷◌, Option, Some, None, refl, sym, ap, subst}
+use Rattle.std.proofs.Common.{◌≡◌, ◌==◌, ℕ, Bool, true, false, cond, List, [], ◌∷◌, Option, Some, None, refl, subst}
 use Rattle.std.proofs.lemmas.Bool.{cond_both}
 use Rattle.std.specs.List.{list_any}
 use Rattle.std.specs.Prelude.{◌&&◌, ◌||◌, ◌+◌, nat_lt}
@@ -17,10 +17,10 @@ use Rattle.s38_committed.proofs.LinkLaws.{Keeps, Still, behind_there, keeps_jour
 use Rattle.s38_dataspaces.specs.Table.{DataTable}
 use Rattle.s38_journals.specs.Entries.{Entry}
 use Rattle.s38_journals.specs.declared.entry.EntryKind.TheVariants as entry_kinds
-use Rattle.s38_kept_laws.proofs.SameLaws.{Same, all_decommitted_same, committed_same, decommitted_same, delivered_same, finish_same, logged_same, part_same, restacked_same, same_then, start_same}
+use Rattle.s38_kept_laws.proofs.SameLaws.{Same, committed_same, decommitted_same, delivered_same, finish_same, logged_same, part_same, restacked_same, same_then, start_same}
 use Rattle.s38_rules.specs.Changing.{logged, logged_in}
 use Rattle.s38_rules.specs.Effect.{end_at, start_at}
-use Rattle.s38_rules.specs.Forcing.{Forced, Header, Removed, Whole, commit_forces, followed, is_whole, overdue, removed, whole_if}
+use Rattle.s38_rules.specs.Forcing.{Header, Removed, Whole, commit_forces, followed, is_whole, overdue, removed, whole_if}
 use Rattle.s38_rules.specs.Held.{Held, is_on_disk, object}
 use Rattle.s38_rules.specs.Creation.{is_of_kind}
 use Rattle.s38_rules.specs.Invocations.{restack_at}

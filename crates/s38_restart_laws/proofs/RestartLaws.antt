@@ -1,15 +1,14 @@
 -- A content that has the pages of what can restart is restarted to it, without a fault.
-use Rattle.std.proofs.Common.{◌≡◌, ◌∙◌, ℕ, Bool, true, false, cond, not, List, Option, Some, None, map, refl, sym, ap, subst}
+use Rattle.std.proofs.Common.{◌≡◌, ◌∙◌, ℕ, true, List, Option, Some, None, map, refl, ap}
 use Rattle.std.proofs.lemmas.Map.Keys.{sorted_from_strictly_increasing}
 use Rattle.std.specs.List.{AllByRecursion}
 use Rattle.std.specs.Option.{unwrap_or}
-use Rattle.std.specs.Prelude.{◌||◌, is_some}
+use Rattle.std.specs.Prelude.{is_some}
 use Rattle.s38_base.specs.Limits.{body_limit}
 use Rattle.s38_base.specs.declared.id.Kind.TheVariants as kinds
-use Rattle.s38_base.specs.declared.page.Change.{Change}
 use Rattle.s38_durable.specs.Durable.{Durable, kept}
 use Rattle.s38_durable.specs.Stands.{Stands}
-use Rattle.s38_groups.specs.Groups.{groups, parts_of}
+use Rattle.s38_groups.specs.Groups.{parts_of}
 use Rattle.s38_groups.specs.Readings.{all_sound}
 use Rattle.s38_groups.specs.Stores.{ceiling_of, first_fault, stored_in}
 use Rattle.s38_image.specs.Faults.{Group, ceiling_in, ceiling_key, first_by, first_of, first_under, is_on_disk, store_fault}
@@ -17,6 +16,7 @@ use Rattle.s38_image.specs.declared.stored.Stored.{Stored}
 use Rattle.s38_kept_laws.specs.Kept.{HasParts}
 use Rattle.s38_restart.specs.Parts.{AreParts, all_parts}
 use Rattle.s38_restart.specs.Restarted.{number_in_stored}
+use Rattle.s38_rules.specs.Profiles.{officer}
 use Rattle.s38_vault.specs.Content.{Content}
 use Rattle.s38_restart_laws.specs.Restarting.{CanRestart, HasItsPages, is_kind_kept}
 use Rattle.s38_restart_laws.proofs.CeilingLaws.{ceiling_again}
@@ -56,3 +56,7 @@ module _ (m : Content) (d : Durable) (are : AreParts (all_parts m)) (low : HasPa
   objects_same =
       ap (λ (gs : List Group). all_sound gs body_limit (ceiling_of (all_parts m))) (groups_same m d are low pages can)
       ∙ ap (all_sound (groups_kept d) body_limit) ceiling_same ∙ all_read d can each d.objects each
+
+  -- the security officer is read as a user
+  pub user_read : is_kind_kept kinds.Profile (kept (stored_in body_limit (all_parts m)) officer) ≡ true
+  user_read = ap (λ (xs : List Stored). is_kind_kept kinds.Profile (kept xs officer)) objects_same ∙ can.first_user

@@ -1,18 +1,16 @@
 -- What a store without a fault says of each object that it holds.
-use Rattle.std.proofs.Common.{◌≡◌, ◌∙◌, ◌<◌, ◌≤◌, ◌==◌, ℕ, Bool, true, false, cond, List, [], ◌∷◌, Option, Some, None, length, refl, sym, ap, subst, arith}
+use Rattle.std.proofs.Common.{◌≡◌, ◌∙◌, ◌≤◌, ◌==◌, ℕ, Bool, true, false, cond, List, [], ◌∷◌, Option, Some, None, length, refl, sym, ap, subst, arith}
 use Rattle.std.proofs.lemmas.Bool.Decides.{nat_tests}
 use Rattle.std.specs.List.{AllByRecursion}
 use Rattle.std.specs.Option.{option_and_then, option_map, unwrap_or}
-use Rattle.std.specs.Prelude.{◌||◌, Err, Ok, Result, filter_map, nat_lt}
+use Rattle.std.specs.Prelude.{◌||◌, Ok, filter_map, nat_lt}
 use Rattle.s38_base.specs.Limits.{body_limit}
-use Rattle.s38_base.specs.declared.page.Change.{Change}
 use Rattle.s38_durable.specs.Durable.{Durable, kept}
 use Rattle.s38_groups.proofs.LawfulLaws.{IsWhole, all_whole}
 use Rattle.s38_groups.specs.Groups.{groups}
-use Rattle.s38_groups.specs.Stores.{ceiling_of, first_fault}
-use Rattle.s38_image.specs.Faults.{Group, fault_after, fault_by, fault_of, first_of, group, header_at, is_bad_body, is_bad_header, is_number, is_past, journal_behind, last_behind, last_in, or_next, sound, sound_at}
+use Rattle.s38_groups.specs.Stores.{first_fault}
+use Rattle.s38_image.specs.Faults.{Group, fault_after, fault_by, fault_of, first_of, group, header_at, is_bad_body, is_past, journal_behind, last_behind, last_in, or_next, sound, sound_at}
 use Rattle.s38_image.specs.Images.{object_of}
-use Rattle.s38_image.specs.declared.header.Header.{Header}
 use Rattle.s38_image.specs.declared.stored.Stored.{Stored}
 use Rattle.s38_journals.specs.Journals.{JournalList}
 use Rattle.s38_kept_laws.specs.Beginning.{durable_in}

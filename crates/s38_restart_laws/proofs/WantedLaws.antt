@@ -1,5 +1,5 @@
 -- Two lists of pages in the order of their keys are the same where they have the same page of each key.
-use Rattle.std.proofs.Common.{◌≡◌, ◌∙◌, ℕ, Bool, true, false, cond, List, [], ◌∷◌, ◌++◌, Option, Some, None, filter, map, refl, sym, ap, subst}
+use Rattle.std.proofs.Common.{◌≡◌, ◌∙◌, Bool, true, false, cond, List, [], ◌∷◌, Option, None, filter, map, refl, sym, ap, subst}
 use Rattle.std.proofs.lemmas.Map.Keys.{sorted_head, sorted_tail}
 use Rattle.std.specs.List.{AllByRecursion}
 use Rattle.std.specs.List.Sorted.{IsStrictlySortedBy}
@@ -10,7 +10,7 @@ use Rattle.std.specs.declared.cmp.Ordering.{Ordering}
 use Rattle.s38_base.specs.declared.page.Change.{Change}
 use Rattle.s38_base.specs.declared.page.Key.{Key}
 use Rattle.s38_base.specs.declared.page.Page.{Page}
-use Rattle.s38_forcing.proofs.WalkLaws.{key_itself, not_above, not_below, one_key}
+use Rattle.s38_forcing.proofs.WalkLaws.{key_itself, not_below, one_key}
 use Rattle.s38_forcing.specs.Differences.{is_in_range, wanted_at}
 use Rattle.s38_forcing.specs.declared.range.PartRange.{PartRange}
 use Rattle.s38_groups.proofs.RunLaws.{AreInOrder, key_of}

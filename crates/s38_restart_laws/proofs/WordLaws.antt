@@ -1,8 +1,6 @@
 -- Links go on behind each word of change, behind each event and behind each step.
-use Rattle.std.proofs.Common.{◌≡◌, ◌∙◌, ◌<◌, ◌≤◌, ◌==◌, ℕ, Bool, true, false, cond, List, [], ◌∷◌, ◌++◌, Option, Some, None, length, refl, sym, ap, subst, arith}
-use Rattle.std.specs.List.{list_any}
+use Rattle.std.proofs.Common.{◌≡◌, ◌≤◌, ℕ, true, false, [], None, length, refl, sym, ap, subst}
 use Rattle.s38_base.specs.Limits.{body_limit}
-use Rattle.s38_base.specs.declared.rights.Special.{Special}
 use Rattle.s38_code.specs.Operations.{family_of}
 use Rattle.s38_code.specs.declared.event.Event.TheVariants.{Act, Finish, Start}
 use Rattle.s38_code.specs.declared.event.Event.{Event}
@@ -14,7 +12,7 @@ use Rattle.s38_committed.proofs.GoingLaws.{JournalsTo, cells_still, renamed_stil
 use Rattle.s38_committed.proofs.LinkLaws.{still_header, still_journal, still_other}
 use Rattle.s38_committed.proofs.TellLaws.{MayTell, row_tells}
 use Rattle.s38_journals.specs.Journals as journals
-use Rattle.s38_kept_laws.proofs.GoesLaws.{Goes, May, done_goes}
+use Rattle.s38_kept_laws.proofs.GoesLaws.{May, done_goes}
 use Rattle.s38_kept_laws.proofs.MayLaws.{row_may}
 use Rattle.s38_kept_laws.proofs.SameLaws.{cells_same, change_same, journal_same, part_same, renamed_same, same_itself, space_same}
 use Rattle.s38_kept_laws.proofs.StepLaws.{IsDone, takes_effect}
@@ -24,18 +22,17 @@ use Rattle.s38_memory.specs.Tagged.{resized}
 use Rattle.s38_rules.proofs.RoomLaws.{permitted_by_rules}
 use Rattle.s38_rules.proofs.StoreLaws.{stored_holds}
 use Rattle.s38_rules.proofs.VerdictLaws.{permitted_none}
-use Rattle.s38_rules.specs.Changes.{Changes, CellsPut, Committed, Decommitted, Ensured, Entered, Framed, Gone, Journaled, Locked, Made, Moved, Named, OnCursor, OnIndex, OnQueue, Profiled, Resized, Stands, Stays, Then, done, through_port}
+use Rattle.s38_rules.specs.Changes.{Changes, CellsPut, Committed, Decommitted, Ensured, Entered, Framed, Gone, Journaled, Locked, Made, Moved, Named, OnCursor, OnIndex, OnQueue, Profiled, Resized, Stands, Stays, Then, done}
 use Rattle.s38_rules.specs.Computing.{receiver_at, shift_at}
 use Rattle.s38_rules.specs.Effect.{effect, effect_of}
-use Rattle.s38_rules.specs.Forcing.{Forced, commit_forces, followed, forced, forced_by, is_whole, overdue, removed}
+use Rattle.s38_rules.specs.Forcing.{commit_forces, followed, forced, forced_by, overdue}
 use Rattle.s38_rules.specs.Held.{Held, change, kind_of}
-use Rattle.s38_rules.specs.Journaling.{data_port, is_journal, journal_for}
-use Rattle.s38_rules.specs.Parts.{cursor_lawful, cursor_part, index_lawful, index_part, on_journal, profile_lawful, profile_part, queue_lawful, queue_part}
+use Rattle.s38_rules.specs.Journaling.{data_port, journal_for}
+use Rattle.s38_rules.specs.Parts.{cursor_lawful, cursor_part, index_lawful, index_part, profile_lawful, profile_part, queue_lawful, queue_part}
 use Rattle.s38_rules.specs.Rows.{row}
 use Rattle.s38_rules.specs.Standing.{standing_of, with_standing}
 use Rattle.s38_rules.specs.State.{State, process_entry}
 use Rattle.s38_rules.specs.Step.{awake_verdict, step}
-use Rattle.s38_rules.specs.Storing.{stored}
 use Rattle.s38_rules.specs.Verdict.{refused_by, ruled_verdict}
 use Rattle.s38_rules.specs.declared.object.Object.{Object}
 use Rattle.s38_rules.specs.declared.verdict.Verdict.TheVariants.{Permit}

@@ -37,13 +37,14 @@ use s38_durable::{
 };
 
 /// A content that has the pages of what can restart has no fault, and is restarted to just that: its objects, its ceiling, and
-/// what a restart makes of them. It may have further parts, which belong to nothing. A content that stands for what is durable
-/// has the pages of it.
+/// what a restart makes of them; the security officer is read as the user that it is. The content may have further parts, which
+/// belong to nothing. A content that stands for what is durable has the pages of it.
 pub fn what_can_restart_restarts()
     ensures fault { (m : Content) (d : Durable) → AreParts (all_parts m) → HasParts m → HasItsPages m d → CanRestart d → first_fault body_limit (all_parts m) ≡ None }
     ensures objects { (m : Content) (d : Durable) → AreParts (all_parts m) → HasParts m → HasItsPages m d → CanRestart d → stored_in body_limit (all_parts m) ≡ d.objects }
     ensures ceiling { (m : Content) (d : Durable) → AreParts (all_parts m) → HasParts m → HasItsPages m d → CanRestart d → ceiling_of (all_parts m) ≡ d.ceiling }
     ensures restarted { (m : Content) (d : Durable) → AreParts (all_parts m) → HasParts m → HasItsPages m d → CanRestart d → restarted body_limit (all_parts m) ≡ restart_of d }
+    ensures first_user { (m : Content) (d : Durable) → AreParts (all_parts m) → HasParts m → HasItsPages m d → CanRestart d → is_kind_kept kinds.Profile (kept (durable_in m).objects officer) ≡ true }
     ensures stands { (m : Content) (d : Durable) → Stands m d → HasItsPages m d }
 {}
 
