@@ -35,13 +35,13 @@ use Rattle.s38_restart_laws.proofs.LinkLaws.{Links, behind_back, named_in}
 
 -- ---- bodies
 
-port_settled : (units : UnitMap) (n : ℕ) (b : Body) → port_of (settled_body units n b) ≡ port_of b
+pub port_settled : (units : UnitMap) (n : ℕ) (b : Body) → port_of (settled_body units n b) ≡ port_of b
 port_settled units n (bodies.DataSpace d) = refl
 port_settled units n (bodies.Journal j) = refl
 port_settled units n _ = refl
 
 -- an image of a data space is of one that names the same port
-space_settled : (units : UnitMap) (n : ℕ) (b : Body) (x : DataBody) → data_of (settled_body units n b) ≡ Some x → (y : DataBody) × ((data_of b ≡ Some y) × (y.port.0 ≡ x.port.0))
+pub space_settled : (units : UnitMap) (n : ℕ) (b : Body) (x : DataBody) → data_of (settled_body units n b) ≡ Some x → (y : DataBody) × ((data_of b ≡ Some y) × (y.port.0 ≡ x.port.0))
 space_settled units n (bodies.DataSpace d) x is = (d, (refl, ap port_in is))
   where
     port_in : Option DataBody → ℕ
@@ -54,7 +54,7 @@ port_behind_body (bodies.Profile special limit) old p is = absurd (let e : None 
 port_behind_body _ old p is = refl
 
 -- it counts in no more than the last entry
-sequence_most : (last : ℕ) (b : Body) → settled_sequence last b ≤ last
+pub sequence_most : (last : ℕ) (b : Body) → settled_sequence last b ≤ last
 sequence_most last (bodies.DataSpace d) = by (d.port.0 == 0)
   where
     by : (c : Bool) → cond c 0 last ≤ last

@@ -18,3 +18,4 @@ pub mod StepLaws
 pub mod SoundLaws
 pub mod BeginLaws
 pub mod CrashLaws
+pub mod MixLaws
