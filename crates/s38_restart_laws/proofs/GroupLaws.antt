@@ -94,7 +94,7 @@ abbrev pub groups_kept : Durable → List Group
 groups_kept d = map group_of_stored d.objects
 
 -- no object has the number of the ceiling
-low_number : (n ceiling : ℕ) → n ≤ ceiling → ceiling ≤ last_number + ceiling_step → (n == ceiling_key) ≡ false
+pub low_number : (n ceiling : ℕ) → n ≤ ceiling → ceiling ≤ last_number + ceiling_step → (n == ceiling_key) ≡ false
 low_number n ceiling given low = let high : n < ceiling_key = omega (arith, given, low) in grind (arith, nat_tests)
 
 none_at_ceiling : (d : Durable) → CanRestart d → (n : ℕ) → (n == ceiling_key) ≡ true → is_some (kept d.objects n) ≡ false

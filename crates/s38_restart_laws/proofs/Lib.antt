@@ -19,3 +19,5 @@ pub mod SoundLaws
 pub mod BeginLaws
 pub mod CrashLaws
 pub mod MixLaws
+pub mod EndLaws
+pub mod ContentLaws

@@ -38,7 +38,8 @@ use Rattle.s38_rules.specs.declared.object.Object.{Object}
 use Rattle.s38_rules.specs.declared.port.Port.{Port}
 use Rattle.s38_state_laws.specs.Order.{AreInOrder}
 use Rattle.s38_step_parts.proofs.KeptLaws.{kept_number}
-use Rattle.s38_restart_laws.specs.Restartable.{AreCounted, AreKeptLinks, IsRestartable, IsWithJournals, kept_if_any, mixed, mixed_of}
+use Rattle.s38_restart_laws.specs.Ending.{IsWithJournals, kept_if_any, mixed, mixed_of}
+use Rattle.s38_restart_laws.specs.Restartable.{AreCounted, IsRestartable}
 use Rattle.s38_restart_laws.specs.Restarting.{CanRestart}
 use Rattle.s38_restart_laws.proofs.BehindLaws.{in_place, kept_kind, on_kept}
 use Rattle.s38_restart_laws.proofs.CanLaws.{IsFoundAs, Mirrors, can_by}
@@ -79,7 +80,7 @@ module _ (ensured : ℕ → Bool) (units : UnitMap) (h : Held) (old : List Store
       by false (Some x) is = one x (kept_number o.number.0 old x is)
 
   -- what an object that is there leads to
-  abbrev mixed_at : Option Object → Option Stored
+  abbrev pub mixed_at : Option Object → Option Stored
   mixed_at None = None
   mixed_at (Some o) = cond (ensured o.number.0) (Some (whole_of units h o)) (kept old o.number.0)
 

@@ -25,7 +25,7 @@ pub record IsPageIn (range : PartRange) (c : Change) : Type 0 where
 abbrev Behind : Key → List Change → Type 0
 Behind k xs = AllByRecursion (λ q. key_cmp k q ≡ Less) (map key_of xs)
 
-none_at : (k : Key) (xs : List Change) → Behind k xs → wanted_at xs k ≡ None
+pub none_at : (k : Key) (xs : List Change) → Behind k xs → wanted_at xs k ≡ None
 none_at k [] above = refl
 none_at k (x ∷ xs) above = rw (not_below k x.key above.0) (none_at k xs above.1)
 

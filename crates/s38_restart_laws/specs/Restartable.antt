@@ -1,13 +1,11 @@
 -- What goes on behind each step of a run, so that what is durable can be restarted at each moment.
-use Rattle.std.specs.Prelude.{◌≡◌, ◌≤◌, ◌<◌, ◌+◌, ℕ, Bool, true, List, [], ◌∷◌, None, Option, Some, length, map, take, if◌then◌else◌}
-use Rattle.std.specs.List.{flat_map}
+use Rattle.std.specs.Prelude.{◌≡◌, ◌≤◌, ◌<◌, ◌+◌, ℕ, true, List, [], ◌∷◌, Some, length, map, take}
 use Rattle.std.specs.List.Sorted.{IsStrictlyIncreasing}
 use Rattle.s38_base.specs.Limits.{body_limit, machine_context}
 use Rattle.s38_base.specs.declared.id.Kind.TheVariants as kinds
 use Rattle.s38_code.specs.declared.entry.Entry.{Entry}
-use Rattle.s38_commits.specs.Units.{UnitMap}
 use Rattle.s38_committed.specs.Linked.{AreLinked}
-use Rattle.s38_durable.specs.Durable.{Durable, after_reply, durable, kept, whole_of}
+use Rattle.s38_durable.specs.Durable.{Durable, after_reply, durable, kept}
 use Rattle.s38_image.specs.declared.stored.Stored.{Stored}
 use Rattle.s38_journals.specs.Journals.{JournalList}
 use Rattle.s38_kept_laws.specs.Crashes.{led}
@@ -15,13 +13,12 @@ use Rattle.s38_kept_laws.specs.Kept.{AreImages}
 use Rattle.s38_restart.specs.Restarted.{number_in_stored}
 use Rattle.s38_rules.specs.Creation.{is_of_kind}
 use Rattle.s38_rules.specs.Held.{Held, is_on_disk, object}
-use Rattle.s38_rules.specs.Journaling.{data_port, journal_for}
+use Rattle.s38_rules.specs.Journaling.{data_port}
 use Rattle.s38_rules.specs.Parts.{data_of, part_at, port_of, port_part}
 use Rattle.s38_rules.specs.Profiles.{officer}
 use Rattle.s38_rules.specs.State.{State}
 use Rattle.s38_rules.specs.Step.{step}
 use Rattle.s38_rules.specs.declared.data_body.DataBody.{DataBody}
-use Rattle.s38_rules.specs.declared.object.Object.{Object}
 use Rattle.s38_rules.specs.declared.port.Port.{Port}
 use Rattle.s38_step_parts.specs.Stepping.{raised}
 use Rattle.s38_restart_laws.specs.Restarting.{CanRestart, journal_kept_behind}
@@ -76,21 +73,3 @@ pub record CanRestartBetween (d : Durable) (s : State) (entries : List Entry) (c
   pub before : CanRestart (durable d s (take count entries))
   pub raised : CanRestart (raised (durable d s (take count entries)) (led s (take (count + 1) entries)))
   pub behind : CanRestart (durable d s (take (count + 1) entries))
-
--- ---- the end of a run
-
-abbrev pub kept_if_any : Option Stored → List Stored
-kept_if_any None = []
-kept_if_any (Some x) = x ∷ []
-
-abbrev pub mixed_of : (ℕ → Bool) → UnitMap → Held → List Stored → Object → List Stored
-mixed_of ensured units h old o = if ensured o.number.0 then whole_of units h o ∷ [] else kept_if_any (kept old o.number.0)
-
--- what is durable where the objects of some numbers were ensured: these as they stand, and the others as they were kept, if they
--- were
-abbrev pub mixed : (ℕ → Bool) → UnitMap → Held → Durable → Durable
-mixed ensured units h d = record { ceiling = h.ceiling; objects = flat_map (mixed_of ensured units h d.objects) h.objects }
-
--- with a data space its journal space is ensured
-abbrev pub IsWithJournals : (ℕ → Bool) → Held → Type 0
-IsWithJournals ensured h = (n journal : ℕ) → ensured n ≡ true → journal_for h n ≡ Some journal → ensured journal ≡ true

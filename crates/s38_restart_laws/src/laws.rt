@@ -3,6 +3,8 @@ ghost use Rattle.std.specs.Prelude.{◌≡◌, ℕ, List, None, Option, true};
 ghost use Rattle.s38_base.specs.Limits.{body_limit};
 ghost use Rattle.s38_base.specs.declared.exception.Exception.{Exception};
 ghost use Rattle.s38_base.specs.declared.id.Kind.TheVariants as kinds;
+ghost use Rattle.s38_closing.specs.Closing.{closing, content_of};
+ghost use Rattle.s38_closing.specs.Ensuring.{IsReached};
 ghost use Rattle.s38_code.specs.declared.deck.Job.{Job};
 ghost use Rattle.s38_code.specs.declared.entry.Entry.{Entry};
 ghost use Rattle.s38_code.specs.declared.event.Event.{Event};
@@ -87,3 +89,13 @@ pub fn a_crash_leaves_what_restarts()
     room_counts_what_is_durable();
     what_is_not_forced_stays_durable();
 }
+
+/// What a run leaves restarts: with all of its objects ensured, as they stand, which is all that the store then has; and where
+/// the first so many of them were ensured, each with its journal space, and the others are as they were kept. It restarts
+/// where what is durable can, can be read again before and behind that, and the objects are in order.
+pub fn what_a_run_leaves_restarts()
+    ensures whole { (s : State) (d : Durable) → IsKeptOf s d → IsTrailOf s d → AreInOrder s → IsRestartable s d → AreImages (closing s.units s.held) → CanRestart (closing s.units s.held) }
+    ensures pages { (d : Durable) → CanRestart d → Stands (content_of d) d }
+    ensures reached { (s : State) (d : Durable) (m n : Content) → IsKeptOf s d → IsTrailOf s d → AreInOrder s → IsRestartable s d → AreImages d → AreImages (closing s.units s.held) → Stands m d
+        → IsReached m (closing s.units s.held) s.held n → AreParts (all_parts n) → HasParts n → first_fault body_limit (all_parts n) ≡ None }
+{}
