@@ -1,7 +1,7 @@
 -- What is kept behind a step: numbers rise, and each object is kept anew as it stands, or keeps its image.
 use Rattle.std.proofs.Common.{◌≡◌, ◌∙◌, ◌⊎◌, ℕ, Bool, true, false, cond, inl, inr, List, [], ◌∷◌, ◌++◌, Option, Some, None, map, refl, sym, ap, subst}
 use Rattle.std.proofs.lemmas.Map.Keys.{IsStrictlyIncreasing-from_sorted, sorted_from_strictly_increasing, sorted_head, sorted_tail}
-use Rattle.std.specs.List.{AllByRecursion, flat_map, list_any}
+use Rattle.std.specs.List.{flat_map, list_any}
 use Rattle.std.specs.List.Sorted.{IsStrictlyIncreasing, IsStrictlySortedBy}
 use Rattle.std.specs.Option.{option_map}
 use Rattle.std.specs.Ordering.{nat_cmp}
@@ -19,6 +19,7 @@ use Rattle.s38_rules.specs.Forcing.{Forced, is_whole}
 use Rattle.s38_rules.specs.Held.{Held, disk_in, is_on_disk, kind_of, object}
 use Rattle.s38_rules.specs.State.{State}
 use Rattle.s38_rules.specs.declared.object.Object.{Object}
+use Rattle.s38_restart_laws.proofs.NumberLaws.{Above}
 
 -- ---- numbers rise
 
@@ -29,9 +30,6 @@ number_after all t old o = by (list_any (is_whole o.number.0) all) old
     by true x = refl
     by false None = refl
     by false (Some x) = refl
-
-abbrev Above : ℕ → List ℕ → Type 0
-Above n ns = AllByRecursion (λ k. nat_cmp n k ≡ Less) ns
 
 module _ (all : List Forced) (t : State) (old : List Stored) where
   abbrev after : List Object → List Stored

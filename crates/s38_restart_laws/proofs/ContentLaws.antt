@@ -1,5 +1,5 @@
 -- A store that has the parts of all that can restart, and no others, has the pages of it.
-use Rattle.std.proofs.Common.{◌≡◌, ◌∙◌, ◌==◌, ◌≤◌, ℕ, Bool, true, false, cond, List, [], ◌∷◌, ◌++◌, Option, Some, None, map, refl, sym, ap, subst, arith}
+use Rattle.std.proofs.Common.{◌≡◌, ◌∙◌, ◌==◌, ℕ, Bool, true, false, cond, List, [], ◌∷◌, ◌++◌, Option, Some, None, map, refl, sym, ap, arith}
 use Rattle.std.proofs.lemmas.Bool.Decides.{nat_tests}
 use Rattle.std.proofs.lemmas.Map.Keys.{sorted_from_strictly_increasing, sorted_head, sorted_tail}
 use Rattle.std.specs.FinMap.{empty, get, get-empty}
@@ -17,7 +17,7 @@ use Rattle.s38_durable.specs.Durable.{Durable, kept}
 use Rattle.s38_durable.specs.Stands.{ceiling_parts, page_of, parts_in}
 use Rattle.s38_forcing.proofs.WalkLaws.{one_key}
 use Rattle.s38_forcing.proofs.WantedLaws.{inside}
-use Rattle.s38_forcing.specs.Differences.{IsWanted, is_in_range, wanted_at}
+use Rattle.s38_forcing.specs.Differences.{IsWanted, wanted_at}
 use Rattle.s38_groups.proofs.RunLaws.{AreInOrder, in_order, key_of}
 use Rattle.s38_image.specs.Faults.{ceiling_key, ceiling_page}
 use Rattle.s38_image.specs.Images.{parts_of}
@@ -33,7 +33,7 @@ use Rattle.s38_vault.specs.Content.{Content}
 use Rattle.s38_vault.specs.Keys.{key_cmp}
 use Rattle.s38_restart_laws.specs.Restarting.{CanRestart}
 use Rattle.s38_restart_laws.proofs.GroupLaws.{low_number}
-use Rattle.s38_restart_laws.proofs.NumberLaws.{IsKeptIn, each_kept}
+use Rattle.s38_restart_laws.proofs.NumberLaws.{IsKeptIn, each_kept, number_same}
 use Rattle.s38_restart_laws.proofs.PartLaws.{HasPage, object_pages, stream_pages}
 use Rattle.s38_restart_laws.proofs.WantedLaws.{none_at}
 
@@ -62,9 +62,6 @@ wanted_changed (c ∷ cs) q old order pages =
 
 of_number : (n : ℕ) (cs : List Change) → IsWanted (range_of n) cs → AllByRecursion (λ c. c.key.object ≡ n) cs
 of_number n cs wanted = all_of _ _ cs (λ c own. (inside (range_of n) c.key own).object) wanted.in_range
-
-number_same : (a b : ℕ) → (a == b) ≡ true → a ≡ b
-number_same a b h = grind (arith, nat_tests)
 
 differ : (a b : ℕ) → (b == a) ≡ false → a ≢ b
 differ a b off same = absurd (grind (arith, nat_tests))

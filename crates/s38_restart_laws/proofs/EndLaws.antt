@@ -1,5 +1,5 @@
 -- What a run leaves can restart, at each moment at which its objects are ensured, if each is put at once.
-use Rattle.std.proofs.Common.{◌≡◌, ◌∙◌, ◌⊎◌, ◌<◌, ◌≤◌, ◌==◌, ◌+◌, ◌^◌, ℕ, Bool, true, false, cond, not, inl, inr, List, [], ◌∷◌, ◌++◌, Option, Some, None, map, refl, sym, ap, subst, arith}
+use Rattle.std.proofs.Common.{◌≡◌, ◌∙◌, ◌⊎◌, ◌<◌, ◌≤◌, ◌==◌, ℕ, Bool, true, false, cond, inl, inr, List, [], ◌∷◌, ◌++◌, Option, Some, None, map, refl, sym, ap, subst, arith}
 use Rattle.std.proofs.lemmas.Bool.Decides.{nat_tests}
 use Rattle.std.proofs.lemmas.Map.Keys.{sorted_from_strictly_increasing, sorted_head, sorted_tail}
 use Rattle.std.specs.FinMap.{get}
@@ -7,13 +7,13 @@ use Rattle.std.specs.List.{AllByRecursion, flat_map, list_any}
 use Rattle.std.specs.List.Sorted.{IsStrictlySortedBy}
 use Rattle.std.specs.Option.{option_map}
 use Rattle.std.specs.Ordering.{eq_by_cmp, nat_cmp}
-use Rattle.std.specs.Prelude.{◌&&◌, ◌||◌, is_some, nat_le, nat_lt}
+use Rattle.std.specs.Prelude.{◌&&◌, ◌||◌, nat_le, nat_lt}
 use Rattle.std.specs.declared.cmp.Ordering.TheVariants.{Less}
 use Rattle.s38_base.specs.Limits.{body_limit}
 use Rattle.s38_base.specs.declared.page.Change.{Change}
 use Rattle.s38_base.specs.declared.page.Key.{Key}
 use Rattle.s38_base.specs.declared.page.Page.{Page}
-use Rattle.s38_closing.specs.Closing.{closing, kept_whole}
+use Rattle.s38_closing.specs.Closing.{closing}
 use Rattle.s38_closing.specs.Ensuring.{IsBehind, IsReached, is_ensured, journal_above, journal_ahead}
 use Rattle.s38_closing.specs.Passing.{last_number}
 use Rattle.s38_commitment_laws.specs.Right.{IsUnused}
@@ -28,13 +28,12 @@ use Rattle.s38_groups.specs.Stores.{first_fault}
 use Rattle.s38_image.specs.Faults.{ceiling_key}
 use Rattle.s38_image.specs.Fitting.{IsImage}
 use Rattle.s38_image.specs.declared.stored.Stored.{Stored}
-use Rattle.s38_keeping.proofs.SoFarLaws.{all_of}
 use Rattle.s38_kept_laws.proofs.StandLaws.{pages_of}
 use Rattle.s38_kept_laws.specs.Kept.{AreImages, HasParts, IsKeptOf}
 use Rattle.s38_put_laws.specs.Trails.{IsTrailOf}
 use Rattle.s38_restart.specs.Parts.{AreParts, all_parts}
 use Rattle.s38_rules.proofs.ChargeLaws.{found_number}
-use Rattle.s38_rules.specs.Held.{Held, disk_in, has_number, is_on_disk, object, object_in}
+use Rattle.s38_rules.specs.Held.{Held, has_number, is_on_disk, object, object_in}
 use Rattle.s38_rules.specs.Journaling.{data_port, data_port_in, is_journal, is_number, journal_behind, journal_for, journal_named}
 use Rattle.s38_rules.specs.Parts.{data_part, part_at, part_in, port_part}
 use Rattle.s38_rules.specs.State.{State}
@@ -43,18 +42,13 @@ use Rattle.s38_rules.specs.declared.object.Object.{Object}
 use Rattle.s38_state_laws.specs.Order.{AreInOrder}
 use Rattle.s38_vault.specs.Content.{Content}
 use Rattle.s38_vault.specs.Keys.{key_cmp}
-use Rattle.s38_restart_laws.specs.Ending.{IsWithJournals, mixed, mixed_of}
+use Rattle.s38_restart_laws.specs.Ending.{IsWithJournals, mixed}
 use Rattle.s38_restart_laws.specs.Restartable.{AreReady, IsRestartable}
-use Rattle.s38_restart_laws.specs.Restarting.{CanRestart, HasItsPages}
+use Rattle.s38_restart_laws.specs.Restarting.{CanRestart}
 use Rattle.s38_restart_laws.proofs.KindLaws.{apart_kinds, data_at_kind, journal_at_kind}
 use Rattle.s38_restart_laws.proofs.MixLaws.{found, mixed_at, mixed_can}
 use Rattle.s38_restart_laws.proofs.RestartLaws.{none_at_fault}
-
-number_itself : (n : ℕ) → (n == n) ≡ true
-number_itself n = grind (arith, nat_tests)
-
-number_same : (a b : ℕ) → (a == b) ≡ true → a ≡ b
-number_same a b h = grind (arith, nat_tests)
+use Rattle.s38_restart_laws.proofs.NumberLaws.{Above, itself, number_same}
 
 -- ---- all objects
 
@@ -83,9 +77,6 @@ closing_can s d is trail order ready images =
     subst CanRestart same (mixed_can s d is trail ready (λ n. true) (λ n journal on to. refl) order (subst AreImages (sym same) images))
 
 -- ---- the first objects
-
-abbrev Above : ℕ → List ℕ → Type 0
-Above n ns = AllByRecursion (λ k. nat_cmp n k ≡ Less) ns
 
 found_above : (k n : ℕ) (os : List Object) (o : Object) → Above k (map number_of os) → object_in os n ≡ Some o → k < n
 found_above k n [] o above at = absurd (let e : None ≡ Some o = at in cc)
@@ -213,7 +204,7 @@ module _ (h : Held) (ready : AreReady h) (unused : IsUnused h) where
         ahead o at number low true less =
             let own : journal_ahead h o.number.0 ≡ Some i =
             ap (journal_ahead h) number ∙ ap (journal_above h n) to ∙ ap (λ b. cond (b && is_on_disk h i) (Some i) None) less ∙ ap (λ b. cond (true && b) (Some i) None) on_disk in
-            later (nat_le i (last_number gone)) (any_found (λ x. is_number i (journal_ahead h x.number.0)) gone n o at (ap (is_number i) own ∙ number_itself i))
+            later (nat_le i (last_number gone)) (any_found (λ x. is_number i (journal_ahead h x.number.0)) gone n o at (ap (is_number i) own ∙ itself i))
         ahead o at number low false more = earlier (nat_le i (last_number gone)) _ (grind (arith, nat_tests))
 
         by : (o : (x : Object) × (object h n ≡ Some x)) → (c : Bool) → nat_le n (last_number gone) ≡ c → (c || list_any (λ x. is_number n (journal_ahead h x.number.0)) gone) ≡ true → ensured i ≡ true

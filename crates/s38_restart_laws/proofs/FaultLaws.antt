@@ -28,7 +28,7 @@ use Rattle.s38_rules.specs.declared.port.Port.{Port}
 use Rattle.s38_step_parts.proofs.KeptLaws.{kept_number}
 use Rattle.s38_restart_laws.specs.Restarting.{CanRestart, FitsAmong, is_kind_kept, is_kind_or_none, journal_kept, journal_kept_behind, stands_at_home}
 use Rattle.s38_restart_laws.proofs.GroupLaws.{group_of_stored, groups_kept}
-use Rattle.s38_restart_laws.proofs.NumberLaws.{IsKeptIn}
+use Rattle.s38_restart_laws.proofs.NumberLaws.{IsKeptIn, number_same}
 
 -- ---- tests
 
@@ -46,14 +46,8 @@ and_both false b h = absurd (let e : false ≡ true = h in cc)
 at_most : (a b : ℕ) → a ≤ b → nat_lt b a ≡ false
 at_most a b h = grind (arith, nat_tests)
 
-number_same : (a b : ℕ) → (a == b) ≡ true → a ≡ b
-number_same a b h = grind (arith, nat_tests)
-
 below : (a b : ℕ) → nat_lt a b ≡ true → a < b
 below a b h = grind (arith, nat_tests)
-
-same_stored : (a b : Stored) → Some a ≡ Some b → a ≡ b
-same_stored a b e = cc
 
 -- ---- the header that is read of an object
 

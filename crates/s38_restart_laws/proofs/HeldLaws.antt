@@ -65,7 +65,7 @@ sequence_most last _ = omega arith
 one_port : (p q : Port) → Some p ≡ Some q → p ≡ q
 one_port p q e = cc
 
-one_stored : (x y : Stored) → Some x ≡ Some y → x ≡ y
+pub one_stored : (x y : Stored) → Some x ≡ Some y → x ≡ y
 one_stored x y e = cc
 
 one_journal : (i j : JournalList) → Some i ≡ Some j → i ≡ j

@@ -1,33 +1,29 @@
 -- What is durable can restart where some objects were ensured at the end of a run, and the others are kept as they were.
-use Rattle.std.proofs.Common.{◌≡◌, ◌∙◌, ◌<◌, ◌≤◌, ◌==◌, ◌+◌, ℕ, Bool, true, false, cond, List, [], ◌∷◌, ◌++◌, Option, Some, None, map, length, refl, sym, ap, subst, arith}
+use Rattle.std.proofs.Common.{◌≡◌, ◌∙◌, ◌≤◌, ◌==◌, ◌+◌, ℕ, Bool, true, false, cond, List, [], ◌∷◌, ◌++◌, Option, Some, None, map, length, refl, sym, ap, subst, arith}
 use Rattle.std.proofs.lemmas.Bool.Decides.{nat_tests}
 use Rattle.std.proofs.lemmas.List.{length-append}
 use Rattle.std.proofs.lemmas.Map.Keys.{IsStrictlyIncreasing-from_sorted, sorted_from_strictly_increasing, sorted_head, sorted_tail}
-use Rattle.std.specs.List.{AllByRecursion, flat_map}
-use Rattle.std.specs.List.Sorted.{IsStrictlyIncreasing, IsStrictlySortedBy}
-use Rattle.std.specs.Option.{option_map, unwrap_or}
+use Rattle.std.specs.List.{flat_map}
+use Rattle.std.specs.List.Sorted.{IsStrictlySortedBy}
+use Rattle.std.specs.Option.{unwrap_or}
 use Rattle.std.specs.Ordering.{nat_cmp}
-use Rattle.std.specs.Prelude.{All, is_some}
+use Rattle.std.specs.Prelude.{is_some}
 use Rattle.std.specs.declared.cmp.Ordering.TheVariants.{Less}
 use Rattle.s38_base.specs.Limits.{machine_context}
 use Rattle.s38_base.specs.declared.id.Kind.TheVariants as kinds
-use Rattle.s38_base.specs.declared.id.Kind.{Kind}
-use Rattle.s38_closing.specs.Closing.{closing}
 use Rattle.s38_commits.specs.Units.{UnitMap}
 use Rattle.s38_durable.specs.Durable.{Durable, is_of, kept, last_in, whole_of}
-use Rattle.s38_durable.specs.Following.{Header, header_kept, header_of, number_of}
+use Rattle.s38_durable.specs.Following.{Header, header_kept, number_of}
 use Rattle.s38_image.specs.Settled.{settled_body}
 use Rattle.s38_image.specs.declared.stored.Stored.{Stored}
-use Rattle.s38_journals.specs.Entries.{Entry}
 use Rattle.s38_journals.specs.Journals.{JournalList}
 use Rattle.s38_kept_laws.proofs.FoundLaws.{found_all}
 use Rattle.s38_kept_laws.specs.Kept.{AreImages, IsKeptOf}
 use Rattle.s38_object_laws.specs.Well.{IsWell}
-use Rattle.s38_put_laws.specs.Trails.{IsTrailing, IsTrailOf}
+use Rattle.s38_put_laws.specs.Trails.{IsTrailOf}
 use Rattle.s38_restart.specs.Restarted.{number_in_stored}
 use Rattle.s38_rules.proofs.ChargeLaws.{found_number}
-use Rattle.s38_rules.specs.Creation.{is_of_kind}
-use Rattle.s38_rules.specs.Held.{Held, disk_in, has_number, is_on_disk, kind_of, object, object_in}
+use Rattle.s38_rules.specs.Held.{Held, has_number, is_on_disk, kind_of, object, object_in}
 use Rattle.s38_rules.specs.Journaling.{data_port, is_journal, journal_behind, journal_for, journal_named}
 use Rattle.s38_rules.specs.Parts.{data_of, data_part, journal_at, journal_of, journal_part, no_journal, part_at, part_in, port_of, port_part}
 use Rattle.s38_rules.specs.State.{State}
@@ -43,22 +39,17 @@ use Rattle.s38_restart_laws.specs.Restartable.{AreCounted, IsRestartable}
 use Rattle.s38_restart_laws.specs.Restarting.{CanRestart}
 use Rattle.s38_restart_laws.proofs.BehindLaws.{in_place, kept_kind, on_kept}
 use Rattle.s38_restart_laws.proofs.CanLaws.{IsFoundAs, Mirrors, can_by}
-use Rattle.s38_restart_laws.proofs.HeldLaws.{IsChain, chain_of, chain_to, port_settled, sequence_most, space_settled}
+use Rattle.s38_restart_laws.proofs.HeldLaws.{IsChain, chain_of, chain_to, one_stored, port_settled, sequence_most, space_settled}
 use Rattle.s38_restart_laws.proofs.KindLaws.{journal_body, journal_kind, port_body, port_kind}
 use Rattle.s38_restart_laws.proofs.LinkLaws.{named_in}
+use Rattle.s38_restart_laws.proofs.NumberLaws.{Above, itself}
 
 -- ---- what is kept under a number
-
-number_itself : (n : ℕ) → (n == n) ≡ true
-number_itself n = grind (arith, nat_tests)
 
 -- of each object nothing is kept, or what has its number
 data IsOneOf (n : ℕ) : List Stored → Type 0 where
   none : IsOneOf n []
   one : (x : Stored) → x.object.number.0 ≡ n → IsOneOf n (x ∷ [])
-
-abbrev Above : ℕ → List ℕ → Type 0
-Above n ns = AllByRecursion (λ k. nat_cmp n k ≡ Less) ns
 
 none_below : (n : ℕ) (os : List Object) → Above n (map number_of os) → object_in os n ≡ None
 none_below n [] above = refl
@@ -88,9 +79,9 @@ module _ (ensured : ℕ → Bool) (units : UnitMap) (h : Held) (old : List Store
   alone o = by (ensured o.number.0) (kept old o.number.0) refl
     where
       by : (b : Bool) (r : Option Stored) → kept old o.number.0 ≡ r → kept (cond b (whole_of units h o ∷ []) (kept_if_any r)) o.number.0 ≡ cond b (Some (whole_of units h o)) r
-      by true r is = ap (λ b. cond b (Some (whole_of units h o)) None) (number_itself o.number.0)
+      by true r is = ap (λ b. cond b (Some (whole_of units h o)) None) (itself o.number.0)
       by false None is = refl
-      by false (Some x) is = ap (λ b. cond b (Some x) None) (ap (λ (k : ℕ). k == o.number.0) (kept_number o.number.0 old x is) ∙ number_itself o.number.0)
+      by false (Some x) is = ap (λ b. cond b (Some x) None) (ap (λ (k : ℕ). k == o.number.0) (kept_number o.number.0 old x is) ∙ itself o.number.0)
 
   -- of another number nothing is found there
   passed : (k n : ℕ) (xs ys : List Stored) → IsOneOf k xs → (k == n) ≡ false → kept (xs ++ ys) n ≡ kept ys n
@@ -141,9 +132,6 @@ kind_settled : (units : UnitMap) (n : ℕ) (b : Body) → kind_of (settled_body 
 kind_settled units n (bodies.DataSpace d) = refl
 kind_settled units n (bodies.Journal j) = refl
 kind_settled units n _ = refl
-
-one_stored : (x y : Stored) → Some x ≡ Some y → x ≡ y
-one_stored x y e = cc
 
 -- an object that is kept as it stands, or as it was
 data IsKeptAs (ensured : ℕ → Bool) (units : UnitMap) (h : Held) (d : Durable) (n : ℕ) (x : Stored) (o : Object) : Type 0 where

@@ -15,7 +15,7 @@ use Rattle.s38_restart.specs.Restarted.{number_in_stored}
 abbrev pub has : ℕ → List ℕ → Bool
 has n xs = list_any (λ k. k == n) xs
 
-abbrev Above : ℕ → List ℕ → Type 0
+abbrev pub Above : ℕ → List ℕ → Type 0
 Above n xs = AllByRecursion (λ k. nat_cmp n k ≡ Less) xs
 
 none_has : (n : ℕ) (xs : List ℕ) → Above n xs → has n xs ≡ false
@@ -25,8 +25,11 @@ none_has n (x ∷ xs) above =
     let off : (x == n) ≡ false = grind (arith, nat_tests) in
     rw off (none_has n xs above.1)
 
-itself : (n : ℕ) → (n == n) ≡ true
+pub itself : (n : ℕ) → (n == n) ≡ true
 itself n = grind (arith, nat_tests)
+
+pub number_same : (a b : ℕ) → (a == b) ≡ true → a ≡ b
+number_same a b h = grind (arith, nat_tests)
 
 first_has : (x : ℕ) (xs : List ℕ) → has x (x ∷ xs) ≡ true
 first_has x xs = ap (λ b. b || has x xs) (itself x)

@@ -23,6 +23,7 @@ use Rattle.s38_rules.specs.declared.object.Body.{Body}
 use Rattle.s38_rules.specs.declared.port.Port.{Port}
 use Rattle.s38_vault.specs.Content.{Content}
 use Rattle.s38_restart_laws.specs.Restarting.{journal_kept, journal_kept_behind}
+use Rattle.s38_restart_laws.proofs.HeldLaws.{one_stored}
 
 first_none : (n : ℕ) (o : Option ℕ) (next : Option (ℕ × ℕ)) → or_next n o next ≡ None → (o ≡ None) × (next ≡ None)
 first_none n None next h = (refl, h)
@@ -38,9 +39,6 @@ at_most a b h = grind (arith, nat_tests)
 unless_none : (b : Bool) (part : ℕ) → cond b (Some part) None ≡ None → b ≡ false
 unless_none true part h = absurd (let e : Some part ≡ None = h in cc)
 unless_none false part h = refl
-
-one_stored : (x y : Stored) → Some x ≡ Some y → x ≡ y
-one_stored x y e = cc
 
 module _ (all : List Group) (limit ceiling : ℕ) where
   -- the body of a group that is at no fault is none beside the others
