@@ -21,3 +21,4 @@ pub mod CrashLaws
 pub mod MixLaws
 pub mod EndLaws
 pub mod ContentLaws
+pub mod InstallLaws

@@ -1,5 +1,5 @@
 //! Laws about what can be restarted.
-ghost use Rattle.std.specs.Prelude.{◌≡◌, ℕ, List, None, Option, true};
+ghost use Rattle.std.specs.Prelude.{◌≡◌, ℕ, List, None, Option, [], true};
 ghost use Rattle.s38_base.specs.Limits.{body_limit};
 ghost use Rattle.s38_base.specs.declared.exception.Exception.{Exception};
 ghost use Rattle.s38_base.specs.declared.id.Kind.TheVariants as kinds;
@@ -26,6 +26,7 @@ ghost use Rattle.s38_restart_laws.specs.Restarting.{CanRestart, HasItsPages, is_
 ghost use Rattle.s38_rules.specs.Forcing.{forced};
 ghost use Rattle.s38_rules.specs.Held.{Held};
 ghost use Rattle.s38_rules.specs.Legal.{IsEntry, Leads};
+ghost use Rattle.s38_rules.specs.Opening.{held_installed};
 ghost use Rattle.s38_rules.specs.Profiles.{officer};
 ghost use Rattle.s38_rules.specs.Room.{Room};
 ghost use Rattle.s38_rules.specs.State.{State};
@@ -50,11 +51,12 @@ pub fn what_can_restart_restarts()
     ensures stands { (m : Content) (d : Durable) → Stands m d → HasItsPages m d }
 {}
 
-/// What a state of a run needs, so that what is durable can restart, is so as the run begins over a content without a fault in
-/// which the security officer is a user, and it stays so behind each step, and so to the end of a history. Then what is
-/// durable in the state can restart where it can be read again and the objects of the state are in order. Behind the put of a
-/// ceiling what was durable still can.
+/// A store that was just installed can restart. What a state of a run needs, so that what is durable can, is so as the run
+/// begins over a content without a fault in which the security officer is a user, and it stays so behind each step, and so to
+/// the end of a history. Then what is durable in the state can restart where it can be read again and the objects of the state
+/// are in order. Behind the put of a ceiling what was durable still can.
 pub fn what_is_durable_can_restart()
+    ensures installed { CanRestart (closing [] held_installed) }
     ensures begins { (m : Content) (h : Held) (templates : List CheckedTemplate) (jobs : List Job) (room : Option Room) → AreParts (all_parts m) → first_fault body_limit (all_parts m) ≡ None
         → h ≡ restarted body_limit (all_parts m) → is_kind_kept kinds.Profile (kept (durable_in m).objects officer) ≡ true → IsRestartable (origin_of h templates jobs room) (durable_in m) }
     ensures read { (m : Content) → AreParts (all_parts m) → first_fault body_limit (all_parts m) ≡ None → is_kind_kept kinds.Profile (kept (durable_in m).objects officer) ≡ true → CanRestart (durable_in m) }

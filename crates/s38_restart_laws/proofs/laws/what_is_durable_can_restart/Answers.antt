@@ -8,8 +8,12 @@ use Rattle.s38_restart.specs.Parts.{all_parts}
 use Rattle.s38_rules.specs.Step.{step}
 use Rattle.s38_restart_laws.proofs.BeginLaws.{begins_can, begins_restartable}
 use Rattle.s38_restart_laws.proofs.CrashLaws.{can_in}
+use Rattle.s38_restart_laws.proofs.InstallLaws.{installed_can}
 use Rattle.s38_restart_laws.proofs.StepLaws.{done_raised, done_restartable, entry_restartable, history_restartable, other_restartable}
 use Rattle.s38_restart_laws.proofs.laws.what_is_durable_can_restart.Goals as goal
+
+pub returns-clause-installed : goal.returns-clause-installed
+returns-clause-installed c = installed_can
 
 pub returns-clause-begins : goal.returns-clause-begins
 returns-clause-begins c = λ m h templates jobs room are fault same user. begins_restartable m are fault (restarts body_limit (all_parts m) (omega arith) are fault) user h templates jobs room same
