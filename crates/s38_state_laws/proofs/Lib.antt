@@ -5,11 +5,11 @@ mod RowLaws
 mod LiveLaws
 pub mod FollowLaws
 pub mod LaterLaws
-mod FitLaws
+pub mod FitLaws
 mod WordLaws
-mod HeadLaws
+pub mod HeadLaws
 mod PlaceLaws
-mod SeenLaws
+pub mod SeenLaws
 mod BodyLaws
 mod BodyRowLaws
 mod OrderLaws

@@ -1,0 +1,3 @@
+pub mod Restarting
+pub mod Restartable
+pub mod Ending
