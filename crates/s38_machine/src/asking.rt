@@ -176,7 +176,11 @@ fn ask_authority(world: &mut Seen, act: Act<'_>, needs: &[Resolved]) -> Option<E
 }
 
 /// The first rule behind that of authority that an instruction fails.
-fn later_rules(core: &Core<Objects, Profiles>, act: Act<'_>, needs: &[Resolved]) -> Option<Exception>
+fn later_rules(
+    core: &Core<Objects, Profiles>,
+    act: Act<'_>,
+    needs: &[Resolved],
+) -> Option<Exception>
     requires { Each (IsResolved core.now.held act.request.now.operands) needs.now }
     ensures { result ≡ first (lock_rules core.now act.entry.process act.entry.request.now (needs_of needs.now)) ((row act.entry.request.now.op).fails core.now act.entry.process act.entry.depth act.entry.request.now) }
 {

@@ -245,7 +245,11 @@ fn ruled_verdict(world: &Core<Objects, Profiles>, process: u32, event: &Event) -
 }
 
 /// The exception of a permitted event for which the store has no room; none without a store.
-pub fn store_failure(world: &Core<Objects, Profiles>, process: u32, event: &Event) -> Option<Exception>
+pub fn store_failure(
+    world: &Core<Objects, Profiles>,
+    process: u32,
+    event: &Event,
+) -> Option<Exception>
     requires { FitsStore world.now }
     ensures { result ≡ store_rule world.now.room (forced world.now process event.now) (effect_of world.now process event.now).state.held.objects }
 {

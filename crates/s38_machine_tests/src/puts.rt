@@ -67,7 +67,11 @@ fn counted(alloc: Global) -> Result<(u64, usize, u64), Fail> {
     let first = visits(&machine);
     let done = puts_done(alloc, &mut machine)?;
     let last = visits(&machine);
-    Ok((first.saturating_sub(begun), done, last.saturating_sub(first)))
+    Ok((
+        first.saturating_sub(begun),
+        done,
+        last.saturating_sub(first),
+    ))
 }
 
 #[test]

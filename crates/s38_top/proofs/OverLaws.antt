@@ -9,8 +9,6 @@ use Rattle.s38_blocks.specs.declared.layout.Layout.{Layout}
 use Rattle.s38_base.specs.Limits.{body_limit}
 use Rattle.s38_close_put_laws.specs.Ending.{IsClosedTo, IsEnding as IsEndingOf, IsShort}
 use Rattle.s38_closed_laws.proofs.NamedLaws.{store_names}
-use Rattle.s38_closing.specs.Closing.{closing}
-use Rattle.s38_closing.specs.Ensuring.{IsLeft}
 use Rattle.s38_code.specs.declared.deck.Deck.{Deck}
 use Rattle.s38_code.specs.declared.deck.Job.{Job}
 use Rattle.s38_code.specs.declared.entry.Entry.{Entry}

@@ -75,8 +75,12 @@ asked_then w x t p a b = record { rest = both; steady = b.steady }
         ∙ set_twice w.places (p - 1) (place_of x p) (place_of t p)
 
     both : t ≡ record w { places = slice_set w.places (p - 1) (place_of t p); visits = t.visits }
-    both = rw (← states, ← (ap (λ (z : WorldState). z.authority) b.rest ∙ ap (λ (z : WorldState). z.authority) a.rest),
-        ← (ap (λ (z : WorldState). z.frames) b.rest ∙ ap (λ (z : WorldState). z.frames) a.rest), ← places) refl
+    both = rw (
+      ← states,
+      ← (ap (λ (z : WorldState). z.authority) b.rest ∙ ap (λ (z : WorldState). z.authority) a.rest),
+      ← (ap (λ (z : WorldState). z.frames) b.rest ∙ ap (λ (z : WorldState). z.frames) a.rest),
+      ← places,
+    ) refl
 
 -- the object of each place was given its number
 found_below : (places : List (Option Verified)) (k j next : ℕ) (x : Verified) → x.object.0 < next → ((v : Verified) → place_in (slice_get places j) ≡ Some v → v.object.0 < next)

@@ -87,8 +87,12 @@ owner_same (Some x) (Some y) s = ap (λ (g : Header). g.owner.0) s.header
 source_same : (h k : Held) (n user : ℕ) → IsSame (object h n) (object k n) → IsSameUser (object h user) (object k user) → source_by k n user ≡ source_by h n user
 unfolding source_by
 source_same h k n user s u =
-    rw (u.special, public_same (object h n) (object k n) s, row_same (object h n) (object k n) user s,
-    u.counted (row_in (object h n) user)) refl
+    rw (
+      u.special,
+      public_same (object h n) (object k n) s,
+      row_same (object h n) (object k n) user s,
+      u.counted (row_in (object h n) user),
+    ) refl
 
 sources_same : (h k : Held) (n : ℕ) (users : List ℕ) → IsSame (object h n) (object k n) → All (λ user. IsSameUser (object h user) (object k user)) users
     → sources_by k n users ≡ sources_by h n users
@@ -129,5 +133,7 @@ frame_same h k frame last so =
 pub adopted_same : (h k : Held) (frames : List ObjNum) → All (λ (f : ObjNum). AdoptsSo (object h f.0) (object k f.0)) frames → adopted k frames ≡ adopted h frames
 adopted_same h k [] each = refl
 adopted_same h k (frame ∷ more) each =
-    rw (frame_same h k frame (length more == 0) (All-head (λ (f : ObjNum). AdoptsSo (object h f.0) (object k f.0)) frame more each),
-    adopted_same h k more (All-tail (λ (f : ObjNum). AdoptsSo (object h f.0) (object k f.0)) frame more each)) refl
+    rw (
+      frame_same h k frame (length more == 0) (All-head (λ (f : ObjNum). AdoptsSo (object h f.0) (object k f.0)) frame more each),
+      adopted_same h k more (All-tail (λ (f : ObjNum). AdoptsSo (object h f.0) (object k f.0)) frame more each),
+    ) refl

@@ -231,23 +231,23 @@ begun_each : (w : WorldState) (p : ℕ) (y : Option ProcessEntry) → process_en
 begun_each w p None is user steady q live = by_place (IsBegun w (behind_start w p w.state) q) (q - 1) (p - 1)
     (λ same. absurd (no_process (process_entry w.state q) live (ap (λ (k : ℕ). slice_get w.state.processes k) same ∙ is)))
     (λ away. begun_other w (behind_start w p w.state) q steady refl refl (ap frames_in (get_set_other w.frames (p - 1) (q - 1) (begun_numbers (frames_of w p)) away))
-        (ap place_in (get_set_other w.places (p - 1) (q - 1) None away)) refl live)
+    (ap place_in (get_set_other w.places (p - 1) (q - 1) None away)) refl live)
   where
     no_process : (x : Option ProcessEntry) → is_live_in x ≡ true → x ≡ None → ⊥
     no_process None live none = cc
     no_process (Some x) live none = cc
 begun_each w p (Some e) is user steady q live = by_place (IsBegun w x q) (q - 1) (p - 1)
     (λ same.
-        let within : p - 1 < length w.state.processes = get_within w.state.processes (p - 1) e is in
-        let entry : process_entry t q ≡ Some begun = ap (λ (k : ℕ). slice_get t.processes k) same ∙ get_set_same w.state.processes (p - 1) begun within in
-        let frames : frames_of x q ≡ begun_numbers (frames_of w p) =
-        ap (λ (k : ℕ). frames_in (slice_get x.frames k)) same ∙ ap frames_in (get_set_same w.frames (p - 1) (begun_numbers (frames_of w p)) (omega (arith, within, steady.right.frames))) in
-        let place : place_of x q ≡ None =
-        ap (λ (k : ℕ). place_in (slice_get x.places k)) same ∙ ap place_in (get_set_same w.places (p - 1) None (omega (arith, within, steady.right.places))) in
-        fresh_begun w x q (frames_of w p) (ap (λ (z : Option ProcessEntry). stack_in (started_in z)) entry) frames place
-        (rw (ap (λ (z : Option ProcessEntry). user_in (started_in z)) entry) (user e refl)))
+    let within : p - 1 < length w.state.processes = get_within w.state.processes (p - 1) e is in
+    let entry : process_entry t q ≡ Some begun = ap (λ (k : ℕ). slice_get t.processes k) same ∙ get_set_same w.state.processes (p - 1) begun within in
+    let frames : frames_of x q ≡ begun_numbers (frames_of w p) =
+    ap (λ (k : ℕ). frames_in (slice_get x.frames k)) same ∙ ap frames_in (get_set_same w.frames (p - 1) (begun_numbers (frames_of w p)) (omega (arith, within, steady.right.frames))) in
+    let place : place_of x q ≡ None =
+    ap (λ (k : ℕ). place_in (slice_get x.places k)) same ∙ ap place_in (get_set_same w.places (p - 1) None (omega (arith, within, steady.right.places))) in
+    fresh_begun w x q (frames_of w p) (ap (λ (z : Option ProcessEntry). stack_in (started_in z)) entry) frames place
+    (rw (ap (λ (z : Option ProcessEntry). user_in (started_in z)) entry) (user e refl)))
     (λ away. begun_other w x q steady refl refl (ap frames_in (get_set_other w.frames (p - 1) (q - 1) (begun_numbers (frames_of w p)) away))
-        (ap place_in (get_set_other w.places (p - 1) (q - 1) None away)) (get_set_other w.state.processes (p - 1) (q - 1) begun away) live)
+    (ap place_in (get_set_other w.places (p - 1) (q - 1) None away)) (get_set_other w.state.processes (p - 1) (q - 1) begun away) live)
   where
     begun : ProcessEntry
     begun = record e { started = Some (started_as w.state.held e.job) }
@@ -304,10 +304,10 @@ start_steady w p y is user steady =
 end_stands : (s t : State) (p : ℕ) (x : ProcessEntry) → process_entry s p ≡ Some x → t.processes ≡ slice_set s.processes (p - 1) (record x { ended = true }) → StandSo s t
 end_stands s t p x is set q live = by_place (process_entry t q ≡ process_entry s q) (q - 1) (p - 1)
     (λ same.
-        let entry : process_entry t q ≡ Some (record x { ended = true }) =
-        ap (λ (xs : List ProcessEntry). slice_get xs (q - 1)) set ∙ ap (λ (k : ℕ). slice_get (slice_set s.processes (p - 1) (record x { ended = true })) k) same
-        ∙ get_set_same s.processes (p - 1) (record x { ended = true }) (get_within s.processes (p - 1) x is) in
-        absurd (no_end x.started (subst (λ (y : Option ProcessEntry). is_live_in y ≡ true) entry live)))
+    let entry : process_entry t q ≡ Some (record x { ended = true }) =
+    ap (λ (xs : List ProcessEntry). slice_get xs (q - 1)) set ∙ ap (λ (k : ℕ). slice_get (slice_set s.processes (p - 1) (record x { ended = true })) k) same
+    ∙ get_set_same s.processes (p - 1) (record x { ended = true }) (get_within s.processes (p - 1) x is) in
+    absurd (no_end x.started (subst (λ (y : Option ProcessEntry). is_live_in y ≡ true) entry live)))
     (λ away. ap (λ (xs : List ProcessEntry). slice_get xs (q - 1)) set ∙ get_set_other s.processes (p - 1) (q - 1) (record x { ended = true }) away)
   where
     no_end : (p : Option Started) → (is_some p && false) ≡ true → ⊥

@@ -49,17 +49,17 @@ numbers_apart ns k last within low given apart i j some more one two same other 
     let new = number_new ns k c within in
     three (i ≡ j) i k
     (λ le. three (i ≡ j) j k
-        (λ ge. apart i j some more (omega (arith, le, within)) (omega (arith, ge, within))
-            (omega (arith, number_before ns k i c le within, number_before ns k j c ge within, same))
-            (λ e. other (omega (arith, number_before ns k i c le within, e))))
-        (λ at. absurd (new_apart ns k last i within low given le (omega (arith, same, ap (λ m. number_at m (take k ns ++ c ∷ [])) at, new))
-            (λ e. other (omega (arith, same, ap (λ m. number_at m (take k ns ++ c ∷ [])) at, new, e)))))
-        (λ behind. absurd (omega (arith, behind, two))))
+    (λ ge. apart i j some more (omega (arith, le, within)) (omega (arith, ge, within))
+    (omega (arith, number_before ns k i c le within, number_before ns k j c ge within, same))
+    (λ e. other (omega (arith, number_before ns k i c le within, e))))
+    (λ at. absurd (new_apart ns k last i within low given le (omega (arith, same, ap (λ m. number_at m (take k ns ++ c ∷ [])) at, new))
+    (λ e. other (omega (arith, same, ap (λ m. number_at m (take k ns ++ c ∷ [])) at, new, e)))))
+    (λ behind. absurd (omega (arith, behind, two))))
     (λ here. three (i ≡ j) j k
-        (λ ge. absurd (new_apart ns k last j within low given ge (omega (arith, same, ap (λ m. number_at m (take k ns ++ c ∷ [])) here, new))
-            (λ e. other (omega (arith, ap (λ m. number_at m (take k ns ++ c ∷ [])) here, new, e)))))
-        (λ at. omega (arith, here, at))
-        (λ behind. absurd (omega (arith, behind, two))))
+    (λ ge. absurd (new_apart ns k last j within low given ge (omega (arith, same, ap (λ m. number_at m (take k ns ++ c ∷ [])) here, new))
+    (λ e. other (omega (arith, ap (λ m. number_at m (take k ns ++ c ∷ [])) here, new, e)))))
+    (λ at. omega (arith, here, at))
+    (λ behind. absurd (omega (arith, behind, two))))
     (λ behind. absurd (omega (arith, behind, one)))
 
 -- ---- a process with a new frame
@@ -112,20 +112,20 @@ new_right w x p k program v new low old right =
           parts.frame ∙ ap (λ j. number_at j (frames_of x p).numbers) used ∙ ap (λ (f : FrameNumbers). number_at (min d (suc k)) f.numbers) new.frames in
           three (v.rights.0 ≡ rights_anew x.state p d v.object.0) (min d (suc k)) k
           (λ le.
-              let depth = old_depth xs k d program new.within le in
-              let same : number_at (min d (suc k)) (take k ns ++ counted last ∷ []) ≡ number_at (min d (length xs)) ns = number_before ns k (min d (suc k)) (counted last) le within ∙ ap (λ j. number_at j ns) depth.0 in
-              let before : is_current w p d v.object.0 v ≡ true =
-              subst (λ (a : ℕ). is_for v.object.0 a (min d (length xs)) (number_at (min d (length xs)) ns) v ≡ true) new.authority
-              (subst (λ (n : ℕ). is_for v.object.0 x.authority (min d (length xs)) n v ≡ true) same
-              (subst (λ (j : ℕ). is_for v.object.0 x.authority j (number_at (min d (suc k)) (take k ns ++ counted last ∷ [])) v ≡ true) depth.0
-              (subst (λ (f : FrameNumbers). is_for v.object.0 x.authority (min d (suc k)) (number_at (min d (suc k)) f.numbers) v ≡ true) new.frames
-              (subst (λ (j : ℕ). is_for v.object.0 x.authority j (number_at j (frames_of x p).numbers) v ≡ true) used now)))) in
-              let frames : in_use d (stack_of x.state p) ≡ in_use d xs =
-              ap (λ j. take j (stack_of x.state p)) used ∙ ap (take (min d (suc k))) new.stack ∙ take_before xs k (min d (suc k)) program le new.within ∙ ap (λ j. take j xs) depth.0 in
-              let was : is_there w.state.held v.object.0 ≡ true = subst (λ (h : Held). is_there h v.object.0 ≡ true) new.held there in
-              right.rights d before was
-              ∙ sym (ap (λ (users : List ℕ). available x.state.held users v.object.0 0) (acting_framed w.state x.state p d new.held new.user frames)
-                ∙ ap (λ (h : Held). available h (acting w.state p d) v.object.0 0) new.held))
+          let depth = old_depth xs k d program new.within le in
+          let same : number_at (min d (suc k)) (take k ns ++ counted last ∷ []) ≡ number_at (min d (length xs)) ns = number_before ns k (min d (suc k)) (counted last) le within ∙ ap (λ j. number_at j ns) depth.0 in
+          let before : is_current w p d v.object.0 v ≡ true =
+          subst (λ (a : ℕ). is_for v.object.0 a (min d (length xs)) (number_at (min d (length xs)) ns) v ≡ true) new.authority
+          (subst (λ (n : ℕ). is_for v.object.0 x.authority (min d (length xs)) n v ≡ true) same
+          (subst (λ (j : ℕ). is_for v.object.0 x.authority j (number_at (min d (suc k)) (take k ns ++ counted last ∷ [])) v ≡ true) depth.0
+          (subst (λ (f : FrameNumbers). is_for v.object.0 x.authority (min d (suc k)) (number_at (min d (suc k)) f.numbers) v ≡ true) new.frames
+          (subst (λ (j : ℕ). is_for v.object.0 x.authority j (number_at j (frames_of x p).numbers) v ≡ true) used now)))) in
+          let frames : in_use d (stack_of x.state p) ≡ in_use d xs =
+          ap (λ j. take j (stack_of x.state p)) used ∙ ap (take (min d (suc k))) new.stack ∙ take_before xs k (min d (suc k)) program le new.within ∙ ap (λ j. take j xs) depth.0 in
+          let was : is_there w.state.held v.object.0 ≡ true = subst (λ (h : Held). is_there h v.object.0 ≡ true) new.held there in
+          right.rights d before was
+          ∙ sym (ap (λ (users : List ℕ). available x.state.held users v.object.0 0) (acting_framed w.state x.state p d new.held new.user frames)
+          ∙ ap (λ (h : Held). available h (acting w.state p d) v.object.0 0) new.held))
           (λ at. absurd (omega (arith, number, ap (λ j. number_at j (take k ns ++ counted last ∷ [])) at, number_new ns k (counted last) within, right.frame, low, parts.numbers)))
           (λ behind. absurd (omega (arith, behind)));
     }
@@ -157,7 +157,7 @@ same_right w x p v same right = record {
       let was : is_there w.state.held v.object.0 ≡ true = subst (λ (h : Held). is_there h v.object.0 ≡ true) same.held there in
       right.rights d before was
       ∙ sym (ap (λ (users : List ℕ). available x.state.held users v.object.0 0) (acting_framed w.state x.state p d same.held same.user (ap (in_use d) same.stack))
-        ∙ ap (λ (h : Held). available h (acting w.state p d) v.object.0 0) same.held);
+      ∙ ap (λ (h : Held). available h (acting w.state p d) v.object.0 0) same.held);
 }
 
 pub same_right_in : (w x : WorldState) (p : ℕ) (v : Option Verified) → HasSameFrames w x p → IsRightIn w p v → IsRightIn x p v

@@ -78,7 +78,7 @@ rights_left s t p d n leaves live user frames given low there =
     let acts = acting_so s t p d user frames (All-weaker (λ (f : ObjNum). f.0 < s.held.next) (λ (f : ObjNum). AdoptsSo (object s.held f.0) (object t.held f.0)) (λ f g. leaves.programs f.0 g) _ given) in
     ap (λ (users : List ℕ). available t.held users n 0) acts
     ∙ available_same s.held t.held (acting s p d) n 0 (leaves.objects n low there)
-      (acting_all (λ u. IsSameUser (object s.held u) (object t.held u)) s p d (leaves.users p live) leaves.owners)
+    (acting_all (λ u. IsSameUser (object s.held u) (object t.held u)) s p d (leaves.users p live) leaves.owners)
 
 -- ---- counts
 
@@ -136,7 +136,7 @@ place_kept w t a p v given (inl (stays, leaves)) live entry low right = record {
       let before = current_so w x p d v.object.0 v refl stays stack now in
       let was : is_there w.state.held v.object.0 ≡ true = sym (there_same (object w.state.held v.object.0) (object t.held v.object.0) (leaves.objects v.object.0 low there)) ∙ there in
       let same = rights_left w.state t p d v.object.0 leaves live (user_so w.state t p entry) (ap (in_use d) stack)
-          (used_all (λ (f : ObjNum). f.0 < w.state.held.next) (frames_used d (stack_of w.state p)) (stack_of w.state p) (given.programs p live)) low there in
+      (used_all (λ (f : ObjNum). f.0 < w.state.held.next) (frames_used d (stack_of w.state p)) (stack_of w.state p) (given.programs p live)) low there in
       right.rights d before was ∙ sym same;
 }
 

@@ -138,11 +138,11 @@ found_keeps w p d o visits right live some =
       numbers = λ q alive. let frames = right.numbers q alive in record { some = frames.some; each = frames.each; given = frames.given; apart = frames.apart };
       rights = λ q alive. by_place (IsRightIn (record w { places = new; visits = visits }) q (place_in (slice_get new (q - 1)))) (q - 1) (p - 1)
           (λ same.
-              let read : slice_get new (q - 1) ≡ Some (Some found) = ap (λ (k : ℕ). slice_get new k) same ∙ get_set_same w.places (p - 1) (Some found) low in
-              subst (λ (x : Option (Option Verified)). IsRightIn (record w { places = new; visits = visits }) q (place_in x)) (sym read)
-              (moved_right w new visits p q found same (found_right w p d o right live some)))
+          let read : slice_get new (q - 1) ≡ Some (Some found) = ap (λ (k : ℕ). slice_get new k) same ∙ get_set_same w.places (p - 1) (Some found) low in
+          subst (λ (x : Option (Option Verified)). IsRightIn (record w { places = new; visits = visits }) q (place_in x)) (sym read)
+          (moved_right w new visits p q found same (found_right w p d o right live some)))
           (λ other. subst (λ (x : Option (Option Verified)). IsRightIn (record w { places = new; visits = visits }) q (place_in x)) (sym (get_set_other w.places (p - 1) (q - 1) (Some found) other))
-              (moved_right_in w new visits q (place_of w q) (right.rights q alive)));
+          (moved_right_in w new visits q (place_of w q) (right.rights q alive)));
     }
 
 -- what is found now in the place already changes nothing

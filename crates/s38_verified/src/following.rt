@@ -18,7 +18,10 @@ use s38_rules::Table;
 fn is_of_authority(op: Op) -> bool
     ensures { result ≡ is_of_authority op }
 {
-    matches!(op, Op::Modup | Op::Grant | Op::Retract | Op::Xfro | Op::Despg)
+    matches!(
+        op,
+        Op::Modup | Op::Grant | Op::Retract | Op::Xfro | Op::Despg
+    )
 }
 
 /// Whether an instruction stores a frame.
@@ -53,7 +56,9 @@ impl<T: Table, P: CountedRows> World<T, P> {
         ensures { self.new ≡ record self.old { frames = with_new_frame self.old process self.old.state } }
     {
         let place = (process as usize).saturating_sub(1);
-        let behind = stack_of(&self.core.processes, process).len().saturating_sub(1);
+        let behind = stack_of(&self.core.processes, process)
+            .len()
+            .saturating_sub(1);
         renumber_at(&mut self.frames, place, behind);
     }
 

@@ -8,9 +8,9 @@ ghost use Rattle.s38_verified.specs.Numbers.{frames_in, last_count, number_at};
 ghost use Rattle.s38_verified.specs.Places.{ArePlacesRight, AreVisited, IsAsked, IsChecked, IsSteady, found_now, is_current_in, is_for, is_live, rights_anew, with_found};
 ghost use Rattle.s38_verified.specs.Worlds.{begun_world, frame_of, place_in, place_of};
 
+use crate::found::{Verified, Visits};
 use crate::numbers::{Numbers, no_numbers};
 use crate::rows::{is_live, read_rights, stack_of, user_of};
-use crate::found::{Verified, Visits};
 use s38_base::{NoMemory, ObjNum, Rights};
 use s38_invoke::Core;
 use s38_profiles::CountedRows;
@@ -82,7 +82,13 @@ fn rights_anew<T: Table, P: CountedRows>(
     let frames = stack_of(&core.processes, process);
     let used = frames.len().min(depth as usize);
     let before = core.profiles.visits();
-    let rights = read_rights(&core.objects, &mut core.profiles, object, user, &frames[..used]);
+    let rights = read_rights(
+        &core.objects,
+        &mut core.profiles,
+        object,
+        user,
+        &frames[..used],
+    );
     let after = core.profiles.visits();
     Read {
         rights,
@@ -119,7 +125,9 @@ impl<T: Table, P: CountedRows> World<T, P> {
     fn frames_used(&self, process: u32, depth: u16) -> usize
         ensures { result ≡ frames_used depth (stack_of self.now.state process) }
     {
-        stack_of(&self.core.processes, process).len().min(depth as usize)
+        stack_of(&self.core.processes, process)
+            .len()
+            .min(depth as usize)
     }
 
     /// How often authority changed; the count stands still at its last value.
@@ -229,13 +237,7 @@ impl<T: Table, P: CountedRows> World<T, P> {
 
     /// The rights that are available to a process on an object that is there, with those that a pointer carries.
     #[tactic(auto, using(crate::proofs::AskLaws::checked_asked), unfolding(s38_rules::specs::Authority::available))]
-    pub fn available(
-        &mut self,
-        process: u32,
-        depth: u16,
-        object: ObjNum,
-        carried: Rights,
-    ) -> Rights
+    pub fn available(&mut self, process: u32, depth: u16, object: ObjNum, carried: Rights) -> Rights
         requires live { is_live self.old.state process ≡ true }
         requires depth { 0 < depth }
         requires there { is_there self.old.state.held object.0 ≡ true }
