@@ -23,7 +23,7 @@ use crate::rows;
 use crate::verdicts::{of_failure, of_request, start_verdict, store_failure};
 use s38_authority::{available_on, is_governed, lacks_special, missing};
 use s38_base::exceptions::OWNERSHIP_REQUIRED;
-use s38_base::{Exception, ObjNum, Pointer, Rights};
+use s38_base::{Exception, ObjNum, Pointer, Rights, Special};
 use s38_code::Event;
 use s38_invoke::{Acting, Core, Profiles};
 use s38_objects::Objects;
@@ -44,15 +44,31 @@ fn governed(core: &Core<Objects, Profiles>, act: Act<'_>, number: ObjNum) -> boo
     is_governed(core, users.as_slice(), number)
 }
 
-/// The special authority that an instruction needs of an acting user.
+/// The exception of a process of which no acting user has a special authority.
 #[inline(never)]
+fn special_failure(
+    core: &Core<Objects, Profiles>,
+    act: Act<'_>,
+    special: Special,
+) -> Option<Exception>
+    ensures { result ≡ lacks_special core.now.held (acting core.now act.entry.process act.entry.depth) special.0 }
+{
+    let mut users = Acting::nobody();
+    core.act(act.process, act.depth, &mut users);
+    lacks_special(core, users.as_slice(), special)
+}
+
+/// The special authority that an instruction needs of an acting user. Where it needs none, nobody asks who acts.
+#[inline(always)]
+#[tactic(auto, unfolding(s38_rules::specs::Authority::lacks_special))]
 fn special_rule(core: &Core<Objects, Profiles>, act: Act<'_>) -> Option<Exception>
     ensures { result ≡ lacks_special core.now.held (acting core.now act.entry.process act.entry.depth) ((row act.entry.request.now.op).special core.now act.entry.process act.entry.depth act.entry.request.now) }
 {
     let special = rows::special(core, act);
-    let mut users = Acting::nobody();
-    core.act(act.process, act.depth, &mut users);
-    lacks_special(core, users.as_slice(), special)
+    if special.0 == 0 {
+        return None;
+    }
+    special_failure(core, act, special)
 }
 
 /// The rights that the rows say, for a process that does not live, or of an object that is gone.
