@@ -64,12 +64,15 @@ fn order_of(word: u32) -> Order
     }
 }
 
-/// How long the keys of a new queue are.
+/// How long the keys of a new queue are: those that do not order it are empty.
 fn key_len_at(operands: &[Operand]) -> u8
     ensures value { result ≡ key_len_at operands.now }
     ensures bound { result ≤ longest_key }
 {
-    whole_at(operands, 6).min(LONGEST_KEY) as u8
+    match order_of(word_at(operands, 5)) {
+        Order::Keyed => whole_at(operands, 6).min(LONGEST_KEY).max(1) as u8,
+        _ => 0,
+    }
 }
 
 /// How long the messages of a new queue may be.

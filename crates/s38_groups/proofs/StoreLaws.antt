@@ -2,7 +2,7 @@
 use Rattle.std.proofs.Common.{◌≡◌, ℕ, Bool, true, false, cond, not, List, refl, sym, ap}
 use Rattle.std.specs.Prelude.{Option, Some, None}
 use Rattle.s38_base.specs.declared.page.Change.{Change}
-use Rattle.s38_image.specs.Faults.{Group, ceiling_in, ceiling_key, first_by, first_of, first_under, is_on_disk, store_fault}
+use Rattle.s38_image.specs.Faults.{Group, ceiling_in, ceiling_key, first_by, first_of, first_under, has_first_user, is_on_disk, store_fault}
 use Rattle.s38_groups.specs.Groups.{groups, parts_of}
 use Rattle.s38_groups.specs.Stores.{first_fault, missing}
 
@@ -23,10 +23,10 @@ one_missing true false rest n h = let same : 2 ≡ n = cc in ap (λ (k : ℕ). S
 one_missing false b rest n h = let same : 1 ≡ n = cc in ap (λ (k : ℕ). Some (k, 0)) same
 
 pub under_all : (gs : List Group) (limit ceiling : ℕ) → missing gs ≡ None → first_under gs limit ceiling ≡ first_of gs limit ceiling gs
-under_all gs limit ceiling h = none_missing (is_on_disk gs 1) (is_on_disk gs 2) (first_of gs limit ceiling gs) h
+under_all gs limit ceiling h = none_missing (is_on_disk gs 1) (has_first_user gs) (first_of gs limit ceiling gs) h
 
 pub under_missing : (gs : List Group) (limit ceiling n : ℕ) → missing gs ≡ Some n → first_under gs limit ceiling ≡ Some (n, 0)
-under_missing gs limit ceiling n h = one_missing (is_on_disk gs 1) (is_on_disk gs 2) (first_of gs limit ceiling gs) n h
+under_missing gs limit ceiling n h = one_missing (is_on_disk gs 1) (has_first_user gs) (first_of gs limit ceiling gs) n h
 
 pub fault_by_ceiling : (limit : ℕ) (parts : List Change) (ceiling : Option ℕ) → ceiling ≡ ceiling_in (parts_of ceiling_key parts) → first_fault limit parts ≡ first_by (groups parts) limit ceiling
 unfolding store_fault

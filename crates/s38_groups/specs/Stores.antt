@@ -2,11 +2,13 @@
 use Rattle.std.specs.Prelude.{◌≡◌, ℕ, ◌+◌, ◌<◌, All, List, map, true, Option, Some, None, not, if◌then◌else◌}
 use Rattle.std.specs.Option.{unwrap_or}
 use Rattle.s38_base.specs.declared.page.Change.{Change}
-use Rattle.s38_image.specs.Faults.{Group, ceiling_in, ceiling_key, is_on_disk, store_fault}
+use Rattle.s38_base.specs.Limits.{machine_context}
+use Rattle.s38_image.specs.Faults.{Group, ceiling_in, ceiling_key, has_first_user, is_on_disk, store_fault}
 use Rattle.s38_image.specs.declared.fault.ImageFault.{ImageFault}
 use Rattle.s38_image.specs.declared.fault.ImageFault.TheVariants as faults
 use Rattle.s38_image.specs.declared.stored.Stored.{Stored}
 use Rattle.s38_objects.specs.Lawful.{IsLawful}
+use Rattle.s38_rules.specs.Profiles.{officer}
 use Rattle.s38_groups.specs.Groups.{groups, parts_of}
 use Rattle.s38_groups.specs.Readings.{all_sound, object_in_stored}
 
@@ -22,9 +24,9 @@ ceiling_of parts = unwrap_or (ceiling_in (parts_of ceiling_key parts)) 0
 abbrev pub stored_in : ℕ → List Change → List Stored
 stored_in limit parts = all_sound (groups parts) limit (ceiling_of parts)
 
--- the machine context, or the first user, if it has no header page
+-- the machine context, if it has no header page, or the first user, if it is not there
 abbrev pub missing : List Group → Option ℕ
-missing gs = if not (is_on_disk gs 1) then Some 1 else (if not (is_on_disk gs 2) then Some 2 else None)
+missing gs = if not (is_on_disk gs machine_context) then Some machine_context else (if not (has_first_user gs) then Some officer else None)
 
 -- a fault is the first one, unless memory was refused
 abbrev pub IsFirst : Option (ℕ × ℕ) → ImageFault → Type 0

@@ -18,7 +18,7 @@ fn is_kind(kind: Kind, header: Option<Header>) -> bool
 }
 
 /// Whether a header is there, and is one of another kind.
-fn is_other_kind(kind: Kind, header: Option<Header>) -> bool
+pub fn is_other_kind(kind: Kind, header: Option<Header>) -> bool
     ensures { result ≡ is_other_kind kind header }
 {
     match header {

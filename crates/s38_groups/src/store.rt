@@ -1,6 +1,6 @@
 //! All parts of a store: the first fault, or the objects that they hold.
 ghost use Rattle.std.specs.Prelude.{◌≡◌, ◌≤◌, None, IfErr, IfOk, OnOk};
-ghost use Rattle.s38_image.specs.Faults.{first_under};
+ghost use Rattle.s38_image.specs.Faults.{first_under, has_first_user};
 ghost use Rattle.s38_vault.specs.Content.{AreRising};
 ghost use Rattle.s38_groups.specs.Groups.{groups, removals};
 ghost use Rattle.s38_groups.specs.Readings.{all_sound};
@@ -8,9 +8,10 @@ ghost use Rattle.s38_groups.specs.Stores.{AreLawful, IsFirst, ceiling_of, first_
 
 use crate::ceiling::ceiling;
 use crate::groups::{CEILING_KEY, Groups};
+use crate::headers::is_other_kind;
 use crate::reading::Reading;
 use crate::strays::removals;
-use s38_base::{Change, limits};
+use s38_base::{Change, Kind, limits};
 use s38_image::{ImageFault, Stored};
 use std::alloc::Global;
 
@@ -30,14 +31,21 @@ pub struct Store {
     pub removals: Vec<Change>,
 }
 
-/// The machine context, or the first user, if it has no header page.
+/// Whether the first user is there, and no object of another kind in its place.
+fn has_first_user(groups: &Groups<'_>) -> bool
+    ensures { result ≡ has_first_user groups.now }
+{
+    groups.is_on_disk(FIRST_USER) && !is_other_kind(Kind::Profile, groups.header(FIRST_USER))
+}
+
+/// The machine context, if it has no header page, or the first user, if it is not there.
 fn missing(groups: &Groups<'_>) -> Option<u64>
     ensures { result ≡ missing groups.now }
 {
     if !groups.is_on_disk(limits::MACHINE_CONTEXT.0) {
         return Some(limits::MACHINE_CONTEXT.0);
     }
-    if !groups.is_on_disk(FIRST_USER) {
+    if !has_first_user(groups) {
         return Some(FIRST_USER);
     }
     None

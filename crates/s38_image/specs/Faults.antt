@@ -14,6 +14,7 @@ use Rattle.s38_image.specs.Pages.{read_parts, no_tags}
 use Rattle.s38_image.specs.declared.header.Header.{Header}
 use Rattle.s38_image.specs.declared.stored.Stored.{Stored}
 use Rattle.s38_rules.specs.Parts.{journal_of, port_of}
+use Rattle.s38_rules.specs.Profiles.{officer}
 use Rattle.s38_rules.specs.declared.object.Body.{Body}
 use Rattle.s38_rules.specs.declared.object.Body.TheVariants as bodies
 use Rattle.s38_rules.specs.declared.port.Port.{Port}
@@ -166,11 +167,15 @@ abbrev pub first_of : List Group → ℕ → ℕ → List Group → Option (ℕ 
 first_of gs limit ceiling [] = None
 first_of gs limit ceiling (g ∷ rest) = or_next g.number (fault_of gs limit ceiling g) (first_of gs limit ceiling rest)
 
+-- the first user is there: its header page, and no header of an object of another kind in its place
+abbrev pub has_first_user : List Group → Bool
+has_first_user gs = is_on_disk gs officer && not (is_other_kind kinds.Profile (header gs officer))
+
 -- the machine context and the first user come before all
 abbrev pub first_under : List Group → ℕ → ℕ → Option (ℕ × ℕ)
 first_under gs limit ceiling =
-    if not (is_on_disk gs 1) then Some (1, 0)
-    else (if not (is_on_disk gs 2) then Some (2, 0) else first_of gs limit ceiling gs)
+    if not (is_on_disk gs machine_context) then Some (machine_context, 0)
+    else (if not (has_first_user gs) then Some (officer, 0) else first_of gs limit ceiling gs)
 
 abbrev pub first_by : List Group → ℕ → Option ℕ → Option (ℕ × ℕ)
 first_by gs limit None = Some (ceiling_key, 0)

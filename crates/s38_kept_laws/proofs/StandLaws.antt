@@ -27,7 +27,7 @@ use Rattle.s38_groups.specs.Groups.{group_of, groups, is_header, is_of, is_stray
 use Rattle.s38_groups.specs.Stores.{ceiling_of, first_fault, stored_in}
 use Rattle.s38_image.proofs.ImageLaws.{object_exact}
 use Rattle.s38_image.proofs.PageLaws.{Reads, parts_exact}
-use Rattle.s38_image.specs.Faults.{Group, ceiling_in, ceiling_key, ceiling_page, first_by, first_of, first_under, group, header_at, is_bad_header, is_number, is_on_disk, sound, sound_by, store_fault}
+use Rattle.s38_image.specs.Faults.{Group, ceiling_in, ceiling_key, ceiling_page, first_by, first_of, first_under, group, has_first_user, header_at, is_bad_header, is_number, is_on_disk, sound, sound_by, store_fault}
 use Rattle.s38_image.specs.Fitting.{AreFine, AreWhole, IsImage}
 use Rattle.s38_image.specs.Images.{leading, object_of, rows_part}
 use Rattle.s38_image.specs.Pages.{bytes_of, cut, filled, needed, no_tags, numbered, stream}
@@ -258,7 +258,7 @@ record HasNone (limit : ℕ) (gs : List Group) (ceiling : Option ℕ) : Type 0 w
   pub none : first_of gs limit at gs ≡ None
 
 none_under : (gs : List Group) (limit ceiling : ℕ) → first_under gs limit ceiling ≡ None → first_of gs limit ceiling gs ≡ None
-none_under gs limit ceiling h = by (is_on_disk gs 1) (is_on_disk gs 2) h
+none_under gs limit ceiling h = by (is_on_disk gs 1) (has_first_user gs) h
   where
     by : (a b : Bool) → cond (not a) (Some (1, 0)) (cond (not b) (Some (2, 0)) (first_of gs limit ceiling gs)) ≡ None → first_of gs limit ceiling gs ≡ None
     by true true h = h

@@ -22,7 +22,7 @@ use Rattle.s38_groups.specs.Stores.{ceiling_of, first_fault, stored_in}
 use Rattle.s38_image.proofs.HeaderLaws.{at_most}
 use Rattle.s38_image.proofs.PageLaws.{parts_exact}
 use Rattle.s38_image.specs.Bodies.{body_bytes, body_tags}
-use Rattle.s38_image.specs.Faults.{Group, ceiling_in, ceiling_key, ceiling_mark, ceiling_page, first_by, first_of, first_under, is_ceiling, is_ceiling_mark, is_on_disk, store_fault}
+use Rattle.s38_image.specs.Faults.{Group, ceiling_in, ceiling_key, ceiling_mark, ceiling_page, first_by, first_of, first_under, has_first_user, is_ceiling, is_ceiling_mark, is_on_disk, store_fault}
 use Rattle.s38_image.specs.Fitting.{AreFine}
 use Rattle.s38_image.specs.Headers.{is_within, longest_body}
 use Rattle.s38_image.specs.Images.{header_of, image_of, leading, rows_part}
@@ -146,7 +146,7 @@ low_ceiling parts n fine e =
 on_disk_one : (gs : List Group) (limit ceiling : ℕ) → first_under gs limit ceiling ≡ None → is_on_disk gs 1 ≡ true
 on_disk_one gs limit ceiling h = by (is_on_disk gs 1) h
   where
-    by : (a : Bool) → cond (not a) (Some (1, 0)) (cond (not (is_on_disk gs 2)) (Some (2, 0)) (first_of gs limit ceiling gs)) ≡ None → a ≡ true
+    by : (a : Bool) → cond (not a) (Some (1, 0)) (cond (not (has_first_user gs)) (Some (2, 0)) (first_of gs limit ceiling gs)) ≡ None → a ≡ true
     by true h = refl
     by false h = absurd cc
 

@@ -15,7 +15,7 @@ use Rattle.s38_groups.specs.Groups.{group_of, groups, is_header, is_of, parts_of
 use Rattle.s38_groups.specs.Stores.{ceiling_of, first_fault, stored_in}
 use Rattle.s38_image.proofs.ImageLaws.{fault_ok, object_exact, then_ok}
 use Rattle.s38_image.specs.Bodies.{BodyImage}
-use Rattle.s38_image.specs.Faults.{Group, ceiling_in, ceiling_key, first_by, first_of, first_under, group, header, header_at, is_bad_header, is_kind, is_number, is_on_disk, sound, sound_by, store_fault}
+use Rattle.s38_image.specs.Faults.{Group, ceiling_in, ceiling_key, first_by, first_of, first_under, group, has_first_user, header, header_at, is_bad_header, is_kind, is_number, is_on_disk, sound, sound_by, store_fault}
 use Rattle.s38_image.specs.Fitting.{AreFine, AreWhole, IsImage}
 use Rattle.s38_image.specs.Headers.{is_within}
 use Rattle.s38_image.specs.Images.{◌>>>◌, after_leading, body_in, body_part, first_missing, header_in, leading, limited, made, object_of, or_fault, rows_in, rows_part, wanted, with_all, with_body, with_rows}
@@ -194,7 +194,7 @@ pub record HasNone (limit : ℕ) (gs : List Group) (ceiling : Option ℕ) : Type
   pub none : first_of gs limit at gs ≡ None
 
 none_under : (gs : List Group) (limit ceiling : ℕ) → first_under gs limit ceiling ≡ None → first_of gs limit ceiling gs ≡ None
-none_under gs limit ceiling h = by (is_on_disk gs 1) (is_on_disk gs 2) h
+none_under gs limit ceiling h = by (is_on_disk gs 1) (has_first_user gs) h
   where
     by : (a b : Bool) → cond (not a) (Some (1, 0)) (cond (not b) (Some (2, 0)) (first_of gs limit ceiling gs)) ≡ None → first_of gs limit ceiling gs ≡ None
     by true true h = h

@@ -29,11 +29,10 @@ fn contexts(world: &Core<Objects, Profiles>, act: Act<'_>) -> Forcings
     ensures { result ≡ forced_by world.now act.entry.process ((contexts_row act.entry.request.now.op).changes world.now act.entry.process act.entry.depth act.entry.request.now) }
 {
     let objects = &world.objects;
-    let number = number_at(world, act, 1);
     match act.request.op {
         Op::Crtctx => made(world, act, 2, false),
-        Op::Desctx => removed(objects, Kind::Context, number),
-        Op::Modadr | Op::Rename => followed(objects, number),
+        Op::Desctx => removed(objects, Kind::Context, number_at(world, act, 1)),
+        Op::Modadr | Op::Rename => followed(objects, number_at(world, act, 1)),
         _ => Forcings::none(),
     }
 }
@@ -44,11 +43,10 @@ fn profiles(world: &Core<Objects, Profiles>, act: Act<'_>) -> Forcings
     ensures { result ≡ forced_by world.now act.entry.process ((profiles_row act.entry.request.now.op).changes world.now act.entry.process act.entry.depth act.entry.request.now) }
 {
     let objects = &world.objects;
-    let number = number_at(world, act, 1);
     match act.request.op {
         Op::Crtup => made(world, act, 2, true),
-        Op::Desup => removed(objects, Kind::Profile, number),
-        Op::Modup => followed(objects, number),
+        Op::Desup => removed(objects, Kind::Profile, number_at(world, act, 1)),
+        Op::Modup => followed(objects, number_at(world, act, 1)),
         _ => Forcings::none(),
     }
 }
@@ -59,9 +57,8 @@ fn grants(world: &Core<Objects, Profiles>, act: Act<'_>) -> Forcings
     ensures { result ≡ forced_by world.now act.entry.process ((grants_row act.entry.request.now.op).changes world.now act.entry.process act.entry.depth act.entry.request.now) }
 {
     let objects = &world.objects;
-    let number = number_at(world, act, 1);
     match act.request.op {
-        Op::Grant | Op::Retract | Op::Xfro => followed(objects, number),
+        Op::Grant | Op::Retract | Op::Xfro => followed(objects, number_at(world, act, 1)),
         _ => Forcings::none(),
     }
 }
@@ -72,10 +69,9 @@ fn programs(world: &Core<Objects, Profiles>, act: Act<'_>) -> Forcings
     ensures { result ≡ forced_by world.now act.entry.process ((programs_row act.entry.request.now.op).changes world.now act.entry.process act.entry.depth act.entry.request.now) }
 {
     let objects = &world.objects;
-    let number = number_at(world, act, 1);
     match act.request.op {
         Op::Crtpg => made_program(world, act),
-        Op::Despg => removed(objects, Kind::Program, number),
+        Op::Despg => removed(objects, Kind::Program, number_at(world, act, 1)),
         _ => Forcings::none(),
     }
 }
@@ -86,10 +82,9 @@ fn spaces(world: &Core<Objects, Profiles>, act: Act<'_>) -> Forcings
     ensures { result ≡ forced_by world.now act.entry.process ((spaces_row act.entry.request.now.op).changes world.now act.entry.process act.entry.depth act.entry.request.now) }
 {
     let objects = &world.objects;
-    let number = number_at(world, act, 1);
     match act.request.op {
         Op::Crts => made(world, act, 3, false),
-        Op::Dess => removed(objects, Kind::Space, number),
+        Op::Dess => removed(objects, Kind::Space, number_at(world, act, 1)),
         _ => Forcings::none(),
     }
 }
@@ -100,10 +95,9 @@ fn queues(world: &Core<Objects, Profiles>, act: Act<'_>) -> Forcings
     ensures { result ≡ forced_by world.now act.entry.process ((queues_row act.entry.request.now.op).changes world.now act.entry.process act.entry.depth act.entry.request.now) }
 {
     let objects = &world.objects;
-    let number = number_at(world, act, 1);
     match act.request.op {
         Op::Crtq => made(world, act, 3, false),
-        Op::Desq => removed(objects, Kind::Queue, number),
+        Op::Desq => removed(objects, Kind::Queue, number_at(world, act, 1)),
         _ => Forcings::none(),
     }
 }
@@ -114,10 +108,9 @@ fn indexes(world: &Core<Objects, Profiles>, act: Act<'_>) -> Forcings
     ensures { result ≡ forced_by world.now act.entry.process ((indexes_row act.entry.request.now.op).changes world.now act.entry.process act.entry.depth act.entry.request.now) }
 {
     let objects = &world.objects;
-    let number = number_at(world, act, 1);
     match act.request.op {
         Op::Crtinx => made(world, act, 3, false),
-        Op::Desinx => removed(objects, Kind::Index, number),
+        Op::Desinx => removed(objects, Kind::Index, number_at(world, act, 1)),
         _ => Forcings::none(),
     }
 }
@@ -128,12 +121,11 @@ fn data_spaces(world: &Core<Objects, Profiles>, act: Act<'_>) -> Forcings
     ensures { result ≡ forced_by world.now act.entry.process ((data_spaces_row act.entry.request.now.op).changes world.now act.entry.process act.entry.depth act.entry.request.now) }
 {
     let objects = &world.objects;
-    let number = number_at(world, act, 1);
     match act.request.op {
         Op::Crtds => made(world, act, 3, false),
         Op::Crtcr => made(world, act, 3, false),
-        Op::Desds => removed(objects, Kind::DataSpace, number),
-        Op::Descr => removed(objects, Kind::Cursor, number),
+        Op::Desds => removed(objects, Kind::DataSpace, number_at(world, act, 1)),
+        Op::Descr => removed(objects, Kind::Cursor, number_at(world, act, 1)),
         Op::Insdsen => changed(world, insertion(world, act)),
         Op::Updsen => changed(world, update(world, act)),
         Op::Deldsen => changed(world, deletion(world, act)),
@@ -147,17 +139,16 @@ fn journals(world: &Core<Objects, Profiles>, act: Act<'_>) -> Forcings
     ensures { result ≡ forced_by world.now act.entry.process ((journals_row act.entry.request.now.op).changes world.now act.entry.process act.entry.depth act.entry.request.now) }
 {
     let objects = &world.objects;
-    let number = number_at(world, act, 1);
     match act.request.op {
         Op::Crtjs => made(world, act, 3, false),
         Op::Crtjp => made(world, act, 3, false),
         Op::Crtcb => made(world, act, 3, false),
-        Op::Desjs => removed(objects, Kind::Journal, number),
-        Op::Desjp => removed(objects, Kind::Port, number),
-        Op::Descb => removed(objects, Kind::Block, number),
-        Op::Jrnlobj => journaled(world, number, number_at(world, act, 2)),
-        Op::Commit => committed(world, number),
-        Op::Ensobj => ensured(world, number),
+        Op::Desjs => removed(objects, Kind::Journal, number_at(world, act, 1)),
+        Op::Desjp => removed(objects, Kind::Port, number_at(world, act, 1)),
+        Op::Descb => removed(objects, Kind::Block, number_at(world, act, 1)),
+        Op::Jrnlobj => journaled(world, number_at(world, act, 1), number_at(world, act, 2)),
+        Op::Commit => committed(world, number_at(world, act, 1)),
+        Op::Ensobj => ensured(world, number_at(world, act, 1)),
         _ => Forcings::none(),
     }
 }

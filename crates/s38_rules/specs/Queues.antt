@@ -46,10 +46,13 @@ crtq_fails s p ops = creation_fails s.held (user_of s p) (created_queue s.held o
 abbrev pub order_of : ℕ → Order
 order_of word = if word == 1 then Lifo else (if word == 2 then Keyed else Fifo)
 
--- keys of at most 120 bytes and messages of 1 to 4,096; another number, which a checked program does not have, is
--- brought there
+-- keys of 1 to 120 bytes where they order the queue, and else none, and messages of 1 to 4,096; another number, which a
+-- checked program does not have, is brought there
+abbrev pub key_len_of : Order → ℕ → ℕ
+key_len_of order len = if is_keyed order then max 1 (min longest_key len) else 0
+
 abbrev pub key_len_at : List Operand → ℕ
-key_len_at ops = min longest_key (whole_at ops 6)
+key_len_at ops = key_len_of (order_of (word_at ops 5)) (whole_at ops 6)
 
 abbrev pub longest_at : List Operand → ℕ
 longest_at ops = max 1 (min longest_message (whole_at ops 7))

@@ -31,7 +31,7 @@ use Rattle.s38_memory.specs.Tagged.{resized}
 use Rattle.s38_memory.specs.declared.cell.Cell.{Cell}
 use Rattle.s38_openings.specs.Bodies.{IsIndex, IsMessageOf, IsQueue, IsShortTable, IsSpace}
 use Rattle.s38_queues.specs.MessageQueue as queues
-use Rattle.s38_queues.specs.MessageQueue.{MessageQueue, longest_key, message, with_message, without_place}
+use Rattle.s38_queues.specs.MessageQueue.{MessageQueue, is_keyed, longest_key, message, with_message, without_place}
 use Rattle.s38_queues.specs.declared.message.Message.{Message}
 use Rattle.s38_rules.proofs.RoomLaws.{permitted_by_rules}
 use Rattle.s38_rules.proofs.RuleLaws.{fails_none, first_none, not_false}
@@ -92,21 +92,22 @@ under a b h = grind (arith, nat_tests)
 
 new_queue_so : (limit : ℕ) (ops : List Operand) → IsLimit limit → IsQueue limit (new_queue ops)
 new_queue_so limit ops is = record {
-  key = low longest_key (whole_at ops 6);
+  key = low (is_keyed (new_queue ops).order) (whole_at ops 6);
   some = some longest_message (whole_at ops 7);
   most = most longest_message (whole_at ops 7) (omega arith);
   messages = All-nil (IsMessageOf (new_queue ops).key_len (new_queue ops).longest);
   image = omega (arith, is);
 }
   where
-    low : (a b : ℕ) → min a b ≤ a
-    low a b = grind (arith, nat_tests)
-
     some : (a b : ℕ) → 1 ≤ max 1 (min a b)
     some a b = grind (arith, nat_tests)
 
     most : (a b : ℕ) → 1 ≤ a → max 1 (min a b) ≤ a
     most a b one = grind (arith, nat_tests, one)
+
+    low : (keyed : Bool) (n : ℕ) → cond keyed (max 1 (min longest_key n)) 0 ≤ longest_key
+    low true n = grind (arith, nat_tests)
+    low false n = omega arith
 
 new_index_so : (limit : ℕ) (ops : List Operand) → IsLimit limit → IsIndex limit (new_index ops)
 new_index_so limit ops is = record { some = some longest_entry (whole_at ops 5); most = most longest_entry (whole_at ops 5) (omega arith); short = tt; rising = tt; image = omega (arith, is) }
