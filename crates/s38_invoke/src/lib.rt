@@ -10,6 +10,7 @@ mod starts;
 mod users;
 
 pub use core_state::Core;
+pub use processes::{entry_in, stack_in, started_in, user_in};
 pub use s38_profiles::Profiles;
 pub use starts::{end, start, start_failure};
-pub use users::Acting;
+pub use users::{Acting, adoption_of, frame_header};

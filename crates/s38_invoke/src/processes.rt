@@ -9,13 +9,15 @@ use crate::core_state::Core;
 use s38_base::{NoMemory, ObjNum, UserNum};
 use s38_rules::{ProcessEntry, Started, Table, UserMaps};
 
-fn entry_in(entries: &[ProcessEntry], process: u32) -> Option<&ProcessEntry>
+/// How far the process of a number has come.
+pub fn entry_in(entries: &[ProcessEntry], process: u32) -> Option<&ProcessEntry>
     ensures { option_copied result ≡ slice_get entries.now (process - 1) }
 {
     entries.get((process as usize).saturating_sub(1))
 }
 
-fn started_in(entry: Option<&ProcessEntry>) -> Option<&Started>
+/// The start of a process, none where it has not started.
+pub fn started_in(entry: Option<&ProcessEntry>) -> Option<&Started>
     ensures { option_copied result ≡ started_in (option_copied entry.entry) }
 {
     match entry {
@@ -24,7 +26,8 @@ fn started_in(entry: Option<&ProcessEntry>) -> Option<&Started>
     }
 }
 
-fn user_in(started: Option<&Started>) -> UserNum
+/// The user of a started process, 0 for none.
+pub fn user_in(started: Option<&Started>) -> UserNum
     ensures { result.0 ≡ user_in (option_copied started.entry) }
 {
     match started {
@@ -42,7 +45,8 @@ fn contexts_in(started: Option<&Started>) -> &[ObjNum]
     }
 }
 
-fn stack_in(started: Option<&Started>) -> &[ObjNum]
+/// The programs of a started process's invocations, the newest last; none for another.
+pub fn stack_in(started: Option<&Started>) -> &[ObjNum]
     ensures value { result.now ≡ stack_in (option_copied started.entry) }
     ensures few { length result.now ≤ most_frames }
 {

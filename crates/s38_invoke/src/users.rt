@@ -58,7 +58,7 @@ impl Acting {
 }
 
 /// What is said of the program of a frame: nothing of the job's own template, nor of a program that is gone.
-fn frame_header<T: Table>(objects: &T, frame: ObjNum) -> Option<Header>
+pub fn frame_header<T: Table>(objects: &T, frame: ObjNum) -> Option<Header>
     ensures { result ≡ frame_header (T.held objects.now) frame }
 {
     if frame.0 == 0 {
@@ -69,7 +69,7 @@ fn frame_header<T: Table>(objects: &T, frame: ObjNum) -> Option<Header>
 }
 
 /// The owner of an adopting program, where it is the last that counts or passes its adoption on.
-fn adoption_of(last: bool, program: Option<Header>) -> Option<UserNum>
+pub fn adoption_of(last: bool, program: Option<Header>) -> Option<UserNum>
     ensures { option_map (λ u. u.0) result ≡ adoption_of last program }
 {
     match program {

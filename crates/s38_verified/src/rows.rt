@@ -1,19 +1,19 @@
 //! The rights that the acting users bring to an object, read from their rows; each visit of a row is counted.
 ghost use Rattle.std.specs.Prelude.{◌≡◌, ◌-◌, ◌≤◌, ◌∷◌, length, slice_get, true};
-ghost use Rattle.std.specs.Option.{option_copied, option_map};
 ghost use Rattle.s38_rules.specs.Authority.{available, source_by, sources_by};
 ghost use Rattle.s38_rules.specs.Headers.{public_in};
 ghost use Rattle.s38_rules.specs.Held.{is_there, object};
 ghost use Rattle.s38_rules.specs.Invocations.{most_frames, stack_in};
 ghost use Rattle.s38_rules.specs.Kept.{Mirrors};
 ghost use Rattle.s38_rules.specs.State.{started_in};
-ghost use Rattle.s38_rules.specs.Users.{adopted, adoption_of, frame_header, user_in};
+ghost use Rattle.s38_rules.specs.Users.{adopted, user_in};
 ghost use Rattle.s38_verified.specs.Places.{is_live_in, visited};
 
 use s38_authority::has_rights;
 use s38_base::{ObjNum, Rights, Special, UserNum};
+use s38_invoke::{adoption_of, entry_in, frame_header, stack_in, started_in, user_in};
 use s38_profiles::CountedRows;
-use s38_rules::{Header, ProcessEntry, Started, Table};
+use s38_rules::{ProcessEntry, Table};
 
 /// The rights that a user brings to an object with these rights of everybody. Its row is visited.
 #[tactic(auto, using(crate::proofs::VisitLaws::mirrors_visited), unfolding(s38_rules::specs::Authority::source_by))]
@@ -37,33 +37,6 @@ fn source_by<T: Table, P: CountedRows>(
         255
     } else {
         public.0 | row.0
-    }
-}
-
-/// What is said of the program of a frame: nothing of the job's own template, nor of a program that is gone.
-fn frame_header<T: Table>(objects: &T, frame: ObjNum) -> Option<Header>
-    ensures { result ≡ frame_header (T.held objects.now) frame }
-{
-    if frame.0 == 0 {
-        None
-    } else {
-        objects.header(frame)
-    }
-}
-
-/// The owner of an adopting program, where it is the last that counts or passes its adoption on.
-fn adoption_of(last: bool, program: Option<Header>) -> Option<UserNum>
-    ensures { option_map (λ u. u.0) result ≡ adoption_of last program }
-{
-    match program {
-        None => None,
-        Some(program) => {
-            if program.adopts && (last || program.propagates) {
-                Some(program.owner)
-            } else {
-                None
-            }
-        }
     }
 }
 
@@ -92,41 +65,6 @@ fn adopted_sources<T: Table, P: CountedRows>(
                 }
             }
         }
-    }
-}
-
-/// How far the process of a number has come.
-fn entry_in(processes: &[ProcessEntry], process: u32) -> Option<&ProcessEntry>
-    ensures { option_copied result ≡ slice_get processes.now (process - 1) }
-{
-    processes.get((process as usize).saturating_sub(1))
-}
-
-fn started_in(entry: Option<&ProcessEntry>) -> Option<&Started>
-    ensures { option_copied result ≡ started_in (option_copied entry.entry) }
-{
-    match entry {
-        None => None,
-        Some(entry) => entry.started.as_ref(),
-    }
-}
-
-fn user_in(started: Option<&Started>) -> UserNum
-    ensures { result.0 ≡ user_in (option_copied started.entry) }
-{
-    match started {
-        None => ObjNum(0),
-        Some(started) => started.user,
-    }
-}
-
-fn stack_in(started: Option<&Started>) -> &[ObjNum]
-    ensures value { result.now ≡ stack_in (option_copied started.entry) }
-    ensures few { length result.now ≤ most_frames }
-{
-    match started {
-        None => &[],
-        Some(started) => started.stack.as_slice(),
     }
 }
 
