@@ -23,7 +23,7 @@ use Rattle.s38_rules.specs.declared.object.Body.{Body}
 use Rattle.s38_rules.specs.declared.object.Object.{Object}
 use Rattle.s38_step_parts.proofs.KeptLaws.{user_followed}
 use Rattle.s38_step_parts.specs.Stepping.{HasHeader}
-use Rattle.s38_kept_laws.specs.Kept.{IsFront}
+use Rattle.s38_readable.specs.Readable.{IsFront}
 use Rattle.s38_kept_laws.proofs.LongLaws.{read_long}
 
 -- ---- users

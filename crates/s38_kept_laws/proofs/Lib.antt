@@ -21,3 +21,4 @@ pub mod ExtentLaws
 pub mod RoomLaws
 pub mod FindLaws
 pub mod HoldLaws
+pub mod ReadableLaws

@@ -13,11 +13,11 @@ use Rattle.s38_commitment_laws.specs.Right.{IsRight}
 use Rattle.s38_durable.specs.Durable.{Durable, kept, whole}
 use Rattle.s38_durable.specs.Following.{AreRising, Counts, Follows, number_of}
 use Rattle.s38_durable.specs.Stands.{parts_end}
-use Rattle.s38_image.specs.Fitting.{IsImage, header_codec, rows_codec}
+use Rattle.s38_image.specs.Fitting.{IsImage}
 use Rattle.s38_image.specs.declared.stored.Stored.{Stored}
-use Rattle.s38_image_printing.specs.Parts.{header_with}
 use Rattle.s38_object_laws.specs.Outline.{is_forced}
 use Rattle.s38_object_laws.specs.Well.{AreWell}
+use Rattle.s38_readable.specs.Readable.{IsFront}
 use Rattle.s38_rules.specs.Forcing.{Forced, forced, is_whole}
 use Rattle.s38_rules.specs.Held.{Held, kind_of, object}
 use Rattle.s38_rules.specs.Parts.{profile_of}
@@ -64,11 +64,6 @@ HasParts m = (key : Key) → contains_key (keys_of m) key ≡ true → key.part 
 -- all that is kept can be
 abbrev pub AreImages : Durable → Type 0
 AreImages d = (n : ℕ) (x : Stored) → kept d.objects n ≡ Some x → IsImage body_limit x
-
--- header and rows can be, however long the body is
-pub record IsFront (o : Object) : Type 0 where
-  pub header : (len : ℕ) → len ≤ 16777216 → header_codec.fits (header_with o len) ≡ true
-  pub rows : (rows_codec (length o.rows)).fits o.rows ≡ true
 
 -- what a step has the store keep anew can be: of the objects on disk those that are kept whole, users, and what is kept of
 -- the others beside their bodies

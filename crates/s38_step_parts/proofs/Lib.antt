@@ -1,4 +1,3 @@
-pub mod HeaderLaws
 pub mod NumberLaws
 pub mod BothLaws
 pub mod NarrowLaws

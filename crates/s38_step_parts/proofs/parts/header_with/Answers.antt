@@ -1,6 +1,6 @@
 use Rattle.std.proofs.Common.{◌<◌, ◌^◌, arith, rules}
 use Rattle.s38_image.specs.declared.header.Header.{Header}
-use Rattle.s38_step_parts.proofs.HeaderLaws.{header_fits}
+use Rattle.s38_readable.proofs.HeaderLaws.{header_fits}
 use Rattle.s38_step_parts.proofs.parts.header_with.Goals as goal
 
 pub returns-clause-fits : goal.returns-clause-fits

@@ -1,0 +1,4 @@
+pub mod WordLaws
+pub mod RowLaws
+pub mod RestartLaws
+pub mod HistoryLaws

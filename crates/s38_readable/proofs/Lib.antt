@@ -1,0 +1,13 @@
+pub mod ListLaws
+pub mod QueueLaws
+pub mod IndexLaws
+pub mod ScalarLaws
+pub mod SpaceLaws
+pub mod JournalLaws
+pub mod DataLaws
+pub mod HeaderLaws
+pub mod RowLaws
+pub mod ImageLaws
+pub mod TemplateLaws
+pub mod FoundLaws
+pub mod LastLaws
