@@ -41,6 +41,11 @@ first_images : (d : Durable) (s : State) (es : List Entry) → AllImages d s es 
 first_images d s [] all = all
 first_images d s (e ∷ es) all = all.0
 
+-- and the last
+pub last_images : (d : Durable) (s : State) (es : List Entry) → AllImages d s es → AreImages (durable d s es)
+last_images d s [] all = all
+last_images d s (e ∷ es) all = last_images (after_reply d s e e.reply) (step s e.process e.event).state es all.1
+
 -- with the ceiling of the same state
 same_raised : (s t : State) (d : Durable) → t.held ≡ s.held → IsKeptOf s d → CanRestart d → CanRestart (raised d t)
 same_raised s t d same is can =

@@ -6,8 +6,9 @@ use Rattle.std.specs.List.{flat_map, list_any}
 use Rattle.std.specs.List.Sorted.{IsStrictlySortedBy}
 use Rattle.std.specs.Option.{option_map}
 use Rattle.std.specs.Ordering.{nat_cmp}
-use Rattle.std.specs.Prelude.{◌&&◌, ◌||◌, nat_le, nat_lt}
+use Rattle.std.specs.Prelude.{◌&&◌, ◌||◌, All, nat_le, nat_lt}
 use Rattle.std.specs.declared.cmp.Ordering.TheVariants.{Less}
+use Rattle.s38_base.specs.Limits.{body_limit}
 use Rattle.s38_closing.specs.Closing.{closing}
 use Rattle.s38_closing.specs.Ensuring.{is_ensured, journal_above, journal_ahead}
 use Rattle.s38_closing.specs.Passing.{last_number}
@@ -16,9 +17,15 @@ use Rattle.s38_commits.specs.Units.{UnitMap}
 use Rattle.s38_committed.proofs.LinkLaws.{behind_there}
 use Rattle.s38_durable.specs.Durable.{Durable, kept, whole_of}
 use Rattle.s38_durable.specs.Following.{number_of}
+use Rattle.s38_image.specs.Fitting.{IsImage}
 use Rattle.s38_image.specs.declared.stored.Stored.{Stored}
+use Rattle.s38_image_printing.specs.Parts.{CanSettle}
+use Rattle.s38_kept_laws.proofs.FoundLaws.{found_all}
 use Rattle.s38_kept_laws.specs.Kept.{AreImages, IsKeptOf}
+use Rattle.s38_openings.specs.Bodies.{HoldsBody}
 use Rattle.s38_put_laws.specs.Trails.{IsTrailOf}
+use Rattle.s38_readable.proofs.LastLaws.{whole_again}
+use Rattle.s38_readable.specs.Readable.{IsReadable}
 use Rattle.s38_rules.specs.Held.{Held, has_number, is_on_disk, object, object_in}
 use Rattle.s38_rules.specs.Journaling.{data_port, data_port_in, is_journal, is_number, journal_behind, journal_for, journal_named}
 use Rattle.s38_rules.specs.Parts.{data_part, part_at, part_in, port_part}
@@ -58,6 +65,19 @@ pub closing_can : (s : State) (d : Durable) → IsKeptOf s d → IsTrailOf s d �
 closing_can s d is trail order ready images =
     let same = all_mixed s.units s.held d in
     subst CanRestart same (mixed_can s d is trail ready (λ n. true) (λ n journal on to. refl) order (subst AreImages (sym same) images))
+
+-- each can be read again
+pub closing_images : (s : State) → All (HoldsBody body_limit) s.held.objects → All (λ o. CanSettle s.units o.number.0 o.body) s.held.objects → All IsReadable s.held.objects → AreImages (closing s.units s.held)
+closing_images s bodies settles again n x at = by (object s.held n) refl (sym (closing_found s.units s.held n) ∙ at)
+  where
+    same : (y : Stored) → Some y ≡ Some x → y ≡ x
+    same y e = cc
+
+    by : (r : Option Object) → object s.held n ≡ r → option_map (whole_of s.units s.held) r ≡ Some x → IsImage body_limit x
+    by None there e = absurd (let g : None ≡ Some x = e in cc)
+    by (Some o) there e =
+        subst (IsImage body_limit) (same (whole_of s.units s.held o) e)
+        (whole_again s o bodies (found_all (λ y. CanSettle s.units y.number.0 y.body) s.held.objects n o settles there) (found_all IsReadable s.held.objects n o again there))
 
 -- ---- the first objects
 

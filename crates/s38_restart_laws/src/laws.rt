@@ -1,5 +1,5 @@
 //! Laws about what can be restarted.
-ghost use Rattle.std.specs.Prelude.{◌≡◌, ◌≤◌, ◌++◌, ℕ, List, None, Option, [], true};
+ghost use Rattle.std.specs.Prelude.{◌≡◌, ◌≤◌, ◌++◌, ℕ, All, List, None, Option, [], true};
 ghost use Rattle.s38_base.specs.Limits.{body_limit};
 ghost use Rattle.s38_base.specs.declared.exception.Exception.{Exception};
 ghost use Rattle.s38_base.specs.declared.id.Kind.TheVariants as kinds;
@@ -13,10 +13,13 @@ ghost use Rattle.s38_code.specs.declared.reply.Val.{Val};
 ghost use Rattle.s38_durable.specs.Durable.{Durable, after_reply, closed, durable, durable_after, kept};
 ghost use Rattle.s38_durable.specs.Stands.{Stands};
 ghost use Rattle.s38_groups.specs.Stores.{first_fault};
+ghost use Rattle.s38_image_printing.specs.Parts.{CanSettle};
 ghost use Rattle.s38_kept_laws.specs.Beginning.{durable_in, origin_of};
 ghost use Rattle.s38_kept_laws.specs.Crashes.{IsLeftBehind};
 ghost use Rattle.s38_kept_laws.specs.Kept.{AreImages, HasParts, IsKeptOf};
+ghost use Rattle.s38_openings.specs.Bodies.{HoldsBody};
 ghost use Rattle.s38_put_laws.specs.Trails.{IsTrailOf};
+ghost use Rattle.s38_readable.specs.Readable.{IsReadable};
 ghost use Rattle.s38_restart.specs.Parts.{AreParts, all_parts};
 ghost use Rattle.s38_restart.specs.Restarted.{restarted};
 ghost use Rattle.s38_restart_laws.specs.Restartable.{AllImages, AreAnswered, CanRestartBetween, IsRestartable};
@@ -109,3 +112,9 @@ pub fn what_a_run_leaves_restarts()
 {
     what_is_durable_follows();
 }
+
+/// What is kept of all objects as a run is closed can be read again, if each object is read again, the bodies keep to their
+/// limits, and uncommitted changes can be taken back.
+pub fn what_is_closed_can_be_read()
+    ensures { (s : State) → All (HoldsBody body_limit) s.held.objects → All (λ o. CanSettle s.units o.number.0 o.body) s.held.objects → All IsReadable s.held.objects → AreImages (closing s.units s.held) }
+{}
