@@ -4,7 +4,6 @@ use Rattle.s38_code.specs.declared.entry.Entry.{Entry}
 use Rattle.s38_code.specs.declared.reply.Reply.TheVariants.{Done, MustWait, Signal}
 use Rattle.s38_code.specs.declared.reply.Reply.{Reply}
 use Rattle.s38_durable.specs.Durable.{Durable, after_reply, durable}
-use Rattle.s38_step_parts.specs.Leftovers.{StandsBut}
 use Rattle.s38_kept_laws.proofs.KeepLaws.{DurableLaws, entry_kept, not_done}
 use Rattle.s38_kept_laws.proofs.StepLaws.{IsDone, stayed}
 use Rattle.s38_kept_laws.specs.Crashes.{IsLeftBehind, StandsBetween, led}
@@ -20,7 +19,7 @@ use Rattle.s38_step_parts.specs.Stepping.{raised}
 use Rattle.s38_vault.specs.Content.{Content}
 use Rattle.s38_restart_laws.specs.Restartable.{AllImages, AreAnswered, CanRestartBetween, IsRestartable}
 use Rattle.s38_restart_laws.specs.Restarting.{CanRestart}
-use Rattle.s38_restart_laws.specs.Restarts.{IsRestartedBehind, RestartsBetween, next_behind, next_restarted}
+use Rattle.s38_restart_laws.specs.Restarts.{IsRestartedBehind, RestartsBetween, RestartsTo, next_behind, next_restarted}
 use Rattle.s38_restart_laws.proofs.CanLaws.{can_raised, can_restart}
 use Rattle.s38_restart_laws.proofs.RestartLaws.{restarts_there}
 use Rattle.s38_restart_laws.proofs.StepLaws.{done_ceiling, done_raised, entry_restartable}
@@ -61,6 +60,10 @@ entry_raised s e d (Signal x) same is ready can =
 entry_raised s e d MustWait same is ready can =
     same_raised s (step s e.process e.event).state d (stayed s e.process e.event (not_done MustWait (step s e.process e.event).reply same (λ h. h))).held is can
 
+none_taken : (n : ℕ) → take {A = Entry} n [] ≡ []
+none_taken zero = refl
+none_taken (suc n) = refl
+
 pub each_moment : DurableLaws → (entries : List Entry) (count : ℕ) (s : State) (d : Durable) → IsKeptOf s d → IsTrailOf s d → IsRestartable s d → AreAnswered s entries → AllInOrder s entries → AllImages d s entries
     → CanRestartBetween d s entries count
 each_moment laws [] count s d is trail ready answered order images = record {
@@ -72,10 +75,6 @@ each_moment laws [] count s d is trail ready answered order images = record {
   where
     can : CanRestart d
     can = can_in s d is order images ready
-
-    none_taken : (n : ℕ) → take {A = Entry} n [] ≡ []
-    none_taken zero = refl
-    none_taken (suc n) = refl
 each_moment laws (e ∷ es) zero s d is trail ready answered order images =
     let can = can_in s d is order.0 images.0 ready in
     let t = (step s e.process e.event).state in
@@ -128,15 +127,15 @@ each_above laws [] count s d is trail ready answered = record {
     low = let own = is.ceiling in let within = is.numbered.within in omega (arith, own, within)
 each_above laws (e ∷ es) zero s d is trail ready answered =
     let t = (step s e.process e.event).state in
+    let new = after_reply d s e e.reply in
     let own = is.ceiling in
     let within = is.numbered.within in
-    let more = entry_ceiling s e d e.reply answered.0 is ready in
-    let then = (entry_kept laws s e d e.reply answered.0 is).ceiling in
-    record {
-      before = omega (arith, own, within);
-      raised = omega (arith, own, within, more);
-      behind = omega (arith, own, within, more, then);
-    }
+    let more : s.held.ceiling ≤ t.held.ceiling = entry_ceiling s e d e.reply answered.0 is ready in
+    let then : new.ceiling ≡ t.held.ceiling = (entry_kept laws s e d e.reply answered.0 is).ceiling in
+    let old_low : s.held.next ≤ d.ceiling + 1 = omega (arith, own, within) in
+    let up_low : s.held.next ≤ t.held.ceiling + 1 = omega (arith, within, more) in
+    let new_low : s.held.next ≤ new.ceiling + 1 = omega (arith, up_low, then) in
+    record { before = old_low; raised = up_low; behind = new_low }
 each_above laws (e ∷ es) (suc count) s d is trail ready answered =
     let t = (step s e.process e.event).state in
     let new = after_reply d s e e.reply in
@@ -166,7 +165,10 @@ left_prefix laws m d s entries count is trail ready answered order images low le
 pub left_numbers : (m : Content) (d : Durable) (s : State) (entries : List Entry) (count : ℕ) → AreAbove d s entries count → IsRestartedBehind d s entries count m → next_behind s entries count ≤ next_restarted m
 left_numbers m d s entries count above restarted = by restarted
   where
+    next_low : (e : Durable) → RestartsTo m e → next_behind s entries count ≤ e.ceiling + 1 → next_behind s entries count ≤ next_restarted m
+    next_low e to low = subst (λ (n : ℕ). next_behind s entries count ≤ n + 1) (sym to.ceiling) low
+
     by : RestartsBetween m (durable d s (take count entries)) (led s (take (count + 1) entries)) (durable d s (take (count + 1) entries)) → next_behind s entries count ≤ next_restarted m
-    by (inl old) = let same = old.ceiling in let more = above.before in omega (arith, same, more)
-    by (inr (inl up)) = let same = up.ceiling in let more = above.raised in omega (arith, same, more)
-    by (inr (inr new)) = let same = new.ceiling in let more = above.behind in omega (arith, same, more)
+    by (inl old) = next_low (durable d s (take count entries)) old above.before
+    by (inr (inl up)) = next_low (raised (durable d s (take count entries)) (led s (take (count + 1) entries))) up above.raised
+    by (inr (inr new)) = next_low (durable d s (take (count + 1) entries)) new above.behind
