@@ -1,6 +1,6 @@
 -- Step by step what is kept of journal spaces stays their beginning, few bytes are unforced, and what is put first fits in one
 -- put.
-use Rattle.std.proofs.Common.{◌≡◌, ◌∙◌, ℕ, ◌+◌, ◌*◌, ◌<◌, ◌≤◌, ◌==◌, Bool, true, false, cond, List, [], ◌∷◌, ◌++◌, length, refl, sym, ap, subst, arith}
+use Rattle.std.proofs.Common.{◌≡◌, ◌∙◌, ℕ, ◌+◌, ◌*◌, ◌/◌, ◌<◌, ◌≤◌, ◌==◌, Bool, true, false, cond, List, [], ◌∷◌, ◌++◌, length, refl, sym, ap, subst, arith}
 use Rattle.std.specs.FinMap.{get}
 use Rattle.std.specs.List.{list_any}
 use Rattle.std.specs.Option.{option_map}
@@ -68,6 +68,7 @@ use Rattle.s38_step_parts.specs.Numbers.{numbered}
 use Rattle.s38_step_parts.specs.Stepping.{HaveHeaders, object_changes}
 use Rattle.s38_vault.specs.Content.{Content}
 use Rattle.s38_vault.specs.Vaults.{most_changes}
+use Rattle.s38_put_laws.specs.Ends.{unforced_bytes}
 use Rattle.s38_put_laws.specs.Fresh.{AreFresh}
 use Rattle.s38_step_parts.specs.Leftovers.{first_changes}
 use Rattle.s38_put_laws.specs.Lengthening.{Lengthens}
@@ -79,9 +80,9 @@ use Rattle.s38_put_laws.proofs.FreshLaws.{KeepsFresh, LeadToDisk, event_fresh, t
 use Rattle.s38_put_laws.proofs.LinkedLaws.{step_linked}
 use Rattle.s38_put_laws.proofs.LongerLaws.{event_longer, value_longer}
 use Rattle.s38_put_laws.proofs.LowLaws.{AreLowBut, Covers, all_low, carried_low, done_low, few_open, journal_leads, same_leads}
-use Rattle.s38_put_laws.proofs.OneLaws.{FirstShort, SameEntries, step_put}
+use Rattle.s38_put_laws.proofs.OneLaws.{FirstShort, IsLed, SameEntries, ended_journal_put, step_put}
 use Rattle.s38_put_laws.proofs.RowLaws.{row_open}
-use Rattle.s38_put_laws.proofs.ShapeLaws.{event_few, rows_at, rows_in, unforced_in}
+use Rattle.s38_put_laws.proofs.ShapeLaws.{ForcesJournalIfAny, event_few, rows_at, rows_in, unforced_in}
 use Rattle.s38_put_laws.proofs.ShortLaws.{behind_short, settled_short}
 use Rattle.s38_put_laws.proofs.TrailLaws.{journal_kind, stored_other, trails_at, trails_behind}
 
@@ -453,33 +454,42 @@ module _ (laws : DurableLaws) (s : State) (p : ℕ) (e : Event) (d : Durable) (i
       by None found h = cc
       by (Some o) found h = disk o found o.on_disk h
 
+  -- what is known of it
+  led : IsTrailOf s d → HaveHeaders d → HaveHeaders new → AreShort d → AreShort new → IsLed all d s now effected.held
+  led trail headers then_headers short then_short = record {
+    rising = then_kept.numbered.rising;
+    own = is.bodies;
+    then_own = then_kept.bodies;
+    kinds = kinds_on;
+    given = given;
+    on_disk = on_disk;
+    off_disk = off_disk;
+    old_rows = old_rows;
+    old_kinds = old_kinds;
+    longer = event_longer s p e;
+    entries = λ n. subst (λ (h : Held). SameEntries (part_at journal_part effected.held n) (part_at journal_part h n)) (sym takes_it.held) (stored_entries s p e effected n);
+    rows = λ n. ap (λ (h : Held). rows_at h n) takes_it.held ∙ stored_rows s p e effected n;
+    disk = λ n. ap (λ (h : Held). is_on_disk h n) takes_it.held ∙ (stored_same s p e effected).disk n;
+    few = event_few s p e takes_it.permit;
+    trails = trail.trailing;
+    low = trail.low;
+    headers = headers;
+    then_headers = then_headers;
+    ends = λ n x at. body_low x (then_headers n x at);
+    short = short;
+    then_short = then_short;
+    first = first_short trail;
+  }
+
   -- what it puts first fits in one put
   pub done_put : (m : Content) → IsTrailOf s d → HaveHeaders d → HaveHeaders new → AreShort d → AreShort new → Stands m d → length (first_changes most_changes new (object_changes (numbered all) (get m) new)) ≤ most_changes
-  done_put m trail headers then_headers short then_short stands =
-      step_put all d s now effected.held (record {
-        rising = then_kept.numbered.rising;
-        own = is.bodies;
-        then_own = then_kept.bodies;
-        kinds = kinds_on;
-        given = given;
-        on_disk = on_disk;
-        off_disk = off_disk;
-        old_rows = old_rows;
-        old_kinds = old_kinds;
-        longer = event_longer s p e;
-        entries = λ n. subst (λ (h : Held). SameEntries (part_at journal_part effected.held n) (part_at journal_part h n)) (sym takes_it.held) (stored_entries s p e effected n);
-        rows = λ n. ap (λ (h : Held). rows_at h n) takes_it.held ∙ stored_rows s p e effected n;
-        disk = λ n. ap (λ (h : Held). is_on_disk h n) takes_it.held ∙ (stored_same s p e effected).disk n;
-        few = event_few s p e takes_it.permit;
-        trails = trail.trailing;
-        low = trail.low;
-        headers = headers;
-        then_headers = then_headers;
-        ends = λ n x at. body_low x (then_headers n x at);
-        short = short;
-        then_short = then_short;
-        first = first_short trail;
-      }) m stands (forced_low laws s p e d is does)
+  done_put m trail headers then_headers short then_short stands = step_put all d s now effected.held (led trail headers then_headers short then_short) m stands (forced_low laws s p e d is does)
+
+  -- where a journal space is forced at most, as it stands
+  pub ended_put : (m : Content) → IsTrailOf s d → HaveHeaders d → HaveHeaders new → AreShort d → AreShort new → Stands m d → ForcesJournalIfAny s.held effected.held all
+      → length (object_changes (numbered all) (get m) new) ≤ unforced_bytes s p e / 512 + 3
+  ended_put m trail headers then_headers short then_short stands forces =
+      ended_journal_put all d s now effected.held (led trail headers then_headers short then_short) m stands forces (forced_low laws s p e d is does)
 
 -- ---- a step that takes no effect, and a history
 

@@ -2,5 +2,6 @@ pub mod Lengthening
 pub mod Unforced
 pub mod Trails
 pub mod OnePut
+pub mod Ends
 pub mod Fresh
 pub mod Spaces

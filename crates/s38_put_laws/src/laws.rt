@@ -3,10 +3,13 @@ ghost use Rattle.std.specs.Prelude.{◌≡◌, ◌+◌, ◌/◌, ◌++◌, ◌<�
 ghost use Rattle.std.specs.FinMap.{get};
 ghost use Rattle.s38_base.specs.Limits.{body_limit, page_bytes};
 ghost use Rattle.s38_base.specs.declared.exception.Exception.{Exception};
+ghost use Rattle.s38_base.specs.declared.op.Op.TheVariants.{Commit};
 ghost use Rattle.s38_code.specs.declared.deck.Job.{Job};
 ghost use Rattle.s38_code.specs.declared.entry.Entry.{Entry};
 ghost use Rattle.s38_journals.specs.Entries as journals;
+ghost use Rattle.s38_code.specs.declared.event.Event.TheVariants.{Act};
 ghost use Rattle.s38_code.specs.declared.event.Event.{Event};
+ghost use Rattle.s38_code.specs.declared.event.Request.{Request};
 ghost use Rattle.s38_code.specs.declared.made.CheckedTemplate.{CheckedTemplate};
 ghost use Rattle.s38_code.specs.declared.reply.Reply.TheVariants.{Done, MustWait, Signal};
 ghost use Rattle.s38_code.specs.declared.reply.Val.{Val};
@@ -23,6 +26,7 @@ ghost use Rattle.s38_kept_laws.specs.Beginning.{durable_in, origin_of};
 ghost use Rattle.s38_kept_laws.specs.Kept.{AreImages, IsKeptOf};
 ghost use Rattle.s38_openings.specs.Bodies.{HoldsBody};
 ghost use Rattle.s38_step_parts.specs.Leftovers.{first_changes};
+ghost use Rattle.s38_put_laws.specs.Ends.{unforced_bytes};
 ghost use Rattle.s38_put_laws.specs.Lengthening.{AreLonger};
 ghost use Rattle.s38_put_laws.specs.OnePut.{AreShort};
 ghost use Rattle.s38_put_laws.specs.Spaces.{IsSpace};
@@ -97,6 +101,21 @@ pub fn what_a_step_puts_first_fits_in_one_put()
     ensures short { (s : State) (d : Durable) → IsKeptOf s d → AreImages d → AreShort d }
     ensures short_after { (s : State) (p : ℕ) (e : Event) (values : List Val) (d : Durable) → IsKeptOf s d → (step s p e).reply ≡ Done values
         → All (HoldsBody body_limit) (step s p e).state.held.objects → AreShort d → AreShort (durable_after (forced s p e) d (step s p e).state) }
+{
+    what_is_durable_follows();
+    room_counts_what_is_durable();
+    what_is_not_forced_stays_durable();
+}
+
+/// COMMIT of a unit puts no more parts than there are pages in the unforced bytes of its journal space, with the entry that it
+/// writes itself, and three: its header, and where these bytes begin and end within a page. All is put at once, and nothing
+/// where the block has no unit.
+pub fn a_commit_puts_few_parts()
+    ensures { (s : State) (p depth : ℕ) (request : Request) (values : List Val) (d : Durable) (m : Content) → request.op ≡ Commit → IsKeptOf s d → IsTrailOf s d → (step s p (Act depth request)).reply ≡ Done values
+        → HaveHeaders d → HaveHeaders (durable_after (forced s p (Act depth request)) d (step s p (Act depth request)).state)
+        → AreShort d → AreShort (durable_after (forced s p (Act depth request)) d (step s p (Act depth request)).state) → Stands m d
+        → length (object_changes (numbered (forced s p (Act depth request))) (get m) (durable_after (forced s p (Act depth request)) d (step s p (Act depth request)).state))
+            ≤ unforced_bytes s p (Act depth request) / page_bytes + 3 }
 {
     what_is_durable_follows();
     room_counts_what_is_durable();
