@@ -6,3 +6,4 @@ pub mod EnsureLaws
 pub mod CloseLaws
 pub mod WholeLaws
 pub mod NamedLaws
+pub mod HomeLaws

@@ -2,12 +2,13 @@
 ghost use Rattle.std.specs.Prelude.{◌≡◌, ◌++◌, ℕ, List};
 ghost use Rattle.s38_blocks.specs.Store as stores;
 ghost use Rattle.s38_blocks.specs.declared.layout.Layout.{Layout};
+ghost use Rattle.s38_closed_laws.specs.Bytes.{AreOfBytes};
 ghost use Rattle.s38_closing.specs.Closing.{closing, content_of};
 ghost use Rattle.s38_closing.specs.Ensuring.{IsBehind};
 ghost use Rattle.s38_disk.specs.declared.block.Block.{Block};
 ghost use Rattle.s38_durable.specs.Durable.{Durable, closed};
 ghost use Rattle.s38_durable.specs.Stands.{Stands};
-ghost use Rattle.s38_kept_laws.specs.Kept.{IsKeptOf};
+ghost use Rattle.s38_kept_laws.specs.Kept.{HasParts, IsKeptOf};
 ghost use Rattle.s38_rules.specs.State.{State};
 ghost use Rattle.s38_rules.specs.declared.object.Object.{Object};
 ghost use Rattle.s38_step_parts.specs.Stepping.{HaveHeaders};
@@ -28,7 +29,9 @@ pub fn what_is_reached_is_closed()
     what_is_durable_follows();
 }
 
-/// A store has no page of object 0, whatever a crash left of it.
+/// A store has no page of object 0, and if its blocks are of bytes, then each part is a number of 32 bits, whatever a crash left
+/// of it.
 pub fn a_store_names_objects()
-    ensures { (lay : Layout) (f : ℕ → Block) (m : Content) → stores.Stands lay f m → NameObjects (keys_of m) }
+    ensures objects { (lay : Layout) (f : ℕ → Block) (m : Content) → stores.Stands lay f m → NameObjects (keys_of m) }
+    ensures parts { (lay : Layout) (f : ℕ → Block) (m : Content) → stores.Stands lay f m → AreOfBytes f → HasParts m }
 {}

@@ -1,14 +1,15 @@
 -- The next object is kept: what waits behind it, and what is left where it is not kept.
-use Rattle.std.proofs.Common.{◌≡◌, ◌≢◌, ◌⊎◌, ◌↔◌, ℕ, ◌<◌, ◌≤◌, Bool, true, false, List, [], ◌∷◌, ◌++◌, inl, inr, length, refl, sym, ◌∙◌, ap, subst, arith}
+use Rattle.std.proofs.Common.{◌≡◌, ◌≢◌, ◌⊎◌, ◌↔◌, ℕ, ◌+◌, ◌<◌, ◌≤◌, Bool, true, false, List, [], ◌∷◌, ◌++◌, inl, inr, length, refl, sym, ◌∙◌, ap, subst, arith}
 use Rattle.std.proofs.lemmas.Bool.Decides.{nat_tests}
 use Rattle.std.proofs.Math.Seq.{drop-append_seam, take-append_seam}
 use Rattle.std.specs.Prelude.{Err, IfErr, IsErrAnd, Ok, Result, drop, nat_le, take}
-use Rattle.std.specs.FinMap.{get}
+use Rattle.std.specs.FinMap.{get, len}
 use Rattle.std.specs.List.{AllByRecursion}
 use Rattle.s38_base.specs.declared.page.Change.{Change}
-use Rattle.s38_closing.specs.Ensuring.{IsBehind, IsReached, changes_of_number, journal_ahead}
+use Rattle.s38_closing.specs.Ensuring.{FirstFit, Fits, IsBehind, IsReached, changes_of_number, journal_ahead}
 use Rattle.s38_closing.specs.Waiting.{AddsNext, IsNext, IsStoppedBy, Waits}
-use Rattle.s38_closing.proofs.WaitLaws.{AreWantedAt, IsAbove, above_by, fine_next_changes, full_next, has_next, new_next, rest_next, told_by, wanted_by, waits_next}
+use Rattle.s38_closing.proofs.FitLaws.{fits_by, room_behind}
+use Rattle.s38_closing.proofs.WaitLaws.{AreWantedAt, IsAbove, above_by, fine_next_changes, full_next, has_next, new_next, rest_next, rising_by, told_by, wanted_by, waits_next}
 use Rattle.s38_durable.specs.Durable.{Durable}
 use Rattle.s38_durable.specs.Stands.{parts_at}
 use Rattle.s38_forcing.specs.declared.fault.ForcingFault.{ForcingFault}
@@ -22,7 +23,7 @@ use Rattle.s38_keeping.proofs.PlacedLaws.{HasWanted, all_before, changed-append,
 use Rattle.s38_keeping.proofs.SoFarLaws.{so_far_begun}
 use Rattle.s38_rules.specs.Held.{Held}
 use Rattle.s38_rules.specs.declared.object.Object.{Object}
-use Rattle.s38_vault.specs.Content.{Content, changed}
+use Rattle.s38_vault.specs.Content.{AreRising, Content, changed}
 use Rattle.s38_vault.specs.Directory.{Keys, keys_of, new_keys}
 
 -- ---- faults
@@ -31,15 +32,15 @@ pub handed_by : {T : Type 0} (P Q : KeepFault → Type 0) (r : Result T KeepFaul
 handed_by P Q (Ok done) q f = tt
 handed_by P Q (Err e) q f = f e q
 
-pub stopped_unknown : (holds : Content → Type 0) (room : ℕ) (m : Content) (d : Durable) (h : Held) (n : Content) (cause : ForcingFault) (fault : KeepFault) → fault ≡ unknown_by cause → holds n → IsReached m d h n → IsStoppedBy holds room m d h fault
-stopped_unknown holds room m d h n forcing.Failed fault is held reached = subst (IsStoppedBy holds room m d h) (sym is) tt
-stopped_unknown holds room m d h n forcing.NoMemory fault is held reached = subst (IsStoppedBy holds room m d h) (sym is) (n, (held, reached))
+pub stopped_unknown : (holds : Content → Type 0) (parts : ℕ) (m : Content) (d : Durable) (h : Held) (n : Content) (cause : ForcingFault) (fault : KeepFault) → fault ≡ unknown_by cause → holds n → IsReached m d h n → IsStoppedBy holds parts m d h fault
+stopped_unknown holds parts m d h n forcing.Failed fault is held reached = subst (IsStoppedBy holds parts m d h) (sym is) tt
+stopped_unknown holds parts m d h n forcing.NoMemory fault is held reached = subst (IsStoppedBy holds parts m d h) (sym is) (n, (held, reached))
 
 -- where there is room, only memory was refused
-pub stopped_put : (holds : Content → Type 0) (room : ℕ) (m : Content) (d : Durable) (h : Held) (n : Content) (wanted free : ℕ) → wanted ≤ free → (fault : KeepFault) → IsRightFor wanted free fault → (fault ≢ faults.Failed → holds n) → IsReached m d h n → IsStoppedBy holds room m d h fault
-stopped_put holds room m d h n wanted free fits (faults.Full needed there) right held reached = absurd (omega (arith, right.0, right.1.0, right.1.1, fits))
-stopped_put holds room m d h n wanted free fits faults.NoMemory right held reached = (n, (held (λ e. cc), reached))
-stopped_put holds room m d h n wanted free fits faults.Failed right held reached = tt
+pub stopped_put : (holds : Content → Type 0) (parts : ℕ) (m : Content) (d : Durable) (h : Held) (n : Content) (wanted free : ℕ) → wanted ≤ free → (fault : KeepFault) → IsRightFor wanted free fault → (fault ≢ faults.Failed → holds n) → IsReached m d h n → IsStoppedBy holds parts m d h fault
+stopped_put holds parts m d h n wanted free fits (faults.Full needed there) right held reached = absurd (omega (arith, right.0, right.1.0, right.1.1, fits))
+stopped_put holds parts m d h n wanted free fits faults.NoMemory right held reached = (n, (held (λ e. cc), reached))
+stopped_put holds parts m d h n wanted free fits faults.Failed right held reached = tt
 
 -- ---- the changes of the next object
 
@@ -80,22 +81,37 @@ module _ (d : Durable) (h : Held) (o : Object) (done : ℕ) (keys : Keys) (holds
       waits_next most m d h gone rest o done next low n front adds.between all w (was.told n held) (adds.so_far.told n held) above (told n held) made own more parted kept place
 
   -- a store that is full
-  pub placed_full : (m : Content) (gone rest : List Object) → IsNext h gone rest o done → (n : Content) → holds n → IsBehind m d h gone (changed n front) → (own : List Change) → all ≡ front ++ own
+  pub placed_full : (parts : ℕ) (m : Content) (gone rest : List Object) → IsNext h gone rest o done → FirstFit parts m d h (length gone) → (n : Content) → holds n → IsBehind m d h gone (changed n front) → (own : List Change) → all ≡ front ++ own
       → (now : Content → Type 0) (more : Keys) (room : ℕ) (fault : KeepFault) → IsRightFor (new_keys more own) room fault
       → ((needed free : ℕ) → fault ≡ faults.Full needed free → now (changed n front)) → ((needed free : ℕ) → fault ≡ faults.Full needed free → (x : Content) → now x → more ≡ keys_of x)
-      → (fault ≢ faults.Failed → now n ⊎ now (changed n front)) → IsReached m d h n → IsReached m d h (changed n front) → IsStoppedBy now room m d h fault
-  placed_full m gone rest next n held behind own kept now more room (faults.Full needed free) right front_held same some reached reached' =
+      → ((needed free : ℕ) → fault ≡ faults.Full needed free → room + len more ≡ parts)
+      → (fault ≢ faults.Failed → now n ⊎ now (changed n front)) → IsReached m d h n → IsReached m d h (changed n front) → IsStoppedBy now parts m d h fault
+  placed_full parts m gone rest next fit n held behind own kept now more room (faults.Full needed free) right front_held same sum some reached reached' =
       let n2 = changed n front in
       let here = front_held needed free refl in
       let has = subst (λ (cs : List Change). HasWanted (changed n cs) (parts_at d) done) (sym (was.told n held)) (made_in n (parts_at d) done) in
       let rest_is = rest_next d n done o.number.0 (journal_ahead h o.number.0) front own adds.between all (omega (arith, low)) above (was.told n held) (adds.so_far.told n held) (told n held) kept in
       let counted = new_next d n2 done o.number.0 (journal_ahead h o.number.0) (omega (arith, low)) wanted (adds.so_far.wanted o.number.0 (omega (arith, low)) (omega arith)) has gap in
-      (n2, (here, full_next m d h gone rest o done next n2 (journal_ahead h o.number.0) own more room needed free behind refl rest_is counted (same needed free refl n2 here) right))
-  placed_full m gone rest next n held behind own kept now more room faults.NoMemory right front_held same some reached reached' = elim (some (λ e. cc)) [
+      (n2, (here, full_next parts m d h gone rest o done next fit n2 (journal_ahead h o.number.0) own more room needed free behind refl rest_is counted (same needed free refl n2 here) (sum needed free refl) right))
+  placed_full parts m gone rest next fit n held behind own kept now more room faults.NoMemory right front_held same sum some reached reached' = elim (some (λ e. cc)) [
     | inl before ↦ (n, (before, reached))
     | inr after ↦ (changed n front, (after, reached'))
   ]
-  placed_full m gone rest next n held behind own kept now more room faults.Failed right front_held same some reached reached' = tt
+  placed_full parts m gone rest next fit n held behind own kept now more room faults.Failed right front_held same sum some reached reached' = tt
+
+  -- where there is room for what waits, the object fits
+  pub placed_fits : (m : Content) (gone rest : List Object) → IsNext h gone rest o done → (n : Content) → holds n → IsBehind m d h gone (changed n front) → (own : List Change) → all ≡ front ++ own
+      → (made later : List Change) (most : ℕ) → all ≡ made ++ later → ((made ≡ []) × (length later ≤ most)) ⊎ (length made ≡ length front)
+      → (now : Keys) (free parts : ℕ) → now ≡ keys_of (changed n made) → free + len now ≡ parts → new_keys now later ≤ free → Fits parts m d h gone (o ∷ rest)
+  placed_fits m gone rest next n held behind own kept made later most parted place now free parts same sum room =
+      let n2 = changed n front in
+      let journal = journal_ahead h o.number.0 in
+      let has = subst (λ (cs : List Change). HasWanted (changed n cs) (parts_at d) done) (sym (was.told n held)) (made_in n (parts_at d) done) in
+      let rest_is = rest_next d n done o.number.0 journal front own adds.between all (omega (arith, low)) above (was.told n held) (adds.so_far.told n held) (told n held) kept in
+      let counted = new_next d n2 done o.number.0 journal (omega (arith, low)) wanted (adds.so_far.wanted o.number.0 (omega (arith, low)) (omega arith)) has gap in
+      let rising = subst AreRising kept (rising_by d keys holds o.number.0 adds.between all journal adds.behind adds.so_far.rising adds.so_far.upto) in
+      fits_by parts m d h gone (o ∷ rest) n2 (new_keys (keys_of n2) own) behind (ap (new_keys (keys_of n2)) rest_is ∙ counted)
+      (room_behind n front own made later most now free parts rising (sym kept ∙ parted) place same sum room)
 
   -- where none was added of a journal space, what waits are all changes up to the object
   pub placed_so_far : {V : Type 0} (now : V → Content → Type 0) (old mid : V) (most mark : ℕ) (own more : List Change) (keys' : Keys) → ahead ≡ false → all ≡ front ++ more → mark ≡ length front → ((m : Content) → now old m → holds m)

@@ -3,6 +3,7 @@ pub mod PassLaws
 pub mod CloseLaws
 pub mod FoundLaws
 pub mod NextLaws
+pub mod FitLaws
 pub mod WaitLaws
 pub mod KeepLaws
 pub mod RestLaws

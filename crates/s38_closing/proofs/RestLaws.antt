@@ -1,15 +1,16 @@
 -- What waits behind the last object, and what is left where it is not put.
-use Rattle.std.proofs.Common.{◌≡◌, ◌≢◌, ◌⊎◌, ℕ, ◌<◌, ◌≤◌, Bool, true, false, List, [], ◌++◌, inl, inr, length, refl, sym, ◌∙◌, ap, subst, arith, append-nil}
+use Rattle.std.proofs.Common.{◌≡◌, ◌≢◌, ◌⊎◌, ℕ, ◌+◌, ◌<◌, ◌≤◌, Bool, true, false, List, [], ◌++◌, inl, inr, length, refl, sym, ◌∙◌, ap, subst, arith, append-nil}
 use Rattle.std.proofs.lemmas.Bool.Decides.{nat_tests}
 use Rattle.std.specs.Prelude.{None, nat_le}
-use Rattle.std.specs.FinMap.{contains_key, get}
+use Rattle.std.specs.FinMap.{contains_key, get, len}
 use Rattle.s38_base.specs.declared.page.Change.{Change}
 use Rattle.s38_base.specs.declared.page.Key.{Key}
 use Rattle.s38_closing.specs.Closing.{closing_changes, content_of, parts_of_all}
-use Rattle.s38_closing.specs.Ensuring.{IsLeft, IsReached}
+use Rattle.s38_closing.specs.Ensuring.{FirstFit, Fits, IsLeft, IsReached}
 use Rattle.s38_closing.specs.Waiting.{IsStoppedBy, Waits}
 use Rattle.s38_closing.proofs.CloseLaws.{AreClosing, content_closed}
-use Rattle.s38_closing.proofs.WaitLaws.{new_next, rest_next, same_front}
+use Rattle.s38_closing.proofs.FitLaws.{all_parts, fits_by, room_behind, same_front}
+use Rattle.s38_closing.proofs.WaitLaws.{new_next, rest_next}
 use Rattle.s38_durable.specs.Durable.{Durable}
 use Rattle.s38_durable.specs.Stands.{parts_at}
 use Rattle.s38_forcing.specs.Puts.{IsAfterPuts}
@@ -22,7 +23,7 @@ use Rattle.s38_keeping.specs.declared.fault.KeepFault.{KeepFault}
 use Rattle.s38_keeping.specs.declared.fault.KeepFault.TheVariants as faults
 use Rattle.s38_keeping.proofs.PlacedLaws.{HasWanted, changed-append, made_in}
 use Rattle.s38_rules.specs.Held.{Held}
-use Rattle.s38_vault.specs.Content.{Content, changed}
+use Rattle.s38_vault.specs.Content.{AreRising, Content, changed}
 use Rattle.s38_vault.specs.Directory.{Keys, keys_of, new_keys}
 
 at_most : (a b : ℕ) → nat_le a b ≡ true → a ≤ b
@@ -80,10 +81,11 @@ module _ (d : Durable) (h : Held) (done : ℕ) (keys : Keys) (holds : Content �
     rest_reached made own more parted kept (inr long) = subst (λ (cs : List Change). IsReached m d h (changed n cs)) (sym (same_front made front own more (sym parted ∙ kept) long)) reached
 
     -- a store that is full
-    pub rest_full : (own : List Change) → all ≡ front ++ own → (now : Content → Type 0) (more : Keys) (room : ℕ) (fault : KeepFault) → IsRightFor (new_keys more own) room fault
+    pub rest_full : (parts : ℕ) → FirstFit parts m d h (length h.objects) → (own : List Change) → all ≡ front ++ own → (now : Content → Type 0) (more : Keys) (room : ℕ) (fault : KeepFault) → IsRightFor (new_keys more own) room fault
         → ((needed free : ℕ) → fault ≡ faults.Full needed free → now (changed n front)) → ((needed free : ℕ) → fault ≡ faults.Full needed free → (x : Content) → now x → more ≡ keys_of x)
-        → (fault ≢ faults.Failed → now n ⊎ now (changed n front)) → IsStoppedBy now room m d h fault
-    rest_full own kept now more room (faults.Full needed free) right front_held same some =
+        → ((needed free : ℕ) → fault ≡ faults.Full needed free → room + len more ≡ parts)
+        → (fault ≢ faults.Failed → now n ⊎ now (changed n front)) → IsStoppedBy now parts m d h fault
+    rest_full parts fit own kept now more room (faults.Full needed free) right front_held same sum some =
         let n2 = changed n front in
         let here = front_held needed free refl in
         let has = subst (λ (cs : List Change). HasWanted (changed n cs) (parts_at d) done) (sym (was.told n held)) (made_in n (parts_at d) done) in
@@ -95,18 +97,30 @@ module _ (d : Durable) (h : Held) (done : ℕ) (keys : Keys) (holds : Content �
               gone = h.objects;
               rest = [];
               all = sym (append-nil h.objects);
+              fit = fit;
               behind = w.next;
               wanted = right.0 ∙ (λ i. new_keys (same needed free refl n2 here i) (own_is n held own kept i)) ∙ counted ∙ ap (new_keys (keys_of n2)) (append-nil (parts_at d ceiling_key));
-              there = right.1.0;
+              there = all_parts n2 more room free parts (same needed free refl n2 here) (sum needed free refl) right.1.0;
               short = right.1.1;
             },
           ),
         )
-    rest_full own kept now more room faults.NoMemory right front_held same some = elim (some (λ e. cc)) [
+    rest_full parts fit own kept now more room faults.NoMemory right front_held same sum some = elim (some (λ e. cc)) [
       | inl before ↦ (n, (before, w.held))
       | inr after ↦ (changed n front, (after, reached))
     ]
-    rest_full own kept now more room faults.Failed right front_held same some = tt
+    rest_full parts fit own kept now more room faults.Failed right front_held same sum some = tt
+
+    -- where there is room for what waits, the ceiling fits
+    pub rest_fits : (own : List Change) → all ≡ front ++ own → (made later : List Change) (most : ℕ) → all ≡ made ++ later → ((made ≡ []) × (length later ≤ most)) ⊎ (length made ≡ length front)
+        → (now : Keys) (free parts : ℕ) → now ≡ keys_of (changed n made) → free + len now ≡ parts → new_keys now later ≤ free → Fits parts m d h h.objects []
+    rest_fits own kept made later most parted place now free parts same sum room =
+        let n2 = changed n front in
+        let has = subst (λ (cs : List Change). HasWanted (changed n cs) (parts_at d) done) (sym (was.told n held)) (made_in n (parts_at d) done) in
+        let counted = new_next d n2 done ceiling_key None (omega arith) tt (so_far.wanted ceiling_key (omega arith) (omega arith)) has gap in
+        let is = ap (new_keys (keys_of n2)) (own_is n held own kept) ∙ counted ∙ ap (new_keys (keys_of n2)) (append-nil (parts_at d ceiling_key)) in
+        fits_by parts m d h h.objects [] n2 (new_keys (keys_of n2) own) w.next is
+        (room_behind n front own made later most now free parts (subst AreRising kept so_far.rising) (sym kept ∙ parted) place same sum room)
 
 -- all makes the content
 pub all_made : (d : Durable) (keys : Keys) (holds : Content → Type 0) (all : List Change) → AreSoFar keys holds (parts_at d) ceiling_key all → each_to (parts_at d) ceiling_key ≡ parts_of_all d → ((key : Key) → contains_key keys key ≡ true → IsKnown ceiling_key key)

@@ -3,16 +3,16 @@ use Rattle.std.proofs.Common.{◌≡◌, ◌⊎◌, ℕ, ◌+◌, ◌<◌, ◌�
 use Rattle.std.proofs.lemmas.Bool.Decides.{nat_tests}
 use Rattle.std.proofs.lemmas.List.{append_cancel_left}
 use Rattle.std.proofs.lemmas.List.Folds.{list_any-append}
-use Rattle.std.proofs.Math.Seq.{take-append_seam}
-use Rattle.std.specs.Prelude.{◌||◌, Option, Some, None, nat_le, take}
-use Rattle.std.specs.FinMap.{get}
+use Rattle.std.specs.Prelude.{◌||◌, Option, Some, None, nat_le}
+use Rattle.std.specs.FinMap.{get, len}
 use Rattle.std.specs.List.{AllByRecursion, list_any}
 use Rattle.s38_base.specs.declared.page.Change.{Change}
 use Rattle.s38_base.specs.declared.page.Key.{Key}
 use Rattle.s38_base.specs.declared.page.Page.{Page}
-use Rattle.s38_closing.specs.Ensuring.{IsBehind, IsFullAt, IsLeft, IsReached, changes_of_number, journal_ahead, next_changes, page_behind, parts_of_number}
+use Rattle.s38_closing.specs.Ensuring.{FirstFit, IsBehind, IsFullAt, IsLeft, IsReached, changes_of_number, journal_ahead, next_changes, page_behind, parts_of_number}
 use Rattle.s38_closing.specs.Passing.{last_number}
 use Rattle.s38_closing.specs.Waiting.{AddsNumber, IsNext, Waits}
+use Rattle.s38_closing.proofs.FitLaws.{all_parts, others_stay, same_front}
 use Rattle.s38_closing.proofs.PassLaws.{last_more}
 use Rattle.s38_durable.specs.Durable.{Durable}
 use Rattle.s38_durable.specs.Stands.{page_of, parts_at}
@@ -194,11 +194,6 @@ module _ (d : Durable) where
 
 -- ---- what waits
 
--- what stands in front of the same rest is the same
-pub same_front : (front front' rest rest' : List Change) → front ++ rest ≡ front' ++ rest' → length front ≡ length front' → front ≡ front'
-same_front front front' rest rest' whole long =
-    sym (take-append_seam front rest) ∙ (λ i. take (long i) (whole i)) ∙ take-append_seam front' rest'
-
 module _ (most : ℕ) (m : Content) (d : Durable) (h : Held) where
   -- what waits is put
   pub waits_put : (gone rest : List Object) (n : Content) (changes : List Change) → h.objects ≡ gone ++ rest → Waits most m d h gone n changes → Waits most m d h gone (changed n changes) []
@@ -218,7 +213,7 @@ module _ (most : ℕ) (m : Content) (d : Durable) (h : Held) where
   waits_begun changes none = subst (λ (cs : List Change). Waits most m d h [] m cs) (sym none) (record { held = reached; next = behind; left = left })
     where
       behind : IsBehind m d h [] m
-      behind = record { each = λ key from part. sym (ap (λ b. cond (b || false) (page_of d key) (get m key)) (not_within key.object 0 (omega (arith, from)))) }
+      behind = record { each = λ key from part. sym (ap (λ b. cond (b || false) (page_of d key) (get m key)) (not_within key.object 0 (omega (arith, from)))); others = λ key not. refl }
 
       reached : IsReached m d h m
       reached = record { gone = []; rest = h.objects; all = refl; behind = behind }
@@ -284,14 +279,22 @@ module _ (most : ℕ) (m : Content) (d : Durable) (h : Held) (gone rest : List O
       sym (made_out n (parts_at d) done key far) ∙ ap (λ (cs : List Change). get (changed n cs) key) (sym first) ∙ w.next.each key from part
       ∙ ap (λ b. cond (b || list_any (λ x. is_one x key.object) gone) (page_of d key) (get m key)) (not_within key.object (last_number gone) (omega (arith, far, next.last)))
 
+  whole_new : new ≡ changes_to (get n) (parts_at d) o.number.0 ++ changes_of_number (get n) d (journal_ahead h o.number.0)
+  whole_new = last ∙ ap (λ (cs : List Change). cs ++ changes_of_number (get n) d (journal_ahead h o.number.0)) mid
+
+  other_at : (key : Key) → (IsFine key → ⊥) → get (changed n new) key ≡ get m key
+  other_at key not =
+      others_stay n new key (subst (λ (cs : List Change). AllByRecursion (λ c. IsFine c.key) cs) (sym whole_new) (fine_next_changes d (get n) o.number.0 (journal_ahead h o.number.0) above)) not
+      ∙ sym (others_stay n front key (subst (λ (cs : List Change). AllByRecursion (λ c. IsFine c.key) cs) (sym first) (changes_fine (get n) (parts_at d) done)) not)
+      ∙ w.next.others key not
+
   pub behind_next : IsBehind m d h (gone ++ o ∷ []) (changed n new)
-  behind_next = record { each = each }
+  behind_next = record { each = each; others = other_at }
     where
       each : (key : Key) → 1 ≤ key.object → key.part < 2 ^ 32 → get (changed n new) key ≡ page_behind m d h (gone ++ o ∷ []) key
       each key from part =
-          let whole = last ∙ ap (λ (cs : List Change). cs ++ changes_of_number (get n) d (journal_ahead h o.number.0)) mid in
           let others = list_any (λ x. is_one x key.object) gone in
-          ap (λ (cs : List Change). get (changed n cs) key) whole
+          ap (λ (cs : List Change). get (changed n cs) key) whole_new
           ∙ ap (λ (x : Content). get x key) (changed-append n (changes_to (get n) (parts_at d) o.number.0) (changes_of_number (get n) d (journal_ahead h o.number.0)))
           ∙ page_at d n o.number.0 (journal_ahead h o.number.0) above key from part
           ∙ pick (nat_le key.object o.number.0) (is_one o key.object) others (page_of d key) (get m key) (get n key) (held_at key from part)
@@ -318,16 +321,18 @@ module _ (most : ℕ) (m : Content) (d : Durable) (h : Held) (gone rest : List O
 -- ---- why not all is kept
 
 -- a vault that was full where those before the next object were put
-pub full_next : (m : Content) (d : Durable) (h : Held) (gone rest : List Object) (o : Object) (done : ℕ) → IsNext h gone rest o done → (n : Content) (journal : Option ℕ) (own : List Change) (keys : Keys) (room needed free : ℕ)
+pub full_next : (parts : ℕ) (m : Content) (d : Durable) (h : Held) (gone rest : List Object) (o : Object) (done : ℕ) → IsNext h gone rest o done → FirstFit parts m d h (length gone)
+    → (n : Content) (journal : Option ℕ) (own : List Change) (keys : Keys) (room needed free : ℕ)
     → IsBehind m d h gone n → journal ≡ journal_ahead h o.number.0 → own ≡ changes_to (get n) (parts_at d) o.number.0 ++ changes_of_number (get n) d journal
     → new_keys (keys_of n) (changes_to (get n) (parts_at d) o.number.0 ++ changes_of_number (get n) d journal) ≡ new_keys (keys_of n) (parts_at d o.number.0 ++ parts_of_number d journal)
-    → keys ≡ keys_of n → (needed ≡ new_keys keys own) × ((free ≡ room) × (free < needed)) → IsFullAt m d h n room needed free
-full_next m d h gone rest o done next n journal own keys room needed free behind is which counted same right = record {
+    → keys ≡ keys_of n → room + len keys ≡ parts → (needed ≡ new_keys keys own) × ((free ≡ room) × (free < needed)) → IsFullAt parts m d h n needed free
+full_next parts m d h gone rest o done next fit n journal own keys room needed free behind is which counted same sum right = record {
   gone = gone;
   rest = o ∷ rest;
   all = next.all;
+  fit = fit;
   behind = behind;
   wanted = right.0 ∙ (λ i. new_keys (same i) (which i)) ∙ counted ∙ ap (λ (j : Option ℕ). new_keys (keys_of n) (parts_at d o.number.0 ++ parts_of_number d j)) is;
-  there = right.1.0;
+  there = all_parts n keys room free parts same sum right.1.0;
   short = right.1.1;
 }

@@ -1,7 +1,7 @@
 -- Objects are ensured one after another, in the order of their numbers: what a vault holds behind the first so many of them,
 -- and what one more of them needs.
-use Rattle.std.specs.Prelude.{◌≡◌, ◌≤◌, ◌<◌, ◌&&◌, ◌||◌, ◌⊎◌, ℕ, Bool, List, [], ◌∷◌, ◌++◌, length, nat_le, nat_lt, Option, Some, None, if◌then◌else◌}
-use Rattle.std.specs.FinMap.{get}
+use Rattle.std.specs.Prelude.{◌≡◌, ◌≤◌, ◌<◌, ◌&&◌, ◌||◌, ◌⊎◌, ◌+◌, ℕ, Bool, List, [], ◌∷◌, ◌++◌, length, nat_le, nat_lt, Option, Some, None, if◌then◌else◌}
+use Rattle.std.specs.FinMap.{get, len}
 use Rattle.std.specs.List.{list_any}
 use Rattle.s38_base.specs.declared.page.Change.{Change}
 use Rattle.s38_base.specs.declared.page.Key.{Key}
@@ -13,6 +13,7 @@ use Rattle.s38_durable.specs.Stands.{ceiling_parts, page_of, parts_at, parts_end
 use Rattle.s38_forcing.specs.Differences.{differences}
 use Rattle.s38_forcing.specs.Puts.{IsAfterPuts}
 use Rattle.s38_keeping.specs.Replacing.{changes_to, range_of}
+use Rattle.s38_keeping.specs.Walking.{IsFine}
 use Rattle.s38_rules.specs.Held.{Held, is_on_disk}
 use Rattle.s38_rules.specs.Journaling.{is_number, journal_for}
 use Rattle.s38_rules.specs.declared.object.Object.{Object}
@@ -39,9 +40,10 @@ is_ensured h os n = nat_le n (last_number os) || list_any (λ o. is_number n (jo
 abbrev pub page_behind : Content → Durable → Held → List Object → Key → Option Page
 page_behind m d h os key = if is_ensured h os key.object then page_of d key else get m key
 
--- a content is that behind them
+-- a content is that behind them; at a key that is none of a part all stays
 pub record IsBehind (m : Content) (d : Durable) (h : Held) (os : List Object) (n : Content) : Type 0 where
   pub each : (key : Key) → 1 ≤ key.object → key.part < parts_end → get n key ≡ page_behind m d h os key
+  pub others : (key : Key) → (IsFine key → ⊥) → get n key ≡ get m key
 
 -- ---- what one more needs
 
@@ -58,10 +60,28 @@ abbrev pub next_parts : Held → Durable → List Object → List Change
 next_parts h d [] = ceiling_parts d.ceiling
 next_parts h d (o ∷ os) = parts_at d o.number.0 ++ parts_of_number d (journal_ahead h o.number.0)
 
+-- how many of them are new where this content is held
+abbrev pub new_parts : Held → Durable → Content → List Object → ℕ
+new_parts h d n rest = new_keys (keys_of n) (next_parts h d rest)
+
 -- the changes that it brings
 abbrev pub next_changes : Held → Durable → (Key → Option Page) → List Object → List Change
 next_changes h d pages [] = closing_changes pages d
 next_changes h d pages (o ∷ os) = changes_to pages (parts_at d) o.number.0 ++ changes_of_number pages d (journal_ahead h o.number.0)
+
+-- ---- what fits
+
+-- of so many parts enough are free, behind the objects that are gone, for the new ones of the next of the rest
+abbrev pub Fits : ℕ → Content → Durable → Held → List Object → List Object → Type 0
+Fits parts m d h gone rest = (n : Content) → IsBehind m d h gone n → len n + new_parts h d n rest ≤ parts
+
+-- each of the first so many objects fits in its turn
+abbrev pub FirstFit : ℕ → Content → Durable → Held → ℕ → Type 0
+FirstFit parts m d h count = (gone rest : List Object) → h.objects ≡ gone ++ rest → length gone < count → Fits parts m d h gone rest
+
+-- each object fits in its turn, and behind the last one the ceiling
+abbrev pub EachFits : ℕ → Content → Durable → Held → Type 0
+EachFits parts m d h = (gone rest : List Object) → h.objects ≡ gone ++ rest → Fits parts m d h gone rest
 
 -- ---- what is left
 
@@ -86,13 +106,14 @@ pub record IsWithin (most : ℕ) (m : Content) (d : Durable) (h : Held) (n : Con
 abbrev pub IsLeft : ℕ → Content → Durable → Held → Content → Type 0
 IsLeft most m d h n = IsReached m d h n ⊎ ((n ≡ content_of d) ⊎ IsWithin most m d h n)
 
--- a store is full where what is held is kept of the first so many objects, and the next one needs more new parts than are
--- free
-pub record IsFullAt (m : Content) (d : Durable) (h : Held) (n : Content) (room needed free : ℕ) : Type 0 where
+-- a store of so many parts is full where what is held is kept of the first so many objects, each of which fitted in its turn, and
+-- the next one needs more new parts than are free
+pub record IsFullAt (parts : ℕ) (m : Content) (d : Durable) (h : Held) (n : Content) (needed free : ℕ) : Type 0 where
   pub gone : List Object
   pub rest : List Object
   pub all : h.objects ≡ gone ++ rest
+  pub fit : FirstFit parts m d h (length gone)
   pub behind : IsBehind m d h gone n
-  pub wanted : needed ≡ new_keys (keys_of n) (next_parts h d rest)
-  pub there : free ≡ room
+  pub wanted : needed ≡ new_parts h d n rest
+  pub there : free + len n ≡ parts
   pub short : free < needed

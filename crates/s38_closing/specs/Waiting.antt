@@ -47,6 +47,6 @@ pub record Waits (most : ℕ) (m : Content) (d : Durable) (h : Held) (gone : Lis
 
 -- the first objects are kept, unless the vault failed; where it is full, all those before the one that does not fit
 abbrev pub IsStoppedBy : (Content → Type 0) → ℕ → Content → Durable → Held → KeepFault → Type 0
-IsStoppedBy holds room m d h (Full needed free) = (n : Content) × (holds n × IsFullAt m d h n room needed free)
-IsStoppedBy holds room m d h NoMemory = (n : Content) × (holds n × IsReached m d h n)
-IsStoppedBy holds room m d h Failed = Unit {0}
+IsStoppedBy holds parts m d h (Full needed free) = (n : Content) × (holds n × IsFullAt parts m d h n needed free)
+IsStoppedBy holds parts m d h NoMemory = (n : Content) × (holds n × IsReached m d h n)
+IsStoppedBy holds parts m d h Failed = Unit {0}

@@ -3,7 +3,7 @@ ghost use Rattle.std.specs.Prelude.{◌≡◌, ◌≢◌, ◌↔◌, ◌⊎◌, 
 ghost use Rattle.std.specs.List.{flat_map};
 ghost use Rattle.s38_base.specs.Faults.{HasCauseOf};
 ghost use Rattle.s38_closing.specs.Closing.{closing, content_of, kept_whole};
-ghost use Rattle.s38_closing.specs.Ensuring.{IsLeft};
+ghost use Rattle.s38_closing.specs.Ensuring.{EachFits, FirstFit, Fits, IsLeft};
 ghost use Rattle.s38_closing.specs.Passing.{last_number};
 ghost use Rattle.s38_closing.specs.Waiting.{IsNext, IsStoppedBy, Waits};
 ghost use Rattle.s38_durable.specs.Durable.{kept};
@@ -53,10 +53,12 @@ fn keep_next<V: Vault>(
     ensures fine { OnOk result (((n : Content) → V.holds vault.old n → AreFineTo (V.view vault.old).keys done) → (n : Content) → V.holds vault.new n → AreFineTo (V.view vault.new).keys object.now.number.0) }
     ensures waits { OnOk result ((m n : Content) (gone rest : List Object) → IsNext objects.now gone rest object.now done → V.holds vault.old n → Waits (V.view vault.old).shape.most m (closing units.now objects.now) objects.now gone n changes.old.items
         → (n : Content) × (V.holds vault.new n × Waits (V.view vault.new).shape.most m (closing units.now objects.now) objects.now (gone ++ object.now ∷ []) n changes.new.items)) }
+    ensures fits { OnOk result ((m n : Content) (gone rest : List Object) → IsNext objects.now gone rest object.now done → V.holds vault.old n → Waits (V.view vault.old).shape.most m (closing units.now objects.now) objects.now gone n changes.old.items
+        → Fits (V.view vault.old).shape.parts m (closing units.now objects.now) objects.now gone (object.now ∷ rest)) }
 
     // Else the objects before it are kept, or some of them.
     ensures stopped { IfErr result (λ fault. (m n : Content) (gone rest : List Object) → IsNext objects.now gone rest object.now done → V.holds vault.old n → Waits (V.view vault.old).shape.most m (closing units.now objects.now) objects.now gone n changes.old.items
-        → IsStoppedBy (V.holds vault.new) (V.view vault.new).free m (closing units.now objects.now) objects.now fault) }
+        → FirstFit (V.view vault.old).shape.parts m (closing units.now objects.now) objects.now (length gone) → IsStoppedBy (V.holds vault.new) (V.view vault.old).shape.parts m (closing units.now objects.now) objects.now fault) }
 
     // A crash leaves the first objects kept.
     ensures past { (t : ℕ) (m : Content) → t ≤ (V.view vault.old).moment → V.leaves vault.old t m ↔ V.leaves vault.new t m }
@@ -103,9 +105,10 @@ fn keep_objects<V: Vault>(
     ensures whole { IfOk result (λ done. each_to (parts_at (closing units.now objects.now)) done ≡ flat_map parts_of (kept_whole units.now objects.now)) }
     ensures behind { IfOk result (λ done. (n : ℕ) → done < n → kept (kept_whole units.now objects.now) n ≡ None) }
     ensures waits { OnOk result ((m : Content) → V.holds vault.old m → (n : Content) × (V.holds vault.new n × Waits (V.view vault.old).shape.most m (closing units.now objects.now) objects.now objects.now.objects n changes.new.items)) }
+    ensures fits { OnOk result ((m : Content) → V.holds vault.old m → FirstFit (V.view vault.old).shape.parts m (closing units.now objects.now) objects.now (length objects.now.objects)) }
 
     // Else the first objects are kept.
-    ensures stopped { IfErr result (λ fault. (m : Content) → V.holds vault.old m → IsStoppedBy (V.holds vault.new) (V.view vault.new).free m (closing units.now objects.now) objects.now fault) }
+    ensures stopped { IfErr result (λ fault. (m : Content) → V.holds vault.old m → IsStoppedBy (V.holds vault.new) (V.view vault.old).shape.parts m (closing units.now objects.now) objects.now fault) }
 
     // A crash leaves the first objects kept.
     ensures past { (t : ℕ) (m : Content) → t ≤ (V.view vault.old).moment → V.leaves vault.old t m ↔ V.leaves vault.new t m }
@@ -131,7 +134,8 @@ fn keep_objects<V: Vault>(
 /// Keeps all objects, one after another in the order of their numbers, each as it stands with every uncommitted change taken
 /// back, and with a data space its journal space; then the ceiling; and takes away what else the vault has. Only pages that
 /// differ are put, and what one object needs goes into one put, with as many other objects as that takes, unless it needs
-/// more than a put. `Full` says how many new parts an object needs, and how many are free behind those before it.
+/// more than a put. `Full` says how many new parts the first object needs for which there is no room, and how many are free
+/// behind those before it. Where each finds room in its turn, all are kept.
 pub fn close<V: Vault>(
     alloc: Global,
     vault: &mut V,
@@ -146,8 +150,11 @@ pub fn close<V: Vault>(
     ensures holds { OnOk result ((m : Content) → V.holds vault.old m → V.holds vault.new (content_of (closing units.now objects.now))) }
     ensures told { OnOk result ((n : Content) → V.holds vault.new n → n ≡ content_of (closing units.now objects.now)) }
 
+    // Each object found room in its turn.
+    ensures fits { OnOk result ((m : Content) → V.holds vault.old m → EachFits (V.view vault.old).shape.parts m (closing units.now objects.now) objects.now) }
+
     // Else the first objects are kept.
-    ensures stopped { IfErr result (λ fault. (m : Content) → V.holds vault.old m → IsStoppedBy (V.holds vault.new) (V.view vault.new).free m (closing units.now objects.now) objects.now fault) }
+    ensures stopped { IfErr result (λ fault. (m : Content) → V.holds vault.old m → IsStoppedBy (V.holds vault.new) (V.view vault.old).shape.parts m (closing units.now objects.now) objects.now fault) }
 
     // A crash leaves the first objects kept, or all; where the next one needs several puts, some of these may be made.
     ensures past { (t : ℕ) (m : Content) → t ≤ (V.view vault.old).moment → V.leaves vault.old t m ↔ V.leaves vault.new t m }

@@ -9,10 +9,10 @@ use Rattle.s38_extents.specs.Extents.{AreRising, IsBelowAll, count_before, is_th
 pub number_same : (a b : ℕ) → (a == b) ≡ true → a ≡ b
 number_same a b h = grind (arith, nat_tests)
 
-number_below : (a b : ℕ) → nat_lt a b ≡ true → a < b
+pub number_below : (a b : ℕ) → nat_lt a b ≡ true → a < b
 number_below a b h = grind (arith, nat_tests)
 
-number_above : (a b : ℕ) → nat_lt a b ≡ false → (a == b) ≡ false → b < a
+pub number_above : (a b : ℕ) → nat_lt a b ≡ false → (a == b) ≡ false → b < a
 number_above a b h g = grind (arith, nat_tests)
 
 number_other : (a b : ℕ) → a < b → (b == a) ≡ false

@@ -1,2 +1,4 @@
 pub mod ExtentLaws
 mod ForcingLaws
+pub mod SearchLaws
+pub mod SumLaws

@@ -1,6 +1,6 @@
 -- Extents in rising order of number: how one is put among them, and how one is taken out.
 use Rattle.std.specs.Prelude.{ℕ, ◌<◌, ◌==◌, Bool, false, List, [], ◌∷◌, Option, Some, None, filter, nat_lt, not, slice_get, suc, if◌then◌else◌}
-use Rattle.s38_rules.specs.Room.{Extent, is_extent_of}
+use Rattle.s38_rules.specs.Room.{Extent, extent_at, is_extent_of, parts_of}
 
 -- a number is less than that of each extent
 abbrev pub IsBelowAll : ℕ → List Extent → Type 0
@@ -34,3 +34,19 @@ is_of n (Some x) = is_extent_of n x
 -- the extent at a place is that of a number
 abbrev pub is_there : ℕ → ℕ → List Extent → Bool
 is_there n at xs = is_of n (slice_get xs at)
+
+abbrev pub extent_of : ℕ → Option Extent → Option Extent
+extent_of n None = None
+extent_of n (Some x) = if x.number == n then Some x else None
+
+abbrev pub parts_in : Option Extent → ℕ
+parts_in None = 0
+parts_in (Some x) = parts_of x
+
+-- the extent at a place, if it is that of a number
+abbrev pub extent_there : ℕ → ℕ → List Extent → Option Extent
+extent_there n at xs = extent_of n (slice_get xs at)
+
+-- how many parts the extent of a number has
+abbrev pub parts_at : ℕ → List Extent → ℕ
+parts_at n xs = parts_in (extent_at xs n)

@@ -1,5 +1,5 @@
 //! The room of a store.
-ghost use Rattle.std.specs.Prelude.{◌≡◌, ◌+◌, ◌-◌, ◌≤◌, IfOk, OnErr, OnOk, length, sum_by};
+ghost use Rattle.std.specs.Prelude.{◌≡◌, ◌+◌, ◌-◌, ◌≤◌, ◌<◌, ◌^◌, IfOk, OnErr, OnOk, length, sum_by};
 ghost use Rattle.s38_extents.specs.Extents.{AreRising, with_extent, without};
 ghost use Rattle.s38_rules.specs.Room.{extent_at, free, parts_of};
 
@@ -15,18 +15,21 @@ use std::marker::Model;
 pub struct Room {
     parts: u32,
     extents: Vec<Extent>,
+    /// How many of the parts are left.
+    left: u32,
 }
 
 impl Model for Room {
-    ghost use Rattle.std.specs.Prelude.{◌-◌, vec_capacity, vec_len};
+    ghost use Rattle.std.specs.Prelude.{◌≡◌, ◌-◌, sum_by, vec_capacity, vec_len};
     ghost use Rattle.s38_extents.specs.Extents.{AreRising};
+    ghost use Rattle.s38_rules.specs.Room.{parts_of};
     ghost use Rattle.s38_extents.specs.Keeping.{RoomHeld};
 
     ghost Value = { RoomHeld };
 
     ghost view = { λ r. record { room = record { parts = r.parts; extents = r.extents.items }; spare = vec_capacity r.extents - vec_len r.extents } };
 
-    ghost invariant = { λ r. AreRising r.extents.items };
+    ghost invariant = { λ r. record { rising : AreRising r.extents.items; left : r.left ≡ r.parts - sum_by parts_of r.extents.items } };
 }
 
 /// How many of some parts are left behind those of extents.
@@ -40,24 +43,44 @@ fn left(parts: u32, extents: &[Extent]) -> u32
     left as u32
 }
 
+/// How many of some parts are left behind extents, of which one has so many parts in place of those that it had, from how
+/// many were left before. Where none was left, all extents are gone through.
+#[tactic(auto, using(crate::proofs::SumLaws::left_moved))]
+fn left_behind(before: u32, parts: u32, was: u64, now: u64, extents: &[Extent]) -> u32
+    requires before { 0 < before → before + (sum_by parts_of extents.now + was) ≡ parts + now }
+    requires was { was < 2 ^ 63 }
+    ensures { result ≡ parts - sum_by parts_of extents.now }
+{
+    if before == 0 {
+        left(parts, extents)
+    } else {
+        (u64::from(before) + was).saturating_sub(now) as u32
+    }
+}
+
 impl Room {
     /// The room of a store with so many parts for objects, which keeps these extents.
     pub fn new(parts: u32, extents: Vec<Extent>) -> Room
         requires { AreRising extents.items }
         ensures { result.room ≡ record { parts = parts; extents = extents.items } }
     {
-        Room { parts, extents }
+        let left = left(parts, extents.as_slice());
+        Room {
+            parts,
+            extents,
+            left,
+        }
     }
 
-    /// How many further parts the store takes, in time that grows with the number of objects that it keeps.
+    /// How many further parts the store takes.
     pub fn free(&self) -> u32
         ensures free { result ≡ free self.now.room }
         ensures rising { AreRising self.now.room.extents }
     {
-        left(self.parts, self.extents.as_slice())
+        self.left
     }
 
-    /// The extent of a number, in time that grows with the number of objects that the store keeps.
+    /// The extent of a number.
     pub fn extent(&self, number: ObjNum) -> Option<Extent>
         ensures { result ≡ extent_at self.now.room.extents number.0 }
     {
@@ -92,6 +115,7 @@ impl Room {
         let mut copy = Room {
             parts: self.parts,
             extents: self.extents.as_slice().to_vec(alloc)?,
+            left: self.left,
         };
         copy.reserve(extents)?;
         Ok(copy)
@@ -104,23 +128,34 @@ impl Room {
         self.extents.capacity() - self.extents.len()
     }
 
-    /// Puts the extent of an object, in place of the one that was there of its number. Its memory was reserved. It takes
-    /// time that grows with the number of objects that the store keeps.
+    /// Puts the extent of an object, in place of the one that was there of its number. Its memory was reserved.
+    #[tactic(auto, using(crate::proofs::ExtentLaws::rising_with, crate::proofs::SumLaws::put_moves))]
     pub fn put(&mut self, extent: Extent)
         requires { 1 ≤ self.old.spare }
         ensures extents { self.new.room.extents ≡ with_extent extent self.old.room.extents }
         ensures parts { self.new.room.parts ≡ self.old.room.parts }
         ensures spare { self.old.spare ≤ self.new.spare + 1 }
     {
+        let was = extents::parts_at(self.extents.as_slice(), extent.number());
         extents::put(&mut self.extents, extent);
+        self.left = left_behind(
+            self.left,
+            self.parts,
+            was,
+            extent.parts(),
+            self.extents.as_slice(),
+        );
     }
 
-    /// Takes the extent of a number out, if there is one, in time that grows with the number of objects that the store keeps.
+    /// Takes the extent of a number out, if there is one.
+    #[tactic(auto, using(crate::proofs::ExtentLaws::rising_without, crate::proofs::SumLaws::take_moves))]
     pub fn take_out(&mut self, number: ObjNum)
         ensures extents { self.new.room.extents ≡ without number.0 self.old.room.extents }
         ensures parts { self.new.room.parts ≡ self.old.room.parts }
         ensures spare { self.old.spare ≤ self.new.spare }
     {
+        let was = extents::parts_at(self.extents.as_slice(), number);
         extents::take_out(&mut self.extents, number);
+        self.left = left_behind(self.left, self.parts, was, 0, self.extents.as_slice());
     }
 }

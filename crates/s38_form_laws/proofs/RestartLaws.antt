@@ -2,7 +2,7 @@
 use Rattle.std.proofs.Common.{List, [], map, refl, subst, sym, zero, suc, ℕ, ◌∷◌, ◌≡◌, ◌≤◌}
 use Rattle.std.proofs.lemmas.List.Elements.{All-from_recursion}
 use Rattle.std.specs.List.{AllByRecursion}
-use Rattle.std.specs.Prelude.{None, true}
+use Rattle.std.specs.Prelude.{None, nat_le, true, ◌&&◌}
 use Rattle.s38_base.specs.Limits.{longest_message}
 use Rattle.s38_base.specs.declared.id.Kind.{Kind}
 use Rattle.s38_base.specs.declared.page.Change.{Change}

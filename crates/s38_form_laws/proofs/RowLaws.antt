@@ -1,11 +1,11 @@
 -- Bodies keep their form in each step: one clause for each instruction that makes a program or says special authorities.
-use Rattle.std.proofs.Common.{Bool, List, [], ap, arith, false, refl, suc, true, zero, ℕ, ◌%◌, ◌*◌, ◌/◌, ◌<◌, ◌∙◌, ◌≡◌}
+use Rattle.std.proofs.Common.{Bool, List, [], ap, arith, cond, false, refl, suc, true, zero, ℕ, ◌%◌, ◌*◌, ◌/◌, ◌<◌, ◌∙◌, ◌≡◌}
 use Rattle.std.proofs.lemmas.Nat.Bits.{and_high}
 use Rattle.std.proofs.lemmas.Bool.Decides.{nat_tests}
 use Rattle.std.specs.Option.{option_map}
 use Rattle.std.specs.Prelude.{None, Option, Some, bit_and, find, max, min, nat_le, ◌&&◌, ◌==◌}
 use Rattle.s38_base.specs.Pointers.{target_of}
-use Rattle.s38_base.specs.declared.op.Op.TheVariants.{Crtctx, Crtds, Crtinx, Crtjs, Crtpg, Crtq, Crts, Crtup, Grant, Insdsen, Jrnlobj, Lock, Modup, Rslvsp}
+use Rattle.s38_base.specs.declared.op.Op.TheVariants.{Crtctx, Crtds, Crtinx, Crtjs, Crtpg, Crtq, Crts, Crtup, Deq, Enq, Grant, Insdsen, Jrnlobj, Lock, Modup, Rslvsp}
 use Rattle.s38_base.specs.declared.op.Op.{Op}
 use Rattle.s38_code.specs.Operations.{family_of}
 use Rattle.s38_code.specs.declared.event.Event.TheVariants.{Act, Finish, Start}

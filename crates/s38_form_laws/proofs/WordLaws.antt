@@ -1,5 +1,5 @@
 -- Step by step bodies keep their form: one case for each word of change.
-use Rattle.std.proofs.Common.{List, [], not, true, ℕ, ◌==◌, ◌∷◌, ◌≡◌}
+use Rattle.std.proofs.Common.{List, [], not, refl, subst, true, ℕ, ◌==◌, ◌∷◌, ◌≡◌}
 use Rattle.std.proofs.lemmas.Bool.{cond_both}
 use Rattle.std.proofs.lemmas.List.Elements.{All-append, All-cons, All-filter, All-head, All-nil, All-tail}
 use Rattle.std.specs.Prelude.{All, None, Option, Some}

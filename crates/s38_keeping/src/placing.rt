@@ -3,10 +3,10 @@ ghost use Rattle.std.specs.Prelude.{◌≡◌, ◌≢◌, ◌↔◌, ◌⊎◌, 
 ghost use Rattle.s38_base.specs.Faults.{HasCauseOf};
 ghost use Rattle.s38_forcing.specs.Puts.{IsAfterPuts};
 ghost use Rattle.s38_keeping.specs.Outcomes.{IsRightFor};
-ghost use Rattle.s38_keeping.specs.Placing.{IsPlaced};
+ghost use Rattle.s38_keeping.specs.Placing.{IsCounted, IsPlaced};
 ghost use Rattle.s38_keeping.specs.declared.fault.KeepFault.TheVariants as faults;
 ghost use Rattle.s38_vault.specs.Content.{AreRising, Content, HaveObjects, changed};
-ghost use Rattle.s38_vault.specs.Directory.{keys_of, new_keys};
+ghost use Rattle.s38_vault.specs.Directory.{new_keys};
 
 use crate::fault::KeepFault;
 use crate::putting::{check_room, put_changes};
@@ -19,6 +19,7 @@ fn is_one_put<V: Vault>(vault: &V, changes: &[Change]) -> bool
     requires { HaveObjects changes.now }
     ensures few { result ≡ true → length changes.now ≤ (V.view vault.now).shape.most }
     ensures room { result ≡ true → new_keys (V.view vault.now).keys changes.now ≤ (V.view vault.now).free }
+    ensures counted { IsCounted V.view V.holds vault.now }
 {
     let fits = changes.len() <= vault.free() as usize || has_room(vault, changes);
     fits && changes.len() <= vault.most() as usize
@@ -50,10 +51,11 @@ pub fn make_place<V: Vault>(
 
     ensures placed { OnOk result (IsPlaced V.holds vault.old vault.new (V.view vault.old).shape.most mark changes.old.items changes.new.items) }
     ensures room { OnOk result (new_keys (V.view vault.new).keys changes.new.items ≤ (V.view vault.new).free) }
+    ensures counted { OnOk result (IsCounted V.view V.holds vault.new) }
 
     // Where it is full, those before the mark are put; where memory was refused, all of those or none.
     ensures full { IfErr result (λ fault. IsRightFor (new_keys (V.view vault.new).keys (drop mark changes.old.items)) (V.view vault.new).free fault) }
-    ensures keys { (needed free : ℕ) → result ≡ Err (faults.Full needed free) → (m : Content) → V.holds vault.new m → (V.view vault.new).keys ≡ keys_of m }
+    ensures full_counted { (needed free : ℕ) → result ≡ Err (faults.Full needed free) → IsCounted V.view V.holds vault.new }
     ensures front { (needed free : ℕ) → result ≡ Err (faults.Full needed free) → (m : Content) → V.holds vault.old m → V.holds vault.new (changed m (take mark changes.old.items)) }
     ensures stopped { IfErr result (λ fault. fault ≢ faults.Failed → (m : Content) → V.holds vault.old m → V.holds vault.new m ⊎ V.holds vault.new (changed m (take mark changes.old.items))) }
 

@@ -3,9 +3,10 @@ ghost use Rattle.std.specs.Prelude.{◌≡◌, ◌≢◌, ◌↔◌, ◌<◌, �
 ghost use Rattle.s38_base.specs.Faults.{HasCauseOf};
 ghost use Rattle.s38_forcing.specs.Puts.{IsAfterPuts};
 ghost use Rattle.s38_keeping.specs.Outcomes.{IsRightFor};
+ghost use Rattle.s38_keeping.specs.Placing.{IsCounted};
 ghost use Rattle.s38_keeping.specs.declared.fault.KeepFault.TheVariants as faults;
 ghost use Rattle.s38_vault.specs.Content.{AreRising, Content, HaveObjects, changed};
-ghost use Rattle.s38_vault.specs.Directory.{keys_of, new_keys};
+ghost use Rattle.s38_vault.specs.Directory.{new_keys};
 
 use crate::fault::KeepFault;
 use s38_base::Change;
@@ -19,7 +20,7 @@ pub(crate) fn check_room<V: Vault>(vault: &V, changes: &[Change]) -> Result<(), 
     ensures full { IfErr result (λ fault. IsRightFor (new_keys (V.view vault.now).keys changes.now) (V.view vault.now).free fault) }
     ensures failed { IfErr result (λ fault. fault ≢ faults.Failed) }
     ensures memory { IfErr result (λ fault. fault ≢ faults.NoMemory) }
-    ensures keys { (m : Content) → V.holds vault.now m → (V.view vault.now).keys ≡ keys_of m }
+    ensures counted { IsCounted V.view V.holds vault.now }
 {
     let needed = count_new(vault, changes);
     let free = vault.free();

@@ -63,7 +63,7 @@ none_numbered (one ∷ all) = by (is_numbered one) refl (none_numbered all)
     by true is rest = ap (λ b. b || is_forced 0 (numbered all)) (passed (speaks_of 0 one) is) ∙ rest
     by false is rest = rest
 
-other_forced : (n : ℕ) (all : List Forced) → (n == 0) ≡ false → is_forced n (numbered all) ≡ is_forced n all
+pub other_forced : (n : ℕ) (all : List Forced) → (n == 0) ≡ false → is_forced n (numbered all) ≡ is_forced n all
 other_forced n all other = any_numbered (speaks_of n) (speaks_apart n other) all
 
 pub numbers_numbered : (all : List Forced) → ((n : ℕ) → is_forced n all ≡ true → n < ceiling_key) → AreNumbers (numbered all)

@@ -1,21 +1,24 @@
 -- What a step has a store keep anew is read again, if each object of which it speaks is.
-use Rattle.std.proofs.Common.{Bool, List, [], false, refl, true, ℕ, ◌∷◌, ◌≡◌}
+use Rattle.std.proofs.Common.{Bool, List, [], ap, arith, false, refl, sym, true, ℕ, ◌==◌, ◌∙◌, ◌∷◌, ◌≡◌}
+use Rattle.std.proofs.lemmas.Bool.Decides.{nat_tests}
 use Rattle.std.specs.List.{list_any}
-use Rattle.std.specs.Prelude.{All, Some, ◌||◌}
+use Rattle.std.specs.Prelude.{All, None, Some, ◌||◌}
 use Rattle.s38_base.specs.Limits.{body_limit}
 use Rattle.s38_durable.specs.Durable.{whole}
 use Rattle.s38_image.specs.Fitting.{IsImage}
 use Rattle.s38_image_printing.specs.Parts.{CanSettle}
 use Rattle.s38_kept_laws.proofs.FoundLaws.{found_all}
+use Rattle.s38_kept_laws.proofs.NumberLaws.{other_forced}
 use Rattle.s38_kept_laws.specs.Kept.{AreReadable}
 use Rattle.s38_object_laws.specs.Outline.{is_forced, speaks_of}
 use Rattle.s38_openings.specs.Bodies.{HoldsBody}
 use Rattle.s38_readable.proofs.LastLaws.{whole_again}
 use Rattle.s38_readable.specs.Readable.{IsAgain}
 use Rattle.s38_rules.specs.Forcing.{Ceiling, Forced, Header, Removed, Whole, is_whole}
-use Rattle.s38_rules.specs.Held.{object}
+use Rattle.s38_rules.specs.Held.{Held, object}
 use Rattle.s38_rules.specs.State.{State}
 use Rattle.s38_rules.specs.declared.object.Object.{Object}
+use Rattle.s38_step_parts.specs.Numbers.{numbered}
 
 either : (a b c d : Bool) → (a ≡ true → c ≡ true) → (b ≡ true → d ≡ true) → (a || b) ≡ true → (c || d) ≡ true
 either a b true d left right h = refl
@@ -42,3 +45,15 @@ forced_readable all s bodies settles again = record {
   where
     image : (n : ℕ) (o : Object) → object s.held n ≡ Some o → IsAgain o → IsImage body_limit (whole s o)
     image n o found is = whole_again s o bodies (found_all (λ x. CanSettle s.units x.number.0 x.body) s.held.objects n o settles found) is.0
+
+-- so is each of which something speaks beside what speaks of number 0, which is the number of none
+pub numbered_again : (all : List Forced) (h : Held) → object h 0 ≡ None → ((n : ℕ) (o : Object) → is_forced n (numbered all) ≡ true → object h n ≡ Some o → IsAgain o)
+    → (n : ℕ) (o : Object) → is_forced n all ≡ true → object h n ≡ Some o → IsAgain o
+numbered_again all h none again n o speaks found = by (n == 0) refl
+  where
+    number_is : (a b : ℕ) → (a == b) ≡ true → a ≡ b
+    number_is a b same = grind (arith, nat_tests)
+
+    by : (b : Bool) → (n == 0) ≡ b → IsAgain o
+    by true same = let gone : Some o ≡ None = sym found ∙ ap (object h) (number_is n 0 same) ∙ none in absurd cc
+    by false other = again n o (other_forced n all other ∙ speaks) found

@@ -52,7 +52,7 @@ Leads fs all = (rest : List Bool) × (all ≡ fs ++ rest)
 one_page : (fs : List Bool) (ts : List ℕ) → length fs ≤ 32 → Leads fs (flags_in (tag_number (take page_cells fs) ∷ ts))
 one_page fs ts few =
     let front : bits page_cells (tag_number (take page_cells fs)) ≡ fs ++ copies (32 - length fs) false =
-        ap (λ (gs : List Bool). bits page_cells (tag_number gs)) (take_all 32 fs few) ∙ bits_made 32 fs few in
+    ap (λ (gs : List Bool). bits page_cells (tag_number gs)) (take_all 32 fs few) ∙ bits_made 32 fs few in
     (copies (32 - length fs) false ++ flags_in ts, ap (λ (gs : List Bool). gs ++ flags_in ts) front ∙ append_assoc fs (copies (32 - length fs) false) (flags_in ts))
 
 full_page : (fs : List Bool) → 32 ≤ length fs → bits page_cells (tag_number (take page_cells fs)) ≡ take page_cells fs
@@ -63,11 +63,13 @@ full_page fs many =
     bits_made 32 (take 32 fs) (omega (arith, long)) ∙ ap (λ (n : ℕ). take 32 fs ++ copies n false) left ∙ append-nil (take 32 fs)
 
 more_pages : (fs : List Bool) (ts : List ℕ) → 32 ≤ length fs → Leads (drop page_cells fs) (flags_in ts) → Leads fs (flags_in (tag_number (take page_cells fs) ∷ ts))
-more_pages fs ts many later =
-    (later.0, ap (λ (gs : List Bool). gs ++ flags_in ts) (full_page fs many)
-    ∙ ap (λ (gs : List Bool). take 32 fs ++ gs) later.1
-    ∙ sym (append_assoc (take 32 fs) (drop 32 fs) later.0)
-    ∙ ap (λ (gs : List Bool). gs ++ later.0) (take-append-drop 32 fs))
+more_pages fs ts many later = (
+  later.0,
+  ap (λ (gs : List Bool). gs ++ flags_in ts) (full_page fs many)
+      ∙ ap (λ (gs : List Bool). take 32 fs ++ gs) later.1
+      ∙ sym (append_assoc (take 32 fs) (drop 32 fs) later.0)
+      ∙ ap (λ (gs : List Bool). gs ++ later.0) (take-append-drop 32 fs),
+)
 
 pages_lead : (n : ℕ) (fs : List Bool) → length fs ≤ 32 * suc n → (length fs < 32) ⊎ (32 ≤ length fs)
     → (length (drop page_cells fs) ≤ 32 * n → Leads (drop page_cells fs) (flags_in (tag_numbers n (drop page_cells fs)))) → Leads fs (flags_in (tag_numbers (suc n) fs))

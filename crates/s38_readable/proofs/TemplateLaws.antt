@@ -47,10 +47,10 @@ rest_of (line ∷ lines) plain =
     let rest = rest_of lines both.1 in
     elim (cases_Bool (is_kept line)) [
       | inl k ↦ rw k (record {
-          plain = and_true (is_plain line) _ both.0 rest.plain;
-          kept = and_true (is_kept line) _ k rest.kept;
-          small = omega (arith, rest.small, length-append (with_feed line) (printed_lines (filter is_kept lines)), length-append (with_feed line) (printed_lines lines));
-        })
+        plain = and_true (is_plain line) _ both.0 rest.plain;
+        kept = and_true (is_kept line) _ k rest.kept;
+        small = omega (arith, rest.small, length-append (with_feed line) (printed_lines (filter is_kept lines)), length-append (with_feed line) (printed_lines lines));
+      })
       | inr k ↦ rw k (record { plain = rest.plain; kept = rest.kept; small = omega (arith, rest.small, length-append (with_feed line) (printed_lines lines)) })
     ]
 

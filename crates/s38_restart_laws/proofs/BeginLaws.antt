@@ -39,7 +39,7 @@ use Rattle.s38_vault.specs.Content.{Content}
 use Rattle.s38_restart_laws.specs.Restartable.{AreKeptLinks, AreReady, IsRestartable}
 use Rattle.s38_restart_laws.specs.Restarting.{CanRestart, is_kind_kept}
 use Rattle.s38_restart_laws.proofs.CanLaws.{can_restart}
-use Rattle.s38_restart_laws.proofs.SoundLaws.{counted_in, journal_given, port_given}
+use Rattle.s38_restart_laws.proofs.SoundLaws.{counted_in, journal_given, port_given, user_there}
 
 -- ---- what follows a journal space
 
@@ -56,7 +56,7 @@ named_stays : (f : DataBody → DataBody) (b : Body) → ((x : DataBody) → (f 
 named_stays f (bodies.DataSpace d) same = ap (λ p. p.0) (same d)
 named_stays f _ same = refl
 
-module _ (m : Content) (are : AreParts (all_parts m)) (fault : first_fault body_limit (all_parts m) ≡ None) (is : IsOpening (restarted body_limit (all_parts m))) (user : is_kind_kept kinds.Profile (kept (durable_in m).objects officer) ≡ true) where
+module _ (m : Content) (are : AreParts (all_parts m)) (fault : first_fault body_limit (all_parts m) ≡ None) (is : IsOpening (restarted body_limit (all_parts m))) where
   abbrev d : Durable
   d = durable_in m
 
@@ -104,7 +104,7 @@ module _ (m : Content) (are : AreParts (all_parts m)) (fault : first_fault body_
       by (Some o) e = refl
 
   first_user : is_of_kind kinds.Profile (object h officer) ≡ true
-  first_user = by (kept d.objects officer) refl user
+  first_user = by (kept d.objects officer) refl (user_there m fault)
     where
       by : (r : Option Stored) → kept d.objects officer ≡ r → is_kind_kept kinds.Profile r ≡ true → is_of_kind kinds.Profile (object h officer) ≡ true
       by None is_kept e = absurd (let g : false ≡ true = e in cc)

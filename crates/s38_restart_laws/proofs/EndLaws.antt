@@ -1,38 +1,31 @@
--- What a run leaves can restart, at each moment at which its objects are ensured, if each is put at once.
+-- What a run leaves can restart, and the first of its objects are ensured each with its journal space.
 use Rattle.std.proofs.Common.{◌≡◌, ◌∙◌, ◌⊎◌, ◌<◌, ◌≤◌, ◌==◌, ℕ, Bool, true, false, cond, inl, inr, List, [], ◌∷◌, ◌++◌, Option, Some, None, map, refl, sym, ap, subst, arith}
 use Rattle.std.proofs.lemmas.Bool.Decides.{nat_tests}
 use Rattle.std.proofs.lemmas.Map.Keys.{sorted_from_strictly_increasing, sorted_head, sorted_tail}
-use Rattle.std.specs.FinMap.{get}
-use Rattle.std.specs.List.{AllByRecursion, flat_map, list_any}
+use Rattle.std.specs.List.{flat_map, list_any}
 use Rattle.std.specs.List.Sorted.{IsStrictlySortedBy}
 use Rattle.std.specs.Option.{option_map}
-use Rattle.std.specs.Ordering.{eq_by_cmp, nat_cmp}
-use Rattle.std.specs.Prelude.{◌&&◌, ◌||◌, nat_le, nat_lt}
+use Rattle.std.specs.Ordering.{nat_cmp}
+use Rattle.std.specs.Prelude.{◌&&◌, ◌||◌, All, nat_le, nat_lt}
 use Rattle.std.specs.declared.cmp.Ordering.TheVariants.{Less}
 use Rattle.s38_base.specs.Limits.{body_limit}
-use Rattle.s38_base.specs.declared.page.Change.{Change}
-use Rattle.s38_base.specs.declared.page.Key.{Key}
-use Rattle.s38_base.specs.declared.page.Page.{Page}
 use Rattle.s38_closing.specs.Closing.{closing}
-use Rattle.s38_closing.specs.Ensuring.{IsBehind, IsReached, is_ensured, journal_above, journal_ahead}
+use Rattle.s38_closing.specs.Ensuring.{is_ensured, journal_above, journal_ahead}
 use Rattle.s38_closing.specs.Passing.{last_number}
 use Rattle.s38_commitment_laws.specs.Right.{IsUnused}
 use Rattle.s38_commits.specs.Units.{UnitMap}
 use Rattle.s38_committed.proofs.LinkLaws.{behind_there}
 use Rattle.s38_durable.specs.Durable.{Durable, kept, whole_of}
-use Rattle.s38_durable.specs.Following.{header_in, header_kept, number_of}
-use Rattle.s38_durable.specs.Stands.{Stands, ceiling_parts, page_of, parts_end, parts_in}
-use Rattle.s38_forcing.proofs.WalkLaws.{one_key}
-use Rattle.s38_forcing.specs.Differences.{wanted_at}
-use Rattle.s38_groups.specs.Stores.{first_fault}
-use Rattle.s38_image.specs.Faults.{ceiling_key}
+use Rattle.s38_durable.specs.Following.{number_of}
 use Rattle.s38_image.specs.Fitting.{IsImage}
 use Rattle.s38_image.specs.declared.stored.Stored.{Stored}
-use Rattle.s38_kept_laws.proofs.StandLaws.{pages_of}
-use Rattle.s38_kept_laws.specs.Kept.{AreImages, HasParts, IsKeptOf}
+use Rattle.s38_image_printing.specs.Parts.{CanSettle}
+use Rattle.s38_kept_laws.proofs.FoundLaws.{found_all}
+use Rattle.s38_kept_laws.specs.Kept.{AreImages, IsKeptOf}
+use Rattle.s38_openings.specs.Bodies.{HoldsBody}
 use Rattle.s38_put_laws.specs.Trails.{IsTrailOf}
-use Rattle.s38_restart.specs.Parts.{AreParts, all_parts}
-use Rattle.s38_rules.proofs.ChargeLaws.{found_number}
+use Rattle.s38_readable.proofs.LastLaws.{whole_again}
+use Rattle.s38_readable.specs.Readable.{IsReadable}
 use Rattle.s38_rules.specs.Held.{Held, has_number, is_on_disk, object, object_in}
 use Rattle.s38_rules.specs.Journaling.{data_port, data_port_in, is_journal, is_number, journal_behind, journal_for, journal_named}
 use Rattle.s38_rules.specs.Parts.{data_part, part_at, part_in, port_part}
@@ -40,14 +33,11 @@ use Rattle.s38_rules.specs.State.{State}
 use Rattle.s38_rules.specs.declared.data_body.DataBody.{DataBody}
 use Rattle.s38_rules.specs.declared.object.Object.{Object}
 use Rattle.s38_state_laws.specs.Order.{AreInOrder}
-use Rattle.s38_vault.specs.Content.{Content}
-use Rattle.s38_vault.specs.Keys.{key_cmp}
 use Rattle.s38_restart_laws.specs.Ending.{IsWithJournals, mixed}
 use Rattle.s38_restart_laws.specs.Restartable.{AreReady, IsRestartable}
 use Rattle.s38_restart_laws.specs.Restarting.{CanRestart}
 use Rattle.s38_restart_laws.proofs.KindLaws.{apart_kinds, data_at_kind, journal_at_kind}
-use Rattle.s38_restart_laws.proofs.MixLaws.{found, mixed_at, mixed_can}
-use Rattle.s38_restart_laws.proofs.RestartLaws.{none_at_fault}
+use Rattle.s38_restart_laws.proofs.MixLaws.{mixed_can}
 use Rattle.s38_restart_laws.proofs.NumberLaws.{Above, itself, number_same}
 
 -- ---- all objects
@@ -59,7 +49,7 @@ each_alone f (x ∷ xs) = ap (λ (ys : List _). f x ∷ ys) (each_alone f xs)
 all_mixed : (units : UnitMap) (h : Held) (d : Durable) → mixed (λ n. true) units h d ≡ closing units h
 all_mixed units h d = ap (λ (xs : List Stored). let v : Durable = record { ceiling = h.ceiling; objects = xs } in v) (each_alone (whole_of units h) h.objects)
 
-closing_found : (units : UnitMap) (h : Held) (n : ℕ) → kept (closing units h).objects n ≡ option_map (whole_of units h) (object h n)
+pub closing_found : (units : UnitMap) (h : Held) (n : ℕ) → kept (closing units h).objects n ≡ option_map (whole_of units h) (object h n)
 closing_found units h n = by h.objects
   where
     by : (os : List Object) → kept (map (whole_of units h) os) n ≡ option_map (whole_of units h) (object_in os n)
@@ -75,6 +65,19 @@ pub closing_can : (s : State) (d : Durable) → IsKeptOf s d → IsTrailOf s d �
 closing_can s d is trail order ready images =
     let same = all_mixed s.units s.held d in
     subst CanRestart same (mixed_can s d is trail ready (λ n. true) (λ n journal on to. refl) order (subst AreImages (sym same) images))
+
+-- each can be read again
+pub closing_images : (s : State) → All (HoldsBody body_limit) s.held.objects → All (λ o. CanSettle s.units o.number.0 o.body) s.held.objects → All IsReadable s.held.objects → AreImages (closing s.units s.held)
+closing_images s bodies settles again n x at = by (object s.held n) refl (sym (closing_found s.units s.held n) ∙ at)
+  where
+    same : (y : Stored) → Some y ≡ Some x → y ≡ x
+    same y e = cc
+
+    by : (r : Option Object) → object s.held n ≡ r → option_map (whole_of s.units s.held) r ≡ Some x → IsImage body_limit x
+    by None there e = absurd (let g : None ≡ Some x = e in cc)
+    by (Some o) there e =
+        subst (IsImage body_limit) (same (whole_of s.units s.held o) e)
+        (whole_again s o bodies (found_all (λ y. CanSettle s.units y.number.0 y.body) s.held.objects n o settles there) (found_all IsReadable s.held.objects n o again there))
 
 -- ---- the first objects
 
@@ -210,106 +213,3 @@ module _ (h : Held) (ready : AreReady h) (unused : IsUnused h) where
         by : (o : (x : Object) × (object h n ≡ Some x)) → (c : Bool) → nat_le n (last_number gone) ≡ c → (c || list_any (λ x. is_number n (journal_ahead h x.number.0)) gone) ≡ true → ensured i ≡ true
         by o true low e = ahead o.0 (is_gone n o.0 o.1 low) (found_number n o.0 h.objects o.1) low (nat_lt n i) refl
         by o false low e = absurd (no_journal e)
-
--- ---- a content behind the first objects
-
--- parts of which none is of object 0 have no page of it
-zero_page : (cs : List Change) (q : Key) → q.object ≡ 0 → AllByRecursion (λ c. 1 ≤ c.key.object) cs → wanted_at cs q ≡ None
-zero_page [] q at have = refl
-zero_page (c ∷ cs) q at have = by (eq_by_cmp key_cmp q c.key) refl (zero_page cs q at have.1)
-  where
-    by : (b : Bool) → eq_by_cmp key_cmp q c.key ≡ b → wanted_at cs q ≡ None → cond b c.page (wanted_at cs q) ≡ None
-    by true is rest = absurd (let some = have.0 in let same = ap (λ (k : Key). k.object) (one_key q c.key is) in omega (arith, some, same, at))
-    by false is rest = rest
-
-module _ (s : State) (d : Durable) (is : IsKeptOf s d) (trail : IsTrailOf s d) (order : AreInOrder s) (ready : IsRestartable s d) (m n : Content) (stands : Stands m d) (are : AreParts (all_parts n)) (gone : List Object)
-    (behind : IsBehind m (closing s.units s.held) s.held gone n) (with_them : IsWithJournals (is_ensured s.held gone) s.held) where
-  abbrev h : Held
-  h = s.held
-
-  abbrev new : Durable
-  new = mixed (is_ensured h gone) s.units h d
-
-  at_new : (k : ℕ) → kept new.objects k ≡ mixed_at (is_ensured h gone) s.units h d.objects (object h k)
-  at_new k = found s d is trail ready (is_ensured h gone) with_them k
-
-  -- nothing is kept where nothing is
-  none_kept : (k : ℕ) → object h k ≡ None → kept d.objects k ≡ None
-  none_kept k at = by (kept d.objects k) (is.follows.headers k ∙ ap header_in at)
-    where
-      by : (r : Option Stored) → option_map header_kept r ≡ None → r ≡ None
-      by None e = refl
-      by (Some x) e = absurd (let g : Some (header_kept x) ≡ None = e in cc)
-
-  -- what is ensured is kept as it stands, and the rest as it was
-  new_kept : (k : ℕ) → kept new.objects k ≡ cond (is_ensured h gone k) (kept (closing s.units h).objects k) (kept d.objects k)
-  new_kept k = at_new k ∙ by (object h k) refl ∙ sym (ap (λ r. cond (is_ensured h gone k) r (kept d.objects k)) (closing_found s.units h k))
-    where
-      none_either : (b : Bool) → ◌≡◌ {A = Option Stored} None (cond b None None)
-      none_either true = refl
-      none_either false = refl
-
-      by : (r : Option Object) → object h k ≡ r → mixed_at (is_ensured h gone) s.units h d.objects r ≡ cond (is_ensured h gone k) (option_map (whole_of s.units h) (object h k)) (kept d.objects k)
-      by None at =
-          none_either (is_ensured h gone k) ∙ sym (ap (λ (r : Option Stored). cond (is_ensured h gone k) None r) (none_kept k at))
-          ∙ sym (ap (λ r. cond (is_ensured h gone k) (option_map (whole_of s.units h) r) (kept d.objects k)) at)
-      by (Some o) at =
-          ap (λ (i : ℕ). cond (is_ensured h gone i) (Some (whole_of s.units h o)) (kept d.objects i)) (found_number k o h.objects at)
-          ∙ sym (ap (λ r. cond (is_ensured h gone k) (option_map (whole_of s.units h) r) (kept d.objects k)) at)
-
-  -- a store has nothing of object 0
-  none_zero : (q : Key) → q.object ≡ 0 → get n q ≡ page_of new q
-  none_zero q at =
-      sym (pages_of n q) ∙ zero_page (all_parts n) q at are.objects
-      ∙ sym (ap (λ (k : ℕ). wanted_at (cond (k == ceiling_key) (ceiling_parts h.ceiling) (parts_in (kept new.objects k))) q) at
-      ∙ ap (λ (r : Option Stored). wanted_at (parts_in r) q) (at_new 0 ∙ ap (mixed_at (is_ensured h gone) s.units h d.objects) is.numbered.none))
-
-  -- the ceiling is the same, and the pages of an object are those of what is kept of it
-  mixed_page : (q : Key) → cond (is_ensured h gone q.object) (page_of (closing s.units h) q) (page_of d q) ≡ page_of new q
-  mixed_page q = by (q.object == ceiling_key)
-    where
-      same : (e : Bool) (page : Option Page) → cond e page page ≡ page
-      same true page = refl
-      same false page = refl
-
-      pushed : (e : Bool) (a b : Option Stored) → cond e (wanted_at (parts_in a) q) (wanted_at (parts_in b) q) ≡ wanted_at (parts_in (cond e a b)) q
-      pushed true a b = refl
-      pushed false a b = refl
-
-      by : (c : Bool) → cond (is_ensured h gone q.object) (wanted_at (cond c (ceiling_parts h.ceiling) (parts_in (kept (closing s.units h).objects q.object))) q) (wanted_at (cond c (ceiling_parts d.ceiling) (parts_in (kept d.objects q.object))) q)
-          ≡ wanted_at (cond c (ceiling_parts h.ceiling) (parts_in (kept new.objects q.object))) q
-      by true =
-          ap (λ (v : ℕ). cond (is_ensured h gone q.object) (wanted_at (ceiling_parts h.ceiling) q) (wanted_at (ceiling_parts v) q)) is.ceiling
-          ∙ same (is_ensured h gone q.object) (wanted_at (ceiling_parts h.ceiling) q)
-      by false =
-          pushed (is_ensured h gone q.object) (kept (closing s.units h).objects q.object) (kept d.objects q.object)
-          ∙ sym (ap (λ (r : Option Stored). wanted_at (parts_in r) q) (new_kept q.object))
-
-  page_new : (q : Key) → q.part < parts_end → get n q ≡ page_of new q
-  page_new q low = by (q.object == 0) refl
-    where
-      by : (b : Bool) → (q.object == 0) ≡ b → get n q ≡ page_of new q
-      by true zero_is = none_zero q (number_same q.object 0 zero_is)
-      by false off =
-          let first : 1 ≤ q.object = grind (arith, nat_tests) in
-          behind.each q first low ∙ ap (λ (v : Option Page). cond (is_ensured h gone q.object) (page_of (closing s.units h) q) v) (stands.each q low) ∙ mixed_page q
-
-  -- each image that is kept is one of those
-  new_images : AreImages d → AreImages (closing s.units h) → AreImages new
-  new_images old whole k x at = by (is_ensured h gone k) (sym (new_kept k) ∙ at)
-    where
-      by : (e : Bool) → cond e (kept (closing s.units h).objects k) (kept d.objects k) ≡ Some x → IsImage body_limit x
-      by true e = whole k x e
-      by false e = old k x e
-
-  pub behind_restarts : HasParts n → AreImages d → AreImages (closing s.units h) → first_fault body_limit (all_parts n) ≡ None
-  behind_restarts parts old whole =
-      none_at_fault n new are parts (record { each = λ q low own. page_new q low })
-      (mixed_can s d is trail ready (is_ensured h gone) with_them order (new_images old whole))
-
--- the first so many objects were ensured
-pub reached_restarts : (s : State) (d : Durable) (m n : Content) → IsKeptOf s d → IsTrailOf s d → AreInOrder s → IsRestartable s d → AreImages d → AreImages (closing s.units s.held) → Stands m d
-    → IsReached m (closing s.units s.held) s.held n → AreParts (all_parts n) → HasParts n → first_fault body_limit (all_parts n) ≡ None
-reached_restarts s d m n is trail order ready old whole stands reached are parts =
-    behind_restarts s d is trail order ready m n stands are reached.gone reached.behind
-    (with_journals s.held ready.ready (record { none = is.numbered.none; next = is.numbered.first }) reached.gone reached.rest reached.all) parts old whole

@@ -121,7 +121,7 @@ module _ (d : Durable) (can : CanRestart d) where
           let own = headed y (can.images n y is) in
           ap (is_kind kind) (header_found n y is own) ∙ ap (λ (i : Id). same_kind i.kind kind) own.id ∙ h
 
-  other_found : (kind : Kind) (n : ℕ) → is_kind_or_none kind (kept d.objects n) ≡ true → is_other_kind kind (header all n) ≡ false
+  pub other_found : (kind : Kind) (n : ℕ) → is_kind_or_none kind (kept d.objects n) ≡ true → is_other_kind kind (header all n) ≡ false
   other_found kind n = by (kept d.objects n) refl
     where
       by : (r : Option Stored) → kept d.objects n ≡ r → is_kind_or_none kind r ≡ true → is_other_kind kind (header all n) ≡ false

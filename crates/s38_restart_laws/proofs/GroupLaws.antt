@@ -26,7 +26,7 @@ use Rattle.s38_kept_laws.proofs.RoomLaws.{wanted_object}
 use Rattle.s38_kept_laws.proofs.SizeLaws.{header_there}
 use Rattle.s38_kept_laws.proofs.StandLaws.{pages_of}
 use Rattle.s38_kept_laws.specs.Kept.{HasParts}
-use Rattle.s38_restart.specs.Parts.{AreParts, all_parts}
+use Rattle.s38_restart.specs.Parts.{all_parts}
 use Rattle.s38_restart.specs.Restarted.{number_in_stored}
 use Rattle.s38_step_parts.proofs.KeptLaws.{kept_number}
 use Rattle.s38_vault.specs.Content.{Content}
@@ -34,7 +34,7 @@ use Rattle.s38_vault.specs.Keys.{key_cmp}
 use Rattle.s38_step_parts.specs.Leftovers.{StandsBut, belongs}
 use Rattle.s38_restart_laws.specs.Restarting.{CanRestart}
 use Rattle.s38_restart_laws.proofs.NumberLaws.{IsKeptIn, each_kept, has, kept_has, same_numbers}
-use Rattle.s38_restart_laws.proofs.PartLaws.{HasPage, object_pages, parts_pages, parts_same, stream_pages}
+use Rattle.s38_restart_laws.proofs.PartLaws.{HasPage, object_pages, parts_pages, parts_rise, parts_same, stream_pages}
 
 -- ---- which numbers have a header
 
@@ -105,7 +105,7 @@ none_at_ceiling d can n at = by (kept d.objects n) refl
     by None is = refl
     by (Some x) is = absurd (let e : true ≡ false = sym at ∙ low_number n d.ceiling (can.each n x is).given can.ceiling in cc)
 
-module _ (m : Content) (d : Durable) (are : AreParts (all_parts m)) (low : HasParts m) (pages : StandsBut m d) (can : CanRestart d) where
+module _ (m : Content) (d : Durable) (low : HasParts m) (pages : StandsBut m d) (can : CanRestart d) where
   abbrev parts : List Change
   parts = all_parts m
 
@@ -127,12 +127,12 @@ module _ (m : Content) (d : Durable) (are : AreParts (all_parts m)) (low : HasPa
       let n = x.object.number.0 in
       let image = can.images n x is in
       let off = low_number n d.ceiling (can.each n x is).given can.ceiling in
-      parts_same m are low n (images.parts_of x) (wanted_object x n refl (image_header x image)) (object_pages x)
+      parts_same m low n (images.parts_of x) (wanted_object x n refl (image_header x image)) (object_pages x)
       (λ q own before. pages.each q before (own_belongs n q own (ap is_some is)) ∙ ap (λ (k : ℕ). wanted_at (parts_at d k) q) own ∙ ap (λ (cs : List Change). wanted_at cs q) (at_kept x off is))
 
   pub ceiling_kept : parts_of ceiling_key parts ≡ ceiling_parts d.ceiling
   ceiling_kept =
-      parts_same m are low ceiling_key (ceiling_parts d.ceiling) (wanted_whole ceiling_key (ceiling_parts d.ceiling) (ceiling_wanted d.ceiling)) (stream_pages ceiling_key 0 (ceiling_page.print d.ceiling) (no_tags ceiling_page d.ceiling))
+      parts_same m low ceiling_key (ceiling_parts d.ceiling) (wanted_whole ceiling_key (ceiling_parts d.ceiling) (ceiling_wanted d.ceiling)) (stream_pages ceiling_key 0 (ceiling_page.print d.ceiling) (no_tags ceiling_page d.ceiling))
       (λ q own before. pages.each q before (ceiling_belongs q own) ∙ ap (λ (k : ℕ). wanted_at (parts_at d k) q) own)
     where
       ceiling_belongs : (q : Key) → q.object ≡ ceiling_key → belongs d q ≡ true
@@ -166,7 +166,7 @@ module _ (m : Content) (d : Durable) (are : AreParts (all_parts m)) (low : HasPa
   numbers_same : map number_of (groups parts) ≡ map number_in_stored d.objects
   numbers_same =
       same_numbers (map number_of (groups parts)) (map number_in_stored d.objects)
-      (sorted_from_strictly_increasing (map number_of (groups parts)) (groups_rise parts (in_order parts are.rising)))
+      (sorted_from_strictly_increasing (map number_of (groups parts)) (groups_rise parts (in_order parts (parts_rise m))))
       (sorted_from_strictly_increasing (map number_in_stored d.objects) can.rising) numbers_has
 
   -- ---- the groups

@@ -20,5 +20,6 @@ pub mod BeginLaws
 pub mod CrashLaws
 pub mod MixLaws
 pub mod EndLaws
+pub mod ClosedLaws
 pub mod ContentLaws
 pub mod InstallLaws

@@ -4,7 +4,7 @@ use Rattle.std.proofs.lemmas.Bool.Decides.{nat_tests}
 use Rattle.std.proofs.lemmas.List.{length-append}
 use Rattle.std.proofs.lemmas.Map.Keys.{IsStrictlyIncreasing-from_sorted, sorted_from_strictly_increasing, sorted_head, sorted_tail}
 use Rattle.std.specs.List.{flat_map}
-use Rattle.std.specs.List.Sorted.{IsStrictlySortedBy}
+use Rattle.std.specs.List.Sorted.{IsStrictlyIncreasing, IsStrictlySortedBy}
 use Rattle.std.specs.Option.{unwrap_or}
 use Rattle.std.specs.Ordering.{nat_cmp}
 use Rattle.std.specs.Prelude.{is_some}
@@ -305,6 +305,9 @@ module _ (s : State) (d : Durable) (is : IsKeptOf s d) (trail : IsTrailOf s d) (
   counted_mixed : AreCounted new
   counted_mixed n x b j at of to = counted_as n x b j at of (chain_of new b.port.0 j to) (there n x at)
 
+  pub mixed_rises : IsStrictlyIncreasing (map number_in_stored new.objects)
+  mixed_rises = IsStrictlyIncreasing-from_sorted (map number_in_stored new.objects) (sorted_mixed ensured s.units h d.objects h.objects (sorted_from_strictly_increasing (map number_of h.objects) is.numbered.rising))
+
   mirrors : Mirrors h new
   mirrors = record {
     place = placed;
@@ -313,7 +316,7 @@ module _ (s : State) (d : Durable) (is : IsKeptOf s d) (trail : IsTrailOf s d) (
     machine = still machine_context (ap is_some (on_kept h d machine_context is.follows ready.ready.machine_disk).1);
     links = record { port = port_mixed; space = space_mixed };
     counted = counted_mixed;
-    rising = IsStrictlyIncreasing-from_sorted (map number_in_stored new.objects) (sorted_mixed ensured s.units h d.objects h.objects (sorted_from_strictly_increasing (map number_of h.objects) is.numbered.rising));
+    rising = mixed_rises;
     ceiling = refl;
   }
 

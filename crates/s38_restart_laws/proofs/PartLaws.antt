@@ -1,10 +1,13 @@
 -- The parts of a number in a content are those that are wanted of it, where each has its page.
 use Rattle.std.proofs.Common.{◌≡◌, ◌∙◌, ◌<◌, ◌==◌, ℕ, ◌+◌, ◌*◌, Bool, true, false, cond, List, [], ◌∷◌, ◌++◌, Option, length, map, refl, sym, ap, arith}
+use lib.Dec.{T}
 use Rattle.std.proofs.lemmas.Bool.Decides.{nat_tests}
-use Rattle.std.specs.FinMap.{entries, get}
+use Rattle.std.specs.FinMap.{entries, entries_sorted, get, is_sorted}
 use Rattle.std.specs.List.{AllByRecursion}
-use Rattle.std.specs.Ordering.{eq_by_cmp}
-use Rattle.std.specs.Prelude.{is_some}
+use Rattle.std.specs.Ordering.{eq_by_cmp, is_lt}
+use Rattle.std.specs.Prelude.{◌&&◌, is_some}
+use Rattle.std.specs.declared.cmp.Ordering.TheVariants.{Equal, Greater, Less}
+use Rattle.std.specs.declared.cmp.Ordering.{Ordering}
 use Rattle.s38_base.specs.declared.page.Change.{Change}
 use Rattle.s38_base.specs.declared.page.Key.{Key}
 use Rattle.s38_base.specs.declared.page.Page.{Page}
@@ -24,8 +27,8 @@ use Rattle.s38_keeping.proofs.SoFarLaws.{all_of, all_on}
 use Rattle.s38_keeping.specs.Replacing.{range_of}
 use Rattle.s38_kept_laws.proofs.StandLaws.{pages_of}
 use Rattle.s38_kept_laws.specs.Kept.{HasParts}
-use Rattle.s38_restart.specs.Parts.{AreParts, all_parts, part_of}
-use Rattle.s38_vault.specs.Content.{Content}
+use Rattle.s38_restart.specs.Parts.{all_parts, part_of}
+use Rattle.s38_vault.specs.Content.{AreRising, Content}
 use Rattle.s38_vault.specs.Directory.{keys_of}
 use Rattle.s38_vault.specs.Keys.{key_cmp}
 use Rattle.s38_restart_laws.proofs.WantedLaws.{IsPageIn, each_passing, filter_in_order, same_pages}
@@ -60,6 +63,28 @@ listed_pages (e ∷ es) = (refl, listed_pages es)
 
 pub parts_pages : (m : Content) → AllByRecursion HasPage (all_parts m)
 parts_pages m = listed_pages (entries m)
+
+-- they rise
+both_true : (a b : Bool) → (a && b) ≡ true → (a ≡ true) × (b ≡ true)
+both_true true b h = (refl, h)
+both_true false b h = absurd (let e : false ≡ true = h in cc)
+
+is_less : (r : Ordering) → is_lt r ≡ true → r ≡ Less
+is_less Less h = refl
+is_less Equal h = absurd (let e : false ≡ true = h in cc)
+is_less Greater h = absurd (let e : false ≡ true = h in cc)
+
+is_true : (b : Bool) → T b → b ≡ true
+is_true true h = refl
+is_true false h = absurd h
+
+listed_rise : (es : List (Key × Page)) → is_sorted key_cmp es ≡ true → AreRising (map part_of es)
+listed_rise [] h = tt
+listed_rise (e ∷ []) h = tt
+listed_rise (e ∷ f ∷ es) h = (is_less (key_cmp e.0 f.0) (both_true _ _ (both_true _ _ h).0).0, listed_rise (f ∷ es) (both_true _ _ h).1)
+
+pub parts_rise : (m : Content) → AreRising (all_parts m)
+parts_rise m = listed_rise (entries m) (is_true _ (entries_sorted m))
 
 -- each of some parts is found among them
 each_found : (cs : List Change) → AllByRecursion HasPage cs → AllByRecursion (λ c. is_some (wanted_at cs c.key) ≡ true) cs
@@ -102,7 +127,7 @@ low_pages : (cs : List Change) → AllByRecursion (λ c. c.key.part < parts_end)
 low_pages [] low pages = tt
 low_pages (c ∷ cs) low pages = (record { part = low.0; page = pages.0 }, low_pages cs low.1 pages.1)
 
-module _ (m : Content) (are : AreParts (all_parts m)) (low : HasParts m) where
+module _ (m : Content) (low : HasParts m) where
   each_low : AllByRecursion IsLow (all_parts m)
   each_low =
       low_pages (all_parts m)
@@ -121,7 +146,7 @@ module _ (m : Content) (are : AreParts (all_parts m)) (low : HasParts m) where
   -- the parts of a number are those that have the pages of all its keys
   pub parts_same : (n : ℕ) (cs : List Change) → IsWanted (range_of n) cs → AllByRecursion HasPage cs → ((q : Key) → q.object ≡ n → q.part < parts_end → get m q ≡ wanted_at cs q) → parts_of n (all_parts m) ≡ cs
   parts_same n cs wanted pages same =
-      same_pages (range_of n) (parts_of n (all_parts m)) cs (filter_in_order (is_of n) (all_parts m) (in_order (all_parts m) are.rising)) (in_order cs wanted.rising)
+      same_pages (range_of n) (parts_of n (all_parts m)) cs (filter_in_order (is_of n) (all_parts m) (in_order (all_parts m) (parts_rise m))) (in_order cs wanted.rising)
       (own_pages n) (both_each (range_of n) cs wanted.in_range pages)
       (λ q own.
       let here = inside (range_of n) q own in

@@ -1,27 +1,29 @@
 -- A content that has the pages of what can restart is restarted to it, without a fault.
-use Rattle.std.proofs.Common.{◌≡◌, ◌∙◌, ℕ, true, List, Option, Some, None, map, refl, ap}
+use Rattle.std.proofs.Common.{◌≡◌, ◌∙◌, ℕ, Bool, true, false, cond, not, List, Option, Some, None, map, refl, ap}
 use Rattle.std.proofs.lemmas.Map.Keys.{sorted_from_strictly_increasing}
 use Rattle.std.specs.List.{AllByRecursion}
 use Rattle.std.specs.Option.{unwrap_or}
-use Rattle.std.specs.Prelude.{is_some}
+use Rattle.std.specs.Prelude.{◌&&◌, is_some}
 use Rattle.s38_base.specs.Limits.{body_limit}
 use Rattle.s38_base.specs.declared.id.Kind.TheVariants as kinds
+use Rattle.s38_committed.proofs.BeginLaws.{restarts_to}
 use Rattle.s38_durable.specs.Durable.{Durable, kept}
 use Rattle.s38_durable.specs.Stands.{Stands}
 use Rattle.s38_groups.specs.Groups.{parts_of}
 use Rattle.s38_groups.specs.Readings.{all_sound}
 use Rattle.s38_groups.specs.Stores.{ceiling_of, first_fault, stored_in}
-use Rattle.s38_image.specs.Faults.{Group, ceiling_in, ceiling_key, first_by, first_of, first_under, is_on_disk, store_fault}
+use Rattle.s38_image.specs.Faults.{Group, ceiling_in, ceiling_key, first_by, first_of, first_under, has_first_user, header, is_on_disk, is_other_kind, store_fault}
 use Rattle.s38_image.specs.declared.stored.Stored.{Stored}
 use Rattle.s38_kept_laws.specs.Kept.{HasParts}
-use Rattle.s38_restart.specs.Parts.{AreParts, all_parts}
+use Rattle.s38_restart.specs.Parts.{all_parts}
 use Rattle.s38_restart.specs.Restarted.{number_in_stored}
 use Rattle.s38_rules.specs.Profiles.{officer}
 use Rattle.s38_vault.specs.Content.{Content}
 use Rattle.s38_step_parts.specs.Leftovers.{StandsBut}
-use Rattle.s38_restart_laws.specs.Restarting.{CanRestart, is_kind_kept}
+use Rattle.s38_restart_laws.specs.Restarts.{RestartsTo}
+use Rattle.s38_restart_laws.specs.Restarting.{CanRestart, is_kind_kept, is_kind_or_none}
 use Rattle.s38_restart_laws.proofs.CeilingLaws.{ceiling_again}
-use Rattle.s38_restart_laws.proofs.FaultLaws.{all_read, disk_found, none_first}
+use Rattle.s38_restart_laws.proofs.FaultLaws.{all_read, disk_found, none_first, other_found}
 use Rattle.s38_restart_laws.proofs.GroupLaws.{ceiling_kept, groups_kept, groups_same}
 use Rattle.s38_restart_laws.proofs.NumberLaws.{IsKeptIn, each_kept}
 
@@ -29,35 +31,63 @@ use Rattle.s38_restart_laws.proofs.NumberLaws.{IsKeptIn, each_kept}
 pub all_pages : (m : Content) (d : Durable) → Stands m d → StandsBut m d
 all_pages m d stands = record { each = λ key low own. stands.each key low }
 
-none_under : (gs : List Group) (limit ceiling : ℕ) → is_on_disk gs 1 ≡ true → is_on_disk gs 2 ≡ true → first_of gs limit ceiling gs ≡ None → first_under gs limit ceiling ≡ None
-none_under gs limit ceiling one two none = rw (one, two) none
+none_under : (gs : List Group) (limit ceiling : ℕ) → is_on_disk gs 1 ≡ true → has_first_user gs ≡ true → first_of gs limit ceiling gs ≡ None → first_under gs limit ceiling ≡ None
+none_under gs limit ceiling one two none =
+    ap (λ b. cond (not b) (Some (1, 0)) (cond (not (has_first_user gs)) (Some (2, 0)) (first_of gs limit ceiling gs))) one
+    ∙ ap (λ b. cond (not b) (Some (2, 0)) (first_of gs limit ceiling gs)) two
+    ∙ none
 
 some_kept : (r : Option Stored) → is_kind_kept kinds.Profile r ≡ true → is_some r ≡ true
 some_kept None is = is
 some_kept (Some x) is = refl
 
-module _ (m : Content) (d : Durable) (are : AreParts (all_parts m)) (low : HasParts m) (pages : StandsBut m d) (can : CanRestart d) where
+no_other : (r : Option Stored) → is_kind_kept kinds.Profile r ≡ true → is_kind_or_none kinds.Profile r ≡ true
+no_other None is = refl
+no_other (Some x) is = is
+
+both_true : (a b : Bool) → a ≡ true → b ≡ true → (a && b) ≡ true
+both_true true true a b = refl
+both_true true false a b = b
+both_true false b h k = h
+
+module _ (m : Content) (d : Durable) (low : HasParts m) (pages : StandsBut m d) (can : CanRestart d) where
   each : AllByRecursion (IsKeptIn d.objects) d.objects
   each = each_kept d.objects (sorted_from_strictly_increasing (map number_in_stored d.objects) can.rising)
 
   read_ceiling : ceiling_in (parts_of ceiling_key (all_parts m)) ≡ Some d.ceiling
-  read_ceiling = ap ceiling_in (ceiling_kept m d are low pages can) ∙ ceiling_again d.ceiling can.ceiling
+  read_ceiling = ap ceiling_in (ceiling_kept m d low pages can) ∙ ceiling_again d.ceiling can.ceiling
 
   pub ceiling_same : ceiling_of (all_parts m) ≡ d.ceiling
   ceiling_same = ap (λ (r : Option ℕ). unwrap_or r 0) read_ceiling
 
+  user_found : has_first_user (groups_kept d) ≡ true
+  user_found =
+      both_true (is_on_disk (groups_kept d) 2) (not (is_other_kind kinds.Profile (header (groups_kept d) 2)))
+      (disk_found 2 d.objects ∙ some_kept (kept d.objects 2) can.first_user)
+      (ap not (other_found d can kinds.Profile 2 (no_other (kept d.objects 2) can.first_user)))
+
   pub none_at_fault : first_fault body_limit (all_parts m) ≡ None
   unfolding store_fault
   none_at_fault =
-      ap (λ (gs : List Group). first_by gs body_limit (ceiling_in (parts_of ceiling_key (all_parts m)))) (groups_same m d are low pages can)
+      ap (λ (gs : List Group). first_by gs body_limit (ceiling_in (parts_of ceiling_key (all_parts m)))) (groups_same m d low pages can)
       ∙ ap (first_by (groups_kept d) body_limit) read_ceiling
-      ∙ none_under (groups_kept d) body_limit d.ceiling (disk_found 1 d.objects ∙ can.machine) (disk_found 2 d.objects ∙ some_kept (kept d.objects 2) can.first_user) (none_first d can each d.objects each)
+      ∙ none_under (groups_kept d) body_limit d.ceiling (disk_found 1 d.objects ∙ can.machine) user_found (none_first d can each d.objects each)
 
   pub objects_same : stored_in body_limit (all_parts m) ≡ d.objects
   objects_same =
-      ap (λ (gs : List Group). all_sound gs body_limit (ceiling_of (all_parts m))) (groups_same m d are low pages can)
+      ap (λ (gs : List Group). all_sound gs body_limit (ceiling_of (all_parts m))) (groups_same m d low pages can)
       ∙ ap (all_sound (groups_kept d) body_limit) ceiling_same ∙ all_read d can each d.objects each
 
   -- the security officer is read as a user
   pub user_read : is_kind_kept kinds.Profile (kept (stored_in body_limit (all_parts m)) officer) ≡ true
   user_read = ap (λ (xs : List Stored). is_kind_kept kinds.Profile (kept xs officer)) objects_same ∙ can.first_user
+
+  -- it restarts to that
+  pub restarts_there : RestartsTo m d
+  restarts_there = record {
+    stands = pages;
+    faultless = none_at_fault;
+    objects = objects_same;
+    ceiling = ceiling_same;
+    restarted = restarts_to body_limit (all_parts m) d objects_same ceiling_same;
+  }

@@ -1,28 +1,34 @@
 -- What a store without a fault says of each object that it holds.
-use Rattle.std.proofs.Common.{◌≡◌, ◌∙◌, ◌≤◌, ◌==◌, ℕ, Bool, true, false, cond, List, [], ◌∷◌, Option, Some, None, length, refl, sym, ap, subst, arith}
+use Rattle.std.proofs.Common.{◌≡◌, ◌∙◌, ◌≤◌, ◌==◌, ℕ, Bool, true, false, cond, not, List, [], ◌∷◌, Option, Some, None, length, refl, sym, ap, subst, arith}
 use Rattle.std.proofs.lemmas.Bool.Decides.{nat_tests}
 use Rattle.std.specs.List.{AllByRecursion}
 use Rattle.std.specs.Option.{option_and_then, option_map, unwrap_or}
-use Rattle.std.specs.Prelude.{◌||◌, Ok, filter_map, nat_lt}
+use Rattle.std.specs.Prelude.{◌&&◌, ◌||◌, Ok, filter_map, is_some, nat_lt}
+use Rattle.s38_base.specs.Ids.{same_kind}
 use Rattle.s38_base.specs.Limits.{body_limit}
+use Rattle.s38_base.specs.declared.id.Id.{Id}
+use Rattle.s38_base.specs.declared.id.Kind.TheVariants as kinds
 use Rattle.s38_durable.specs.Durable.{Durable, kept}
 use Rattle.s38_groups.proofs.LawfulLaws.{IsWhole, all_whole}
-use Rattle.s38_groups.specs.Groups.{groups}
+use Rattle.s38_groups.proofs.LookupLaws.{some_group}
+use Rattle.s38_groups.specs.Groups.{groups, parts_of}
 use Rattle.s38_groups.specs.Stores.{first_fault}
-use Rattle.s38_image.specs.Faults.{Group, fault_after, fault_by, fault_of, first_of, group, header_at, is_bad_body, is_past, journal_behind, last_behind, last_in, or_next, sound, sound_at}
+use Rattle.s38_image.specs.Faults.{Group, ceiling_in, ceiling_key, fault_after, fault_by, fault_of, first_by, first_of, first_under, group, has_first_user, header, header_at, is_bad_body, is_on_disk, is_other_kind, is_past, journal_behind, last_behind, last_in, or_next, sound, sound_at, store_fault}
 use Rattle.s38_image.specs.Images.{object_of}
+use Rattle.s38_image.specs.declared.header.Header.{Header}
 use Rattle.s38_image.specs.declared.stored.Stored.{Stored}
 use Rattle.s38_journals.specs.Journals.{JournalList}
 use Rattle.s38_kept_laws.specs.Beginning.{durable_in}
 use Rattle.s38_restart.proofs.StoredLaws.{none_of, read_by}
 use Rattle.s38_restart.specs.Parts.{all_parts}
 use Rattle.s38_rules.specs.Parts.{data_of, journal_of, port_of}
+use Rattle.s38_rules.specs.Profiles.{officer}
 use Rattle.s38_rules.specs.declared.data_body.DataBody.{DataBody}
 use Rattle.s38_rules.specs.declared.object.Body.TheVariants as bodies
 use Rattle.s38_rules.specs.declared.object.Body.{Body}
 use Rattle.s38_rules.specs.declared.port.Port.{Port}
 use Rattle.s38_vault.specs.Content.{Content}
-use Rattle.s38_restart_laws.specs.Restarting.{journal_kept, journal_kept_behind}
+use Rattle.s38_restart_laws.specs.Restarting.{is_kind_kept, journal_kept, journal_kept_behind}
 use Rattle.s38_restart_laws.proofs.HeldLaws.{one_stored}
 
 first_none : (n : ℕ) (o : Option ℕ) (next : Option (ℕ × ℕ)) → or_next n o next ≡ None → (o ≡ None) × (next ≡ None)
@@ -39,6 +45,32 @@ at_most a b h = grind (arith, nat_tests)
 unless_none : (b : Bool) (part : ℕ) → cond b (Some part) None ≡ None → b ≡ false
 unless_none true part h = absurd (let e : Some part ≡ None = h in cc)
 unless_none false part h = refl
+
+-- ---- the first user
+
+and_both : (a b : Bool) → (a && b) ≡ true → (a ≡ true) × (b ≡ true)
+and_both true b h = (refl, h)
+and_both false b h = absurd (let e : false ≡ true = h in cc)
+
+not_false : (b : Bool) → not b ≡ false → b ≡ true
+not_false true h = refl
+not_false false h = absurd (let e : true ≡ false = h in cc)
+
+not_true : (b : Bool) → not b ≡ true → b ≡ false
+not_true true h = absurd (let e : false ≡ true = h in cc)
+not_true false h = refl
+
+user_under : (gs : List Group) (limit ceiling : ℕ) → first_under gs limit ceiling ≡ None → has_first_user gs ≡ true
+user_under gs limit ceiling h = by (is_on_disk gs 1) (has_first_user gs) h
+  where
+    by : (a b : Bool) → cond (not a) (Some (1, 0)) (cond (not b) (Some (2, 0)) (first_of gs limit ceiling gs)) ≡ None → b ≡ true
+    by true true h = refl
+    by true false h = absurd cc
+    by false b h = absurd cc
+
+user_by : (gs : List Group) (limit : ℕ) (ceiling : Option ℕ) → first_by gs limit ceiling ≡ None → has_first_user gs ≡ true
+user_by gs limit None h = absurd cc
+user_by gs limit (Some n) h = user_under gs limit n h
 
 module _ (all : List Group) (limit ceiling : ℕ) where
   -- the body of a group that is at no fault is none beside the others
@@ -81,6 +113,23 @@ module _ (all : List Group) (limit ceiling : ℕ) where
       by true rest = ws.0.sound_is
       by false rest = rest
 
+  -- what is no object of another kind than a profile is read as a profile
+  pub profile_kept : (gs : List Group) → AllByRecursion (IsWhole all limit ceiling) gs → (n : ℕ) → is_some (group gs n) ≡ true → is_other_kind kinds.Profile (option_and_then header_at (group gs n)) ≡ false
+      → is_kind_kept kinds.Profile (kept (filter_map (sound all limit ceiling) gs) n) ≡ true
+  profile_kept [] ws n some kind = absurd (let e : false ≡ true = some in cc)
+  profile_kept (g ∷ gs) ws n some kind = ap (is_kind_kept kinds.Profile) (first_kept n g gs ws.0) ∙ by (g.number == n) (profile_kept gs ws.1 n) some kind
+    where
+      own : is_other_kind kinds.Profile (header_at g) ≡ false → is_kind_kept kinds.Profile (Some ws.0.stored) ≡ true
+      own told =
+          ap (λ (i : Id). same_kind i.kind kinds.Profile) ws.0.object.id
+          ∙ not_false (same_kind ws.0.head.id.kind kinds.Profile) (sym (ap (is_other_kind kinds.Profile) ws.0.header_is) ∙ told)
+
+      by : (b : Bool) → (is_some (group gs n) ≡ true → is_other_kind kinds.Profile (option_and_then header_at (group gs n)) ≡ false → is_kind_kept kinds.Profile (kept (filter_map (sound all limit ceiling) gs) n) ≡ true)
+          → is_some (cond b (Some g) (group gs n)) ≡ true → is_other_kind kinds.Profile (option_and_then header_at (cond b (Some g) (group gs n))) ≡ false
+          → is_kind_kept kinds.Profile (cond b (Some ws.0.stored) (kept (filter_map (sound all limit ceiling) gs) n)) ≡ true
+      by true rest some kind = own kind
+      by false rest some kind = rest some kind
+
 -- ---- what is read of a content without a fault
 
 module _ (m : Content) (fault : first_fault body_limit (all_parts m) ≡ None) where
@@ -103,6 +152,16 @@ module _ (m : Content) (fault : first_fault body_limit (all_parts m) ≡ None) w
 
   sound_found : (n : ℕ) → sound_at gs body_limit d.ceiling n ≡ kept d.objects n
   sound_found n = sound_kept gs body_limit d.ceiling gs whole n
+
+  -- the security officer is read as a user
+  has_user : has_first_user gs ≡ true
+  unfolding store_fault
+  has_user = user_by gs body_limit (ceiling_in (parts_of ceiling_key (all_parts m))) fault
+
+  pub user_there : is_kind_kept kinds.Profile (kept d.objects officer) ≡ true
+  user_there =
+      let both = and_both (is_on_disk gs 2) (not (is_other_kind kinds.Profile (header gs 2))) has_user in
+      profile_kept gs body_limit d.ceiling gs whole 2 (some_group 2 gs ∙ both.0) (not_true (is_other_kind kinds.Profile (header gs 2)) both.1)
 
   -- the numbers that it names were given
   pub port_given : (n : ℕ) (x : Stored) (b : DataBody) → kept d.objects n ≡ Some x → data_of x.object.body ≡ Some b → b.port.0 ≤ d.ceiling

@@ -62,6 +62,10 @@ done_restartable laws s p e d is trail does ready =
       counted = counted_now s t d all is now goes links ready begun;
     }
 
+-- the ceiling of the machine does not fall
+pub done_ceiling : (s : State) (p : ℕ) (e : Event) (d : Durable) → IsKeptOf s d → IsDone (step s p e).reply → IsRestartable s d → s.held.ceiling ≤ (step s p e).state.held.ceiling
+done_ceiling s p e d is does ready = (step_links s p e ready.ready is.numbered is.right ready.limit does).ceiling
+
 -- with the ceiling behind it what was durable can restart as well
 pub done_raised : (s : State) (p : ℕ) (e : Event) (d : Durable) → IsKeptOf s d → IsDone (step s p e).reply → IsRestartable s d → CanRestart d → CanRestart (raised d (step s p e).state)
 done_raised s p e d is does ready can =

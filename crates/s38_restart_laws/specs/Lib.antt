@@ -1,3 +1,4 @@
 pub mod Restarting
 pub mod Restartable
+pub mod Restarts
 pub mod Ending

@@ -6,5 +6,6 @@
 mod laws;
 
 pub use laws::{
-    a_crash_leaves_what_restarts, what_can_restart_restarts, what_is_durable_can_restart,
+    a_crash_leaves_what_restarts, what_a_run_leaves_restarts, what_can_restart_restarts,
+    what_is_closed_can_be_read, what_is_durable_can_restart,
 };

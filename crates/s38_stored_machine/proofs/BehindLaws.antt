@@ -2,7 +2,7 @@
 use Rattle.std.proofs.Common.{◌≡◌, ◌∙◌, ◌⊎◌, inl, inr, ℕ, ◌-◌, ◌<◌, ◌≤◌, Bool, true, false, cond, List, [], ◌∷◌, ◌++◌, length, refl, sym, ap, subst, arith, length-append}
 use Rattle.std.proofs.lemmas.Bool.{cases_lt}
 use Rattle.std.specs.Option.{option_map}
-use Rattle.std.specs.Prelude.{◌↔◌, All, Option, Some, slice_get}
+use Rattle.std.specs.Prelude.{◌↔◌, Option, Some, slice_get}
 use Rattle.s38_base.specs.Faults.{Rose}
 use Rattle.s38_code.specs.History.{entry_after}
 use Rattle.s38_code.specs.declared.entry.Entry.{Entry}
@@ -12,36 +12,41 @@ use Rattle.s38_code.specs.declared.reply.Reply.{Reply}
 use Rattle.s38_durable.specs.Durable.{Durable, after_reply, durable, durable_after}
 use Rattle.s38_durable.specs.Stands.{Stands}
 use Rattle.s38_kept_laws.proofs.CrashLaws.{answered_left, during_left, during_stopped, earlier_left, earlier_stopped}
-use Rattle.s38_kept_laws.proofs.KeepLaws.{all_due, durable_more, goes_before, history_kept, led_by, led_to, numbered_due, numbered_same}
+use Rattle.s38_kept_laws.proofs.KeepLaws.{all_due, durable_more, goes_before, history_kept, images_behind, led_by, led_to, numbered_due, numbered_same}
 use Rattle.s38_kept_laws.proofs.KeepLaws as kept_laws
+use Rattle.s38_kept_laws.proofs.ReadableLaws.{forced_readable, numbered_again}
 use Rattle.s38_kept_laws.proofs.StepLaws.{IsDone}
 use Rattle.s38_kept_laws.specs.Crashes.{IsKeptPrefix, StandsBetween, led}
-use Rattle.s38_kept_laws.specs.Kept.{IsKeptOf}
-use Rattle.s38_openings.specs.Bodies.{HoldsBody}
+use Rattle.s38_kept_laws.specs.Kept.{AreImages, IsKeptOf}
+use Rattle.s38_object_laws.specs.Outline.{is_forced}
 use Rattle.s38_put_laws.proofs.StepLaws.{begins_on, done_put, history_trail, short_on}
 use Rattle.s38_put_laws.specs.OnePut.{AreShort}
 use Rattle.s38_put_laws.specs.Trails.{IsTrailOf}
+use Rattle.s38_readable.specs.Readable.{IsAgain}
+use Rattle.s38_restart_laws.specs.Restartable.{AllImages}
 use Rattle.s38_machine.specs.Stored.{kept_anew}
 use Rattle.s38_rules.proofs.Laws.{sound_after}
 use Rattle.s38_rules.specs.Forcing.{Forced, forced}
+use Rattle.s38_rules.specs.Held.{object}
 use Rattle.s38_rules.specs.Legal.{AreMoments, IsProcess, IsSound, Run, after}
 use Rattle.s38_rules.specs.State.{State, waits}
 use Rattle.s38_rules.specs.Step.{awake_verdict, by_verdict, by_waiting, step}
+use Rattle.s38_rules.specs.declared.object.Object.{Object}
 use Rattle.s38_rules.specs.declared.verdict.Verdict.TheVariants.{Permit, Refuse, Wait}
 use Rattle.s38_rules.specs.declared.verdict.Verdict.{Verdict}
-use Rattle.s38_state_laws.specs.Order.{AreInOrder}
 use Rattle.s38_step_parts.specs.Numbers.{numbered}
 use Rattle.s38_step_parts.specs.Stepping.{HaveHeaders, IsDue, Precedes}
 use Rattle.s38_vault.specs.Content.{Content}
 use Rattle.s38_vault.specs.Vaults.{VaultView, most_changes}
 use Rattle.s38_stored_machine.specs.Keeping.{FitsOnePut, KeepsStep}
 use Rattle.s38_stored_machine.specs.Seen.{StoredView, answered_by, call_of, run_of, without_last}
-use Rattle.s38_stored_machine.specs.Sound.{HoldsOf, HoldsWhile, IsEnding, IsKeptFrom, IsSoundOver}
+use Rattle.s38_stored_machine.specs.Sound.{CanBeStored, HoldsOf, HoldsWhile, IsEnding, IsKeptFrom, IsOf, IsSoundOver}
 use Rattle.s38_stored_machine.specs.declared.ending.Ending.{Ending}
 use Rattle.s38_stored_machine.specs.declared.ending.Ending.TheVariants.{Going, Stopped, Wanting}
 use Rattle.s38_stored_machine.proofs.MarkLaws.{last_left}
+use Rattle.s38_stored_machine.proofs.RestartLaws.{kept_from, last_images, more_images}
 use Rattle.s38_stored_machine.proofs.StandLaws.{still_headers, still_stands}
-use Rattle.s38_stored_machine.proofs.StateLaws.{is_done, kept_done, step_stored}
+use Rattle.s38_stored_machine.proofs.StateLaws.{is_done, kept_done, step_stored, stored_bodies, stored_settles}
 
 -- ---- steps that make no entry
 
@@ -132,7 +137,7 @@ module _ {V : Type 0} (view : V → VaultView) (holds : V → Content → Type 0
 
   -- ---- what is durable
 
-  module _ (d : Durable) (kept : IsKeptFrom view holds leaves x d) (begun : IsKeptOf m.origin d) (trails : IsTrailOf m.origin d) where
+  module _ (c : Content) (d : Durable) (of : IsOf c d m.origin) (kept : IsKeptFrom view holds leaves x d) where
     abbrev old : Durable
     old = durable d m.origin m.history
 
@@ -140,10 +145,10 @@ module _ {V : Type 0} (view : V → VaultView) (holds : V → Content → Type 0
     new = durable d m.origin (m.history ++ one ∷ [])
 
     is_old : IsKeptOf s old
-    is_old = history_kept laws m.origin d [] m.history s begun is.sound.legal
+    is_old = history_kept laws m.origin d [] m.history s of.kept is.sound.legal
 
     trails_old : IsTrailOf s old
-    trails_old = history_trail laws m.origin d [] m.history s begun trails is.sound.legal
+    trails_old = history_trail laws m.origin d [] m.history s of.kept of.trail is.sound.legal
 
     short_old : AreShort old
     short_old = kept.short
@@ -183,17 +188,38 @@ module _ {V : Type 0} (view : V → VaultView) (holds : V → Content → Type 0
     other_is not = new_is ∙ other_by (step s p e).reply not
 
     -- no body that is kept behind it is too long
-    ordered : AreInOrder t
-    ordered = (step_stored s p e is.state).ordered
+    can : CanBeStored t
+    can = step_stored s p e is.state
 
     short_by : (IsDone (step s p e).reply → ⊥) ⊎ IsDone (step s p e).reply → AreShort new
     short_by (inl not) = subst (λ (y : Durable). AreShort y) (sym (other_is not)) short_old
-    short_by (inr does) = subst (λ (y : Durable). AreShort y) (sym (done_is does)) (short_on laws s p e old is_old does (subst (λ (limit : ℕ). All (HoldsBody limit) t.held.objects) ordered.limit ordered.bodies) short_old)
+    short_by (inr does) = subst (λ (y : Durable). AreShort y) (sym (done_is does)) (short_on laws s p e old is_old does (stored_bodies t can) short_old)
 
     short_new : AreShort new
     short_new = short_by (is_done (step s p e).reply)
 
+    -- and all can be read again, if what is forced is
+    images_old : AreImages old
+    images_old = last_images d m.origin m.history kept.images
+
+    abbrev IsForcedAgain : Type 0
+    IsForcedAgain = (n : ℕ) (o : Object) → is_forced n (forced s p e) ≡ true → object t.held n ≡ Some o → IsAgain o
+
+    images_by : (IsDone (step s p e).reply → ⊥) ⊎ IsDone (step s p e).reply → (IsDone (step s p e).reply → IsForcedAgain) → AreImages new
+    images_by (inl not) again = subst (λ (y : Durable). AreImages y) (sym (other_is not)) images_old
+    images_by (inr does) again =
+        subst (λ (y : Durable). AreImages y) (sym (done_is does))
+        (images_behind laws s p e old is_old does images_old (forced_readable (forced s p e) t (stored_bodies t can) (stored_settles t can) (again does)))
+
+    images_new : (IsDone (step s p e).reply → IsForcedAgain) → AllImages d m.origin (m.history ++ one ∷ [])
+    images_new again = more_images d m.origin m.history one kept.images (images_by (is_done (step s p e).reply) again)
+
     -- ---- where nothing is kept anew
+
+    none_again : kept_anew s p e ≡ [] → IsDone (step s p e).reply → IsForcedAgain
+    none_again nothing does = λ n o speaks found.
+        let none : forced s p e ≡ [] = sym (kept_done s p e is.state.room does) ∙ nothing in
+        absurd (let h : false ≡ true = sym (ap (is_forced n) none) ∙ speaks in cc)
 
     quiet_by : (IsDone (step s p e).reply → ⊥) ⊎ IsDone (step s p e).reply → kept_anew s p e ≡ [] → (Stands held.content new) × HaveHeaders new
     quiet_by (inl not) nothing = (subst (λ (y : Durable). Stands held.content y) (sym (other_is not)) held.stands, subst (λ (y : Durable). HaveHeaders y) (sym (other_is not)) held.headers)
@@ -231,6 +257,9 @@ module _ {V : Type 0} (view : V → VaultView) (holds : V → Content → Type 0
 
       due : IsDue (numbered (forced s p e)) old t
       due = numbered_due laws s p e old is_old does
+
+      again : IsDone (step s p e).reply → IsForcedAgain
+      again done = numbered_again (forced s p e) t.held can.numbered.none keeps.again
 
       kept_is : durable_after (numbered (forced s p e)) old t ≡ new
       kept_is = numbered_same laws s p e old is_old does ∙ sym (done_is does)
@@ -313,6 +342,7 @@ module _ {V : Type 0} (view : V → VaultView) (holds : V → Content → Type 0
   pub quiet_sound : (step s p e).enters ≡ true → kept_anew s p e ≡ [] → IsSoundOver view holds leaves (record { machine = last_entry; vault = x.vault; first = x.first; ending = Going })
   quiet_sound enters nothing = record {
     sound = sound_entered enters;
+    origin = is.origin;
     state = step_stored s p e is.state;
     first = is.first;
     moment = is.moment;
@@ -320,12 +350,12 @@ module _ {V : Type 0} (view : V → VaultView) (holds : V → Content → Type 0
     shape = is.shape;
     present = is.present;
     past = is.past;
-    kept = λ c d held_first of. let kept = is.kept c d held_first of in
-        record {
-          now = let now = held d kept of.kept of.trail in let both = quiet d kept of.kept of.trail nothing in record { content = now.content; held = now.held; stands = both.0; headers = both.1 };
-          short = short_new d kept of.kept of.trail;
-          crash = quiet_crash d kept of.kept of.trail nothing;
-        };
+    kept = λ c d held_first of.
+        let kept = is.kept c d held_first of in
+        let now = held c d of kept in
+        let both = quiet c d of kept nothing in
+        kept_from view holds leaves laws (record { machine = last_entry; vault = x.vault; first = x.first; ending = Going }) c d (sound_entered enters) is.origin of
+        (record { content = now.content; held = now.held; stands = both.0; headers = both.1 }) (short_new c d of kept) (images_new c d of kept (none_again c d of kept nothing)) (quiet_crash c d of kept nothing);
   }
 
   module _ (does : IsDone (step s p e).reply) (v : V) where
@@ -352,6 +382,7 @@ module _ {V : Type 0} (view : V → VaultView) (holds : V → Content → Type 0
         in
         record {
           sound = sound;
+          origin = is.origin;
           state = step_stored s p e is.state;
           first = is.first;
           moment = omega arith;
@@ -359,15 +390,17 @@ module _ {V : Type 0} (view : V → VaultView) (holds : V → Content → Type 0
           shape = keeps.shape ∙ is.shape;
           present = keeps.present;
           past = past_behind Going keeps;
-          kept = λ c d held_first of. let kept = is.kept c d held_first of in
-              record { now = kept_now d kept of.kept of.trail does v Going keeps refl; short = short_new d kept of.kept of.trail; crash = going_crash d kept of.kept of.trail does v Going keeps refl };
+          kept = λ c d held_first of.
+              let kept = is.kept c d held_first of in
+              kept_from view holds leaves laws (record { machine = entered m (view v).moment one t; vault = v; first = x.first; ending = Going }) c d sound is.origin of
+              (kept_now c d of kept does v Going keeps refl) (short_new c d of kept) (images_new c d of kept (again c d of kept does v Going keeps)) (going_crash c d of kept does v Going keeps refl);
         }
 
-    ended_crash_by : (k : Ending) (marks : List ℕ) → marks ≡ m.marks → KeepsStep view holds leaves x.vault v t.held t.units (numbered (forced s p e)) k → (d : Durable) → IsKeptFrom view holds leaves x d → IsKeptOf m.origin d → IsTrailOf m.origin d
+    ended_crash_by : (k : Ending) (marks : List ℕ) → marks ≡ m.marks → KeepsStep view holds leaves x.vault v t.held t.units (numbered (forced s p e)) k → (c : Content) (d : Durable) → IsOf c d m.origin → IsKeptFrom view holds leaves x d
         → (view x.first).shape.most ≡ most_changes → (j : ℕ) (n : Content) → (view x.first).moment ≤ j → j ≤ (view v).moment → leaves v j n
         → IsKeptPrefix d m.origin (m.history ++ one ∷ []) marks j n
-    ended_crash_by k marks same keeps d kept begun trails most j n low high left =
-        subst (λ (ms : List ℕ). IsKeptPrefix d m.origin (m.history ++ one ∷ []) ms j n) (sym same) (ended_crash d kept begun trails does v k keeps most j n low high left)
+    ended_crash_by k marks same keeps c d of kept most j n low high left =
+        subst (λ (ms : List ℕ). IsKeptPrefix d m.origin (m.history ++ one ∷ []) ms j n) (sym same) (ended_crash c d of kept does v k keeps most j n low high left)
 
     pub low_moment : (k : Ending) → KeepsStep view holds leaves x.vault v t.held t.units (numbered (forced s p e)) k → m.moment ≤ (view v).moment
     low_moment k keeps = let now = now_is.0 in let later = keeps.later in omega (arith, now, later)
@@ -375,6 +408,7 @@ module _ {V : Type 0} (view : V → VaultView) (holds : V → Content → Type 0
     pub stopped_sound : KeepsStep view holds leaves x.vault v t.held t.units (numbered (forced s p e)) Stopped → IsSoundOver view holds leaves (record { machine = last_entry; vault = v; first = x.first; ending = Stopped })
     stopped_sound keeps = record {
       sound = sound_entered (enters_done s p e does);
+      origin = is.origin;
       state = step_stored s p e is.state;
       first = is.first;
       moment = low_moment Stopped keeps;
@@ -382,12 +416,16 @@ module _ {V : Type 0} (view : V → VaultView) (holds : V → Content → Type 0
       shape = keeps.shape ∙ is.shape;
       present = keeps.present;
       past = past_behind Stopped keeps;
-      kept = λ c d held_first of. record { now = tt; short = short_new d (is.kept c d held_first of) of.kept of.trail; crash = ended_crash_by Stopped (without_last (m.marks ++ m.moment ∷ [])) (last_left m.marks m.moment) keeps d (is.kept c d held_first of) of.kept of.trail };
+      kept = λ c d held_first of.
+          let kept = is.kept c d held_first of in
+          kept_from view holds leaves laws (record { machine = last_entry; vault = v; first = x.first; ending = Stopped }) c d (sound_entered (enters_done s p e does)) is.origin of
+          tt (short_new c d of kept) (images_new c d of kept (again c d of kept does v Stopped keeps)) (ended_crash_by Stopped (without_last (m.marks ++ m.moment ∷ [])) (last_left m.marks m.moment) keeps c d of kept);
     }
 
     pub wanting_sound : KeepsStep view holds leaves x.vault v t.held t.units (numbered (forced s p e)) Wanting → IsSoundOver view holds leaves (record { machine = last_entry; vault = v; first = x.first; ending = Wanting })
     wanting_sound keeps = record {
       sound = sound_entered (enters_done s p e does);
+      origin = is.origin;
       state = step_stored s p e is.state;
       first = is.first;
       moment = low_moment Wanting keeps;
@@ -395,5 +433,8 @@ module _ {V : Type 0} (view : V → VaultView) (holds : V → Content → Type 0
       shape = keeps.shape ∙ is.shape;
       present = keeps.present;
       past = past_behind Wanting keeps;
-      kept = λ c d held_first of. record { now = tt; short = short_new d (is.kept c d held_first of) of.kept of.trail; crash = ended_crash_by Wanting (without_last (m.marks ++ m.moment ∷ [])) (last_left m.marks m.moment) keeps d (is.kept c d held_first of) of.kept of.trail };
+      kept = λ c d held_first of.
+          let kept = is.kept c d held_first of in
+          kept_from view holds leaves laws (record { machine = last_entry; vault = v; first = x.first; ending = Wanting }) c d (sound_entered (enters_done s p e does)) is.origin of
+          tt (short_new c d of kept) (images_new c d of kept (again c d of kept does v Wanting keeps)) (ended_crash_by Wanting (without_last (m.marks ++ m.moment ∷ [])) (last_left m.marks m.moment) keeps c d of kept);
     }

@@ -1,15 +1,18 @@
 -- What is said of a vault behind a step that was kept, or not.
-use Rattle.std.proofs.Common.{◌≡◌, ◌∙◌, ◌⊎◌, inl, inr, ℕ, ◌<◌, ◌≤◌, List, length, refl, sym, arith}
+use Rattle.std.proofs.Common.{◌≡◌, ◌∙◌, ◌⊎◌, inl, inr, ℕ, ◌<◌, ◌≤◌, true, List, length, refl, sym, arith}
 use Rattle.std.specs.FinMap.{get}
-use Rattle.std.specs.Prelude.{◌↔◌, Result, Ok, Err, OnOk}
+use Rattle.std.specs.Prelude.{◌↔◌, Result, Ok, Err, OnOk, Some}
 use Rattle.s38_base.specs.Faults.{HasCauseOf, Rose}
 use Rattle.s38_commits.specs.Units.{UnitMap}
 use Rattle.s38_durable.specs.Durable.{Durable, durable_after}
 use Rattle.s38_durable.specs.Stands.{Stands}
 use Rattle.s38_kept_laws.specs.Crashes.{StandsBetween}
+use Rattle.s38_object_laws.specs.Outline.{is_forced}
+use Rattle.s38_readable.specs.Readable.{IsAgain}
 use Rattle.s38_rules.specs.Forcing.{Forced}
-use Rattle.s38_rules.specs.Held.{Held}
+use Rattle.s38_rules.specs.Held.{Held, object}
 use Rattle.s38_rules.specs.State.{State}
+use Rattle.s38_rules.specs.declared.object.Object.{Object}
 use Rattle.s38_step_parts.specs.Leftovers.{StandsBut, first_changes}
 use Rattle.s38_step_parts.specs.Stepping.{HaveHeaders, IsDue, Precedes, object_changes, put_forced, raised}
 use Rattle.s38_step_parts.specs.declared.fault.ForceFault.{ForceFault}
@@ -53,6 +56,7 @@ between_but n d s new (inr (inl x)) = inr (inl (record { each = λ key part belo
 between_but n d s new (inr (inr x)) = inr (inr x)
 
 pub keeps_step : {V : Type 0} (view : V → VaultView) (holds : V → Content → Type 0) (leaves : V → ℕ → Content → Type 0) (old new : V) (h : Held) (us : UnitMap) (all : List Forced) (r : Result (Unit {0}) ForceFault) (ending : Ending) → ending ≡ ending_of r
+    → ((n : ℕ) (o : Object) → is_forced n all ≡ true → object h n ≡ Some o → IsAgain o)
     → OnOk r ((m n : Content) (d : Durable) (s : State) → holds old m → holds new n → Precedes h us m d s → IsDue all d s → Stands n (durable_after all d s))
     → OnOk r ((m : Content) (d : Durable) (s : State) → holds old m → Precedes h us m d s → holds new (put_forced all m (durable_after all d s)))
     → OnOk r ((m : Content) (d : Durable) (s : State) → holds old m → Precedes h us m d s → IsDue all d s → HaveHeaders (durable_after all d s))
@@ -62,7 +66,8 @@ pub keeps_step : {V : Type 0} (view : V → VaultView) (holds : V → Content �
     → ((m n : Content) → holds new m → leaves new (view new).moment n → n ≡ m)
     → ((t : ℕ) (m : Content) → t ≤ (view old).moment → leaves old t m ↔ leaves new t m) → (view old).moment ≤ (view new).moment → (view new).shape ≡ (view old).shape
     → HasCauseOf (view old).faults (view new).faults r fails.Failed → OnOk r ((view new).faults ≡ (view old).faults) → KeepsStep view holds leaves old new h us all ending
-keeps_step view holds leaves old new h us all r ending is stands held headers once moved present past later shape cause count = record {
+keeps_step view holds leaves old new h us all r ending is again stands held headers once moved present past later shape cause count = record {
+  again = again;
   kept = λ goes m d s holds_old precedes due.
       let ok = is_ok goes in
       let put = went_on r held ok m d s holds_old precedes in

@@ -1,5 +1,6 @@
 mod MarkLaws
 mod StateLaws
+mod RestartLaws
 mod StandLaws
 mod KeptLaws
 mod StartLaws

@@ -1,11 +1,14 @@
 -- Behind each step a store can keep the objects.
-use Rattle.std.proofs.Common.{◌≡◌, ◌∙◌, ◌⊎◌, inl, inr, ℕ, Bool, true, false, cond, List, [], refl, sym, ap, subst, arith}
+use Rattle.std.proofs.Common.{◌≡◌, ◌∙◌, ◌⊎◌, inl, inr, ℕ, Bool, true, false, cond, List, [], ◌∷◌, refl, sym, ap, subst, arith}
 use Rattle.std.proofs.lemmas.List.Elements.{All-weaker}
 use Rattle.std.specs.Prelude.{All, None, Option, Some, is_some}
+use Rattle.s38_base.specs.Limits.{body_limit}
+use Rattle.s38_code.specs.declared.entry.Entry.{Entry}
 use Rattle.s38_code.specs.declared.event.Event.{Event}
 use Rattle.s38_code.specs.declared.reply.Reply.TheVariants.{Done, MustWait, Signal}
 use Rattle.s38_code.specs.declared.reply.Reply.{Reply}
 use Rattle.s38_commitment_laws.proofs.StepLaws.{step_right}
+use Rattle.s38_form_laws.proofs.HistoryLaws.{step_forms}
 use Rattle.s38_image_printing.specs.Parts.{CanSettle}
 use Rattle.s38_kept_laws.proofs.NumberLaws.{numbers_numbered}
 use Rattle.s38_kept_laws.proofs.SettleLaws.{all_settle}
@@ -14,6 +17,8 @@ use Rattle.s38_kept_laws.specs.Kept.{AreNumbered}
 use Rattle.s38_machine.specs.Stored.{anew_by, anew_in, kept_anew}
 use Rattle.s38_object_laws.proofs.EventLaws.{step_well}
 use Rattle.s38_object_laws.specs.Well.{IsWell}
+use Rattle.s38_openings.specs.Bodies.{HoldsBody}
+use Rattle.s38_readable.specs.Readable.{IsFit}
 use Rattle.s38_rules.specs.Forcing.{Forced, forced}
 use Rattle.s38_rules.specs.Room.{Room}
 use Rattle.s38_rules.specs.State.{State, waits}
@@ -25,6 +30,7 @@ use Rattle.s38_rules.specs.declared.verdict.Verdict.{Verdict}
 use Rattle.s38_step_parts.specs.Numbers.{numbered}
 use Rattle.s38_step_parts.specs.Stepping.{AreNumbers}
 use Rattle.s38_state_laws.proofs.StepLaws.{step_in_order}
+use Rattle.s38_state_laws.specs.Order.{AllInOrder}
 use Rattle.s38_stored_machine.specs.Sound.{CanBeStored}
 
 -- ---- what is kept anew
@@ -89,6 +95,7 @@ module _ (s : State) (p : ℕ) (e : Event) (can : CanBeStored s) where
     right = step_right s p e can.right;
     numbered = numbered_by (is_done (step s p e).reply);
     ordered = step_in_order s p e can.well can.ordered;
+    forms = step_forms s p e can.forms;
   }
 
   -- what is kept anew are numbers of objects
@@ -112,3 +119,19 @@ stored_storable s can = All-weaker IsWell IsStorable (λ o well. well.storable) 
 
 pub stored_settles : (s : State) → CanBeStored s → All (λ o. CanSettle s.units o.number.0 o.body) s.held.objects
 stored_settles s can = all_settle s can.numbered.rising can.right
+
+-- bodies keep to the limit of a body
+pub stored_bodies : (s : State) → CanBeStored s → All (HoldsBody body_limit) s.held.objects
+stored_bodies s can = subst (λ (limit : ℕ). All (HoldsBody limit) s.held.objects) can.ordered.limit can.ordered.bodies
+
+-- and it is read again
+pub stored_fit : (s : State) → CanBeStored s → All IsFit s.held.objects
+stored_fit s can =
+    let storable = stored_storable s can in
+    let limits = stored_bodies s can in
+    λ k d within. record { storable = storable k d within; limits = limits k d within; form = can.forms.objects k d within }
+
+-- the objects are in order at each moment
+pub stored_order : (s : State) (history : List Entry) → CanBeStored s → AllInOrder s history
+stored_order s [] can = can.ordered
+stored_order s (e ∷ es) can = (can.ordered, stored_order (step s e.process e.event).state es (step_stored s e.process e.event can))

@@ -20,6 +20,7 @@ use Rattle.s38_stored_machine.specs.Seen.{StoredView, answered_by, broken_off, w
 use Rattle.s38_stored_machine.specs.Sound.{IsKeptFrom, IsSoundOver}
 use Rattle.s38_stored_machine.specs.declared.ending.Ending.{Ending}
 use Rattle.s38_stored_machine.specs.declared.ending.Ending.TheVariants.{Going}
+use Rattle.s38_stored_machine.proofs.RestartLaws.{kept_from}
 
 -- ---- the last of a list
 
@@ -132,6 +133,7 @@ module _ {V : Type 0} (view : V → VaultView) (holds : V → Content → Type 0
   pub broken_sound : 1 ≤ length m.history → IsSoundOver view holds leaves (broken_off x)
   broken_sound some = record {
     sound = is.sound;
+    origin = is.origin;
     state = is.state;
     first = is.first;
     moment = is.moment;
@@ -142,5 +144,6 @@ module _ {V : Type 0} (view : V → VaultView) (holds : V → Content → Type 0
     kept = λ c d held of. let kept = is.kept c d held of in
         let led_is = led_to m.origin [] m.history m.state is.sound.legal in
         let ceiling = (history_kept laws m.origin d [] m.history m.state of.kept is.sound.legal).ceiling ∙ ap (λ (u : State). u.held.ceiling) (sym led_is) in
-        record { now = tt; short = kept.short; crash = λ most t n low high left. crash_by m.history m.marks refl refl some d kept ceiling most t n low high left };
+        kept_from view holds leaves laws (broken_off x) c d is.sound is.origin of tt kept.short kept.images
+        (λ most t n low high left. crash_by m.history m.marks refl refl some d kept ceiling most t n low high left);
   }

@@ -1,6 +1,6 @@
 -- What becomes of a step that a vault is to keep.
 use Rattle.std.specs.FinMap.{get}
-use Rattle.std.specs.Prelude.{◌≡◌, ◌↔◌, ◌<◌, ◌≤◌, ℕ, List, [], ◌∷◌, length, Result, Ok, Err}
+use Rattle.std.specs.Prelude.{◌≡◌, ◌↔◌, ◌<◌, ◌≤◌, ℕ, List, [], ◌∷◌, length, Result, Ok, Err, Some, true}
 use Rattle.s38_base.specs.Faults.{Rose}
 use Rattle.s38_code.specs.declared.asked.Asked.{Asked}
 use Rattle.s38_code.specs.declared.step.StepFault.{StepFault}
@@ -9,10 +9,13 @@ use Rattle.s38_commits.specs.Units.{UnitMap}
 use Rattle.s38_durable.specs.Durable.{Durable, durable_after}
 use Rattle.s38_kept_laws.specs.Crashes.{StandsBetween}
 use Rattle.s38_machine.specs.Stored.{stamped}
+use Rattle.s38_object_laws.specs.Outline.{is_forced}
+use Rattle.s38_readable.specs.Readable.{IsAgain}
 use Rattle.s38_rules.specs.Forcing.{Forced}
-use Rattle.s38_rules.specs.Held.{Held}
+use Rattle.s38_rules.specs.Held.{Held, object}
 use Rattle.s38_rules.specs.Legal.{Run}
 use Rattle.s38_rules.specs.State.{State}
+use Rattle.s38_rules.specs.declared.object.Object.{Object}
 use Rattle.s38_step_parts.specs.Numbers.{numbered}
 use Rattle.s38_step_parts.specs.Leftovers.{first_changes}
 use Rattle.s38_step_parts.specs.Stepping.{HaveHeaders, IsDue, Precedes, object_changes}
@@ -39,6 +42,8 @@ FitsOnePut most m all d = length (first_changes most d (object_changes all (get 
 
 -- a vault keeps what a step forces that led to these objects and units, or does not
 pub record KeepsStep {V : Type 0} (view : V → VaultView) (holds : V → Content → Type 0) (leaves : V → ℕ → Content → Type 0) (old new : V) (h : Held) (us : UnitMap) (all : List Forced) (ending : Ending) : Type 0 where
+  -- each object of which something that is forced speaks is read again
+  pub again : (n : ℕ) (o : Object) → is_forced n all ≡ true → object h n ≡ Some o → IsAgain o
   -- where it does, it holds what is durable behind the step
   pub kept : ending ≡ Going → (m : Content) (d : Durable) (s : State) → holds old m → Precedes h us m d s → IsDue all d s → HoldsOf holds new (durable_after all d s)
   -- a crash leaves what was durable before the step, or that with the ceiling, or what is durable behind it

@@ -5,11 +5,14 @@ use Rattle.s38_base.specs.Faults.{Rose}
 use Rattle.s38_commitment_laws.specs.Right.{IsRight}
 use Rattle.s38_durable.specs.Durable.{Durable, durable}
 use Rattle.s38_durable.specs.Stands.{Stands}
+use Rattle.s38_form_laws.specs.Forms.{HasForms}
 use Rattle.s38_kept_laws.specs.Crashes.{IsKeptPrefix}
-use Rattle.s38_kept_laws.specs.Kept.{AreNumbered, IsKeptOf}
+use Rattle.s38_kept_laws.specs.Kept.{AreImages, AreNumbered, HasParts, IsKeptOf}
 use Rattle.s38_object_laws.specs.Well.{AreWell}
 use Rattle.s38_put_laws.specs.OnePut.{AreShort}
 use Rattle.s38_put_laws.specs.Trails.{IsTrailOf}
+use Rattle.s38_restart_laws.specs.Restartable.{AllImages, IsRestartable}
+use Rattle.s38_restart_laws.specs.Restarts.{IsRestartedPrefix}
 use Rattle.s38_rules.specs.Legal.{IsSound, Run}
 use Rattle.s38_rules.specs.State.{State}
 use Rattle.s38_state_laws.specs.Order.{AreInOrder}
@@ -22,24 +25,28 @@ use Rattle.s38_stored_machine.specs.declared.ending.Ending.TheVariants.{Going, S
 
 -- ---- states
 
--- a store has room, each object can be kept and is in order, and each change that is not committed can be taken back
+-- a store has room, each object can be kept and read again and is in order, and each change that is not committed can be
+-- taken back
 pub record CanBeStored (s : State) : Type 0 where
   pub room : is_some s.room ≡ true
   pub well : AreWell s
   pub right : IsRight s
   pub numbered : AreNumbered s.held
   pub ordered : AreInOrder s
+  pub forms : HasForms s
 
 -- ---- what is held
 
--- the content stands for what is durable, which goes with a state and has headers that can be read, and no body that is too
--- long; and of each journal space a beginning is kept
+-- the content stands for what is durable, which goes with a state, can be read again, and has no body that is too long; of each
+-- journal space a beginning is kept; and what is durable can restart
 pub record IsOf (m : Content) (d : Durable) (s : State) : Type 0 where
   pub stands : Stands m d
   pub headers : HaveHeaders d
   pub short : AreShort d
   pub kept : IsKeptOf s d
   pub trail : IsTrailOf s d
+  pub images : AreImages d
+  pub restartable : IsRestartable s d
 
 -- ---- a run over a vault
 
@@ -62,10 +69,15 @@ pub record IsKeptFrom {V : Type 0} (view : V → VaultView) (holds : V → Conte
   pub now : HoldsWhile holds x.ending x.vault (durable d x.machine.origin x.machine.history)
   -- and no body that is too long
   pub short : AreShort (durable d x.machine.origin x.machine.history)
+  -- what is durable can be read again at each moment, also behind a call that failed
+  pub images : AllImages d x.machine.origin x.machine.history
   -- what a crash leaves at each moment of the run, where a put takes as many changes as a store's: what is durable behind the
   -- entries that were answered by then, or behind one entry more, of which at least the ceiling may be there
   pub crash : (view x.first).shape.most ≡ most_changes → (t : ℕ) (n : Content) → (view x.first).moment ≤ t → t ≤ (view x.vault).moment → leaves x.vault t n
       → IsKeptPrefix d x.machine.origin x.machine.history (run_of x).marks t n
+  -- to which it restarts without a fault, where its parts are of 32 bits
+  pub restarts : (view x.first).shape.most ≡ most_changes → (t : ℕ) (n : Content) → (view x.first).moment ≤ t → t ≤ (view x.vault).moment → leaves x.vault t n
+      → HasParts n → IsRestartedPrefix d x.machine.origin x.machine.history (run_of x).marks t n
 
 -- while it goes on, the machine is at the moment of its vault, which did not fail; where it stopped, the vault failed, and
 -- the entry of the call that failed is there
@@ -76,6 +88,7 @@ IsEnding Wanting m first now = Unit {0}
 
 pub record IsSoundOver {V : Type 0} (view : V → VaultView) (holds : V → Content → Type 0) (leaves : V → ℕ → Content → Type 0) (x : StoredView V) : Type 0 where
   pub sound : IsSound x.machine
+  pub origin : CanBeStored x.machine.origin
   pub state : CanBeStored x.machine.state
   pub first : x.machine.first ≡ (view x.first).moment
   pub moment : x.machine.moment ≤ (view x.vault).moment

@@ -2,7 +2,7 @@
 ghost use Rattle.std.specs.Prelude.{◌≡◌, All, Ok};
 ghost use Rattle.s38_base.specs.Faults.{Rose};
 ghost use Rattle.s38_image_printing.specs.Parts.{CanSettle};
-ghost use Rattle.s38_rules.specs.Storable.{IsStorable};
+ghost use Rattle.s38_readable.specs.Readable.{IsFit};
 ghost use Rattle.s38_step_parts.specs.Numbers.{numbered};
 ghost use Rattle.s38_step_parts.specs.Stepping.{AreNumbers};
 ghost use Rattle.s38_stored_machine.specs.Keeping.{KeepsStep, ending_of};
@@ -11,6 +11,7 @@ use crate::ending::Ending;
 use s38_commits::Units;
 use s38_extents::Forcings;
 use s38_objects::Objects;
+use s38_readable::forced_are_readable;
 use s38_step_parts::{ForceFault, force, numbered};
 use s38_vault::Vault;
 use std::alloc::Global;
@@ -36,13 +37,16 @@ pub fn keep<V: Vault>(
     units: &Units,
     all: &Forcings,
 ) -> Ending
-    requires storable { All IsStorable objects.now.objects }
+    requires fit { All IsFit objects.now.objects }
     requires settles { All (λ o. CanSettle units.now o.number.0 o.body) objects.now.objects }
     requires numbers { AreNumbers (numbered all.now) }
     ensures { KeepsStep V.view V.holds V.leaves vault.old vault.new objects.now units.now (numbered all.now) result }
 {
     let numbered = numbered(all);
-    let kept = force(alloc, vault, objects, units, numbered.as_slice());
+    let forced = numbered.as_slice();
+    // Its contract says that what is forced is read again.
+    forced_are_readable(objects, forced);
+    let kept = force(alloc, vault, objects, units, forced);
     // Its contract says that a crash now leaves what is held.
     let _moment = vault.moment();
     ending_of(kept)

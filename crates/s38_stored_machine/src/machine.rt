@@ -3,11 +3,11 @@ ghost use Rattle.s38_code.specs.Asking.{reply_by};
 ghost use Rattle.s38_code.specs.declared.step.StepFault.{StepFault};
 ghost use Rattle.s38_image_printing.specs.Parts.{CanSettle};
 ghost use Rattle.s38_machine.specs.Stored.{FitsStore, stored_state_of};
+ghost use Rattle.s38_readable.specs.Readable.{IsFit};
 ghost use Rattle.s38_rules.specs.Kept.{CanBeKept};
 ghost use Rattle.s38_rules.specs.Legal.{IsProcess, after, begun};
 ghost use Rattle.s38_rules.specs.State.{ready_list};
 ghost use Rattle.s38_rules.specs.Step.{step};
-ghost use Rattle.s38_rules.specs.Storable.{IsStorable};
 ghost use Rattle.s38_step_parts.specs.Numbers.{numbered};
 ghost use Rattle.s38_step_parts.specs.Stepping.{AreNumbers};
 ghost use Rattle.s38_stored_machine.specs.Keeping.{IsSettled};
@@ -75,6 +75,7 @@ impl<V: Vault> StoredMachine<V> {
         ensures sound { IfOk result (λ m. IsSoundOver V.view V.holds V.leaves m) }
         ensures back { IfErr result (λ refused. refused.0 ≡ vault) }
     {
+        durable_laws();
         let moment = vault.moment();
         match Machine::start_stored(alloc, objects, templates, jobs, room, moment) {
             Err(fault) => Err((vault, fault)),
@@ -93,7 +94,7 @@ impl<V: Vault> StoredMachine<V> {
 
     /// What a step has the vault keep anew is kept, and the step is answered.
     fn settle(&mut self, asked: Asked, all: &Forcings) -> Result<Asked, StepFault>
-        requires storable { All IsStorable self.old.machine.state.held.objects }
+        requires fit { All IsFit self.old.machine.state.held.objects }
         requires settles { All (λ o. CanSettle self.old.machine.state.units o.number.0 o.body) self.old.machine.state.held.objects }
         requires numbers { AreNumbers (numbered all.now) }
         ensures { IsSettled V.view V.holds V.leaves self.old self.new all.now asked result }

@@ -1,16 +1,18 @@
 -- A store that was opened, or refused.
 use Rattle.std.proofs.Common.{◌≡◌, ◌<◌, ◌^◌, ℕ, List, Option, Some, None, true, is_some, refl, subst, sym, arith}
-use Rattle.std.specs.Prelude.{IfSome}
+use Rattle.std.specs.Prelude.{All, IfSome}
 use Rattle.s38_base.specs.Limits.{body_limit}
 use Rattle.s38_base.specs.declared.page.Change.{Change}
 use Rattle.s38_blocks.specs.Store.{Stands}
 use Rattle.s38_disk.specs.declared.block.Block.{Block}
+use Rattle.s38_form_laws.proofs.RestartLaws.{restarted_hold}
 use Rattle.s38_groups.specs.Stores.{first_fault}
 use Rattle.s38_openings.specs.Charges.{total_charge}
 use Rattle.s38_openings.specs.Opening.{IsOpening}
 use Rattle.s38_openings.proofs.ChargeLaws.{can_be_kept}
 use Rattle.s38_openings.proofs.RestartLaws.{restarts}
 use Rattle.s38_pages.specs.Mounts.{layout_of}
+use Rattle.s38_readable.specs.Forms.{HoldsForm}
 use Rattle.s38_restart.specs.Faults.{NamesFirst}
 use Rattle.s38_restart.specs.Parts.{AreParts, all_parts}
 use Rattle.s38_restart.specs.Restarted.{extents_kept, restarted}
@@ -37,6 +39,10 @@ IsReadOf h xs parts = AreParts parts × ((first_fault body_limit parts ≡ None)
 -- what was restarted is an opening
 pub opening_of : (h : Held) (xs : List Extent) → (parts : List Change) × IsReadOf h xs parts → IsOpening h
 opening_of h xs r = subst IsOpening (sym r.1.1.1.0) (restarts body_limit r.0 (omega arith) r.1.0 r.1.1.0)
+
+-- and its bodies have their form
+pub forms_of : (h : Held) (xs : List Extent) → (parts : List Change) × IsReadOf h xs parts → All HoldsForm h.objects
+forms_of h xs r = subst (λ (k : Held). All HoldsForm k.objects) (sym r.1.1.1.0) (restarted_hold body_limit r.0 (omega arith) r.1.0 r.1.1.0)
 
 -- the first fault is told
 pub fault_of : (m : Content) (fault : RestartFault) (r : StoreRefusal) → r ≡ of_restart fault → NamesFirst (first_fault body_limit (all_parts m)) fault → IsFaultOf m r

@@ -1,4 +1,4 @@
-ghost use Rattle.std.specs.Prelude.{◌≡◌, ◌+◌, ◌≤◌, IfErr, IfOk, true};
+ghost use Rattle.std.specs.Prelude.{◌≡◌, ◌+◌, ◌≤◌, All, IfErr, IfOk, true};
 ghost use Rattle.std.specs.FinMap.{len};
 ghost use Rattle.s38_base.specs.Faults.{Rose};
 ghost use Rattle.s38_disk.specs.Blocks.{State};
@@ -9,6 +9,7 @@ ghost use Rattle.s38_openings.specs.Opening.{IsOpening};
 ghost use Rattle.s38_pages.specs.Index.{parts_of};
 ghost use Rattle.s38_pages.specs.Mounts.{fewest, layout_of};
 ghost use Rattle.s38_pages.specs.Vaults.{page_holds, page_view};
+ghost use Rattle.s38_readable.specs.Forms.{HoldsForm};
 ghost use Rattle.s38_restart.specs.Parts.{all_parts};
 ghost use Rattle.s38_room.specs.Following.{Fits};
 ghost use Rattle.s38_rules.specs.Kept.{CanBeKept};
@@ -74,6 +75,7 @@ fn restarted<D: Disk>(
     ensures parts { IfOk result (λ store. store.room.room.parts + 1 ≡ (page_view store.vault).shape.parts) }
     ensures free { IfOk result (λ store. (page_view store.vault).free + len (page_view store.vault).keys ≡ store.room.room.parts + 1) }
     ensures opening { IfOk result (λ store. IsOpening store.objects) }
+    ensures forms { IfOk result (λ store. All HoldsForm store.objects.objects) }
     ensures kept { IfOk result (λ store. CanBeKept store.objects) }
     ensures start { IfOk result (λ store. store.vault.start ≡ vault.start) }
     ensures faults { IfOk result (λ store. (page_view store.vault).faults ≡ (page_view vault).faults) }
@@ -107,10 +109,11 @@ fn restarted<D: Disk>(
 }
 
 /// Opens the store on a disk: it is mounted and restarted, and parts that belong to nothing are taken away. A run may begin
-/// with its objects and its room. The disk comes back with the reason where the store is refused.
+/// with its objects and its room, and each of its programs is the one that is created of its template. The disk comes back with the reason where the store is refused.
 pub fn open<D: Disk>(alloc: Global, disk: D) -> Result<OpenStore<D>, (D, StoreRefusal)>
     ensures restarts { IfOk result (λ store. (s : State) → IsAt (D.view disk).past s → Restarts (D.view disk).size s.now store.objects) }
     ensures opening { IfOk result (λ store. IsOpening store.objects) }
+    ensures forms { IfOk result (λ store. All HoldsForm store.objects.objects) }
     ensures kept { IfOk result (λ store. CanBeKept store.objects) }
     ensures opened { IfOk result (λ store. IsOpenedOn (D.view disk) store.vault store.objects store.room.room) }
     ensures holds { IfOk result (λ store. HoldsCleaned (D.view disk) store.vault) }

@@ -1,7 +1,8 @@
 -- Machines over the store of a disk: with what they begin, what a run asks of them, and what it came to.
-use Rattle.std.proofs.Common.{◌≡◌, ◌≢◌, ◌∙◌, ℕ, ◌+◌, ◌-◌, ◌<◌, ◌≤◌, List, [], length, refl, sym, ap, subst, arith}
+use Rattle.std.proofs.Common.{◌≡◌, ◌≢◌, ◌∙◌, ℕ, ◌+◌, ◌-◌, ◌<◌, ◌≤◌, List, [], ◌∷◌, length, map, refl, sym, ap, subst, arith}
+use Rattle.std.proofs.lemmas.List.Elements.{All-cons, All-head, All-nil, All-tail}
 use Rattle.std.proofs.lemmas.Option.{slice_get_within}
-use Rattle.std.specs.Prelude.{◌^◌, None, Option, Some, slice_get}
+use Rattle.std.specs.Prelude.{◌^◌, All, None, Option, Some, slice_get}
 use Rattle.s38_blocks.specs.Store.{Stands}
 use Rattle.s38_code.specs.declared.deck.Deck.{Deck}
 use Rattle.s38_code.specs.declared.deck.Job.{Job}
@@ -11,6 +12,7 @@ use Rattle.s38_code.specs.declared.made.CheckedTemplate.{CheckedTemplate}
 use Rattle.s38_code.specs.declared.made.CreateResult.{CreateResult}
 use Rattle.s38_code.specs.History.{entries_of}
 use Rattle.s38_command.specs.declared.turns.Turns.{Turns}
+use Rattle.s38_create.specs.Checked.{made_of}
 use Rattle.s38_disk.specs.Blocks.{State as Blocks}
 use Rattle.s38_disk.specs.Disk.{DiskView, IsAt}
 use Rattle.s38_put_laws.proofs.BeginLaws.{begins_trail}
@@ -29,6 +31,11 @@ use Rattle.s38_pages.specs.Mounts.{layout_of}
 use Rattle.s38_pages.specs.Vaults.{PageStore, page_holds, page_view}
 use Rattle.s38_pages.specs.Watched.{WatchedStore, watched_view}
 use Rattle.s38_process.specs.Process.{ends_by_finish}
+use Rattle.s38_readable.proofs.TemplateLaws.{templates_made}
+use Rattle.s38_readable.specs.Forms.{HoldsForm}
+use Rattle.s38_readable.specs.Templates.{AreMade, IsMade}
+use Rattle.s38_restart_laws.proofs.BeginLaws.{begins_restartable}
+use Rattle.s38_restart_laws.specs.Restartable.{IsRestartable}
 use Rattle.s38_room.specs.Following.{Fits}
 use Rattle.s38_rules.specs.Held.{Held}
 use Rattle.s38_rules.specs.Legal.{IsProcess, Run, begun}
@@ -46,22 +53,33 @@ use Rattle.s38_stored_machine.specs.declared.ending.Ending.TheVariants.{Going, S
 use Rattle.s38_stores.specs.Crashes.{GoesOn, KeepsRestarting}
 use Rattle.s38_stores.specs.Opened.{HoldsCleaned, IsFaultless, IsOpenedOn}
 use Rattle.s38_stores.specs.Stores.{Restarts}
+use Rattle.s38_template.specs.Grammar.{Spells}
 use Rattle.s38_vault.specs.Content.{Content}
 use Rattle.s38_top.proofs.TopLaws.{there_is}
-use Rattle.s38_top.specs.Decks.{IsFrontOfJob, checked_of, made_for, opened, order_of}
+use Rattle.s38_top.specs.Decks.{IsFrontOfJob, checked_of, checked_template, made_for, opened, order_of}
 use Rattle.s38_top.specs.Ends.{IsReady}
 use Rattle.s38_top.specs.Stored.{IsBegunOver, IsSoundOn, WentOver, end_over, vault_of, watch_of}
 
 -- ---- the beginning
 
+-- what creation makes of the templates of a deck is read again
+each_made : (xs : List (List (List ℕ))) → All (λ t. IsMade (made_of t)) xs → AreMade (map checked_template xs)
+each_made [] all = All-nil (λ t. IsMade t.made)
+each_made (x ∷ xs) all =
+    All-cons (λ t. IsMade t.made) (checked_template x) (map checked_template xs) (All-head (λ t. IsMade (made_of t)) x xs all) (each_made xs (All-tail (λ t. IsMade (made_of t)) x xs all))
+
+pub checked_made : (text : List ℕ) (deck : Deck) → Spells text deck → AreMade (checked_of deck)
+checked_made text deck spells = each_made deck.templates (templates_made text deck spells)
+
 -- over a store a machine may begin with the objects to which it is restarted
-pub can_start : (room : Room) (h : Held) (ts : List CheckedTemplate) (js : List Job) → IsOpening h → CanBeStored (stored_state_of (Some room) h ts js)
-can_start room h ts js is = record {
+pub can_start : (room : Room) (h : Held) (ts : List CheckedTemplate) (js : List Job) → IsOpening h → All HoldsForm h.objects → AreMade ts → CanBeStored (stored_state_of (Some room) h ts js)
+can_start room h ts js is forms made = record {
   room = refl;
   well = opening_well (Some room) h ts js is;
   right = opening_right (Some room) h ts js is;
   numbered = opening_numbered h is;
   ordered = opening_in_order (Some room) h ts js is;
+  forms = record { objects = forms; templates = made };
 }
 
 pub fits_start : (room : Room) (h : Held) (ts : List CheckedTemplate) (js : List Job) → IsOpening h → Fits room.extents h → FitsStore (stored_state_of (Some room) h ts js)
@@ -129,6 +147,10 @@ module _ (old : DiskView) (deck : Deck) (made : List CreateResult) (x : StoredVi
             headers = λ n y there. image_header y (images n y there);
             short = images_short x.machine.origin (durable_in m) kept images;
             kept = kept;
+            images = images;
+            restartable =
+                subst (λ (u : State). IsRestartable u (durable_in m)) (sym origin_is)
+                (begins_restartable m one.parts one.objects.sound (subst IsOpening one.objects.is opening) h (checked_of deck) deck.jobs (Some room) one.objects.is);
             trail =
                 subst (λ (u : State). IsTrailOf u (durable_in m)) (sym origin_is)
                 (begins_trail m h one.parts one.objects.sound one.objects.is (checked_of deck) deck.jobs room);

@@ -7,4 +7,5 @@ mod SentLaws
 mod OverLaws
 mod BegunLaws
 mod ConfinedLaws
+mod AgainLaws
 pub mod SafeLaws

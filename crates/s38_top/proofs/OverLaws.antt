@@ -8,6 +8,7 @@ use Rattle.s38_blocks.specs.Store.{Stands}
 use Rattle.s38_blocks.specs.declared.layout.Layout.{Layout}
 use Rattle.s38_base.specs.Limits.{body_limit}
 use Rattle.s38_close_put_laws.specs.Ending.{IsClosedTo, IsEnding as IsEndingOf, IsShort}
+use Rattle.s38_closed_laws.proofs.HomeLaws.{store_parts}
 use Rattle.s38_closed_laws.proofs.NamedLaws.{store_names}
 use Rattle.s38_code.specs.declared.deck.Deck.{Deck}
 use Rattle.s38_code.specs.declared.deck.Job.{Job}
@@ -21,16 +22,17 @@ use Rattle.s38_durable.specs.Durable.{Durable, durable}
 use Rattle.s38_durable.specs.Stands.{Stands as IsOfDurable}
 use Rattle.s38_kept_laws.proofs.KeepLaws.{led_to}
 use Rattle.s38_kept_laws.specs.Crashes.{IsKeptPrefix, led}
-use Rattle.s38_kept_laws.specs.Kept.{IsKeptOf}
+use Rattle.s38_kept_laws.specs.Kept.{AreImages, IsKeptOf}
 use Rattle.s38_openings.specs.Bodies.{HoldsBody}
 use Rattle.s38_pages.proofs.Watching.{same_first}
-use Rattle.s38_pages.specs.Mounts.{layout_of}
+use Rattle.s38_pages.specs.Mounts.{fewest, layout_of}
 use Rattle.s38_pages.specs.Vaults.{PageStore, page_holds, page_leaves, page_view}
 use Rattle.s38_pages.specs.Watched.{IsWatched, WatchedStore, watched_view}
 use Rattle.s38_process.specs.Process.{ends_by_finish}
 use Rattle.s38_put_laws.proofs.ShortLaws.{body_short}
 use Rattle.s38_put_laws.specs.OnePut.{AreShort}
 use Rattle.s38_put_laws.specs.Trails.{IsTrailOf}
+use Rattle.s38_restart_laws.proofs.CrashLaws.{last_images}
 use Rattle.s38_rules.specs.Legal.{AreMoments, Leads, Run}
 use Rattle.s38_rules.specs.State.{State}
 use Rattle.s38_rules.specs.Step.{step}
@@ -44,7 +46,8 @@ use Rattle.s38_step_parts.specs.Stepping.{HaveHeaders}
 use Rattle.s38_stores.proofs.CrashLaws.{goes_by, goes_then}
 use Rattle.s38_stores.specs.Crashes.{DuringCall, GoesOn, IsBetween}
 use Rattle.s38_stores.specs.Stores.{IsFullOf, Keeps}
-use Rattle.s38_top.specs.Closing.{ClosingLaws}
+use Rattle.s38_top.proofs.AgainLaws.{closed_again, left_again}
+use Rattle.s38_top.specs.Closing.{ClosingLaws, RestartLaws}
 use Rattle.s38_top.specs.Crash.{ArePlanned, Between, IsClosing, IsLeftAt}
 use Rattle.s38_objects.specs.Lawful.{IsLawful}
 use Rattle.s38_openings.proofs.CloseLaws.{end_closes}
@@ -251,15 +254,20 @@ module _ (turns : Turns) (deck : Deck) (x : StoredView WatchedStore) (end : Halt
         (whole.0, (subst (λ (p : PageStore). page_leaves p t whole.0) is leaves, subst (λ (l : Layout). Stands l g whole.0) placed stands))
 
     -- while it was made
-    left_running : (m : Content) (d : Durable) → page_holds v m → IsOf m d s
+    left_running : RestartLaws → (m : Content) (d : Durable) → page_holds v m → IsOf m d s → fewest ≤ new.size
         → (t : ℕ) (g : ℕ → Block) → moment_of v.disk.past < t → t ≤ moment_of r.disk.past → Leaves r.disk.past t g → IsLeftAt new.size d s x.machine.history marks t g
-    left_running m d holds of t g low high left =
+    left_running laws m d holds of large t g low high left =
         let one = image_of m holds t g low high left in
         let kept = went.sound.kept m d holds of in
+        let from : (watched_view x.first).moment ≤ t = omega (arith, low) in
+        let until : t ≤ (watched_view x.vault).moment = let here = moment_is in omega (arith, here, high) in
         record {
           content = one.0;
           stands = one.1.1;
-          kept = kept.crash most_is t one.0 (omega (arith, low)) (let here = moment_is in omega (arith, here, high)) one.1.0;
+          kept = kept.crash most_is t one.0 from until one.1.0;
+          restarts = λ bytes.
+              left_again laws new.size g one.0 large one.1.1 d s x.machine.history x.machine.state marks t went.sound.sound.legal of.kept of.trail of.restartable
+              (kept.restarts most_is t one.0 from until one.1.0 (store_parts (layout_of new.size) g one.0 one.1.1 bytes));
         }
 
     -- what is known as it ends
@@ -279,7 +287,7 @@ module _ (turns : Turns) (deck : Deck) (x : StoredView WatchedStore) (end : Halt
               (subst (λ (limit : ℕ). All (HoldsBody limit) x.machine.state.held.objects) ordered.limit ordered.bodies));
         }
 
-    module _ (o : Outcome) (reported : (o ≡ NoMemory → ⊥) → (history_of o ≡ entries) × (marks_of o ≡ marks)) where
+    module _ (again : RestartLaws) (o : Outcome) (reported : (o ≡ NoMemory → ⊥) → (history_of o ≡ entries) × (marks_of o ≡ marks)) where
       -- nothing was kept behind it
       pub left_off : new ≡ r.disk → LeftOver turns deck v s new o
       left_off same = record {
@@ -292,29 +300,39 @@ module _ (turns : Turns) (deck : Deck) (x : StoredView WatchedStore) (end : Halt
         goes = subst (λ (d : DiskView). GoesOn v.disk d) (sym same) (goes_by seen.moves);
         marked = marked;
         ended = let here = ap (λ (d : DiskView). moment_of d.past) same in omega (arith, here);
-        running = λ m d holds of t g low high left. left_running m d holds of t g low high (subst (λ (d : DiskView). Leaves d.past t g) same left);
-        closing = λ m d holds of t g low high left. absurd (let here = ap (λ (d : DiskView). moment_of d.past) same in omega (arith, here, low, high));
+        running = λ m d holds of large t g low high left. left_running again m d holds of large t g low high (subst (λ (d : DiskView). Leaves d.past t g) same left);
+        closing = λ m d holds of large t g low high left. absurd (let here = ap (λ (d : DiskView). moment_of d.past) same in omega (arith, here, low, high));
         reported = reported;
       }
 
       -- what it left was kept
-      module _ (laws : ClosingLaws) (complete : end ≡ halts.Complete) (headers : HaveHeaders (kept_of x.machine.state)) (goes : GoesOn r.disk new) (during : (m : Content) → page_holds r m → DuringCall r.disk new (IsBetween new.size m (kept_of x.machine.state) x.machine.state.held)) where
-        closing : (m : Content) (d : Durable) → page_holds v m → IsOf m d s → (t : ℕ) (g : ℕ → Block) → moment_of r.disk.past < t → t ≤ moment_of new.past → Leaves new.past t g
-            → IsClosing new.size (durable d s entries) behind g
-        closing m d holds of t g low high left =
+      module _ (laws : ClosingLaws) (complete : end ≡ halts.Complete) (headers : HaveHeaders (kept_of x.machine.state)) (images : AreImages (kept_of x.machine.state)) (goes : GoesOn r.disk new) (during : (m : Content) → page_holds r m → DuringCall r.disk new (IsBetween new.size m (kept_of x.machine.state) x.machine.state.held)) where
+        -- while it was closed, from what was durable at its end
+        closed_at : (m : Content) (d : Durable) → page_holds v m → IsOf m d s → fewest ≤ new.size → (t : ℕ) (g : ℕ → Block) → moment_of r.disk.past < t → t ≤ moment_of new.past → Leaves new.past t g
+            → IsClosing new.size (durable d s x.machine.history) x.machine.state g
+        closed_at m d holds of large t g low high left =
             let there = held_then complete m d holds of in
             let here : page_holds r there.content = subst (λ (p : PageStore). page_holds p there.content) (sym is) there.held in
             let between = (during there.content here).each t g low high left in
             let stands : IsOfDurable there.content (durable d s x.machine.history) = subst (λ (es : List Entry). IsOfDurable there.content (durable d s es)) (entries_all complete) there.stands in
             let ending = ending_of laws m d holds of headers (subst (λ (es : List Entry). HaveHeaders (durable d s es)) (entries_all complete) there.headers) in
+            let to : IsClosedTo x.machine.state (durable d s x.machine.history) between.content =
+            laws.left x.machine.state (durable d s x.machine.history) there.content between.content ending stands (store_names (layout_of new.size) g between.content between.stands) between.left in
             record {
               content = between.content;
               stands = between.stands;
-              closed =
-                  subst (λ (es : List Entry). IsClosedTo behind (durable d s es) between.content) (sym (entries_all complete))
-                  (subst (λ (e : State). IsClosedTo e (durable d s x.machine.history) between.content) (sym (state_is complete))
-                  (laws.left x.machine.state (durable d s x.machine.history) there.content between.content ending stands (store_names (layout_of new.size) g between.content between.stands) between.left));
+              closed = to;
+              restarts = λ bytes.
+                  closed_again again new.size g between.content large between.stands x.machine.state (durable d s x.machine.history) to ending.kept ending.trail went.sound.state.ordered
+                  (again.restartable s [] x.machine.history x.machine.state d went.sound.sound.legal of.kept of.trail of.restartable) (last_images d s x.machine.history (went.sound.kept m d holds of).images) images
+                  (store_parts (layout_of new.size) g between.content between.stands bytes);
             }
+
+        closing : (m : Content) (d : Durable) → page_holds v m → IsOf m d s → fewest ≤ new.size → (t : ℕ) (g : ℕ → Block) → moment_of r.disk.past < t → t ≤ moment_of new.past → Leaves new.past t g
+            → IsClosing new.size (durable d s entries) behind g
+        closing m d holds of large t g low high left =
+            subst (λ (es : List Entry). IsClosing new.size (durable d s es) behind g) (sym (entries_all complete))
+            (subst (λ (e : State). IsClosing new.size (durable d s x.machine.history) e g) (sym (state_is complete)) (closed_at m d holds of large t g low high left))
 
         pub left_kept : LeftOver turns deck v s new o
         unfolding run_to
@@ -328,7 +346,7 @@ module _ (turns : Turns) (deck : Deck) (x : StoredView WatchedStore) (end : Halt
           goes = goes_then (goes_by seen.moves) goes;
           marked = marked;
           ended = goes.later;
-          running = λ m d holds of t g low high left. left_running m d holds of t g low high ((goes.before t g high).1 left);
+          running = λ m d holds of large t g low high left. left_running again m d holds of large t g low high ((goes.before t g high).1 left);
           closing = closing;
           reported = reported;
         }

@@ -9,11 +9,12 @@ use Rattle.s38_code.specs.declared.made.CreateResult.{CreateResult}
 use Rattle.s38_command.specs.declared.command.Command.{Command}
 use Rattle.s38_command.specs.declared.command.Command.TheVariants.{Jobs, Check, Demo, Install, List as Listing}
 use Rattle.s38_command.specs.declared.turns.Turns.{Turns}
-use Rattle.s38_disk.specs.Disk.{DiskView, Leaves, moment_of}
+use Rattle.s38_disk.specs.Blocks.{State as Blocks}
+use Rattle.s38_disk.specs.Disk.{DiskView, IsAt, Leaves, moment_of}
 use Rattle.s38_disk.specs.declared.block.Block.{Block}
 use Rattle.s38_durable.specs.Durable.{durable}
 use Rattle.s38_kept_laws.specs.Beginning.{cleaned, durable_in}
-use Rattle.s38_pages.specs.Mounts.{layout_of}
+use Rattle.s38_pages.specs.Mounts.{fewest, layout_of}
 use Rattle.s38_pages.specs.Vaults.{PageStore, page_holds, page_view}
 use Rattle.s38_pages.specs.Watched.{WatchedStore}
 use Rattle.s38_rules.specs.Legal.{Leads, Run}
@@ -23,6 +24,7 @@ use Rattle.s38_stored_machine.specs.Seen.{StoredView}
 use Rattle.s38_stored_machine.specs.Sound.{IsOf}
 use Rattle.s38_stores.proofs.CrashLaws.{during_none, goes_then}
 use Rattle.s38_stores.specs.Crashes.{DuringCall, IsBetween, IsPartlyCleaned, KeepsRestarting}
+use Rattle.s38_stores.specs.Stores.{Restarts}
 use Rattle.s38_top.specs.Crash.{ArePlanned, Between, IsClosing, IsLeftAt, IsSafe, KeepsRun, MadeRun}
 use Rattle.s38_top.specs.Decks.{AreStoreMarks, IsRunTo, opened, order_of}
 use Rattle.s38_top.specs.Ends.{IsReady, IsSafeOf, LeftOver}
@@ -97,6 +99,10 @@ module _ (turns : Turns) (old new : DiskView) (deck : Deck) (made : List CreateR
     };
   }
 
+  -- the disk is large enough for a store, as it was
+  large_still : (f : Blocks) → IsAt old.past f → fewest ≤ new.size
+  large_still f at = subst (λ (n : ℕ). fewest ≤ n) (sym (goes_then ready.goes left.goes).size) (ready.begins.restarts f at).large
+
   run_made : MadeRun turns old new left.entries left.marks
   run_made = record {
     deck = deck;
@@ -112,13 +118,16 @@ module _ (turns : Turns) (old new : DiskView) (deck : Deck) (made : List CreateR
     opening = λ f at rest m stands t g low high image.
         let during = ready.during.content f at rest m stands in
         subst (λ (n : ℕ). IsPartlyCleaned n m g) (sym left.goes.size) (during.each t g low high ((left.goes.before t g high).1 image));
+    reopening = λ f at rest t g low high image.
+        let during = ready.during.objects f at rest s.held (ready.begins.restarts f at) in
+        subst (λ (n : ℕ). Restarts n g s.held) (sym left.goes.size) (during.each t g low high ((left.goes.before t g high).1 image));
     running = λ f at rest m stands t g low high image.
         let one = ready.holds f at m stands in
         subst (λ (u : State). IsLeftAt new.size (durable_in m) u left.planned left.marks t g) state_is
-        (left.running (cleaned m) (durable_in m) one.0 one.1 t g low high image);
+        (left.running (cleaned m) (durable_in m) one.0 one.1 (large_still f at) t g low high image);
     closing = λ f at rest m stands t g low high image.
         let one = ready.holds f at m stands in
-        subst (λ (u : State). IsClosing new.size (durable (durable_in m) u left.entries) left.run.state g) state_is (left.closing (cleaned m) (durable_in m) one.0 one.1 t g low high image);
+        subst (λ (u : State). IsClosing new.size (durable (durable_in m) u left.entries) left.run.state g) state_is (left.closing (cleaned m) (durable_in m) one.0 one.1 (large_still f at) t g low high image);
   }
 
   pub run_safe : (asked : Option Command) → asked ≡ Some (Jobs turns) → IsSafeOf asked old new o

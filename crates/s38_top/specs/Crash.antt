@@ -1,7 +1,9 @@
 -- What a crash leaves at each moment of a call.
 use Rattle.std.specs.Prelude.{◌≡◌, ◌⊎◌, ◌+◌, ◌<◌, ◌≤◌, ℕ, List, [], length, take, Option, Some, None}
+use Rattle.s38_base.specs.Limits.{body_limit}
 use Rattle.s38_blocks.specs.Store.{Stands}
 use Rattle.s38_close_put_laws.specs.Ending.{IsClosedTo}
+use Rattle.s38_closed_laws.specs.Bytes.{AreOfBytes}
 use Rattle.s38_code.specs.declared.deck.Deck.{Deck}
 use Rattle.s38_code.specs.declared.entry.Entry.{Entry}
 use Rattle.s38_command.specs.declared.command.Command.{Command}
@@ -9,16 +11,29 @@ use Rattle.s38_command.specs.declared.command.Command.TheVariants.{Jobs, Check, 
 use Rattle.s38_command.specs.declared.turns.Turns.{Turns}
 use Rattle.s38_disk.specs.Disk.{DiskView, Leaves, moment_of}
 use Rattle.s38_disk.specs.declared.block.Block.{Block}
-use Rattle.s38_durable.specs.Durable.{Durable, durable}
+use Rattle.s38_durable.specs.Durable.{Durable, closed as closed_with, durable}
 use Rattle.s38_kept_laws.specs.Beginning.{durable_in}
-use Rattle.s38_kept_laws.specs.Crashes.{IsKeptPrefix, led}
+use Rattle.s38_kept_laws.specs.Crashes.{IsKeptPrefix, answered, led}
 use Rattle.s38_pages.specs.Mounts.{layout_of}
+use Rattle.s38_restart.specs.Parts.{all_parts}
+use Rattle.s38_restart.specs.Restarted.{restarted}
+use Rattle.s38_restart_laws.specs.Restarts.{IsRestartedPrefix, RestartsTo, next_behind, next_restarted}
 use Rattle.s38_rules.specs.Legal.{Leads}
 use Rattle.s38_rules.specs.State.{State}
 use Rattle.s38_stores.specs.Crashes.{AtRest, DuringCall, GoesOn, IsNoneOrInstalled, IsPartlyCleaned, KeepsRestarting}
+use Rattle.s38_stores.specs.Stores.{Restarts}
 use Rattle.s38_top.specs.Decks.{AreStoreMarks, opened}
 use Rattle.s38_top.specs.Runs.{RanTo}
 use Rattle.s38_vault.specs.Content.{Content}
+
+-- ---- stores that restart
+
+-- The store of these blocks restarts without refusal, over this content, to what is said; and the number that it gives next is
+-- not below this one, so that no number below it is given again.
+pub record RestartsAgain (size : ℕ) (g : ℕ → Block) (content : Content) (To : Type 0) (next : ℕ) : Type 0 where
+  pub store : Restarts size g (restarted body_limit (all_parts content))
+  pub to : To
+  pub numbers : next ≤ next_restarted content
 
 -- ---- while a run goes on
 
@@ -29,18 +44,23 @@ pub record ArePlanned (s : State) (entries planned : List Entry) : Type 0 where
   pub legal : Leads s [] planned (led s planned)
 
 -- The blocks are a store of what is durable behind the entries that were answered by a moment, or behind one entry more, of
--- which at least the ceiling may be there; and of no more but parts that belong to nothing, which a restart takes away.
+-- which at least the ceiling may be there; and of no more but parts that belong to nothing, which a restart takes away. It
+-- restarts to that, and gives no number again that an entry gave that was answered by then. For this the blocks are to be of
+-- bytes, as those of a disk are.
 pub record IsLeftAt (size : ℕ) (d : Durable) (s : State) (entries : List Entry) (marks : List ℕ) (moment : ℕ) (g : ℕ → Block) : Type 0 where
   pub content : Content
   pub stands : Stands (layout_of size) g content
   pub kept : IsKeptPrefix d s entries marks moment content
+  pub restarts : AreOfBytes g → RestartsAgain size g content (IsRestartedPrefix d s entries marks moment content) (next_behind s entries (answered moment marks))
 
 -- From what was durable behind all of its entries, the blocks are a store of what is durable once the machine has ensured the
--- first objects that the run left, one after another, or all of them.
+-- first objects that the run left, one after another, or all of them. It restarts to that, and gives no number again that the
+-- run gave.
 pub record IsClosing (size : ℕ) (d : Durable) (e : State) (g : ℕ → Block) : Type 0 where
   pub content : Content
   pub stands : Stands (layout_of size) g content
   pub closed : IsClosedTo e d content
+  pub restarts : AreOfBytes g → RestartsAgain size g content (RestartsTo content (closed_with d e closed.gone)) e.held.next
 
 -- from one moment of the disk on, and up to another, each image is so
 abbrev pub Between : ℕ → ℕ → DiskView → (ℕ → (ℕ → Block) → Type 0) → Type 0
@@ -59,8 +79,10 @@ pub record MadeRun (turns : Turns) (old new : DiskView) (entries : List Entry) (
   pub began : moment_of old.past ≤ first
   pub marked : AreStoreMarks first last marks entries
   pub ended : last ≤ moment_of new.past
-  -- while the store was opened, parts that belong to nothing may have gone
+  -- while the store was opened, parts that belong to nothing may have gone, and it restarts to the objects with which the run
+  -- began
   pub opening : AtRest old (λ f. (m : Content) → Stands (layout_of old.size) f m → Between (moment_of old.past) first new (λ t g. IsPartlyCleaned new.size m g))
+  pub reopening : AtRest old (λ f. Between (moment_of old.past) first new (λ t g. Restarts new.size g ran.held))
   -- while the run was made
   pub running : AtRest old (λ f. (m : Content) → Stands (layout_of old.size) f m
       → Between first last new (λ t g. IsLeftAt new.size (durable_in m) (opened (Some ran.room) ran.held deck) planned marks t g))

@@ -15,7 +15,7 @@ use Rattle.s38_disk.specs.Disk.{DiskView, IsAt, moment_of}
 use Rattle.s38_durable.specs.Durable.{Durable, durable}
 use Rattle.s38_io.specs.Source.{ReadsAll}
 use Rattle.s38_kept_laws.specs.Beginning.{cleaned, durable_in}
-use Rattle.s38_pages.specs.Mounts.{layout_of}
+use Rattle.s38_pages.specs.Mounts.{fewest, layout_of}
 use Rattle.s38_pages.specs.Vaults.{PageStore, page_holds, page_view}
 use Rattle.s38_pages.specs.Watched.{WatchedStore}
 use Rattle.s38_rules.specs.Room.{Room}
@@ -90,8 +90,8 @@ pub record LeftOver (turns : Turns) (deck : Deck) (v : PageStore) (s : State) (n
   pub goes : GoesOn v.disk new
   pub marked : AreStoreMarks (page_view v).moment last marks entries
   pub ended : last ≤ moment_of new.past
-  pub running : (m : Content) (d : Durable) → page_holds v m → IsOf m d s → Between (page_view v).moment last new (λ t g. IsLeftAt new.size d s planned marks t g)
-  pub closing : (m : Content) (d : Durable) → page_holds v m → IsOf m d s → Between last (moment_of new.past) new (λ t g. IsClosing new.size (durable d s entries) run.state g)
+  pub running : (m : Content) (d : Durable) → page_holds v m → IsOf m d s → fewest ≤ new.size → Between (page_view v).moment last new (λ t g. IsLeftAt new.size d s planned marks t g)
+  pub closing : (m : Content) (d : Durable) → page_holds v m → IsOf m d s → fewest ≤ new.size → Between last (moment_of new.past) new (λ t g. IsClosing new.size (durable d s entries) run.state g)
   pub reported : (o ≡ NoMemory → ⊥) → (history_of o ≡ entries) × (marks_of o ≡ marks)
 
 -- the text of a source comes to it, or the source failed

@@ -1,7 +1,9 @@
 //! What the words, a source and a disk come to: where a run was prepared it is made, and what it leaves is kept.
-ghost use Rattle.std.specs.Prelude.{◌≡◌, ℕ, false, map, true};
+ghost use Rattle.std.specs.Prelude.{◌≡◌, ℕ, All, false, map, true};
 ghost use Rattle.s38_base.specs.Faults.{Rose};
+ghost use Rattle.s38_kept_laws.specs.Kept.{AreImages};
 ghost use Rattle.s38_openings.specs.Closing.{CanClose};
+ghost use Rattle.s38_readable.specs.Readable.{IsFit};
 ghost use Rattle.s38_step_parts.specs.Stepping.{HaveHeaders};
 ghost use Rattle.s38_pages.specs.Mounts.{layout_of};
 ghost use Rattle.s38_pages.specs.Vaults.{page_holds, page_view};
@@ -14,7 +16,7 @@ ghost use Rattle.s38_top.specs.Ends.{CameFrom, IsDecided, IsEnd, IsSafeOf, LeftO
 ghost use Rattle.s38_top.specs.declared.outcome.Outcome.{Outcome};
 ghost use Rattle.s38_top.specs.declared.outcome.RunEnd.{RunEnd};
 
-use crate::closing::closing_laws;
+use crate::closing::{closing_laws, restart_laws};
 use crate::outcome::{Outcome, RunEnd, Whole};
 use crate::prepare::{ReadyRun, prepare};
 use crate::store::Decided;
@@ -25,6 +27,8 @@ use s38_disk::Disk;
 use s38_io::Source;
 use s38_keeping::KeepFault;
 use s38_pages::PageVault;
+use s38_readable::all_are_readable;
+use s38_restart_laws::what_is_closed_can_be_read;
 use s38_stored_machine::StoredEnd;
 use s38_stores::{Kept, keep};
 use s38_vault::Vault;
@@ -47,14 +51,18 @@ fn run_end(end: Result<(), KeepFault>) -> Option<RunEnd>
 /// What a run left is kept in the store over which it was made.
 fn of_whole<D: Disk>(alloc: Global, turns: Turns, whole: Whole, vault: PageVault<D>) -> Decided<D>
     requires end { CanClose whole.state }
+    requires fit { All IsFit whole.state.held.objects }
     requires faultless { (page_view vault).faults ≡ vault.start }
     ensures end { IsEnd turns whole vault (D.view result.disk) result.outcome }
     ensures during { (m : Content) → page_holds vault m → DuringCall vault.disk (D.view result.disk) (IsBetween (D.view result.disk).size m (kept_of whole.state) whole.state.held) }
     ensures goes { GoesOn vault.disk (D.view result.disk) }
     ensures placed { vault.layout ≡ layout_of (D.view result.disk).size }
     ensures headers { HaveHeaders (kept_of whole.state) }
+    ensures images { AreImages (kept_of whole.state) }
 {
     headers_can_be_read(&whole.state.objects, &whole.state.units);
+    all_are_readable(&whole.state.objects);
+    what_is_closed_can_be_read();
     let Kept { disk, end } = keep(alloc, vault, &whole.state.objects, &whole.state.units);
     match run_end(end) {
         None => Decided {
@@ -99,6 +107,7 @@ fn finish<D: Disk>(alloc: Global, turns: Turns, run: StoredRun<D>) -> Decided<D>
         state,
     } = machine.end();
     closing_laws();
+    restart_laws();
     // Their contracts say that the objects are lawful, and how many changes a put takes.
     let _objects = state.objects.len();
     let _most = vault.most();

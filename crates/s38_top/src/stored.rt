@@ -1,9 +1,11 @@
 //! Runs of the jobs of a deck over the store of a disk.
-ghost use Rattle.std.specs.Prelude.{◌≡◌, ◌≤◌, ℕ, IfErr, IfOk, Some, length, slice_get};
+ghost use Rattle.std.specs.Prelude.{◌≡◌, ◌≤◌, ℕ, All, IfErr, IfOk, Some, length, slice_get};
 ghost use Rattle.s38_code.specs.declared.deck.Job.{Job};
 ghost use Rattle.s38_command.specs.declared.turns.Turns.{Turns};
 ghost use Rattle.s38_openings.specs.Opening.{IsOpening};
 ghost use Rattle.s38_pages.specs.Vaults.{page_view};
+ghost use Rattle.s38_readable.specs.Forms.{HoldsForm};
+ghost use Rattle.s38_readable.specs.Templates.{AreMade};
 ghost use Rattle.s38_room.specs.Following.{Fits};
 ghost use Rattle.s38_rules.specs.Kept.{CanBeKept};
 ghost use Rattle.s38_stored_machine.specs.Seen.{beginning_of};
@@ -51,6 +53,8 @@ pub fn start_over<D: Disk>(
     requires few { length deck.jobs ≤ 256 }
     requires kept { CanBeKept store.objects }
     requires opening { IsOpening store.objects }
+    requires forms { All HoldsForm store.objects.objects }
+    requires made { AreMade (checked_of deck) }
     requires fits { Fits store.room.room.extents store.objects }
     requires faultless { (page_view store.vault).faults ≡ store.vault.start }
     ensures deck { IfOk result (λ started. started.deck ≡ deck) }

@@ -2,10 +2,10 @@ use Rattle.std.proofs.Common.{◌<◌, ◌≤◌, ◌^◌, ap, arith, rules, ref
 use Rattle.s38_durable.specs.Durable.{last_in}
 use Rattle.s38_image.specs.declared.header.Header.{Header}
 use Rattle.s38_image_printing.specs.Parts.{header_with}
+use Rattle.s38_readable.proofs.HeaderLaws.{header_fits}
 use Rattle.s38_rules.specs.Journaling.{journal_for}
 use Rattle.s38_rules.specs.Room.{image_len}
 use Rattle.s38_step_parts.proofs.FollowedLaws.{whole_has}
-use Rattle.s38_step_parts.proofs.HeaderLaws.{header_fits}
 use Rattle.s38_close_put_laws.proofs.headers.header_can_be_read.Goals as goal
 
 pub returns : goal.returns

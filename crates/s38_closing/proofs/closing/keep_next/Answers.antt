@@ -5,7 +5,7 @@ use Rattle.s38_closing.specs.Closing.{closing}
 use Rattle.s38_closing.specs.Ensuring.{IsLeft, journal_ahead}
 use Rattle.s38_closing.specs.Waiting.{Waits}
 use Rattle.s38_closing.proofs.CloseLaws.{handed}
-use Rattle.s38_closing.proofs.KeepLaws.{all_so_far, during_both, handed_by, made_both, made_fine, mark_front, mark_rest, place_moved, placed_full, placed_so_far, placed_waits, stopped_put, stopped_unknown}
+use Rattle.s38_closing.proofs.KeepLaws.{all_so_far, during_both, handed_by, made_both, made_fine, mark_front, mark_rest, place_moved, placed_fits, placed_full, placed_so_far, placed_waits, stopped_put, stopped_unknown}
 use Rattle.s38_closing.proofs.WaitLaws.{objects_by, rising_by, waits_put}
 use Rattle.s38_durable.specs.Stands.{parts_at}
 use Rattle.s38_forcing.specs.Puts.{IsAfterPuts}
@@ -25,8 +25,8 @@ returns-in_err-ahead-clause-stopped g c =
     let h = c.args.objects.now in
     let d = closing c.args.units.now h in
     let new = c.add_next.new.vault in
-    handed_by _ (λ fault. fault ≡ unknown_by cause) c.from_residual.result c.from_residual.ensures.1 (λ fault is m n gone rest next held w.
-    stopped_unknown (V.holds new) (V.view new).free m d h n cause fault is ((c.add_next.ensures.stays.held n).0 held) w.held)
+    handed_by _ (λ fault. fault ≡ unknown_by cause) c.from_residual.result c.from_residual.ensures.1 (λ fault is m n gone rest next held w fit.
+    stopped_unknown (V.holds new) (V.view c.args.vault.now).shape.parts m d h n cause fault is ((c.add_next.ensures.stays.held n).0 held) w.held)
 
 pub make_place-requires-clause-rising : goal.make_place-requires-clause-rising
 make_place-requires-clause-rising g c =
@@ -64,13 +64,15 @@ returns-in_err-make_place-clause-stopped g c =
     let rest_is = mark_rest front all kept.0 c.len-mark.result kept.1 mark in
     let fault = c.in_err-make_place.field-0.0 in
     let made = c.in_err-make_place.ensures in
-    handed _ c.from_residual-in_err-make_place.result fault c.from_residual-in_err-make_place.ensures.1 (λ m n gone rest next held w.
+    handed _ c.from_residual-in_err-make_place.result fault c.from_residual-in_err-make_place.ensures.1 (λ m n gone rest next held w fit.
     let read_held = (c.add_next.ensures.stays.held n).0 held in
     let there : V.holds mid (changed n (take c.len-mark.result all)) → V.holds mid (changed n front) = subst (λ (cs : List Change). V.holds mid (changed n cs)) front_is in
-    placed_full d h o c.args.done (V.view old).keys (V.holds old) front all c.in_ok-ahead.ahead c.requires.so_far adds c.in_ok-ahead.ensures.low c.in_ok-ahead.ensures.gap m gone rest next n held w.next kept.0 kept.1
+    let parts = ap (λ (s : VaultShape). s.parts) c.make_place.ensures.shape ∙ ap (λ (v : VaultView). v.shape.parts) c.add_next.ensures.stays.same in
+    placed_full d h o c.args.done (V.view old).keys (V.holds old) front all c.in_ok-ahead.ahead c.requires.so_far adds c.in_ok-ahead.ensures.low c.in_ok-ahead.ensures.gap (V.view old).shape.parts m gone rest next fit n held w.next kept.0 kept.1
     (V.holds mid) (V.view mid).keys (V.view mid).free fault (subst (λ (cs : List Change). IsRightFor (new_keys (V.view mid).keys cs) (V.view mid).free fault) rest_is made.full)
     (λ needed free is. there (c.make_place.ensures.front needed free (c.in_err-make_place.was ∙ ap Err is) n read_held))
-    (λ needed free is. c.make_place.ensures.keys needed free (c.in_err-make_place.was ∙ ap Err is))
+    (λ needed free is. (c.make_place.ensures.full_counted needed free (c.in_err-make_place.was ∙ ap Err is)).keys)
+    (λ needed free is. (c.make_place.ensures.full_counted needed free (c.in_err-make_place.was ∙ ap Err is)).sum ∙ parts)
     (λ not. elim (made.stopped not n read_held) [ inl before ↦ inl before | inr after ↦ inr (there after) ])
     w.held (record { gone = gone; rest = o ∷ rest; all = next.all; behind = w.next }))
 
@@ -127,10 +129,10 @@ returns-in_err-put_changes-clause-stopped g c =
     let at = c.in_ok-make_place.ensures.placed in
     let mark : c.len-mark.result ≡ length front = omega (arith, c.len-mark.ensures, c.args.changes.now.ok.0) in
     let fault = c.in_err-put_changes.field-0.0 in
-    handed _ c.from_residual-in_err-put_changes.result fault c.from_residual-in_err-put_changes.ensures.1 (λ m n gone rest next held w.
+    handed _ c.from_residual-in_err-put_changes.result fault c.from_residual-in_err-put_changes.ensures.1 (λ m n gone rest next held w fit.
     let place = place_moved at.front own front (V.view c.add_next.new.vault).shape.most (V.view old).shape.most c.len-mark.result (ap (λ (v : VaultView). v.shape.most) stays.same) mark at.place in
     let waits = placed_waits d h o c.args.done (V.view old).keys (V.holds old) front all c.in_ok-ahead.ahead c.requires.so_far adds c.in_ok-ahead.ensures.low c.in_ok-ahead.ensures.gap (V.view old).shape.most m gone rest next n held w at.front own kept.0 at.parted kept.1 place in
-    stopped_put (V.holds new) (V.view new).free m d h (changed n at.front) (new_keys (V.view mid).keys own) (V.view mid).free c.in_ok-make_place.ensures.room fault
+    stopped_put (V.holds new) (V.view old).shape.parts m d h (changed n at.front) (new_keys (V.view mid).keys own) (V.view mid).free c.in_ok-make_place.ensures.room fault
     (subst (λ (cs : List Change). IsRightFor (new_keys (V.view mid).keys cs) (V.view mid).free fault) c.deref.ensures.value c.in_err-put_changes.ensures.full)
     (λ not. (c.in_err-put_changes.ensures.refused_holds not (changed n at.front)).0 (at.made n ((stays.held n).0 held))) waits.held)
 
@@ -276,6 +278,29 @@ returns-clause-waits g c m n gone rest next held w0 =
             ),
           )
     ]
+
+pub returns-clause-fits : goal.returns-clause-fits
+returns-clause-fits g c m n gone rest next held w0 =
+    let V = g.V.Vault in
+    let old = c.args.vault.now in
+    let read = c.add_next.new.vault in
+    let mid = c.make_place.new.vault in
+    let h = c.args.objects.now in
+    let d = closing c.args.units.now h in
+    let o = c.args.object.now in
+    let front = c.args.changes.now.items in
+    let all = c.add_next.new.into.items in
+    let own = c.make_place.new.changes.items in
+    let adds = c.in_ok-ahead.ensures.adds in
+    let kept = c.in_ok-ahead.ensures.kept in
+    let stays = c.add_next.ensures.stays in
+    let at = c.in_ok-make_place.ensures.placed in
+    let mark : c.len-mark.result ≡ length front = omega (arith, c.len-mark.ensures, c.args.changes.now.ok.0) in
+    let place = place_moved at.front own front (V.view read).shape.most (V.view old).shape.most c.len-mark.result (ap (λ (v : VaultView). v.shape.most) stays.same) mark at.place in
+    let there = at.made n ((stays.held n).0 held) in
+    let parts : (V.view mid).shape.parts ≡ (V.view old).shape.parts = ap (λ (s : VaultShape). s.parts) c.make_place.ensures.shape ∙ ap (λ (v : VaultView). v.shape.parts) stays.same in
+    placed_fits d h o c.args.done (V.view old).keys (V.holds old) front all c.in_ok-ahead.ahead c.requires.so_far adds c.in_ok-ahead.ensures.low c.in_ok-ahead.ensures.gap m gone rest next n held w0.next kept.0 kept.1
+    at.front own (V.view old).shape.most at.parted place (V.view mid).keys (V.view mid).free (V.view old).shape.parts (c.in_ok-make_place.ensures.counted.keys (changed n at.front) there) (c.in_ok-make_place.ensures.counted.sum ∙ parts) c.in_ok-make_place.ensures.room
 
 pub returns-clause-during : goal.returns-clause-during
 returns-clause-during g c m n gone rest next held w0 =

@@ -1,4 +1,4 @@
-use Rattle.std.proofs.Common.{◌≡◌, ◌∙◌, ◌≤◌, ◌++◌, ◌∷◌, List, [], ap, arith, map, refl, rules, subst, sym}
+use Rattle.std.proofs.Common.{◌≡◌, ◌∙◌, ◌≤◌, ◌++◌, ◌∷◌, List, [], ap, arith, length, map, refl, rules, subst, sym}
 use Rattle.std.specs.Map.Iter.{deref}
 use Rattle.std.specs.List.{flat_map}
 use Rattle.s38_durable.specs.Durable.{whole_of}
@@ -6,10 +6,11 @@ use Rattle.s38_image.specs.Images.{parts_of}
 use Rattle.s38_keeping.proofs.PieceLaws.{each_none}
 use Rattle.s38_keeping.specs.Replacing.{each_to}
 use Rattle.s38_closing.specs.Closing.{closing}
-use Rattle.s38_closing.specs.Ensuring.{IsLeft}
+use Rattle.s38_closing.specs.Ensuring.{FirstFit, Fits, IsLeft}
 use Rattle.s38_closing.specs.Passing.{last_number}
-use Rattle.s38_closing.specs.Waiting.{IsNext, Waits}
+use Rattle.s38_closing.specs.Waiting.{IsNext, IsStoppedBy, Waits}
 use Rattle.s38_closing.proofs.CloseLaws.{handed}
+use Rattle.s38_closing.proofs.FitLaws.{first_more}
 use Rattle.s38_closing.proofs.KeepLaws.{during_both}
 use Rattle.s38_closing.proofs.NextLaws.{among_from, among_low, next_among}
 use Rattle.s38_closing.proofs.PassLaws.{AreSorted, last_more, none_behind, pieces_more, sorted_by}
@@ -38,6 +39,7 @@ loop-object-init g c =
       low = omega arith;
       whole = each_none (parts_at d);
       waits = λ m held. (m, (held, waits_begun (V.view vault).shape.most m d h c.args.changes.now.items c.requires.none));
+      fits = λ m held gone rest all low. absurd (omega (arith, low));
       past = λ t m low. ((λ left. left), (λ left. left));
       during = λ m held t x low high left. absurd (omega (arith, low, high));
       later = omega arith;
@@ -69,7 +71,9 @@ returns-in_err-keep_next-clause-stopped g c =
     let fault = c.in_err-keep_next.field-0.0 in
     handed _ c.from_residual.result fault c.from_residual.ensures.1 (λ m held.
     let waiting = was.waits m held in
-    c.in_err-keep_next.ensures.stopped m waiting.0 gone rest next waiting.1.0 (subst (λ (k : VaultShape). Waits k.most m d h gone waiting.0 c.loop-object.changes.items) (sym was.shape) waiting.1.1))
+    subst (λ (k : VaultShape). IsStoppedBy (V.holds c.keep_next.new.vault) k.parts m d h fault) was.shape
+    (c.in_err-keep_next.ensures.stopped m waiting.0 gone rest next waiting.1.0 (subst (λ (k : VaultShape). Waits k.most m d h gone waiting.0 c.loop-object.changes.items) (sym was.shape) waiting.1.1)
+    (subst (λ (k : VaultShape). FirstFit k.parts m d h (length gone)) (sym was.shape) (was.fits m held))))
 
 pub returns-in_err-keep_next-clause-during : goal.returns-in_err-keep_next-clause-during
 returns-in_err-keep_next-clause-during g c m held =
@@ -132,6 +136,12 @@ loop-object-preserved g c =
                   (subst (λ (k : VaultShape). Waits k.most m d h (gone ++ o ∷ []) found.0 c.keep_next.new.changes.items) (c.keep_next.ensures.shape ∙ was.shape) found.1.1),
             ),
           );
+      fits = λ m held.
+          let waiting = was.waits m held in
+          let waits = subst (λ (k : VaultShape). Waits k.most m d h gone waiting.0 c.loop-object.changes.items) (sym was.shape) waiting.1.1 in
+          subst (λ (l : List Object). FirstFit (V.view old).shape.parts m d h (length l)) more
+          (first_more (V.view old).shape.parts m d h gone rest o all (was.fits m held)
+          (subst (λ (k : VaultShape). Fits k.parts m d h gone (o ∷ rest)) was.shape (done.fits m waiting.0 gone rest next waiting.1.0 waits)));
       past = λ t x low.
           let first = was.past t x low in
           let last = c.keep_next.ensures.past t x (omega (arith, low, was.later)) in
@@ -169,3 +179,10 @@ returns-clause-waits g c = λ m held.
     let all = all_gone c.args.objects.now.objects c.loop-object.yielded c.into_iter-object-iterator.result c.loop-object.object-iterator c.next.new.self c.next.result (search rules) c.loop-object.yielded_by c.in-None.is c.next.ensures.steps in
     let found = c.loop-object.invariant.waits m held in
     (found.0, (found.1.0, subst (λ (l : List Object). Waits (V.view c.args.vault.now).shape.most m (closing c.args.units.now h) h l found.0 c.loop-object.changes.items) all found.1.1))
+
+pub returns-clause-fits : goal.returns-clause-fits
+returns-clause-fits g c = λ m held.
+    let V = g.V.Vault in
+    let h = c.args.objects.now in
+    let all = all_gone c.args.objects.now.objects c.loop-object.yielded c.into_iter-object-iterator.result c.loop-object.object-iterator c.next.new.self c.next.result (search rules) c.loop-object.yielded_by c.in-None.is c.next.ensures.steps in
+    subst (λ (l : List Object). FirstFit (V.view c.args.vault.now).shape.parts m (closing c.args.units.now h) h (length l)) all (c.loop-object.invariant.fits m held)

@@ -1,11 +1,11 @@
-use Rattle.std.proofs.Common.{◌≡◌, ◌<◌, ◌≤◌, ℕ, map, ◌↔◌}
+use Rattle.std.proofs.Common.{◌≡◌, ◌<◌, ◌≤◌, ℕ, length, map, ◌↔◌}
 use Rattle.std.specs.Map.Iter.{deref}
 use Rattle.std.specs.List.{flat_map}
 use Rattle.s38_durable.specs.Durable.{whole_of}
 use Rattle.s38_image.specs.Images.{parts_of}
 use Rattle.s38_keeping.specs.Replacing.{each_to}
 use Rattle.s38_closing.specs.Closing.{closing}
-use Rattle.s38_closing.specs.Ensuring.{IsLeft}
+use Rattle.s38_closing.specs.Ensuring.{FirstFit, IsLeft}
 use Rattle.s38_closing.specs.Passing.{last_number}
 use Rattle.s38_closing.specs.Waiting.{Waits}
 use Rattle.s38_durable.specs.Stands.{parts_at}
@@ -25,6 +25,7 @@ invariant-loop-object g l = record {
   low : l.done < ceiling_key;
   whole : each_to (parts_at (closing l.fn.units l.fn.objects)) l.done ≡ flat_map parts_of (map (whole_of l.fn.units l.fn.objects) (map deref l.yielded));
   waits : (m : Content) → g.V.Vault.holds l.fn.vault m → (n : Content) × (g.V.Vault.holds l.vault n × Waits (g.V.Vault.view l.fn.vault).shape.most m (closing l.fn.units l.fn.objects) l.fn.objects (map deref l.yielded) n l.changes.items);
+  fits : (m : Content) → g.V.Vault.holds l.fn.vault m → FirstFit (g.V.Vault.view l.fn.vault).shape.parts m (closing l.fn.units l.fn.objects) l.fn.objects (length (map deref l.yielded));
   past : (t : ℕ) (m : Content) → t ≤ (g.V.Vault.view l.fn.vault).moment → g.V.Vault.leaves l.fn.vault t m ↔ g.V.Vault.leaves l.vault t m;
   during : (m : Content) → g.V.Vault.holds l.fn.vault m → (t : ℕ) (x : Content) → (g.V.Vault.view l.fn.vault).moment < t → t ≤ (g.V.Vault.view l.vault).moment → g.V.Vault.leaves l.vault t x → IsLeft (g.V.Vault.view l.fn.vault).shape.most m (closing l.fn.units l.fn.objects) l.fn.objects x;
   later : (g.V.Vault.view l.fn.vault).moment ≤ (g.V.Vault.view l.vault).moment;

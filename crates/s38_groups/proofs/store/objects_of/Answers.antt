@@ -1,10 +1,21 @@
-use Rattle.std.proofs.Common.{◌≡◌, ℕ, List, None, ap, subst, sym}
+use Rattle.std.proofs.Common.{◌≡◌, ◌∙◌, ℕ, List, None, ap, subst, sym}
 use Rattle.s38_image.specs.Faults.{first_of}
 use Rattle.s38_image.specs.declared.stored.Stored.{Stored}
 use Rattle.s38_groups.specs.Readings.{Reading, all_sound}
 use Rattle.s38_groups.specs.Stores.{AreLawful}
 use Rattle.s38_groups.proofs.LawfulLaws.{are_lawful}
+use Rattle.s38_groups.proofs.StoreLaws.{under_all}
 use Rattle.s38_groups.proofs.store.objects_of.Goals as goal
+
+pub returns-in-Some-first_fault-clause-fault : goal.returns-in-Some-first_fault-clause-fault
+returns-in-Some-first_fault-clause-fault c =
+    under_all c.args.groups c.args.limit c.args.ceiling (sym c.in_default.ensures) ∙ ap (λ (x : Reading). first_of x.groups x.limit x.ceiling x.groups) (sym c.in_ok-reading.ensures)
+    ∙ sym c.in-Some-first_fault.ensures.fault
+
+pub returns-clause-sound : goal.returns-clause-sound
+returns-clause-sound c =
+    under_all c.args.groups c.args.limit c.args.ceiling (sym c.in_default.ensures) ∙ ap (λ (x : Reading). first_of x.groups x.limit x.ceiling x.groups) (sym c.in_ok-reading.ensures)
+    ∙ sym c.in_default-first_fault.ensures.fault
 
 pub returns-clause-lawful : goal.returns-clause-lawful
 returns-clause-lawful c =

@@ -10,9 +10,10 @@ object_is_readable-requires c = All-head IsFit c.in-Some.object.now c.next.new.s
 pub loop-object-preserved : goal.loop-object-preserved
 loop-object-preserved c =
     let o = c.in-Some.object.now in
-    let left = c.next.new.self in
-    (All-tail IsFit o left (subst (All IsFit) c.in-Some.ensures.steps c.loop-object.invariant.0),
-    λ rest. c.loop-object.invariant.1 (subst (All IsAgain) (sym c.in-Some.ensures.steps) (All-cons IsAgain o left (c.object_is_readable.ensures.whole, c.object_is_readable.ensures.front) rest)))
+    let left = c.next.new.self in (
+      All-tail IsFit o left (subst (All IsFit) c.in-Some.ensures.steps c.loop-object.invariant.0),
+      λ rest. c.loop-object.invariant.1 (subst (All IsAgain) (sym c.in-Some.ensures.steps) (All-cons IsAgain o left (c.object_is_readable.ensures.whole, c.object_is_readable.ensures.front) rest)),
+    )
 
 pub returns : goal.returns
 returns c = c.loop-object.invariant.1 (subst (All IsAgain) (sym c.in-None.ensures.steps.0) (All-nil IsAgain))

@@ -16,10 +16,10 @@ pub returns-clause-installed : goal.returns-clause-installed
 returns-clause-installed c = installed_can
 
 pub returns-clause-begins : goal.returns-clause-begins
-returns-clause-begins c = λ m h templates jobs room are fault same user. begins_restartable m are fault (restarts body_limit (all_parts m) (omega arith) are fault) user h templates jobs room same
+returns-clause-begins c = λ m h templates jobs room are fault same. begins_restartable m are fault (restarts body_limit (all_parts m) (omega arith) are fault) h templates jobs room same
 
 pub returns-clause-read : goal.returns-clause-read
-returns-clause-read c = λ m are fault user. begins_can m are fault (restarts body_limit (all_parts m) (omega arith) are fault) user
+returns-clause-read c = λ m are fault. begins_can m are fault (restarts body_limit (all_parts m) (omega arith) are fault)
 
 pub returns-clause-done : goal.returns-clause-done
 returns-clause-done c = λ s p e values d is trail does ready. done_restartable (record { follows = c.what_is_durable_follows.ensures; counts = c.room_counts_what_is_durable.ensures; stays = c.what_is_not_forced_stays_durable.ensures }) s p e d is trail (subst IsDone (sym does) tt) ready

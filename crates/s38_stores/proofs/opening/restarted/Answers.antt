@@ -2,7 +2,7 @@ use Rattle.std.proofs.Common.{◌+◌, ◌∙◌, ap, subst, sym}
 use Rattle.s38_base.specs.Faults.{Rose}
 use Rattle.s38_pages.specs.Vaults.{PageStore, page_view}
 use Rattle.s38_stores.proofs.CrashLaws.{goes_by}
-use Rattle.s38_stores.proofs.OpenLaws.{fault_of, opening_of, was_failed}
+use Rattle.s38_stores.proofs.OpenLaws.{fault_of, forms_of, opening_of, was_failed}
 use Rattle.s38_stores.proofs.WatchLaws.{caused, given_back, held_now, held_then, now_is, restart_during, seen_from}
 use Rattle.s38_extents.specs.Extents.{AreRising}
 use Rattle.s38_pages.specs.Index.{parts_of}
@@ -53,6 +53,9 @@ returns-then-can_be_kept-clause-free g c =
 
 pub returns-then-can_be_kept-clause-opening : goal.returns-then-can_be_kept-clause-opening
 returns-then-can_be_kept-clause-opening g c = opening_of c.in-Ok.restarted.objects c.in-Ok.restarted.extents.items c.in-Ok.ensures.read
+
+pub returns-then-can_be_kept-clause-forms : goal.returns-then-can_be_kept-clause-forms
+returns-then-can_be_kept-clause-forms g c = forms_of c.in-Ok.restarted.objects c.in-Ok.restarted.extents.items c.in-Ok.ensures.read
 
 pub returns-then-can_be_kept-clause-during : goal.returns-then-can_be_kept-clause-during
 returns-then-can_be_kept-clause-during g c m held =

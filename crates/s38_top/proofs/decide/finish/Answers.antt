@@ -1,11 +1,14 @@
-use Rattle.std.proofs.Common.{◌≡◌, ◌∙◌, ℕ, ap, arith, refl, subst, sym}
+use Rattle.std.proofs.Common.{◌≡◌, ◌∙◌, ℕ, All, ap, arith, refl, subst, sym}
 use Rattle.s38_disk.specs.Disk.{DiskView, moment_of}
+use Rattle.s38_kept_laws.specs.Kept.{AreImages}
 use Rattle.s38_objects.specs.Lawful.{IsLawful}
 use Rattle.s38_openings.specs.Closing.{CanClose}
 use Rattle.s38_pages.specs.Mounts.{layout_of}
 use Rattle.s38_pages.specs.Vaults.{page_holds}
+use Rattle.s38_readable.specs.Readable.{IsFit}
 use Rattle.s38_rules.specs.State.{State}
 use Rattle.s38_step_parts.specs.Stepping.{HaveHeaders}
+use Rattle.s38_stored_machine.proofs.StateLaws.{stored_fit}
 use Rattle.s38_stores.specs.Crashes.{DuringCall, IsBetween}
 use Rattle.s38_vault.specs.Content.{Content}
 use Rattle.s38_top.proofs.OverLaws.{came_kept, came_stopped, closes, given_back, going_faultless, left_kept, left_off, reported_kept, reported_stopped, stopped_rose}
@@ -20,6 +23,9 @@ of_whole-requires-clause-end g c =
     let given = given_back x c.end-vault.result.vault c.end-vault-2.result c.end-vault.ensures.vault c.end-vault-2.ensures.vault c.end-vault-2.ensures.watched c.most-most.ensures.limits in
     subst CanClose (sym c.end-vault.ensures.state)
     (closes c.args.turns c.args.run.deck x c.args.run.end c.requires c.end-vault-2.result given (subst (λ (s : State). IsLawful s.held) (c.state.view_is ∙ c.end-vault.ensures.state) c.len-objects.ensures.lawful))
+
+pub of_whole-requires-clause-fit : goal.of_whole-requires-clause-fit
+of_whole-requires-clause-fit g c = subst (λ (s : State). All IsFit s.held.objects) (sym c.end-vault.ensures.state) (stored_fit c.args.run.machine.machine.state c.requires.sound.state)
 
 pub of_whole-requires-clause-faultless : goal.of_whole-requires-clause-faultless
 of_whole-requires-clause-faultless g c =
@@ -41,12 +47,13 @@ returns-in-Complete-clause-left g c =
     let left : Whole = record { deck = c.args.run.deck; history = c.end-vault.result.history; marks = c.end-vault.result.marks; state = c.end-vault.result.state } in
     let new = g.D.Disk.view c.of_whole.result.disk in
     let given = given_back x c.end-vault.result.vault c.end-vault-2.result c.end-vault.ensures.vault c.end-vault-2.ensures.vault c.end-vault-2.ensures.watched c.most-most.ensures.limits in
-    left_kept c.args.turns c.args.run.deck x c.args.run.end c.requires c.end-vault-2.result given new c.of_whole.ensures.placed c.of_whole.result.outcome
+    left_kept c.args.turns c.args.run.deck x c.args.run.end c.requires c.end-vault-2.result given new c.of_whole.ensures.placed c.restart_laws.ensures c.of_whole.result.outcome
     (reported_kept c.args.turns c.args.run.deck x c.args.run.end c.requires c.end-vault-2.result given new c.of_whole.ensures.placed left refl c.end-vault.ensures.history c.end-vault.ensures.marks c.in-Complete.is c.end-vault.ensures.state
     c.of_whole.ensures.goes c.of_whole.result.outcome c.of_whole.ensures.end)
     c.closing_laws.ensures
     c.in-Complete.is
     (subst (λ (s : State). HaveHeaders (kept_of s)) c.end-vault.ensures.state c.of_whole.ensures.headers)
+    (subst (λ (s : State). AreImages (kept_of s)) c.end-vault.ensures.state c.of_whole.ensures.images)
     c.of_whole.ensures.goes
     (λ m holds. subst (λ (s : State). DuringCall c.end-vault-2.result.disk new (IsBetween new.size m (kept_of s) s.held)) c.end-vault.ensures.state (c.of_whole.ensures.during m holds))
 
@@ -68,7 +75,7 @@ returns-in-Stopped-clause-left g c =
     let left : Whole = record { deck = c.args.run.deck; history = c.end-vault.result.history; marks = c.end-vault.result.marks; state = c.end-vault.result.state } in
     let new = g.D.Disk.view c.of_stopped.result.disk in
     let given = given_back x c.end-vault.result.vault c.end-vault-2.result c.end-vault.ensures.vault c.end-vault-2.ensures.vault c.end-vault-2.ensures.watched c.most-most.ensures.limits in
-    left_off c.args.turns c.args.run.deck x c.args.run.end c.requires c.end-vault-2.result given new c.of_stopped.ensures.placed c.of_stopped.result.outcome
+    left_off c.args.turns c.args.run.deck x c.args.run.end c.requires c.end-vault-2.result given new c.of_stopped.ensures.placed c.restart_laws.ensures c.of_stopped.result.outcome
     (λ not. reported_stopped c.args.turns c.args.run.deck x c.args.run.end c.requires c.end-vault-2.result given new c.of_stopped.ensures.placed left refl c.end-vault.ensures.history c.end-vault.ensures.marks
     c.of_stopped.result.outcome c.of_stopped.ensures.outcome)
     c.of_stopped.ensures.disk
@@ -77,4 +84,4 @@ pub returns-in-NoMemory-clause-left : goal.returns-in-NoMemory-clause-left
 returns-in-NoMemory-clause-left g c =
     let x = c.args.run.machine in
     let given = given_back x c.end-vault.result.vault c.end-vault-2.result c.end-vault.ensures.vault c.end-vault-2.ensures.vault c.end-vault-2.ensures.watched c.most-most.ensures.limits in
-    left_off c.args.turns c.args.run.deck x c.args.run.end c.requires c.end-vault-2.result given (g.D.Disk.view c.release.result) c.release.ensures.layout NoMemory (λ not. absurd (not refl)) c.release.ensures.disk
+    left_off c.args.turns c.args.run.deck x c.args.run.end c.requires c.end-vault-2.result given (g.D.Disk.view c.release.result) c.release.ensures.layout c.restart_laws.ensures NoMemory (λ not. absurd (not refl)) c.release.ensures.disk

@@ -1,10 +1,12 @@
 use Rattle.std.proofs.Common.{All, ap, refl, subst, sym, ◌∙◌}
 use Rattle.s38_image_printing.specs.Parts.{CanSettle}
 use Rattle.s38_openings.specs.Opening.{IsNumbered}
+use Rattle.s38_readable.specs.Readable.{IsAgain, IsFit}
 use Rattle.s38_rules.specs.Storable.{IsStorable}
 use Rattle.s38_step_parts.specs.Stepping.{HaveHeaders}
 use Rattle.s38_top.specs.Runs.{kept_of}
 use Rattle.s38_top.specs.declared.outcome.Whole.{Whole}
+use Rattle.s38_top.proofs.AgainLaws.{kept_images}
 use Rattle.s38_top.proofs.SafeLaws.{kept_at}
 use Rattle.s38_top.proofs.StoreLaws.{kept_end, leaves_at}
 use Rattle.s38_top.proofs.decide.of_whole.Goals as goal
@@ -29,6 +31,17 @@ returns-in-Some-clause-headers g c = subst (λ (w : Whole). HaveHeaders (kept_of
 
 pub returns-in-None-clause-headers : goal.returns-in-None-clause-headers
 returns-in-None-clause-headers g c = subst (λ (w : Whole). HaveHeaders (kept_of w.state)) c.whole.view_is c.headers_can_be_read.ensures
+
+pub all_are_readable-requires : goal.all_are_readable-requires
+all_are_readable-requires g c = subst (λ (w : Whole). All IsFit w.state.held.objects) (sym c.whole.view_is) c.requires.fit
+
+pub returns-in-Some-clause-images : goal.returns-in-Some-clause-images
+returns-in-Some-clause-images g c =
+    kept_images c.args.whole.state c.what_is_closed_can_be_read.ensures c.requires.fit c.requires.end.settles (subst (λ (w : Whole). All IsAgain w.state.held.objects) c.whole.view_is c.all_are_readable.ensures)
+
+pub returns-in-None-clause-images : goal.returns-in-None-clause-images
+returns-in-None-clause-images g c =
+    kept_images c.args.whole.state c.what_is_closed_can_be_read.ensures c.requires.fit c.requires.end.settles (subst (λ (w : Whole). All IsAgain w.state.held.objects) c.whole.view_is c.all_are_readable.ensures)
 
 pub returns-in-Some-clause-end : goal.returns-in-Some-clause-end
 returns-in-Some-clause-end g c =

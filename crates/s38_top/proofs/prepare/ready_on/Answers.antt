@@ -1,5 +1,5 @@
 use Rattle.std.proofs.Common.{◌∙◌, sym}
-use Rattle.s38_top.proofs.BegunLaws.{ready_of}
+use Rattle.s38_top.proofs.BegunLaws.{checked_made, ready_of}
 use Rattle.s38_top.proofs.SafeLaws.{keeps_given}
 use Rattle.s38_top.proofs.prepare.ready_on.Goals as goal
 
@@ -8,6 +8,9 @@ start_over-requires-clause-has g c = c.each_job_has_its_template.ensures c.requi
 
 pub start_over-requires-clause-few : goal.start_over-requires-clause-few
 start_over-requires-clause-few g c = c.requires.spelled.1.few_jobs
+
+pub start_over-requires-clause-made : goal.start_over-requires-clause-made
+start_over-requires-clause-made g c = checked_made c.requires.spelled.0 c.args.checked.deck c.requires.spelled.1
 
 pub start_over-requires-clause-faultless : goal.start_over-requires-clause-faultless
 start_over-requires-clause-faultless g c = c.in-Ok.ensures.faultless.faults ∙ sym c.in-Ok.ensures.faultless.start

@@ -1,9 +1,7 @@
-use Rattle.std.proofs.Common.{List, subst, sym}
-use Rattle.s38_rules.specs.Room.{Extent}
-use Rattle.s38_extents.proofs.ExtentLaws.{rising_without}
-use Rattle.s38_extents.specs.Extents.{AreRising}
+use Rattle.s38_extents.proofs.SumLaws.{take_moves}
 use Rattle.s38_extents.proofs.room.Room.take_out.Goals as goal
 
-pub invariant_of-self : goal.invariant_of-self
-invariant_of-self c =
-    subst (λ (xs : List Extent). AreRising xs) (sym c.take_out.ensures.extents) (rising_without c.args.number.0 c.self.inside.extents.items c.self.invariant)
+pub left_behind-self-inside-requires-clause-before : goal.left_behind-self-inside-requires-clause-before
+left_behind-self-inside-requires-clause-before c some =
+    let moved = take_moves c.self.inside.left c.self.inside.parts c.args.number.0 c.self.inside.extents.items c.self.invariant.rising c.self.invariant.left some in
+    rw (c.as_slice-2.ensures.value, c.take_out.ensures.extents, c.parts_at-was.ensures.parts, c.as_slice.ensures.value) moved

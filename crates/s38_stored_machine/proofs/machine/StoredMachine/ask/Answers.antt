@@ -3,11 +3,11 @@ use Rattle.std.specs.Prelude.{IfOk, Some}
 use Rattle.s38_code.specs.Asking.{reply_by}
 use Rattle.s38_kept_laws.proofs.KeepLaws.{DurableLaws}
 use Rattle.s38_image_printing.specs.Parts.{CanSettle}
+use Rattle.s38_readable.specs.Readable.{IsFit}
 use Rattle.s38_rules.specs.Forcing.{Forced}
 use Rattle.s38_rules.specs.Legal.{IsProcess, Run}
 use Rattle.s38_rules.specs.State.{State}
 use Rattle.s38_rules.specs.Step.{step}
-use Rattle.s38_rules.specs.Storable.{IsStorable}
 use Rattle.s38_step_parts.specs.Numbers.{numbered}
 use Rattle.s38_step_parts.specs.Stepping.{AreNumbers}
 use Rattle.s38_stored_machine.specs.Keeping.{IsSettled}
@@ -15,14 +15,14 @@ use Rattle.s38_stored_machine.specs.Seen.{StoredView, run_of}
 use Rattle.s38_stored_machine.specs.Sound.{CanBeStored, IsSoundOver}
 use Rattle.s38_stored_machine.specs.declared.ending.Ending.TheVariants.{Going}
 use Rattle.s38_stored_machine.proofs.SettledLaws.{IsBehind, after_state, behind_settled, replied, same_beginning}
-use Rattle.s38_stored_machine.proofs.StateLaws.{anew_numbers, step_stored, stored_settles, stored_storable}
+use Rattle.s38_stored_machine.proofs.StateLaws.{anew_numbers, step_stored, stored_fit, stored_settles}
 use Rattle.s38_stored_machine.proofs.machine.StoredMachine.ask.Goals as goal
 
-pub settle-requires-clause-storable : goal.settle-requires-clause-storable
-settle-requires-clause-storable g c =
+pub settle-requires-clause-fit : goal.settle-requires-clause-fit
+settle-requires-clause-fit g c =
     let can = subst (λ (x : StoredView _). CanBeStored x.machine.state) (sym c.self.view_is) c.requires.sound.state in
-    subst (λ (s : State). All IsStorable s.held.objects) (sym (ap (λ (r : Run). r.state) c.in-Ok.ensures.ok ∙ after_state c.self.inside.machine c.args.process c.args.event))
-    (stored_storable _ (step_stored c.self.inside.machine.state c.args.process c.args.event can))
+    subst (λ (s : State). All IsFit s.held.objects) (sym (ap (λ (r : Run). r.state) c.in-Ok.ensures.ok ∙ after_state c.self.inside.machine c.args.process c.args.event))
+    (stored_fit _ (step_stored c.self.inside.machine.state c.args.process c.args.event can))
 
 pub settle-requires-clause-settles : goal.settle-requires-clause-settles
 settle-requires-clause-settles g c =
