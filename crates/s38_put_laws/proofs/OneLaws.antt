@@ -39,7 +39,7 @@ use Rattle.s38_rules.specs.declared.object.Object.{Object}
 use Rattle.s38_step_parts.proofs.AfterLaws.{kept_behind_step, kept_one, parts_below}
 use Rattle.s38_step_parts.proofs.KeptLaws.{kept_number}
 use Rattle.s38_step_parts.proofs.NumberLaws.{AreAbove, Rise, numbers_are, numbers_rise}
-use Rattle.s38_step_parts.specs.Numbers.{is_numbered, numbered, numbers}
+use Rattle.s38_step_parts.specs.Numbers.{is_numbered, numbered, numbers, with_all}
 use Rattle.s38_step_parts.specs.Stepping.{HaveHeaders, object_changes}
 use Rattle.s38_vault.specs.Content.{Content}
 use Rattle.s38_vault.specs.Vaults.{most_changes}
@@ -555,6 +555,7 @@ module _ (all : List Forced) (d : Durable) (s t : State) (k : Held) where
           omega (arith, few, bytes)
 
       pub ended_journal_put : ForcesJournalIfAny s.held k all → ((n : ℕ) → is_forced n all ≡ true → n < ceiling_key) → length (object_changes (numbered all) (get m) new) ≤ forced_bytes k all / 512 + 3
+      unfolding with_all
       ended_journal_put (inl none) low =
           let nothing_put : length (object_changes (numbered all) (get m) new) ≡ 0 = ap (λ (fs : List Forced). length (object_changes (numbered fs) (get m) new)) none in
           omega (arith, nothing_put)

@@ -53,7 +53,7 @@ use Rattle.s38_rules.specs.Instruction.{Instruction}
 use Rattle.s38_rules.specs.Journaling.{block_port, data_port, is_journal, journal_behind, journal_for, journal_for_block, journal_named, open_behind}
 use Rattle.s38_rules.specs.Journals.{journals_row}
 use Rattle.s38_rules.specs.Locking.{locks_row}
-use Rattle.s38_rules.specs.Operands.{delivered, put_value}
+use Rattle.s38_rules.specs.Operands.{delivered, put_value, target}
 use Rattle.s38_rules.specs.Parts.{IsPart, Part, cursor_lawful, cursor_part, data_lawful, data_part, journal_at, journal_lawful, journal_of, journal_part, no_journal, on_data, on_journal, on_space, over_object, over_part, over_table, part_at, part_in, port_part, space_lawful, space_part}
 use Rattle.s38_rules.specs.Profiles.{profiles_row}
 use Rattle.s38_rules.specs.Programs.{program_in, programs_row, template_at}
@@ -491,7 +491,7 @@ committed_journal s p block (Some unit) = by (journal_for_block s.held block) re
     })
 
 commit_changes_are : (s : State) (p d : ℕ) (t : Request) → t.op ≡ ops.Commit → (row t.op).changes s p d t ≡ Committed (target s.held t.operands 1)
-unfolding journals_row
+unfolding journals_row row_in family_of
 commit_changes_are s p d t is = ap (λ (op : Op). (row op).changes s p d t) is
 
 pub commit_journal : (s : State) (p d : ℕ) (t : Request) → t.op ≡ ops.Commit → ForcesJournalIfAny s.held (effect_of s p (Act d t)).state.held (forced s p (Act d t))
