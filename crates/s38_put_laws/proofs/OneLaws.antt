@@ -28,7 +28,7 @@ use Rattle.s38_journals.specs.Entries.{Entry}
 use Rattle.s38_journals.specs.Journals.{JournalList, entries_len}
 use Rattle.s38_object_laws.specs.Outline.{is_forced, speaks_of}
 use Rattle.s38_rules.proofs.ChargeLaws.{found_number}
-use Rattle.s38_rules.specs.Forcing.{Forced, is_whole}
+use Rattle.s38_rules.specs.Forcing.{Forced, Whole, is_whole}
 use Rattle.s38_rules.specs.Held.{Held, disk_in, is_on_disk, kind_of, object}
 use Rattle.s38_rules.specs.Parts.{journal_lawful, journal_of, journal_part, no_journal, part_at, part_in}
 use Rattle.s38_rules.specs.Room.{image_len, pages_begun}
@@ -39,12 +39,11 @@ use Rattle.s38_rules.specs.declared.object.Object.{Object}
 use Rattle.s38_step_parts.proofs.AfterLaws.{kept_behind_step, kept_one, parts_below}
 use Rattle.s38_step_parts.proofs.KeptLaws.{kept_number}
 use Rattle.s38_step_parts.proofs.NumberLaws.{AreAbove, Rise, numbers_are, numbers_rise}
-use Rattle.s38_step_parts.specs.Numbers.{is_numbered, numbered, numbers, with_all}
+use Rattle.s38_step_parts.specs.Numbers.{is_numbered, numbered, numbers, with_all, with_number}
 use Rattle.s38_step_parts.specs.Stepping.{HaveHeaders, object_changes}
 use Rattle.s38_vault.specs.Content.{Content}
 use Rattle.s38_vault.specs.Vaults.{most_changes}
 use Rattle.s38_step_parts.specs.Leftovers.{belongs_in, first_changes}
-use Rattle.s38_put_laws.specs.Ends.{forced_bytes}
 use Rattle.s38_put_laws.specs.Lengthening.{AreLonger, Lengthens}
 use Rattle.s38_put_laws.specs.OnePut.{AreShort}
 use Rattle.s38_put_laws.specs.Spaces.{IsSpace}
@@ -53,7 +52,7 @@ use Rattle.s38_put_laws.specs.Unforced.{AreLow, most_trailing}
 use Rattle.s38_put_laws.proofs.DifferLaws.{differ, none_differ}
 use Rattle.s38_put_laws.proofs.DueLaws.{due_fewer, header_due}
 use Rattle.s38_put_laws.proofs.ObjectLaws.{IsOf, all_few, header_few, page_in, pages_in, same_few, space_few}
-use Rattle.s38_put_laws.proofs.ShapeLaws.{ForcesBoth, ForcesFew, ForcesJournal, ForcesJournalIfAny, ForcesOne, longest_entry, rows_at, rows_in, true_le, unforced_in}
+use Rattle.s38_put_laws.proofs.ShapeLaws.{ForcesBoth, ForcesFew, ForcesOne, longest_entry, rows_at, rows_in, true_le, unforced_in}
 use Rattle.s38_put_laws.proofs.TrailLaws.{journal_kind, trails_at}
 
 -- a journal space that is kept for the first time has no more bytes than a body may have
@@ -262,20 +261,22 @@ module _ (all : List Forced) (d : Durable) (s t : State) (k : Held) where
             let low = was_low in
             omega (arith, few, rest, grown, low)
 
-        -- with the same rows
-        rowed_few : rows_at t.held n ≡ rows_at s.held n → Small n (Some x) (Some y) (unforced_in (part_at journal_part k n) / 512 + 3)
-        rowed_few rows =
+        -- with the same rows, and no entry more
+        rowed_few : unforced_in (part_at journal_part k n) ≤ unforced_in (part_at journal_part s.held n) → rows_at t.held n ≡ rows_at s.held n → Small n (Some x) (Some y) 107
+        rowed_few still rows =
+            let same : y.object.rows ≡ x.object.rows = ap (λ (z : Stored). z.object.rows) whole_is ∙ sym (ap rows_in by_step.found) ∙ rows ∙ sym (led.old_rows n x was) in
+            let few = same_few n parts_end x y i.entries behind.rest old_space whole_space (room (i.entries ++ behind.rest) whole_space) same in
+            let rest = behind.bytes in
+            let low = was_low in
+            omega (arith, few, rest, still, low)
+
+        -- with the same rows its header, and the pages from the last that was kept on
+        trailing_few : rows_at t.held n ≡ rows_at s.held n → Small n (Some x) (Some y) (unforced_in (part_at journal_part k n) / 512 + 3)
+        trailing_few rows =
             let same : y.object.rows ≡ x.object.rows = ap (λ (z : Stored). z.object.rows) whole_is ∙ sym (ap rows_in by_step.found) ∙ rows ∙ sym (led.old_rows n x was) in
             let few = same_few n parts_end x y i.entries behind.rest old_space whole_space (room (i.entries ++ behind.rest) whole_space) same in
             let rest = behind.bytes in
             omega (arith, few, rest)
-
-        -- and no entry more
-        still_few : unforced_in (part_at journal_part k n) ≤ unforced_in (part_at journal_part s.held n) → rows_at t.held n ≡ rows_at s.held n → Small n (Some x) (Some y) 108
-        still_few still rows =
-            let few = rowed_few rows in
-            let low = was_low in
-            omega (arith, few, still, low)
 
       -- where its header follows
       followed_few : list_any (is_whole n) all ≡ false → Small n (Some x) (Some y) 2176
@@ -335,50 +336,37 @@ module _ (all : List Forced) (d : Durable) (s t : State) (k : Held) where
         by None on e = let f : false ≡ true = on in cc
         by (Some o) on e = let f : Some (kept_after all t (kept d.objects o.number.0) o) ≡ None = sym (ap (λ b. cond b (Some (kept_after all t (kept d.objects o.number.0) o)) None) on) ∙ e in cc
 
-    nothing : (n most : ℕ) → Small n None None most
-    nothing n most = let none = none_differ (page_in None) (parts_in None) n 0 parts_end (λ p from before. refl) in omega (arith, none)
-
-    -- a journal space that stays on disk or off it
-    stays_few : (n most : ℕ) → is_on_disk t.held n ≡ is_on_disk s.held n → is_some (part_at journal_part s.held n) ≡ true
-        → ((x y : Stored) (i : JournalList) → kept d.objects n ≡ Some x → kept new.objects n ≡ Some y → journal_of x.object.body ≡ Some i → Small n (Some x) (Some y) most) → cost n ≤ most
-    stays_few n most still there few = by (kept d.objects n) refl (kept new.objects n) refl
-      where
-        journal_there : (r : Option JournalList) → is_some r ≡ true → (i : JournalList) × (r ≡ Some i)
-        journal_there None some = absurd (let e : false ≡ true = some in cc)
-        journal_there (Some i) some = (i, refl)
-
-        by : (r : Option Stored) → kept d.objects n ≡ r → (q : Option Stored) → kept new.objects n ≡ q → Small n r q most
-        by None was None is = nothing n most
-        by None was (Some y) is = absurd (let e : None ≡ Some y = sym (off_kept n (still ∙ led.off_disk n was)) ∙ is in cc)
-        by (Some x) was None is = absurd (on_kept n (still ∙ led.on_disk n x was) is)
-        by (Some x) was (Some y) is = let own = journal_there (journal_of x.object.body) (led.old_kinds n x was there) in few x y own.0 was is own.1
-
-    -- the journal space of a unit that ends
-    ended_few : (one : ForcesJournal s.held k all) → cost one.journal ≤ unforced_in (part_at journal_part k one.journal) / 512 + 3
-    ended_few one =
-        stays_few n (unforced_in (part_at journal_part k n) / 512 + 3) (led.disk n ∙ one.disk) one.there (λ x y i was is of. rowed_few n x y i was is of anew (led.rows n ∙ one.rows))
-      where
-        n : ℕ
-        n = one.journal
-
-        anew : list_any (is_whole n) all ≡ true
-        anew = ap (λ (fs : List Forced). list_any (is_whole n) fs) one.is ∙ ap (λ b. b || false) (nat_itself n)
-
     module _ (both : ForcesBoth s.held k all) where
       both_grow : (n : ℕ) → Grows n
       both_grow n less anew = let same = ap unforced_in (both.journals n) in omega (arith, same)
 
-      paired_few : (both.space == both.journal) ≡ false → cost both.journal ≤ 108
-      paired_few apart = stays_few n 108 (led.disk n ∙ both.disk n apart) both.there few
+      paired_few : (both.space == both.journal) ≡ false → cost both.journal ≤ 107
+      paired_few apart = by (kept d.objects n) refl (kept new.objects n) refl
         where
           n : ℕ
           n = both.journal
 
+          still : is_on_disk t.held n ≡ is_on_disk s.held n
+          still = led.disk n ∙ both.disk n apart
+
           anew : list_any (is_whole n) all ≡ true
           anew = ap (λ (fs : List Forced). list_any (is_whole n) fs) both.is ∙ ap (λ b. b || ((n == n) || false)) apart ∙ ap (λ b. b || false) (nat_itself n)
 
-          few : (x y : Stored) (i : JournalList) → kept d.objects n ≡ Some x → kept new.objects n ≡ Some y → journal_of x.object.body ≡ Some i → Small n (Some x) (Some y) 108
-          few x y i was is of = let same = ap unforced_in (both.journals n) in still_few n x y i was is of anew (omega (arith, same)) (led.rows n ∙ both.rows n)
+          nothing : Small n None None 107
+          nothing = let none = none_differ (page_in None) (parts_in None) n 0 parts_end (λ p from before. refl) in omega (arith, none)
+
+          journal_there : (r : Option JournalList) → is_some r ≡ true → (i : JournalList) × (r ≡ Some i)
+          journal_there None some = absurd (let e : false ≡ true = some in cc)
+          journal_there (Some i) some = (i, refl)
+
+          by : (r : Option Stored) → kept d.objects n ≡ r → (q : Option Stored) → kept new.objects n ≡ q → Small n r q 107
+          by None was None is = nothing
+          by None was (Some y) is = absurd (let e : None ≡ Some y = sym (off_kept n (still ∙ led.off_disk n was)) ∙ is in cc)
+          by (Some x) was None is = absurd (on_kept n (still ∙ led.on_disk n x was) is)
+          by (Some x) was (Some y) is =
+              let own = journal_there (journal_of x.object.body) (led.old_kinds n x was both.there) in
+              let same = ap unforced_in (both.journals n) in
+              rowed_few n x y own.0 was is own.1 anew (omega (arith, same)) (led.rows n ∙ both.rows n)
 
     -- ---- all numbers
 
@@ -396,6 +384,42 @@ module _ (all : List Forced) (d : Durable) (s t : State) (k : Held) where
           ap (λ (cs : List Change). length (differences (get m) (aim_of new n).range cs)) (parts_below new n low)
           ∙ ap (λ (cs : List Change). length cs) (same_differences (get m) (page_in (kept d.objects n)) (parts_in (kept new.objects n)) (parts_in (kept new.objects n)) n (parts_end - 0) 0
           (λ p from before. stands.each (key_at n p) (omega (arith, before)) ∙ ap (λ (cs : List Change). wanted_at cs (key_at n p)) (parts_below d n low)) (λ p from before. refl))
+
+      -- where a journal space alone is forced, whole, its header differs, and the pages from the last that was kept on
+      module _ (n : ℕ) (only : all ≡ Whole n ∷ []) (low : n < ceiling_key) (there : is_some (part_at journal_part s.held n) ≡ true) (rows : rows_at t.held n ≡ rows_at s.held n) (still : is_on_disk t.held n ≡ is_on_disk s.held n) where
+        abbrev Most : ℕ
+        Most = unforced_in (part_at journal_part k n) / 512 + 3
+
+        own_cost : cost n ≤ Most
+        own_cost = by (kept d.objects n) refl (kept new.objects n) refl
+          where
+            anew : list_any (is_whole n) all ≡ true
+            anew = ap (λ (fs : List Forced). list_any (is_whole n) fs) only ∙ ap (λ b. b || false) (nat_itself n)
+
+            nothing : Small n None None Most
+            nothing = let none = none_differ (page_in None) (parts_in None) n 0 parts_end (λ p from before. refl) in omega (arith, none)
+
+            journal_there : (r : Option JournalList) → is_some r ≡ true → (i : JournalList) × (r ≡ Some i)
+            journal_there None some = absurd (let e : false ≡ true = some in cc)
+            journal_there (Some i) some = (i, refl)
+
+            by : (r : Option Stored) → kept d.objects n ≡ r → (q : Option Stored) → kept new.objects n ≡ q → Small n r q Most
+            by None was None is = nothing
+            by None was (Some y) is = absurd (let e : None ≡ Some y = sym (off_kept n (still ∙ led.off_disk n was)) ∙ is in cc)
+            by (Some x) was None is = absurd (on_kept n (still ∙ led.on_disk n x was) is)
+            by (Some x) was (Some y) is = let own = journal_there (journal_of x.object.body) (led.old_kinds n x was there) in trailing_few n x y own.0 was is own.1 anew rows
+
+        pub alone_put : length (object_changes (numbered all) (get m) new) ≤ Most
+        unfolding with_all with_number
+        alone_put = subst (λ (fs : List Forced). length (object_changes (numbered fs) (get m) new) ≤ Most) (sym only) (by (is_numbered (Whole n)))
+          where
+            by : (b : Bool) → length (object_changes (cond b (Whole n ∷ []) []) (get m) new) ≤ Most
+            by true =
+                let count = length-append (of_number n) [] in
+                let same = real_cost n low in
+                let few = own_cost in
+                omega (arith, count, same, few)
+            by false = omega arith
 
       due_cost : (n most : ℕ) → n < ceiling_key → cost n ≤ most → due n ≤ most
       due_cost n most low few =
@@ -446,15 +470,15 @@ module _ (all : List Forced) (d : Durable) (s t : State) (k : Held) where
         apart a b (inl less) = grind (arith, nat_tests)
         apart a b (inr less) = grind (arith, nat_tests)
 
-        pair_few : (n i : ℕ) → n < i → n < ceiling_key → i < ceiling_key → Either n → Either i → due n + due i ≤ 2284
+        pair_few : (n i : ℕ) → n < i → n < ceiling_key → i < ceiling_key → Either n → Either i → due n + due i ≤ 2283
         pair_few n i less low lower (inl a) (inl b) = absurd (omega (arith, less, a, b))
         pair_few n i less low lower (inr a) (inr b) = absurd (omega (arith, less, a, b))
         pair_few n i less low lower (inl a) (inr b) =
             let first = due_few n low (both_grow both n) in
-            let second = due_cost i 108 lower (subst (λ (j : ℕ). cost j ≤ 108) (sym b) (paired_few both (apart both.space both.journal (inl (omega (arith, less, a, b)))))) in
+            let second = due_cost i 107 lower (subst (λ (j : ℕ). cost j ≤ 107) (sym b) (paired_few both (apart both.space both.journal (inl (omega (arith, less, a, b)))))) in
             omega (arith, first, second)
         pair_few n i less low lower (inr a) (inl b) =
-            let first = due_cost n 108 low (subst (λ (j : ℕ). cost j ≤ 108) (sym a) (paired_few both (apart both.space both.journal (inr (omega (arith, less, a, b)))))) in
+            let first = due_cost n 107 low (subst (λ (j : ℕ). cost j ≤ 107) (sym a) (paired_few both (apart both.space both.journal (inr (omega (arith, less, a, b)))))) in
             let second = due_few i lower (both_grow both i) in
             omega (arith, first, second)
 
@@ -504,9 +528,9 @@ module _ (all : List Forced) (d : Durable) (s t : State) (k : Held) where
           by true is rest = either_true (speaks_of n one) (is_forced n (numbered more)) (is_forced n more) rest is
           by false is rest = later (speaks_of n one) (is_forced n more) (rest is)
 
-      -- each number is forced, and is that of an object
-      each_forced : ((n : ℕ) → is_forced n all ≡ true → n < ceiling_key) → AllByRecursion (λ n. (is_forced n all ≡ true) × (n < ceiling_key)) (numbers (numbered all))
-      each_forced low = each_of (numbers (numbered all)) (λ n among. sym (numbers_are n (numbered all)) ∙ among)
+      -- what belongs to something fits in one put
+      step_due : ((n : ℕ) → is_forced n all ≡ true → n < ceiling_key) → length (filter (belongs_in new) (object_changes (numbered all) (get m) new)) ≤ most_changes
+      step_due low = few_put (numbers (numbered all)) (numbers_rise (numbered all)) (each_of (numbers (numbered all)) (λ n among. sym (numbers_are n (numbered all)) ∙ among))
         where
           each_of : (ns : List ℕ) → ((n : ℕ) → is_among n ns ≡ true → is_forced n (numbered all) ≡ true) → AllByRecursion (λ n. (is_forced n all ≡ true) × (n < ceiling_key)) ns
           each_of [] among = tt
@@ -517,49 +541,6 @@ module _ (all : List Forced) (d : Durable) (s t : State) (k : Held) where
               later : (b c : Bool) → c ≡ true → (b || c) ≡ true
               later true c e = refl
               later false c e = e
-
-      -- what belongs to something fits in one put
-      step_due : ((n : ℕ) → is_forced n all ≡ true → n < ceiling_key) → length (filter (belongs_in new) (object_changes (numbered all) (get m) new)) ≤ most_changes
-      step_due low = few_put (numbers (numbered all)) (numbers_rise (numbered all)) (each_forced low)
-
-      -- ---- the end of a unit that stays
-
-      abbrev Brings : List ℕ → ℕ → Type 0
-      Brings ns most = length (all_differences (get m) (aims_of new ns)) ≤ most
-
-      journal_forced : (one : ForcesJournal s.held k all) (n : ℕ) → is_forced n all ≡ true → n ≡ one.journal
-      journal_forced one n is = by (one.journal == n) refl (sym (ap (is_forced n) one.is) ∙ is)
-        where
-          by : (b : Bool) → (one.journal == n) ≡ b → (b || false) ≡ true → n ≡ one.journal
-          by true same e = sym (nat_same one.journal n same)
-          by false same e = cc
-
-      ended_put : (one : ForcesJournal s.held k all) (ns : List ℕ) → Rise ns → AllByRecursion (λ n. (is_forced n all ≡ true) × (n < ceiling_key)) ns
-          → Brings ns (unforced_in (part_at journal_part k one.journal) / 512 + 3)
-      unfolding Rise AreAbove
-      ended_put one [] rise each = omega arith
-      ended_put one (n ∷ []) rise each =
-          let is : n ≡ one.journal = journal_forced one n each.0.0 in
-          let same = length-append (of_number n) (all_differences (get m) (aims_of new [])) in
-          let real = real_cost n each.0.1 in
-          let few = subst (λ (j : ℕ). cost j ≤ unforced_in (part_at journal_part k one.journal) / 512 + 3) (sym is) (ended_few one) in
-          omega (arith, same, real, few)
-      ended_put one (n ∷ i ∷ ns) rise each =
-          absurd (let less = rise.0.0 in let first = journal_forced one n each.0.0 in let second = journal_forced one i each.1.0.0 in omega (arith, less, first, second))
-
-      -- as a journal space has it, if it is the only one
-      journal_put : ForcesJournal s.held k all → ((n : ℕ) → is_forced n all ≡ true → n < ceiling_key) → length (object_changes (numbered all) (get m) new) ≤ forced_bytes k all / 512 + 3
-      journal_put one low =
-          let few = ended_put one (numbers (numbered all)) (numbers_rise (numbered all)) (each_forced low) in
-          let bytes : forced_bytes k all ≡ unforced_in (part_at journal_part k one.journal) + 0 = ap (forced_bytes k) one.is in
-          omega (arith, few, bytes)
-
-      pub ended_journal_put : ForcesJournalIfAny s.held k all → ((n : ℕ) → is_forced n all ≡ true → n < ceiling_key) → length (object_changes (numbered all) (get m) new) ≤ forced_bytes k all / 512 + 3
-      unfolding with_all
-      ended_journal_put (inl none) low =
-          let nothing_put : length (object_changes (numbered all) (get m) new) ≡ 0 = ap (λ (fs : List Forced). length (object_changes (numbered fs) (get m) new)) none in
-          omega (arith, nothing_put)
-      ended_journal_put (inr one) low = journal_put one low
 
       -- what is put first does
       pub step_put : ((n : ℕ) → is_forced n all ≡ true → n < ceiling_key) → length (first_changes most_changes new (object_changes (numbered all) (get m) new)) ≤ most_changes

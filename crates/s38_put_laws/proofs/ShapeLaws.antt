@@ -9,7 +9,6 @@ use Rattle.std.specs.Prelude.{◌&&◌, ◌||◌, None, Option, Some, is_some, n
 use Rattle.s38_base.specs.Pointers.{target_of}
 use Rattle.s38_base.specs.declared.id.Kind.{Kind}
 use Rattle.s38_base.specs.declared.op.Op.TheVariants.{Crtctx, Crtds, Crtinx, Crtjs, Crtpg, Crtq, Crts, Crtup, Grant, Insdsen, Jrnlobj, Lock, Rslvsp}
-use Rattle.s38_base.specs.declared.op.Op.TheVariants as ops
 use Rattle.s38_base.specs.declared.op.Op.{Op}
 use Rattle.s38_code.specs.Operations.{family_of}
 use Rattle.s38_code.specs.declared.event.Event.TheVariants.{Act, Finish, Start}
@@ -53,7 +52,7 @@ use Rattle.s38_rules.specs.Instruction.{Instruction}
 use Rattle.s38_rules.specs.Journaling.{block_port, data_port, is_journal, journal_behind, journal_for, journal_for_block, journal_named, open_behind}
 use Rattle.s38_rules.specs.Journals.{journals_row}
 use Rattle.s38_rules.specs.Locking.{locks_row}
-use Rattle.s38_rules.specs.Operands.{delivered, put_value, target}
+use Rattle.s38_rules.specs.Operands.{delivered, put_value}
 use Rattle.s38_rules.specs.Parts.{IsPart, Part, cursor_lawful, cursor_part, data_lawful, data_part, journal_at, journal_lawful, journal_of, journal_part, no_journal, on_data, on_journal, on_space, over_object, over_part, over_table, part_at, part_in, port_part, space_lawful, space_part}
 use Rattle.s38_rules.specs.Profiles.{profiles_row}
 use Rattle.s38_rules.specs.Programs.{program_in, programs_row, template_at}
@@ -246,17 +245,6 @@ pub record ForcesBoth (h k : Held) (all : List Forced) : Type 0 where
 
 abbrev pub ForcesFew : Held → Held → List Forced → Type 0
 ForcesFew h k all = ForcesOne h k all ⊎ ForcesBoth h k all
-
--- a journal space is forced whole, and nothing else; it was there, and it stays on disk or off it, with its rows
-pub record ForcesJournal (h k : Held) (all : List Forced) : Type 0 where
-  pub journal : ℕ
-  pub is : all ≡ Whole journal ∷ []
-  pub there : is_some (part_at journal_part h journal) ≡ true
-  pub disk : is_on_disk k journal ≡ is_on_disk h journal
-  pub rows : rows_at k journal ≡ rows_at h journal
-
-abbrev pub ForcesJournalIfAny : Held → Held → List Forced → Type 0
-ForcesJournalIfAny h k all = (all ≡ []) ⊎ ForcesJournal h k all
 
 -- ---- an object is another one
 
@@ -455,10 +443,6 @@ delivered_beside s shift receiver None = same_beside s.held
 delivered_beside s shift (Some (operands.InSpace base offset attr)) (Some v) = value_beside s.held (target_of base) _ v
 delivered_beside s shift _ (Some v) = same_beside s.held
 
-journal_beside : (h j k : Held) (all : List Forced) → SameBeside j k → ForcesJournalIfAny h j all → ForcesJournalIfAny h k all
-journal_beside h j k all same (inl none) = inl none
-journal_beside h j k all same (inr one) = inr (record { journal = one.journal; is = one.is; there = one.there; disk = same.disk one.journal ∙ one.disk; rows = same.rows one.journal ∙ one.rows })
-
 few_beside : (h j k : Held) (all : List Forced) → SameBeside j k → ForcesFew h j all → ForcesFew h k all
 few_beside h j k all same (inl one) = inl (record { one = one.one; grows = λ n less is. let few = one.grows n less is in let still = ap unforced_in (same.journals n) in omega (arith, few, still) })
 few_beside h j k all same (inr both) =
@@ -474,30 +458,27 @@ event_few s p (Act d t) may =
     (done_few x s p (row_plain (family_of t.op) t.op s p d t met))
 event_few s p (Finish cause) may = inl (none_one s.held _)
 
--- ---- the end of a unit that stays
+-- ---- a COMMIT
 
-committed_journal : (s : State) (p block : ℕ) (unit : Option CommitUnit) → ForcesJournalIfAny s.held (committed s p block unit).held (commit_forces s.held block unit)
-committed_journal s p block None = inl refl
-committed_journal s p block (Some unit) = by (journal_for_block s.held block) refl
-  where
-    by : (r : Option ℕ) → journal_for_block s.held block ≡ r → ForcesJournalIfAny s.held (end_written s.held r (end_entry Commit p unit)) (whole_if r)
-    by None to = inl refl
-    by (Some journal) to = inr (record {
-      journal = journal;
-      is = refl;
-      there = behind_is s.held (block_port s.held block) journal to;
-      disk = seen_same disk_in s.held journal journal (over_object journal_part (with_entry (end_entry Commit p unit))) (λ x. refl) (λ x. refl);
-      rows = part_rows journal_part s.held journal journal (with_entry (end_entry Commit p unit));
-    })
+-- the journal space of its unit alone is forced, whole, and rows and what is on disk stay
+pub record CommitsWhole (h k : Held) (all : List Forced) (n : ℕ) : Type 0 where
+  pub only : all ≡ Whole n ∷ []
+  pub there : is_journal h n ≡ true
+  pub rows : (m : ℕ) → rows_at k m ≡ rows_at h m
+  pub disk : (m : ℕ) → is_on_disk k m ≡ is_on_disk h m
 
-commit_changes_are : (s : State) (p d : ℕ) (t : Request) → t.op ≡ ops.Commit → (row t.op).changes s p d t ≡ Committed (target s.held t.operands 1)
-unfolding journals_row row_in family_of
-commit_changes_are s p d t is = ap (λ (op : Op). (row op).changes s p d t) is
-
-pub commit_journal : (s : State) (p d : ℕ) (t : Request) → t.op ≡ ops.Commit → ForcesJournalIfAny s.held (effect_of s p (Act d t)).state.held (forced s p (Act d t))
+pub commit_alone : (s : State) (p d : ℕ) (t : Request) (block n : ℕ) (unit : CommitUnit) → (row t.op).changes s p d t ≡ Committed block → unit_of s.units block ≡ Some unit → journal_for_block s.held block ≡ Some n
+    → CommitsWhole s.held (effect_of s p (Act d t)).state.held (forced s p (Act d t)) n
 unfolding effect_of effect forced
-commit_journal s p d t is =
+commit_alone s p d t block n unit changes found to =
     let x = (row t.op).changes s p d t in
-    let block = target s.held t.operands 1 in
-    journal_beside s.held (done s p x).held _ (forced_by s p x) (delivered_beside (done s p x) (shift_at s.held t.op t.operands) (receiver_at t.op t.operands) ((row t.op).gives s p d t))
-    (subst (λ (c : Changes). ForcesJournalIfAny s.held (done s p c).held (forced_by s p c)) (sym (commit_changes_are s p d t is)) (committed_journal s p block (unit_of s.units block)))
+    let ends = with_entry (end_entry Commit p unit) in
+    let left : (done s p x).held ≡ on_journal s.held n ends =
+    ap (λ (y : Changes). (done s p y).held) changes ∙ ap (λ (u : Option CommitUnit). (committed s p block u).held) found ∙ ap (λ (r : Option ℕ). end_written s.held r (end_entry Commit p unit)) to in
+    let beside = delivered_beside (done s p x) (shift_at s.held t.op t.operands) (receiver_at t.op t.operands) ((row t.op).gives s p d t) in
+    record {
+      only = ap (forced_by s p) changes ∙ ap (commit_forces s.held block) found ∙ ap whole_if to;
+      there = behind_is s.held (block_port s.held block) n to;
+      rows = λ m. beside.rows m ∙ ap (λ (h : Held). rows_at h m) left ∙ part_rows journal_part s.held n m ends;
+      disk = λ m. beside.disk m ∙ ap (λ (h : Held). is_on_disk h m) left ∙ seen_same disk_in s.held n m (over_object journal_part ends) (λ o. refl) (λ o. refl);
+    }

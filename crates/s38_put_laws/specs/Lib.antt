@@ -2,6 +2,5 @@ pub mod Lengthening
 pub mod Unforced
 pub mod Trails
 pub mod OnePut
-pub mod Ends
 pub mod Fresh
 pub mod Spaces

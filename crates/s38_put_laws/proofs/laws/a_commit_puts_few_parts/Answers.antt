@@ -1,12 +1,10 @@
-use Rattle.std.proofs.Common.{subst, sym}
-use Rattle.s38_code.specs.declared.event.Event.TheVariants.{Act}
-use Rattle.s38_kept_laws.proofs.StepLaws.{IsDone}
-use Rattle.s38_put_laws.proofs.ShapeLaws.{commit_journal}
-use Rattle.s38_put_laws.proofs.StepLaws.{ended_put}
+use Rattle.s38_put_laws.proofs.CommitLaws.{few_parts, no_ceiling}
 use Rattle.s38_put_laws.proofs.laws.a_commit_puts_few_parts.Goals as goal
 
-pub returns : goal.returns
-returns c =
-    λ s p depth request values d m op is trail does headers then_headers short then_short stands.
-    ended_put (record { follows = c.what_is_durable_follows.ensures; counts = c.room_counts_what_is_durable.ensures; stays = c.what_is_not_forced_stays_durable.ensures }) s p (Act depth request) d is
-    (subst IsDone (sym does) tt) m trail headers then_headers short then_short stands (commit_journal s p depth request op)
+pub returns-clause-few : goal.returns-clause-few
+returns-clause-few c = λ s before e unit n d m entry commits to is trail headers then_headers short then_short stands.
+    few_parts (record { follows = c.what_is_durable_follows.ensures; counts = c.room_counts_what_is_durable.ensures; stays = c.what_is_not_forced_stays_durable.ensures }) s before e unit entry commits n to d is m trail headers then_headers short then_short stands
+
+pub returns-clause-ceiling : goal.returns-clause-ceiling
+returns-clause-ceiling c = λ s before e unit n d m entry commits to is.
+    no_ceiling (record { follows = c.what_is_durable_follows.ensures; counts = c.room_counts_what_is_durable.ensures; stays = c.what_is_not_forced_stays_durable.ensures }) s before e unit entry commits n to d is m
