@@ -1,10 +1,9 @@
 -- What the blocks of a disk stand for as a store of objects.
-use Rattle.std.specs.Prelude.{◌≡◌, ◌-◌, ◌≤◌, ℕ, [], None}
-use Rattle.std.specs.FinMap.{len}
+use Rattle.std.specs.Prelude.{◌≡◌, ◌≤◌, ℕ, [], None}
 use Rattle.s38_base.specs.Limits.{body_limit}
 use Rattle.s38_blocks.specs.Store.{Stands}
 use Rattle.s38_closing.specs.Closing.{closing, content_of}
-use Rattle.s38_closing.specs.Ensuring.{IsFullAt, IsReached}
+use Rattle.s38_closing.specs.Ensuring.{EachFits, IsFullAt, IsReached}
 use Rattle.s38_commits.specs.Units.{UnitMap}
 use Rattle.s38_disk.specs.Blocks.{State}
 use Rattle.s38_disk.specs.Disk.{DiskView, IsAt}
@@ -19,7 +18,6 @@ use Rattle.s38_restart.specs.Restarted.{restarted}
 use Rattle.s38_rules.specs.Held.{Held}
 use Rattle.s38_rules.specs.Opening.{held_installed}
 use Rattle.s38_vault.specs.Content.{Content, changed}
-use Rattle.s38_vault.specs.Directory.{keys_of}
 
 -- a content without a fault is restarted to these objects
 pub record AreOf (h : Held) (m : Content) : Type 0 where
@@ -64,7 +62,12 @@ pub record KeepsFirst (size : ℕ) (m : Content) (d : Durable) (h : Held) (f : �
 pub record IsFullOf (size : ℕ) (m : Content) (d : Durable) (h : Held) (f : ℕ → Block) (needed free : ℕ) : Type 0 where
   pub content : Content
   pub stands : Stands (layout_of size) f content
-  pub full : IsFullAt m d h content (parts_of (layout_of size) - len (keys_of content)) needed free
+  pub full : IsFullAt (parts_of (layout_of size)) m d h content needed free
+
+-- in a store of so many blocks each object that the run left fits in its turn, and behind the last one the ceiling: the parts
+-- that are there and its new ones are no more than all parts
+abbrev pub AllFit : ℕ → Content → Durable → Held → Type 0
+AllFit size m d h = EachFits (parts_of (layout_of size)) m d h
 
 -- ---- before a call and behind it
 

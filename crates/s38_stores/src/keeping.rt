@@ -8,7 +8,7 @@ ghost use Rattle.s38_pages.specs.Mounts.{layout_of};
 ghost use Rattle.s38_pages.specs.Vaults.{page_holds, page_view};
 ghost use Rattle.s38_rules.specs.Storable.{IsStorable};
 ghost use Rattle.s38_stores.specs.Crashes.{DuringCall, GoesOn, IsBetween};
-ghost use Rattle.s38_stores.specs.Stores.{IsFullOf, Keeps, KeepsFirst};
+ghost use Rattle.s38_stores.specs.Stores.{AllFit, IsFullOf, Keeps, KeepsFirst};
 ghost use Rattle.s38_vault.specs.Content.{Content};
 
 use s38_closing::close;
@@ -28,7 +28,7 @@ pub struct Kept<D> {
 
 /// Keeps what a run left in the store that it began with: each object, one after another in the order of their numbers, with
 /// every change that is not committed taken back, the ceiling of numbers, and nothing else. Where it is full the objects before
-/// the one that does not fit are kept.
+/// the one that does not fit are kept; where each fits in its turn it is not full.
 pub fn keep<D: Disk>(
     alloc: Global,
     vault: PageVault<D>,
@@ -41,6 +41,7 @@ pub fn keep<D: Disk>(
     requires faultless { (page_view vault).faults ≡ vault.start }
     ensures kept { OnOk result.end ((m : Content) → page_holds vault m → (t : State) → IsAt (D.view result.disk).past t
         → Keeps (D.view result.disk).size t.now (closing units.now objects.now)) }
+    ensures fits { OnOk result.end ((m : Content) → page_holds vault m → AllFit (D.view result.disk).size m (closing units.now objects.now) objects.now) }
     ensures full { (needed free : ℕ) → result.end ≡ Err (KeepFault.Full needed free) → (m : Content) → page_holds vault m → (t : State) → IsAt (D.view result.disk).past t
         → IsFullOf (D.view result.disk).size m (closing units.now objects.now) objects.now t.now needed free }
     ensures stopped { result.end ≡ Err KeepFault.NoMemory → (m : Content) → page_holds vault m → (t : State) → IsAt (D.view result.disk).past t
@@ -58,8 +59,6 @@ pub fn keep<D: Disk>(
     let mut watched = WatchedVault::of(vault);
     let end = close(alloc, &mut watched, objects, units);
     let vault = watched.end();
-    // Its contract says that the keys are those of the content, and that with them the free parts are all parts.
-    let _free = vault.free();
     let disk = vault.release();
     Kept { disk, end }
 }

@@ -1,5 +1,6 @@
 //! What holds of stores, as contracts of functions that do nothing.
 ghost use Rattle.std.specs.Prelude.{◌≡◌, ◌⊎◌, ℕ, take};
+ghost use Rattle.s38_durable.specs.Durable.{Durable};
 ghost use Rattle.s38_groups.specs.Groups.{removals};
 ghost use Rattle.s38_groups.specs.Stores.{ceiling_of, stored_in};
 ghost use Rattle.s38_restart.specs.Parts.{all_parts};
@@ -7,7 +8,7 @@ ghost use Rattle.s38_vault.specs.Content.{Content, changed};
 ghost use Rattle.s38_disk.specs.declared.block.Block.{Block as Blocks};
 ghost use Rattle.s38_rules.specs.Held.{Held};
 ghost use Rattle.s38_stores.specs.Refusals.{IsRefusal};
-ghost use Rattle.s38_stores.specs.Stores.{AreOf, Restarts};
+ghost use Rattle.s38_stores.specs.Stores.{AllFit, AreOf, IsFullOf, Restarts};
 ghost use Rattle.s38_stores.specs.declared.fault.StoreRefusal.{StoreRefusal};
 ghost use Rattle.s38_stores.specs.declared.fault.StoreRefusal.TheVariants as refusals;
 
@@ -28,4 +29,9 @@ pub fn what_is_kept_stays()
     ensures ceiling { (m : Content) (count : ℕ) → ceiling_of (all_parts (changed m (take count (removals (all_parts m))))) ≡ ceiling_of (all_parts m) }
     ensures cleaned { (m : Content) (limit : ℕ) → stored_in limit (all_parts (changed m (removals (all_parts m)))) ≡ stored_in limit (all_parts m) }
     ensures cleaned_ceiling { (m : Content) → ceiling_of (all_parts (changed m (removals (all_parts m)))) ≡ ceiling_of (all_parts m) }
+{}
+
+/// Where each object fits in its turn a store is not full behind some of them.
+pub fn where_each_fits_none_is_full()
+    ensures { (size needed free : ℕ) (m : Content) (d : Durable) (h : Held) (f : ℕ → Blocks) → AllFit size m d h → IsFullOf size m d h f needed free → ⊥ }
 {}

@@ -13,5 +13,6 @@ pub use installing::install;
 pub use keeping::{Kept, keep};
 pub use laws::{
     a_store_that_restarts_is_opened, parts_that_belong_to_nothing_may_go, what_is_kept_stays,
+    where_each_fits_none_is_full,
 };
 pub use opening::{OpenStore, open};

@@ -1,17 +1,15 @@
-use Rattle.std.proofs.Common.{◌≡◌, ◌-◌, ℕ, ◌∙◌, ap, arith, subst, sym}
-use Rattle.std.specs.FinMap.{len}
+use Rattle.std.proofs.Common.{◌≡◌, ℕ, ◌∙◌, ap, subst, sym}
 use Rattle.s38_base.specs.Faults.{Rose}
 use Rattle.s38_closing.specs.Closing.{closing}
 use Rattle.s38_pages.specs.Index.{parts_of}
 use Rattle.s38_pages.specs.Mounts.{layout_of}
-use Rattle.s38_pages.specs.Vaults.{PageStore, page_view}
+use Rattle.s38_pages.specs.Vaults.{PageStore}
 use Rattle.s38_disk.specs.Disk.{DiskView}
-use Rattle.s38_closing.specs.Ensuring.{IsFullAt}
+use Rattle.s38_closing.specs.Ensuring.{EachFits, IsFullAt}
 use Rattle.s38_keeping.specs.declared.fault.KeepFault.TheVariants.{Full, NoMemory}
-use Rattle.s38_vault.specs.Directory.{keys_of}
 use Rattle.s38_stores.proofs.CrashLaws.{goes_by}
 use Rattle.s38_stores.proofs.KeepLaws.{err_on, kept_of, of_fault}
-use Rattle.s38_stores.proofs.WatchLaws.{caused, close_during, given_back, held_now, held_then, seen_from}
+use Rattle.s38_stores.proofs.WatchLaws.{caused, close_during, given_back, held_now, held_then, now_is, seen_from}
 use Rattle.s38_stores.specs.Crashes.{GoesOn, IsBetween}
 use Rattle.s38_stores.proofs.keeping.keep.Goals as goal
 
@@ -22,23 +20,31 @@ returns-clause-kept g c =
     kept_of c.close-end.result c.close-end.ensures.holds (λ holds m held t is.
     c.release-disk.ensures.stands _ (held_now begun shape c.end-vault.ensures.vault c.end-vault.ensures.watched _ (holds m (held_then begun shape c.end-vault.ensures.vault c.end-vault.ensures.watched m held))) t is)
 
+pub returns-clause-fits : goal.returns-clause-fits
+returns-clause-fits g c =
+    let begun = c.of-watched.ensures in
+    let shape = c.close-end.ensures.shape in
+    let vault = c.end-vault.ensures.vault in
+    let watched = c.end-vault.ensures.watched in
+    let placed = sym (seen_from begun shape vault watched).layout ∙ c.release-disk.ensures.layout in
+    let parts = ap (λ (v : PageStore). parts_of v.layout) (now_is begun shape vault watched) ∙ ap parts_of placed in
+    kept_of c.close-end.result c.close-end.ensures.fits (λ fits m held.
+    subst (λ (k : ℕ). EachFits k m (closing c.args.units.now c.args.objects.now) c.args.objects.now) parts (fits m (held_then begun shape vault watched m held)))
+
 pub returns-clause-full : goal.returns-clause-full
 returns-clause-full g c needed free is m held t at =
     let begun = c.of-watched.ensures in
     let shape = c.close-end.ensures.shape in
     let vault = c.end-vault.ensures.vault in
     let watched = c.end-vault.ensures.watched in
-    let d = closing c.args.units.now c.args.objects.now in
+    let placed = sym (seen_from begun shape vault watched).layout ∙ c.release-disk.ensures.layout in
+    let parts = ap (λ (v : PageStore). parts_of v.layout) (now_is begun shape vault watched) ∙ ap parts_of placed in
     let stopped = of_fault _ c.close-end.result (Full needed free) is c.close-end.ensures.stopped m (held_then begun shape vault watched m held) in
     let n = stopped.0 in
-    let there = held_now begun shape vault watched n stopped.1.0 in
-    let same : (page_view c.close-end.new.vault.now).free ≡ (page_view c.end-vault.result).free = ap (λ (v : PageStore). (page_view v).free) (sym vault) in
-    let room : (page_view c.close-end.new.vault.now).free ≡ parts_of (layout_of (g.D.Disk.view c.release-disk.result).size) - len (keys_of n) =
-    omega (arith, same, c.free-free.ensures.sum, ap len (c.free-free.ensures.keys n there), ap parts_of c.release-disk.ensures.layout) in
     record {
       content = n;
-      stands = c.release-disk.ensures.stands n there t at;
-      full = subst (λ (k : ℕ). IsFullAt m d c.args.objects.now n k needed free) room stopped.1.1;
+      stands = c.release-disk.ensures.stands n (held_now begun shape vault watched n stopped.1.0) t at;
+      full = subst (λ (k : ℕ). IsFullAt k m (closing c.args.units.now c.args.objects.now) c.args.objects.now n needed free) parts stopped.1.1;
     }
 
 pub returns-clause-stopped : goal.returns-clause-stopped
