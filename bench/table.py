@@ -67,6 +67,7 @@ ROWS = [
     Row("growth: LOCK and UNLOCK, ENQ and DEQ by 4,094 locks on the object, to 100",
         [("growth lock and unlock by locks on the object growth", 1.5), ("growth put and take by locks on the object growth", 1.5)]),
     Row("growth: CRTUP and GRANT among 30,000 users, to 100", [("growth of users growth", 1.5)]),
+    Row("growth: COMMIT over a store that keeps 40,000 objects, to 100", [("growth commit among kept objects growth", 1.5)]),
     Row("`list` of a store of 65,535 objects, MiB", [("memory of a list of 65535 objects", 64)]),
 ]
 

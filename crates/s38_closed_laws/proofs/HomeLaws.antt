@@ -27,6 +27,10 @@ AreBytes bytes = (k : ℕ) → slice_index bytes k < 256
 bytes_none : AreBytes []
 bytes_none k = omega arith
 
+bytes_more : (b : ℕ) (bs : List ℕ) → b < 256 → AreBytes bs → AreBytes (b ∷ bs)
+bytes_more b bs low are zero = low
+bytes_more b bs low are (suc k) = are k
+
 bytes_drop : (n : ℕ) (bs : List ℕ) → AreBytes bs → AreBytes (drop n bs)
 bytes_drop zero bs are = are
 bytes_drop (suc n) [] are = are
@@ -35,11 +39,7 @@ bytes_drop (suc n) (b ∷ bs) are = bytes_drop n bs (λ k. are (suc k))
 bytes_take : (n : ℕ) (bs : List ℕ) → AreBytes bs → AreBytes (take n bs)
 bytes_take zero bs are = bytes_none
 bytes_take (suc n) [] are = are
-bytes_take (suc n) (b ∷ bs) are = λ k. by k
-  where
-    by : (k : ℕ) → slice_index (b ∷ take n bs) k < 256
-    by zero = are 0
-    by (suc k) = bytes_take n bs (λ j. are (suc j)) k
+bytes_take (suc n) (b ∷ bs) are = bytes_more b (take n bs) (are 0) (bytes_take n bs (λ k. are (suc k)))
 
 -- a number of four bytes
 four_low : (bs : List ℕ) → AreBytes bs → from_be_bytes w32 bs < 2 ^ 32

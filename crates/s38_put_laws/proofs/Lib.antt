@@ -15,3 +15,4 @@ pub mod NamedLaws
 pub mod ShortLaws
 pub mod BeginLaws
 pub mod FreshLaws
+pub mod CommitLaws

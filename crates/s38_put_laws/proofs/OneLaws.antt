@@ -1,5 +1,5 @@
 -- What a step puts first is no more parts than one put takes.
-use Rattle.std.proofs.Common.{◌≡◌, ◌∙◌, ◌⊎◌, ℕ, ◌+◌, ◌-◌, ◌<◌, ◌≤◌, ◌==◌, Bool, true, false, cond, inl, inr, List, [], ◌∷◌, ◌++◌, length, lit≤, refl, sym, ap, subst, arith, length-append}
+use Rattle.std.proofs.Common.{◌≡◌, ◌∙◌, ◌⊎◌, ℕ, ◌+◌, ◌-◌, ◌/◌, ◌<◌, ◌≤◌, ◌==◌, Bool, true, false, cond, inl, inr, List, [], ◌∷◌, ◌++◌, length, lit≤, refl, sym, ap, subst, arith, length-append}
 use Rattle.std.proofs.lemmas.Bool.Decides.{nat_tests}
 use Rattle.std.proofs.lemmas.List.Elements.{filter-append}
 use Rattle.std.specs.FinMap.{get}
@@ -28,7 +28,7 @@ use Rattle.s38_journals.specs.Entries.{Entry}
 use Rattle.s38_journals.specs.Journals.{JournalList, entries_len}
 use Rattle.s38_object_laws.specs.Outline.{is_forced, speaks_of}
 use Rattle.s38_rules.proofs.ChargeLaws.{found_number}
-use Rattle.s38_rules.specs.Forcing.{Forced, is_whole}
+use Rattle.s38_rules.specs.Forcing.{Forced, Whole, is_whole}
 use Rattle.s38_rules.specs.Held.{Held, disk_in, is_on_disk, kind_of, object}
 use Rattle.s38_rules.specs.Parts.{journal_lawful, journal_of, journal_part, no_journal, part_at, part_in}
 use Rattle.s38_rules.specs.Room.{image_len, pages_begun}
@@ -39,7 +39,7 @@ use Rattle.s38_rules.specs.declared.object.Object.{Object}
 use Rattle.s38_step_parts.proofs.AfterLaws.{kept_behind_step, kept_one, parts_below}
 use Rattle.s38_step_parts.proofs.KeptLaws.{kept_number}
 use Rattle.s38_step_parts.proofs.NumberLaws.{AreAbove, Rise, numbers_are, numbers_rise}
-use Rattle.s38_step_parts.specs.Numbers.{is_numbered, numbered, numbers}
+use Rattle.s38_step_parts.specs.Numbers.{is_numbered, numbered, numbers, with_all, with_number}
 use Rattle.s38_step_parts.specs.Stepping.{HaveHeaders, object_changes}
 use Rattle.s38_vault.specs.Content.{Content}
 use Rattle.s38_vault.specs.Vaults.{most_changes}
@@ -270,6 +270,14 @@ module _ (all : List Forced) (d : Durable) (s t : State) (k : Held) where
             let low = was_low in
             omega (arith, few, rest, still, low)
 
+        -- with the same rows its header, and the pages from the last that was kept on
+        trailing_few : rows_at t.held n ≡ rows_at s.held n → Small n (Some x) (Some y) (unforced_in (part_at journal_part k n) / 512 + 3)
+        trailing_few rows =
+            let same : y.object.rows ≡ x.object.rows = ap (λ (z : Stored). z.object.rows) whole_is ∙ sym (ap rows_in by_step.found) ∙ rows ∙ sym (led.old_rows n x was) in
+            let few = same_few n parts_end x y i.entries behind.rest old_space whole_space (room (i.entries ++ behind.rest) whole_space) same in
+            let rest = behind.bytes in
+            omega (arith, few, rest)
+
       -- where its header follows
       followed_few : list_any (is_whole n) all ≡ false → Small n (Some x) (Some y) 2176
       followed_few not =
@@ -376,6 +384,42 @@ module _ (all : List Forced) (d : Durable) (s t : State) (k : Held) where
           ap (λ (cs : List Change). length (differences (get m) (aim_of new n).range cs)) (parts_below new n low)
           ∙ ap (λ (cs : List Change). length cs) (same_differences (get m) (page_in (kept d.objects n)) (parts_in (kept new.objects n)) (parts_in (kept new.objects n)) n (parts_end - 0) 0
           (λ p from before. stands.each (key_at n p) (omega (arith, before)) ∙ ap (λ (cs : List Change). wanted_at cs (key_at n p)) (parts_below d n low)) (λ p from before. refl))
+
+      -- where a journal space alone is forced, whole, its header differs, and the pages from the last that was kept on
+      module _ (n : ℕ) (only : all ≡ Whole n ∷ []) (low : n < ceiling_key) (there : is_some (part_at journal_part s.held n) ≡ true) (rows : rows_at t.held n ≡ rows_at s.held n) (still : is_on_disk t.held n ≡ is_on_disk s.held n) where
+        abbrev Most : ℕ
+        Most = unforced_in (part_at journal_part k n) / 512 + 3
+
+        own_cost : cost n ≤ Most
+        own_cost = by (kept d.objects n) refl (kept new.objects n) refl
+          where
+            anew : list_any (is_whole n) all ≡ true
+            anew = ap (λ (fs : List Forced). list_any (is_whole n) fs) only ∙ ap (λ b. b || false) (nat_itself n)
+
+            nothing : Small n None None Most
+            nothing = let none = none_differ (page_in None) (parts_in None) n 0 parts_end (λ p from before. refl) in omega (arith, none)
+
+            journal_there : (r : Option JournalList) → is_some r ≡ true → (i : JournalList) × (r ≡ Some i)
+            journal_there None some = absurd (let e : false ≡ true = some in cc)
+            journal_there (Some i) some = (i, refl)
+
+            by : (r : Option Stored) → kept d.objects n ≡ r → (q : Option Stored) → kept new.objects n ≡ q → Small n r q Most
+            by None was None is = nothing
+            by None was (Some y) is = absurd (let e : None ≡ Some y = sym (off_kept n (still ∙ led.off_disk n was)) ∙ is in cc)
+            by (Some x) was None is = absurd (on_kept n (still ∙ led.on_disk n x was) is)
+            by (Some x) was (Some y) is = let own = journal_there (journal_of x.object.body) (led.old_kinds n x was there) in trailing_few n x y own.0 was is own.1 anew rows
+
+        pub alone_put : length (object_changes (numbered all) (get m) new) ≤ Most
+        unfolding with_all with_number
+        alone_put = subst (λ (fs : List Forced). length (object_changes (numbered fs) (get m) new) ≤ Most) (sym only) (by (is_numbered (Whole n)))
+          where
+            by : (b : Bool) → length (object_changes (cond b (Whole n ∷ []) []) (get m) new) ≤ Most
+            by true =
+                let count = length-append (of_number n) [] in
+                let same = real_cost n low in
+                let few = own_cost in
+                omega (arith, count, same, few)
+            by false = omega arith
 
       due_cost : (n most : ℕ) → n < ceiling_key → cost n ≤ most → due n ≤ most
       due_cost n most low few =

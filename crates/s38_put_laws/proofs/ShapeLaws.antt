@@ -49,7 +49,7 @@ use Rattle.s38_rules.specs.Grants.{grants_row}
 use Rattle.s38_rules.specs.Held.{Held, change, disk_in, ensured, is_on_disk, kept_on_disk, object}
 use Rattle.s38_rules.specs.Indexes.{indexes_row}
 use Rattle.s38_rules.specs.Instruction.{Instruction}
-use Rattle.s38_rules.specs.Journaling.{data_port, is_journal, journal_behind, journal_for, journal_for_block, journal_named, open_behind}
+use Rattle.s38_rules.specs.Journaling.{block_port, data_port, is_journal, journal_behind, journal_for, journal_for_block, journal_named, open_behind}
 use Rattle.s38_rules.specs.Journals.{journals_row}
 use Rattle.s38_rules.specs.Locking.{locks_row}
 use Rattle.s38_rules.specs.Operands.{delivered, put_value}
@@ -457,3 +457,28 @@ event_few s p (Act d t) may =
     few_beside s.held (done s p x).held _ (forced_by s p x) (delivered_beside (done s p x) (shift_at s.held t.op t.operands) (receiver_at t.op t.operands) ((row t.op).gives s p d t))
     (done_few x s p (row_plain (family_of t.op) t.op s p d t met))
 event_few s p (Finish cause) may = inl (none_one s.held _)
+
+-- ---- a COMMIT
+
+-- the journal space of its unit alone is forced, whole, and rows and what is on disk stay
+pub record CommitsWhole (h k : Held) (all : List Forced) (n : ℕ) : Type 0 where
+  pub only : all ≡ Whole n ∷ []
+  pub there : is_journal h n ≡ true
+  pub rows : (m : ℕ) → rows_at k m ≡ rows_at h m
+  pub disk : (m : ℕ) → is_on_disk k m ≡ is_on_disk h m
+
+pub commit_alone : (s : State) (p d : ℕ) (t : Request) (block n : ℕ) (unit : CommitUnit) → (row t.op).changes s p d t ≡ Committed block → unit_of s.units block ≡ Some unit → journal_for_block s.held block ≡ Some n
+    → CommitsWhole s.held (effect_of s p (Act d t)).state.held (forced s p (Act d t)) n
+unfolding effect_of effect forced
+commit_alone s p d t block n unit changes found to =
+    let x = (row t.op).changes s p d t in
+    let ends = with_entry (end_entry Commit p unit) in
+    let left : (done s p x).held ≡ on_journal s.held n ends =
+    ap (λ (y : Changes). (done s p y).held) changes ∙ ap (λ (u : Option CommitUnit). (committed s p block u).held) found ∙ ap (λ (r : Option ℕ). end_written s.held r (end_entry Commit p unit)) to in
+    let beside = delivered_beside (done s p x) (shift_at s.held t.op t.operands) (receiver_at t.op t.operands) ((row t.op).gives s p d t) in
+    record {
+      only = ap (forced_by s p) changes ∙ ap (commit_forces s.held block) found ∙ ap whole_if to;
+      there = behind_is s.held (block_port s.held block) n to;
+      rows = λ m. beside.rows m ∙ ap (λ (h : Held). rows_at h m) left ∙ part_rows journal_part s.held n m ends;
+      disk = λ m. beside.disk m ∙ ap (λ (h : Held). is_on_disk h m) left ∙ seen_same disk_in s.held n m (over_object journal_part ends) (λ o. refl) (λ o. refl);
+    }

@@ -1,6 +1,6 @@
 -- Step by step what is kept of journal spaces stays their beginning, few bytes are unforced, and what is put first fits in one
 -- put.
-use Rattle.std.proofs.Common.{◌≡◌, ◌∙◌, ℕ, ◌+◌, ◌*◌, ◌<◌, ◌≤◌, ◌==◌, Bool, true, false, cond, List, [], ◌∷◌, ◌++◌, length, refl, sym, ap, subst, arith}
+use Rattle.std.proofs.Common.{◌≡◌, ◌∙◌, ℕ, ◌+◌, ◌*◌, ◌/◌, ◌<◌, ◌≤◌, ◌==◌, Bool, true, false, cond, List, [], ◌∷◌, ◌++◌, length, refl, sym, ap, subst, arith}
 use Rattle.std.specs.FinMap.{get}
 use Rattle.std.specs.List.{list_any}
 use Rattle.std.specs.Option.{option_map}
@@ -20,6 +20,7 @@ use Rattle.s38_commitment_laws.proofs.HeldLaws.{part_over}
 use Rattle.s38_commitment_laws.proofs.RowLaws.{done_right, row_may, value_carries}
 use Rattle.s38_commitment_laws.proofs.UnitLaws.{all_stand}
 use Rattle.s38_commitment_laws.specs.Right.{IsRight}
+use Rattle.s38_commits.proofs.MapLaws.{nat_itself}
 use Rattle.s38_commits.specs.Units.{UnitMap}
 use Rattle.s38_committed.specs.Linked.{AreLinked}
 use Rattle.s38_durable.specs.Durable.{Durable, after_reply, durable, durable_after, kept, kept_after, kept_behind, whole}
@@ -36,6 +37,7 @@ use Rattle.s38_kept_laws.proofs.SameLaws.{seen_same}
 use Rattle.s38_kept_laws.proofs.SizeLaws.{body_low}
 use Rattle.s38_kept_laws.proofs.StepLaws.{IsDone, TakesEffect, stayed, step_goes, step_room, stored_same, takes_effect, follows_room}
 use Rattle.s38_kept_laws.specs.Kept.{AreImages, AreNumbered, IsKeptOf}
+use Rattle.s38_object_laws.specs.Outline.{is_forced}
 use Rattle.s38_object_laws.specs.Well.{AreWell, IsWell}
 use Rattle.s38_openings.specs.Bodies.{HoldsBody}
 use Rattle.s38_rules.proofs.ChargeLaws.{found_number}
@@ -64,8 +66,8 @@ use Rattle.s38_rules.specs.declared.process.ProcessEntry.{ProcessEntry}
 use Rattle.s38_rules.specs.declared.verdict.Verdict.TheVariants.{Permit}
 use Rattle.s38_step_parts.proofs.AfterLaws.{kept_behind_step, kept_one}
 use Rattle.s38_step_parts.specs.Growing.{AreBeginnings, IsBeginning}
-use Rattle.s38_step_parts.specs.Numbers.{numbered}
-use Rattle.s38_step_parts.specs.Stepping.{HaveHeaders, object_changes}
+use Rattle.s38_step_parts.specs.Numbers.{is_numbered, numbered}
+use Rattle.s38_step_parts.specs.Stepping.{HaveHeaders, ceiling_changes, object_changes}
 use Rattle.s38_vault.specs.Content.{Content}
 use Rattle.s38_vault.specs.Vaults.{most_changes}
 use Rattle.s38_put_laws.specs.Fresh.{AreFresh}
@@ -79,9 +81,9 @@ use Rattle.s38_put_laws.proofs.FreshLaws.{KeepsFresh, LeadToDisk, event_fresh, t
 use Rattle.s38_put_laws.proofs.LinkedLaws.{step_linked}
 use Rattle.s38_put_laws.proofs.LongerLaws.{event_longer, value_longer}
 use Rattle.s38_put_laws.proofs.LowLaws.{AreLowBut, Covers, all_low, carried_low, done_low, few_open, journal_leads, same_leads}
-use Rattle.s38_put_laws.proofs.OneLaws.{FirstShort, SameEntries, step_put}
+use Rattle.s38_put_laws.proofs.OneLaws.{FirstShort, IsLed, SameEntries, alone_put, step_put}
 use Rattle.s38_put_laws.proofs.RowLaws.{row_open}
-use Rattle.s38_put_laws.proofs.ShapeLaws.{event_few, rows_at, rows_in, unforced_in}
+use Rattle.s38_put_laws.proofs.ShapeLaws.{CommitsWhole, event_few, rows_at, rows_in, unforced_in}
 use Rattle.s38_put_laws.proofs.ShortLaws.{behind_short, settled_short}
 use Rattle.s38_put_laws.proofs.TrailLaws.{journal_kind, stored_other, trails_at, trails_behind}
 
@@ -453,33 +455,59 @@ module _ (laws : DurableLaws) (s : State) (p : ℕ) (e : Event) (d : Durable) (i
       by None found h = cc
       by (Some o) found h = disk o found o.on_disk h
 
+  -- it leads to the objects that the store then keeps
+  led_on : IsTrailOf s d → HaveHeaders d → HaveHeaders new → AreShort d → AreShort new → IsLed all d s now effected.held
+  led_on trail headers then_headers short then_short = record {
+    rising = then_kept.numbered.rising;
+    own = is.bodies;
+    then_own = then_kept.bodies;
+    kinds = kinds_on;
+    given = given;
+    on_disk = on_disk;
+    off_disk = off_disk;
+    old_rows = old_rows;
+    old_kinds = old_kinds;
+    longer = event_longer s p e;
+    entries = λ n. subst (λ (h : Held). SameEntries (part_at journal_part effected.held n) (part_at journal_part h n)) (sym takes_it.held) (stored_entries s p e effected n);
+    rows = rows_on;
+    disk = disk_on;
+    few = event_few s p e takes_it.permit;
+    trails = trail.trailing;
+    low = trail.low;
+    headers = headers;
+    then_headers = then_headers;
+    ends = λ n x at. body_low x (then_headers n x at);
+    short = short;
+    then_short = then_short;
+    first = first_short trail;
+  }
+    where
+      rows_on : (n : ℕ) → rows_at now.held n ≡ rows_at effected.held n
+      rows_on n = ap (λ (h : Held). rows_at h n) takes_it.held ∙ stored_rows s p e effected n
+
+      disk_on : (n : ℕ) → is_on_disk now.held n ≡ is_on_disk effected.held n
+      disk_on n = ap (λ (h : Held). is_on_disk h n) takes_it.held ∙ (stored_same s p e effected).disk n
+
   -- what it puts first fits in one put
   pub done_put : (m : Content) → IsTrailOf s d → HaveHeaders d → HaveHeaders new → AreShort d → AreShort new → Stands m d → length (first_changes most_changes new (object_changes (numbered all) (get m) new)) ≤ most_changes
-  done_put m trail headers then_headers short then_short stands =
-      step_put all d s now effected.held (record {
-        rising = then_kept.numbered.rising;
-        own = is.bodies;
-        then_own = then_kept.bodies;
-        kinds = kinds_on;
-        given = given;
-        on_disk = on_disk;
-        off_disk = off_disk;
-        old_rows = old_rows;
-        old_kinds = old_kinds;
-        longer = event_longer s p e;
-        entries = λ n. subst (λ (h : Held). SameEntries (part_at journal_part effected.held n) (part_at journal_part h n)) (sym takes_it.held) (stored_entries s p e effected n);
-        rows = λ n. ap (λ (h : Held). rows_at h n) takes_it.held ∙ stored_rows s p e effected n;
-        disk = λ n. ap (λ (h : Held). is_on_disk h n) takes_it.held ∙ (stored_same s p e effected).disk n;
-        few = event_few s p e takes_it.permit;
-        trails = trail.trailing;
-        low = trail.low;
-        headers = headers;
-        then_headers = then_headers;
-        ends = λ n x at. body_low x (then_headers n x at);
-        short = short;
-        then_short = then_short;
-        first = first_short trail;
-      }) m stands (forced_low laws s p e d is does)
+  done_put m trail headers then_headers short then_short stands = step_put all d s now effected.held (led_on trail headers then_headers short then_short) m stands (forced_low laws s p e d is does)
+
+  -- a COMMIT puts few parts
+  pub commit_put : (m : Content) → IsTrailOf s d → HaveHeaders d → HaveHeaders new → AreShort d → AreShort new → Stands m d → (n : ℕ) → CommitsWhole s.held effected.held all n
+      → length (object_changes (numbered all) (get m) new) ≤ (journal_at effected.held n).unforced / 512 + 3
+  commit_put m trail headers then_headers short then_short stands n commits =
+      alone_put all d s now effected.held (led_on trail headers then_headers short then_short) m stands n commits.only
+      (forced_low laws s p e d is does n (ap (is_forced n) commits.only ∙ ap (λ b. b || false) (nat_itself n))) commits.there
+      (ap (λ (h : Held). rows_at h n) takes_it.held ∙ stored_rows s p e effected n ∙ commits.rows n)
+      (ap (λ (h : Held). is_on_disk h n) takes_it.held ∙ (stored_same s p e effected).disk n ∙ commits.disk n)
+
+  -- and no ceiling
+  pub commit_ceiling : (m : Content) (n : ℕ) → CommitsWhole s.held effected.held all n → ceiling_changes (numbered all) (get m) new ≡ []
+  commit_ceiling m n commits = ap (λ (fs : List Forced). ceiling_changes (numbered fs) (get m) new) commits.only ∙ by (is_numbered (Whole n))
+    where
+      by : (b : Bool) → ceiling_changes (cond b (Whole n ∷ []) []) (get m) new ≡ []
+      by true = refl
+      by false = refl
 
 -- ---- a step that takes no effect, and a history
 

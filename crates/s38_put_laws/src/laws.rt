@@ -1,5 +1,5 @@
 //! Laws about journal spaces on the way, and about what a step puts.
-ghost use Rattle.std.specs.Prelude.{◌≡◌, ◌+◌, ◌/◌, ◌++◌, ◌<◌, ◌≤◌, ℕ, All, List, None, Some, length};
+ghost use Rattle.std.specs.Prelude.{◌≡◌, ◌+◌, ◌/◌, ◌++◌, ◌<◌, ◌≤◌, ℕ, All, List, None, Some, [], length};
 ghost use Rattle.std.specs.FinMap.{get};
 ghost use Rattle.s38_base.specs.Limits.{body_limit, page_bytes};
 ghost use Rattle.s38_base.specs.declared.exception.Exception.{Exception};
@@ -11,7 +11,9 @@ ghost use Rattle.s38_code.specs.declared.made.CheckedTemplate.{CheckedTemplate};
 ghost use Rattle.s38_code.specs.declared.reply.Reply.TheVariants.{Done, MustWait, Signal};
 ghost use Rattle.s38_code.specs.declared.reply.Val.{Val};
 ghost use Rattle.s38_commitment_laws.specs.Right.{IsRight};
+ghost use Rattle.s38_committed.specs.Found.{Commits};
 ghost use Rattle.s38_committed.specs.Linked.{AreLinked};
+ghost use Rattle.s38_commits.specs.Unit.{CommitUnit};
 ghost use Rattle.s38_durable.specs.Durable.{Durable, after_reply, durable, durable_after};
 ghost use Rattle.s38_durable.specs.Stands.{Stands};
 ghost use Rattle.s38_forcing.specs.Differences.{wanted_at};
@@ -32,13 +34,15 @@ ghost use Rattle.s38_restart.specs.Restarted.{restarted};
 ghost use Rattle.s38_rules.specs.Effect.{effect_of};
 ghost use Rattle.s38_rules.specs.Forcing.{forced};
 ghost use Rattle.s38_rules.specs.Held.{Held};
+ghost use Rattle.s38_rules.specs.Journaling.{journal_for_block};
 ghost use Rattle.s38_rules.specs.Legal.{IsEntry, Leads};
+ghost use Rattle.s38_rules.specs.Parts.{journal_at};
 ghost use Rattle.s38_rules.specs.Room.{Room};
 ghost use Rattle.s38_rules.specs.State.{State};
 ghost use Rattle.s38_rules.specs.Step.{step};
 ghost use Rattle.s38_step_parts.specs.Growing.{AreBeginnings};
 ghost use Rattle.s38_step_parts.specs.Numbers.{numbered};
-ghost use Rattle.s38_step_parts.specs.Stepping.{HaveHeaders, object_changes};
+ghost use Rattle.s38_step_parts.specs.Stepping.{HaveHeaders, ceiling_changes, object_changes};
 ghost use Rattle.s38_vault.specs.Content.{Content};
 ghost use Rattle.s38_vault.specs.Vaults.{most_changes};
 
@@ -97,6 +101,23 @@ pub fn what_a_step_puts_first_fits_in_one_put()
     ensures short { (s : State) (d : Durable) → IsKeptOf s d → AreImages d → AreShort d }
     ensures short_after { (s : State) (p : ℕ) (e : Event) (values : List Val) (d : Durable) → IsKeptOf s d → (step s p e).reply ≡ Done values
         → All (HoldsBody body_limit) (step s p e).state.held.objects → AreShort d → AreShort (durable_after (forced s p e) d (step s p e).state) }
+{
+    what_is_durable_follows();
+    room_counts_what_is_durable();
+    what_is_not_forced_stays_durable();
+}
+
+/// A COMMIT that takes effect, of a unit, puts no ceiling, and of objects no more parts than the pages that its journal space's
+/// unforced bytes fill, with the COMMIT entry, and three: the header of the journal space, and the pages of its body from the
+/// last one on that was kept.
+pub fn a_commit_puts_few_parts()
+    ensures few { (s : State) (before : List Entry) (e : Entry) (unit : CommitUnit) (n : ℕ) (d : Durable) (m : Content) → IsEntry s before e → (commits : Commits s e unit) → journal_for_block s.held commits.block ≡ Some n
+        → IsKeptOf s d → IsTrailOf s d → HaveHeaders d → HaveHeaders (durable_after (forced s e.process e.event) d (step s e.process e.event).state)
+        → AreShort d → AreShort (durable_after (forced s e.process e.event) d (step s e.process e.event).state) → Stands m d
+        → length (object_changes (numbered (forced s e.process e.event)) (get m) (durable_after (forced s e.process e.event) d (step s e.process e.event).state))
+        ≤ (journal_at (effect_of s e.process e.event).state.held n).unforced / page_bytes + 3 }
+    ensures ceiling { (s : State) (before : List Entry) (e : Entry) (unit : CommitUnit) (n : ℕ) (d : Durable) (m : Content) → IsEntry s before e → (commits : Commits s e unit) → journal_for_block s.held commits.block ≡ Some n
+        → IsKeptOf s d → ceiling_changes (numbered (forced s e.process e.event)) (get m) (durable_after (forced s e.process e.event) d (step s e.process e.event).state) ≡ [] }
 {
     what_is_durable_follows();
     room_counts_what_is_durable();

@@ -41,19 +41,21 @@ struct Restored {
     removals: Vec<Change>,
 }
 
-/// What all parts of a store make. `BadImage` exactly where a part is at fault; it names the first one.
-fn restore(alloc: Global, limit: u32, parts: &[Change]) -> Result<Restored, RestartFault>
+/// What all parts of a store make. `BadImage` exactly where a part is at fault; it names the first one. The parts
+/// are let go as soon as the objects are read.
+fn restore(alloc: Global, limit: u32, parts: Vec<Change>) -> Result<Restored, RestartFault>
     requires limit { limit ≤ 16777216 }
-    requires parts { AreParts parts.now }
-    ensures sound { OnOk result (first_fault limit parts.now ≡ None) }
-    ensures objects { IfOk result (λ restored. restored.store.objects ≡ restarted limit parts.now) }
-    ensures extents { IfOk result (λ restored. restored.store.extents.items ≡ extents_kept limit parts.now) }
+    requires parts { AreParts parts.items }
+    ensures sound { OnOk result (first_fault limit parts.items ≡ None) }
+    ensures objects { IfOk result (λ restored. restored.store.objects ≡ restarted limit parts.items) }
+    ensures extents { IfOk result (λ restored. restored.store.extents.items ≡ extents_kept limit parts.items) }
     ensures rising { IfOk result (λ restored. AreExtents restored.store.extents.items) }
-    ensures removals { IfOk result (λ restored. restored.removals.items ≡ strays parts.now) }
-    ensures fault { IfErr result (λ fault. NamesFirst (first_fault limit parts.now) fault) }
+    ensures removals { IfOk result (λ restored. restored.removals.items ≡ strays parts.items) }
+    ensures fault { IfErr result (λ fault. NamesFirst (first_fault limit parts.items) fault) }
     ensures inside { IfErr result (λ fault. fault ≢ RestartFault.Failed) }
 {
-    let store = store_of(alloc, limit, parts)?;
+    let store = store_of(alloc, limit, parts.as_slice())?;
+    drop(parts);
     let extents = extents_of(alloc, &store.stored)?;
     let ceiling = store.ceiling;
     let objects = followed(alloc, store.stored)?;
@@ -119,7 +121,7 @@ pub fn restart<V: Vault>(alloc: Global, vault: &mut V) -> Result<Restarted, Rest
 {
     let limit = vault.body_limit();
     let parts = read_parts(alloc, vault)?;
-    let restored = restore(alloc, limit, &parts)?;
+    let restored = restore(alloc, limit, parts)?;
     remove(vault, &restored.removals)?;
     Ok(restored.store)
 }

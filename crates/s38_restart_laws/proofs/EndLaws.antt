@@ -26,6 +26,7 @@ use Rattle.s38_openings.specs.Bodies.{HoldsBody}
 use Rattle.s38_put_laws.specs.Trails.{IsTrailOf}
 use Rattle.s38_readable.proofs.LastLaws.{whole_again}
 use Rattle.s38_readable.specs.Readable.{IsReadable}
+use Rattle.s38_rules.proofs.ChargeLaws.{found_number}
 use Rattle.s38_rules.specs.Held.{Held, has_number, is_on_disk, object, object_in}
 use Rattle.s38_rules.specs.Journaling.{data_port, data_port_in, is_journal, is_number, journal_behind, journal_for, journal_named}
 use Rattle.s38_rules.specs.Parts.{data_part, part_at, part_in, port_part}

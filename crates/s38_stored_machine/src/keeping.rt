@@ -1,6 +1,5 @@
 //! What a step has a vault keep anew.
 ghost use Rattle.std.specs.Prelude.{◌≡◌, All, Ok};
-ghost use Rattle.s38_base.specs.Faults.{Rose};
 ghost use Rattle.s38_image_printing.specs.Parts.{CanSettle};
 ghost use Rattle.s38_readable.specs.Readable.{IsFit};
 ghost use Rattle.s38_step_parts.specs.Numbers.{numbered};

@@ -1,5 +1,5 @@
 -- What a crash leaves of a run over a store restarts.
-use Rattle.std.proofs.Common.{◌≡◌, ◌≤◌, ℕ, inl, inr, List, [], refl, take}
+use Rattle.std.proofs.Common.{◌≡◌, ◌≤◌, ◌+◌, ℕ, inl, inr, List, [], refl, take}
 use Rattle.std.proofs.lemmas.List.Elements.{All-weaker}
 use Rattle.std.specs.Prelude.{All, None}
 use Rattle.s38_base.specs.Limits.{body_limit}
@@ -7,10 +7,10 @@ use Rattle.s38_blocks.specs.Store.{Stands}
 use Rattle.s38_close_put_laws.specs.Ending.{IsClosedTo}
 use Rattle.s38_code.specs.declared.entry.Entry.{Entry}
 use Rattle.s38_disk.specs.declared.block.Block.{Block}
-use Rattle.s38_durable.specs.Durable.{Durable, closed}
+use Rattle.s38_durable.specs.Durable.{Durable, closed, durable}
 use Rattle.s38_groups.specs.Stores.{first_fault}
 use Rattle.s38_image_printing.specs.Parts.{CanSettle}
-use Rattle.s38_kept_laws.specs.Crashes.{answered}
+use Rattle.s38_kept_laws.specs.Crashes.{answered, led}
 use Rattle.s38_kept_laws.specs.Kept.{AreImages, HasParts, IsKeptOf}
 use Rattle.s38_openings.specs.Bodies.{HoldsBody}
 use Rattle.s38_pages.specs.Mounts.{fewest, layout_of}
@@ -40,6 +40,10 @@ faultless_between m old s new (inl is) = is.faultless
 faultless_between m old s new (inr (inl is)) = is.faultless
 faultless_between m old s new (inr (inr is)) = is.faultless
 
+faultless_prefix : (d : Durable) (s : State) (entries : List Entry) (marks : List ℕ) (t : ℕ) (n : Content) → IsRestartedPrefix d s entries marks t n → first_fault body_limit (all_parts n) ≡ None
+faultless_prefix d s entries marks t n is =
+    faultless_between n (durable d s (take (answered t marks) entries)) (led s (take (answered t marks + 1) entries)) (durable d s (take (answered t marks + 1) entries)) is
+
 restarts_over : (size : ℕ) (g : ℕ → Block) (n : Content) → fewest ≤ size → Stands (layout_of size) g n → first_fault body_limit (all_parts n) ≡ None → Restarts size g (restarted body_limit (all_parts n))
 restarts_over size g n large stands sound = record { large = large; content = n; stands = stands; objects = record { sound = sound; is = refl } }
 
@@ -48,7 +52,7 @@ module _ (laws : RestartLaws) (size : ℕ) (g : ℕ → Block) (n : Content) (la
   pub left_again : (d : Durable) (s : State) (history : List Entry) (end : State) (marks : List ℕ) (t : ℕ) → Leads s [] history end → IsKeptOf s d → IsTrailOf s d → IsRestartable s d → IsRestartedPrefix d s history marks t n
       → RestartsAgain size g n (IsRestartedPrefix d s history marks t n) (next_behind s history (answered t marks))
   left_again d s history end marks t leads is trail ready to = record {
-    store = restarts_over size g n large stands (faultless_between n _ _ _ to);
+    store = restarts_over size g n large stands (faultless_prefix d s history marks t n to);
     to = to;
     numbers = laws.numbers n d s history (answered t marks) is trail ready (laws.replies s [] history end leads) to;
   }

@@ -45,7 +45,7 @@ use Rattle.s38_stored_machine.specs.declared.ending.Ending.TheVariants.{Going, S
 use Rattle.s38_step_parts.specs.Stepping.{HaveHeaders}
 use Rattle.s38_stores.proofs.CrashLaws.{goes_by, goes_then}
 use Rattle.s38_stores.specs.Crashes.{DuringCall, GoesOn, IsBetween}
-use Rattle.s38_stores.specs.Stores.{IsFullOf, Keeps}
+use Rattle.s38_stores.specs.Stores.{AllFit, IsFullOf, Keeps}
 use Rattle.s38_top.proofs.AgainLaws.{closed_again, left_again}
 use Rattle.s38_top.specs.Closing.{ClosingLaws, RestartLaws}
 use Rattle.s38_top.specs.Crash.{ArePlanned, Between, IsClosing, IsLeftAt}
@@ -355,7 +355,13 @@ module _ (turns : Turns) (deck : Deck) (x : StoredView WatchedStore) (end : Halt
     pub behind_by : end ≡ halts.Complete → (e : RunEnd) → (e ≡ ends.Stopped → ⊥) → LeavesBy r new x.machine.state e → LeavesBehind v s new entries behind e
     behind_by complete ends.Kept not by = λ m d holds of t told.
         let there = held_then complete m d holds of in
-        subst (λ (e : State). Keeps new.size t.now (kept_of e)) (sym (state_is complete)) (by there.content (subst (λ (p : PageStore). page_holds p there.content) (sym is) there.held) t told)
+        let here = by there.content (subst (λ (p : PageStore). page_holds p there.content) (sym is) there.held) t told in
+        record {
+          begun = there.content;
+          stands = there.stands;
+          fits = subst (λ (e : State). AllFit new.size there.content (kept_of e) e.held) (sym (state_is complete)) here.0;
+          keeps = subst (λ (e : State). Keeps new.size t.now (kept_of e)) (sym (state_is complete)) here.1;
+        }
     behind_by complete ends.Failed not by = subst (λ (n : ℕ). Rose n new.faults) seen.start by
     behind_by complete (ends.Full needed free) not by = λ m d holds of t told.
         let there = held_then complete m d holds of in

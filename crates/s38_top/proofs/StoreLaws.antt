@@ -26,7 +26,7 @@ use Rattle.s38_rules.specs.Room.{Room}
 use Rattle.s38_rules.specs.State.{State}
 use Rattle.s38_stored_machine.specs.Seen.{StoredView}
 use Rattle.s38_stores.specs.Refusals.{IsRefusal}
-use Rattle.s38_stores.specs.Stores.{IsFullOf, Keeps, Restarts}
+use Rattle.s38_stores.specs.Stores.{AllFit, IsFullOf, Keeps, Restarts}
 use Rattle.s38_stores.specs.declared.fault.StoreRefusal.{StoreRefusal}
 use Rattle.s38_stores.specs.declared.fault.StoreRefusal.TheVariants as refusals
 use Rattle.s38_template.specs.Grammar.{Spells}
@@ -50,22 +50,23 @@ use Rattle.s38_vault.specs.Content.{Content}
 -- what a store that was kept leaves
 pub leaves_of : (v : PageStore) (new : DiskView) (e : State) (r : Result (Unit {0}) KeepFault) (end : RunEnd) → Some end ≡ end_of r
     → OnOk r ((m : Content) → page_holds v m → (t : Blocks) → IsAt new.past t → Keeps new.size t.now (kept_of e))
+    → OnOk r ((m : Content) → page_holds v m → AllFit new.size m (kept_of e) e.held)
     → ((needed free : ℕ) → r ≡ Err (closes.Full needed free) → (m : Content) → page_holds v m → (t : Blocks) → IsAt new.past t → IsFullOf new.size m (kept_of e) e.held t.now needed free)
     → IfErr r (λ fault. fault ≡ closes.Failed → Rose v.start new.faults)
     → LeavesBy v new e end
-leaves_of v new e (Ok done) end is kept full failed = subst (LeavesBy v new e) (kept_is end is) kept
+leaves_of v new e (Ok done) end is kept fits full failed = subst (LeavesBy v new e) (kept_is end is) (λ m holds t told. (fits m holds, kept m holds t told))
   where
     kept_is : (x : RunEnd) → Some x ≡ Some ends.Kept → ends.Kept ≡ x
     kept_is x g = cc
-leaves_of v new e (Err (closes.Full needed free)) end is kept full failed = subst (LeavesBy v new e) (full_is end is) (full needed free refl)
+leaves_of v new e (Err (closes.Full needed free)) end is kept fits full failed = subst (LeavesBy v new e) (full_is end is) (full needed free refl)
   where
     full_is : (x : RunEnd) → Some x ≡ Some (ends.Full needed free) → ends.Full needed free ≡ x
     full_is x g = cc
-leaves_of v new e (Err closes.Failed) end is kept full failed = subst (LeavesBy v new e) (failed_is end is) (failed refl)
+leaves_of v new e (Err closes.Failed) end is kept fits full failed = subst (LeavesBy v new e) (failed_is end is) (failed refl)
   where
     failed_is : (x : RunEnd) → Some x ≡ Some ends.Failed → ends.Failed ≡ x
     failed_is x g = cc
-leaves_of v new e (Err closes.NoMemory) end is kept full failed = cc
+leaves_of v new e (Err closes.NoMemory) end is kept fits full failed = cc
 
 -- a run that was kept, or is not, was made to its end
 pub kept_end : (r : Result (Unit {0}) KeepFault) (end : RunEnd) → Some end ≡ end_of r → end ≡ ends.Stopped → ⊥
@@ -77,17 +78,19 @@ kept_end (Err closes.NoMemory) end is stopped = cc
 -- the same of a state that is told otherwise
 pub leaves_at : {e e' : State} → e ≡ e' → (v : PageStore) (new : DiskView) (r : Result (Unit {0}) KeepFault) (end : RunEnd) → Some end ≡ end_of r
     → OnOk r ((m : Content) → page_holds v m → (t : Blocks) → IsAt new.past t → Keeps new.size t.now (kept_of e))
+    → OnOk r ((m : Content) → page_holds v m → AllFit new.size m (kept_of e) e.held)
     → ((needed free : ℕ) → r ≡ Err (closes.Full needed free) → (m : Content) → page_holds v m → (t : Blocks) → IsAt new.past t → IsFullOf new.size m (kept_of e) e.held t.now needed free)
     → IfErr r (λ fault. fault ≡ closes.Failed → Rose v.start new.faults)
     → LeavesBy v new e' end
-leaves_at {e} same v new r end is kept full failed = subst (λ s. LeavesBy v new s end) same (leaves_of v new e r end is kept full failed)
+leaves_at {e} same v new r end is kept fits full failed = subst (λ s. LeavesBy v new s end) same (leaves_of v new e r end is kept fits full failed)
 
 -- ---- what a run over the store of a disk comes to
 
 -- what is behind in a vault is behind on its disk
 ends_behind : (old new : DiskView) (deck : Deck) (made : List CreateResult) (x : StoredView WatchedStore) (es : List Entry) (e : State) (end : RunEnd) → IsReady old deck made x → LeavesBehind (vault_of x) x.machine.origin new es e end
     → EndsWith old new (λ m. durable (durable_in m) x.machine.origin es) e end
-ends_behind old new deck made x es e ends.Kept ready behind = λ s t at is. let was = ready.content s at in let one = ready.holds s at was.0 was.1 in behind (cleaned was.0) (durable_in was.0) one.0 one.1 t is
+ends_behind old new deck made x es e ends.Kept ready behind =
+    λ s t at is. let was = ready.content s at in let one = ready.holds s at was.0 was.1 in record { content = was.0; stands = was.1; kept = behind (cleaned was.0) (durable_in was.0) one.0 one.1 t is }
 ends_behind old new deck made x es e ends.Failed ready behind = subst (λ n. Rose n new.faults) ready.faultless.start behind
 ends_behind old new deck made x es e (ends.Full needed free) ready behind =
     λ s t at is. let was = ready.content s at in let one = ready.holds s at was.0 was.1 in record { content = was.0; stands = was.1; full = behind (cleaned was.0) (durable_in was.0) one.0 one.1 t is }

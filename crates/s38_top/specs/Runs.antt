@@ -21,7 +21,7 @@ use Rattle.s38_rules.specs.Held.{Held}
 use Rattle.s38_rules.specs.Room.{Room}
 use Rattle.s38_rules.specs.State.{State}
 use Rattle.s38_stored_machine.specs.Sound.{IsOf}
-use Rattle.s38_stores.specs.Stores.{IsFullOf, Keeps, Leaves, Restarts}
+use Rattle.s38_stores.specs.Stores.{AllFit, IsFullOf, Keeps, Leaves, Restarts}
 use Rattle.s38_top.specs.Decks.{IsRunOf, IsRunTo, order_of}
 use Rattle.s38_top.specs.declared.outcome.RunEnd.{RunEnd}
 use Rattle.s38_top.specs.declared.outcome.RunEnd.TheVariants as ends
@@ -64,8 +64,21 @@ pub record RanTo (turns : Turns) (disk : DiskView) (deck : Deck) (history : List
 
 -- ---- what is left
 
+-- from what was durable behind the run, each object that it left fitted in its turn, and the blocks are a store of all of it
+pub record AllKeptBehind (size : ℕ) (d : Durable) (e : State) (g : ℕ → Block) : Type 0 where
+  pub begun : Content
+  pub stands : IsOfDurable begun d
+  pub fits : AllFit size begun (kept_of e) e.held
+  pub keeps : Keeps size g (kept_of e)
+
+-- the same from what stood on a disk before, by what is durable behind the run
+pub record AllKeptFrom (old : DiskView) (behind : Content → Durable) (size : ℕ) (e : State) (f g : ℕ → Block) : Type 0 where
+  pub content : Content
+  pub stands : Stands (layout_of old.size) f content
+  pub kept : AllKeptBehind size (behind content) e g
+
 -- from what was durable behind the run, the blocks are a store of what is behind the first objects that it left, ensured one
--- after another, and the next one needs more new parts than are free
+-- after another, each of which fitted in its turn, and the next one needs more new parts than are free
 pub record IsFullBehind (size : ℕ) (d : Durable) (e : State) (g : ℕ → Block) (needed free : ℕ) : Type 0 where
   pub begun : Content
   pub stands : IsOfDurable begun d
@@ -77,17 +90,18 @@ pub record IsFullFrom (old : DiskView) (behind : Content → Durable) (size : �
   pub stands : Stands (layout_of old.size) f content
   pub full : IsFullBehind size (behind content) e g needed free
 
--- what a machine in this state leaves on the disk, where this is durable behind the run: all of it; or the disk failed; or the
--- first objects alone, since the next one does not fit
+-- what a machine in this state leaves on the disk, where this is durable behind the run: all of it, since each object fits; or
+-- the disk failed; or the first objects alone, since the next one does not fit
 abbrev pub EndsWith : DiskView → DiskView → (Content → Durable) → State → RunEnd → Type 0
-EndsWith old new behind e ends.Kept = Leaves old new (λ f g. Keeps new.size g (kept_of e))
+EndsWith old new behind e ends.Kept = Leaves old new (λ f g. AllKeptFrom old behind new.size e f g)
 EndsWith old new behind e ends.Failed = Rose old.faults new.faults
 EndsWith old new behind e (ends.Full needed free) = Leaves old new (λ f g. IsFullFrom old behind new.size e f g needed free)
 EndsWith old new behind e ends.Stopped = Rose old.faults new.faults
 
 -- the same by what a vault held
 abbrev pub LeavesBy : PageStore → DiskView → State → RunEnd → Type 0
-LeavesBy v new e ends.Kept = (m : Content) → page_holds v m → (t : Blocks) → IsAt new.past t → Keeps new.size t.now (kept_of e)
+LeavesBy v new e ends.Kept =
+    (m : Content) → page_holds v m → (t : Blocks) → IsAt new.past t → AllFit new.size m (kept_of e) e.held × Keeps new.size t.now (kept_of e)
 LeavesBy v new e ends.Failed = Rose v.start new.faults
 LeavesBy v new e (ends.Full needed free) =
     (m : Content) → page_holds v m → (t : Blocks) → IsAt new.past t → IsFullOf new.size m (kept_of e) e.held t.now needed free
@@ -95,7 +109,8 @@ LeavesBy v new e ends.Stopped = Rose v.start new.faults
 
 -- the same where the run began over a vault in a state, and has these entries
 abbrev pub LeavesBehind : PageStore → State → DiskView → List Entry → State → RunEnd → Type 0
-LeavesBehind v s new es e ends.Kept = (m : Content) (d : Durable) → page_holds v m → IsOf m d s → (t : Blocks) → IsAt new.past t → Keeps new.size t.now (kept_of e)
+LeavesBehind v s new es e ends.Kept =
+    (m : Content) (d : Durable) → page_holds v m → IsOf m d s → (t : Blocks) → IsAt new.past t → AllKeptBehind new.size (durable d s es) e t.now
 LeavesBehind v s new es e ends.Failed = Rose v.start new.faults
 LeavesBehind v s new es e (ends.Full needed free) =
     (m : Content) (d : Durable) → page_holds v m → IsOf m d s → (t : Blocks) → IsAt new.past t → IsFullBehind new.size (durable d s es) e t.now needed free

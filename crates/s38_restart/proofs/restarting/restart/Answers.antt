@@ -26,33 +26,33 @@ returns-in_err-parts-clause-untold g c =
 
 pub remove-requires-clause-removals : goal.remove-requires-clause-removals
 remove-requires-clause-removals g c =
-    subst (λ (l : List Change). AreRemovals l) (sym (c.deref-2.ensures.value ∙ c.in_ok-restored.ensures.removals)) (removals_are c.deref.result.now)
+    subst (λ (l : List Change). AreRemovals l) (sym (c.deref.ensures.value ∙ c.in_ok-restored.ensures.removals)) (removals_are c.in_ok-parts.parts.items)
 
 pub remove-requires-clause-rising : goal.remove-requires-clause-rising
 remove-requires-clause-rising g c =
-    let rising = subst (λ (l : List Change). AreRising l) (sym c.deref.ensures.value) c.in_ok-parts.ensures.order in
-    subst (λ (l : List Change). AreRising l) (sym (c.deref-2.ensures.value ∙ c.in_ok-restored.ensures.removals)) (removals_rise c.deref.result.now rising)
+    let rising = c.in_ok-parts.ensures.order in
+    subst (λ (l : List Change). AreRising l) (sym (c.deref.ensures.value ∙ c.in_ok-restored.ensures.removals)) (removals_rise c.in_ok-parts.parts.items rising)
 
 pub remove-requires-clause-objects : goal.remove-requires-clause-objects
 remove-requires-clause-objects g c =
-    let have = subst (λ (l : List Change). HaveObjects l) (sym c.deref.ensures.value) c.in_ok-parts.ensures.objects in
-    subst (λ (l : List Change). HaveObjects l) (sym (c.deref-2.ensures.value ∙ c.in_ok-restored.ensures.removals)) (removals_have c.deref.result.now have)
+    let have = c.in_ok-parts.ensures.objects in
+    subst (λ (l : List Change). HaveObjects l) (sym (c.deref.ensures.value ∙ c.in_ok-restored.ensures.removals)) (removals_have c.in_ok-parts.parts.items have)
 
 pub returns-in_err-remove-clause-during : goal.returns-in_err-remove-clause-during
 returns-in_err-remove-clause-during g c = λ m h.
-    let strays = c.deref-2.ensures.value ∙ c.in_ok-restored.ensures.removals ∙ ap (λ (l : List Change). removals l) (c.deref.ensures.value ∙ c.in_ok-parts.ensures.parts m h) in
+    let strays = c.deref.ensures.value ∙ c.in_ok-restored.ensures.removals ∙ ap (λ (l : List Change). removals l) (c.in_ok-parts.ensures.parts m h) in
     let moment = ap (λ (v : VaultView). v.moment) c.read_parts.ensures.stays in
     during_as (g.V.Vault.leaves c.remove.new.vault) (g.V.Vault.view c.args.vault.now).moment (g.V.Vault.view c.read_parts.new.vault).moment (g.V.Vault.view c.remove.new.vault).moment m
     _ _ moment strays (c.remove.ensures.during m ((c.read_parts.ensures.holds m).0 h))
 
 pub returns-clause-holds : goal.returns-clause-holds
 returns-clause-holds g c = λ m h.
-    let strays = c.deref-2.ensures.value ∙ c.in_ok-restored.ensures.removals ∙ ap (λ (l : List Change). removals l) (c.deref.ensures.value ∙ c.in_ok-parts.ensures.parts m h) in
+    let strays = c.deref.ensures.value ∙ c.in_ok-restored.ensures.removals ∙ ap (λ (l : List Change). removals l) (c.in_ok-parts.ensures.parts m h) in
     subst (λ (l : List Change). g.V.Vault.holds c.remove.new.vault (changed m l)) strays (c.in_ok-remove.ensures.holds m ((c.read_parts.ensures.holds m).0 h))
 
 pub returns-clause-during : goal.returns-clause-during
 returns-clause-during g c = λ m h.
-    let strays = c.deref-2.ensures.value ∙ c.in_ok-restored.ensures.removals ∙ ap (λ (l : List Change). removals l) (c.deref.ensures.value ∙ c.in_ok-parts.ensures.parts m h) in
+    let strays = c.deref.ensures.value ∙ c.in_ok-restored.ensures.removals ∙ ap (λ (l : List Change). removals l) (c.in_ok-parts.ensures.parts m h) in
     let moment = ap (λ (v : VaultView). v.moment) c.read_parts.ensures.stays in
     during_as (g.V.Vault.leaves c.remove.new.vault) (g.V.Vault.view c.args.vault.now).moment (g.V.Vault.view c.read_parts.new.vault).moment (g.V.Vault.view c.remove.new.vault).moment m
     _ _ moment strays (c.remove.ensures.during m ((c.read_parts.ensures.holds m).0 h))
@@ -60,7 +60,7 @@ returns-clause-during g c = λ m h.
 pub restore-requires-clause-parts : goal.restore-requires-clause-parts
 restore-requires-clause-parts g c =
     let are : AreParts c.in_ok-parts.parts.items = record { rising = c.in_ok-parts.ensures.order; objects = c.in_ok-parts.ensures.objects; fine = c.in_ok-parts.ensures.fine } in
-    subst (λ (l : List Change). AreParts l) (sym c.deref.ensures.value) are
+    are
 
 pub returns-clause-parts : goal.returns-clause-parts
 returns-clause-parts g c = λ m h.

@@ -1,4 +1,4 @@
-use Rattle.std.proofs.Common.{All, List, ℕ, ◌+◌, ◌<◌, ◌≤◌, ◌∙◌, arith, map, subst, sym}
+use Rattle.std.proofs.Common.{All, List, ℕ, ◌+◌, ◌<◌, ◌≤◌, ◌∙◌, ap, arith, map, subst, sym}
 use Rattle.std.specs.List.Sorted.{IsStrictlyIncreasing}
 use Rattle.s38_base.specs.Limits.{ceiling_step, last_number}
 use Rattle.s38_objects.specs.Lawful.{IsLawful}
@@ -8,6 +8,9 @@ use Rattle.s38_extents.specs.Extents.{AreRising}
 use Rattle.s38_image.specs.declared.stored.Stored.{Stored}
 use Rattle.s38_rules.specs.Room.{Extent}
 use Rattle.s38_rules.specs.Storable.{IsStorable}
+use Rattle.s38_base.specs.declared.page.Change.{Change}
+use Rattle.s38_groups.specs.Groups.{removals}
+use Rattle.s38_restart.specs.Parts.{AreParts}
 use Rattle.s38_restart.proofs.CeilingBound.{ceiling_bound}
 use Rattle.s38_restart.proofs.ExtentLaws.{all_storable, extents_rise}
 use Rattle.s38_restart.specs.Restarted.{number_in_stored}
@@ -22,7 +25,7 @@ followed-requires c =
 pub overflow_add-ceiling : goal.overflow_add-ceiling
 overflow_add-ceiling c =
     let bound : c.in_ok-store.store.ceiling ≤ last_number + ceiling_step =
-    subst (λ (n : ℕ). n ≤ last_number + ceiling_step) (sym c.in_ok-store.ensures.ceiling) (ceiling_bound c.args.parts.now) in
+    subst (λ (n : ℕ). n ≤ last_number + ceiling_step) (sym c.in_ok-store.ensures.ceiling) (ceiling_bound c.as_slice.result.now) in
     record { fits = omega (arith, bound) }
 
 pub restored-requires-clause-lawful : goal.restored-requires-clause-lawful
@@ -37,8 +40,9 @@ restored-requires-clause-placed c =
 
 pub extents_of-requires : goal.extents_of-requires
 extents_of-requires c =
+    let parts = subst (λ (l : List Change). AreParts l) (sym c.as_slice.ensures.value) c.requires.parts in
     subst (λ (ss : List Stored). All (λ s. IsStorable s.object) ss) (sym (c.deref.ensures.value ∙ c.in_ok-store.ensures.stored))
-    (all_storable c.args.limit c.args.parts.now c.requires.limit c.requires.parts c.in_ok-store.ensures.sound)
+    (all_storable c.args.limit c.as_slice.result.now c.requires.limit parts c.in_ok-store.ensures.sound)
 
 pub returns-clause-rising : goal.returns-clause-rising
 returns-clause-rising c =
@@ -47,3 +51,6 @@ returns-clause-rising c =
     subst (λ (ns : List ℕ). IsStrictlyIncreasing ns) (sym (stored_numbers ss)) c.in_ok-store.ensures.lawful.lawful.rising in
     subst (λ (xs : List Extent). AreRising xs) (sym c.in_ok-extents.ensures)
     (subst (λ (l : List Stored). AreRising (map extent_in l)) (sym c.deref.ensures.value) (extents_rise ss numbers))
+
+pub returns-clause-removals : goal.returns-clause-removals
+returns-clause-removals c = c.in_ok-store.ensures.removals ∙ ap (λ (l : List Change). removals l) c.as_slice.ensures.value

@@ -1,12 +1,8 @@
-use Rattle.std.proofs.Common.{◌≡◌, All, List, subst, sym, true, ℕ, ◌∙◌}
+use Rattle.std.proofs.Common.{List, subst, sym, ◌∙◌}
 use Rattle.std.proofs.lemmas.List.Elements.{All-weaker}
-use Rattle.std.specs.Prelude.{Some}
-use Rattle.s38_object_laws.specs.Outline.{is_forced}
-use Rattle.s38_readable.specs.Readable.{IsAgain, IsFit}
+use Rattle.s38_readable.specs.Readable.{IsFit}
 use Rattle.s38_rules.specs.Forcing.{Forced}
-use Rattle.s38_rules.specs.Held.{object}
 use Rattle.s38_rules.specs.Storable.{IsStorable}
-use Rattle.s38_rules.specs.declared.object.Object.{Object}
 use Rattle.s38_step_parts.specs.Stepping.{AreNumbers}
 use Rattle.s38_stored_machine.specs.Keeping.{KeepsStep}
 use Rattle.s38_stored_machine.proofs.KeptLaws.{keeps_step}

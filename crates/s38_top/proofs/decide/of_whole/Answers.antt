@@ -46,7 +46,7 @@ returns-in-None-clause-images g c =
 pub returns-in-Some-clause-end : goal.returns-in-Some-clause-end
 returns-in-Some-clause-end g c =
     let same = ap (λ (w : Whole). w.state) c.whole.view_is in
-    (refl, (refl, (kept_end c.keep-disk.result.end c.in-Some.end (sym c.in-Some.is ∙ c.run_end.ensures), leaves_at same c.args.vault (g.D.Disk.view c.keep-disk.result.disk) c.keep-disk.result.end c.in-Some.end (sym c.in-Some.is ∙ c.run_end.ensures) c.keep-disk.ensures.kept c.keep-disk.ensures.full c.keep-disk.ensures.cause)))
+    (refl, (refl, (kept_end c.keep-disk.result.end c.in-Some.end (sym c.in-Some.is ∙ c.run_end.ensures), leaves_at same c.args.vault (g.D.Disk.view c.keep-disk.result.disk) c.keep-disk.result.end c.in-Some.end (sym c.in-Some.is ∙ c.run_end.ensures) c.keep-disk.ensures.kept c.keep-disk.ensures.fits c.keep-disk.ensures.full c.keep-disk.ensures.cause)))
 
 pub returns-in-Some-clause-during : goal.returns-in-Some-clause-during
 returns-in-Some-clause-during g c = λ m holds.
