@@ -8,9 +8,9 @@ use Rattle.s38_pages.specs.Vaults.{page_holds}
 use Rattle.s38_readable.specs.Readable.{IsFit}
 use Rattle.s38_rules.specs.State.{State}
 use Rattle.s38_step_parts.specs.Stepping.{HaveHeaders}
-use Rattle.s38_stored_machine.proofs.StateLaws.{stored_fit}
 use Rattle.s38_stores.specs.Crashes.{DuringCall, IsBetween}
 use Rattle.s38_vault.specs.Content.{Content}
+use Rattle.s38_top.proofs.AgainLaws.{state_fit}
 use Rattle.s38_top.proofs.OverLaws.{came_kept, came_stopped, closes, given_back, going_faultless, left_kept, left_off, reported_kept, reported_stopped, stopped_rose}
 use Rattle.s38_top.specs.Runs.{kept_of}
 use Rattle.s38_top.specs.declared.outcome.Outcome.TheVariants.{NoMemory}
@@ -25,7 +25,7 @@ of_whole-requires-clause-end g c =
     (closes c.args.turns c.args.run.deck x c.args.run.end c.requires c.end-vault-2.result given (subst (λ (s : State). IsLawful s.held) (c.state.view_is ∙ c.end-vault.ensures.state) c.len-objects.ensures.lawful))
 
 pub of_whole-requires-clause-fit : goal.of_whole-requires-clause-fit
-of_whole-requires-clause-fit g c = subst (λ (s : State). All IsFit s.held.objects) (sym c.end-vault.ensures.state) (stored_fit c.args.run.machine.machine.state c.requires.sound.state)
+of_whole-requires-clause-fit g c = subst (λ (s : State). All IsFit s.held.objects) (sym c.end-vault.ensures.state) (state_fit c.args.run.machine.machine.state c.requires.sound.state)
 
 pub of_whole-requires-clause-faultless : goal.of_whole-requires-clause-faultless
 of_whole-requires-clause-faultless g c =
