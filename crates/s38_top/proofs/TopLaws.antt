@@ -346,7 +346,7 @@ serves_by asked old new (Ran turns whole Kept) history holds told s h =
       taken = taken_is;
       ran = came.ran;
       laws = run_keeps (Some came.ran.room) came.ran.held _ whole.deck whole.history.items came.ran.begins.opening came.ran.run;
-      kept = came.ends;
+      kept = λ s t at is. (came.ends s t at is).kept.keeps;
       told = told;
       finished = read_out old new whole.deck taken_is;
     }) in
