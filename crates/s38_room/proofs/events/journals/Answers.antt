@@ -25,10 +25,10 @@ returns-in-Jrnlobj c =
     let h = c.args.world.now.held in
     rw c.in-Jrnlobj.is
     (c.journaled.ensures
-    ∙ ap (λ (n : ℕ). Whole n ∷ whole_if (journal_for (on_data h n (through_port c.number_at.result.0)) n)) c.number_at-number.ensures
-    ∙ ap (λ (port : ℕ). Whole (target h c.args.act.request.now.operands 1) ∷ whole_if (journal_for (on_data h (target h c.args.act.request.now.operands 1) (through_port port)) (target h c.args.act.request.now.operands 1))) c.number_at.ensures)
+    ∙ ap (λ (n : ℕ). Whole n ∷ whole_if (journal_for (on_data h n (through_port c.number_at-in-Jrnlobj-2.result.0)) n)) c.number_at-in-Jrnlobj.ensures
+    ∙ ap (λ (port : ℕ). Whole (target h c.args.act.request.now.operands 1) ∷ whole_if (journal_for (on_data h (target h c.args.act.request.now.operands 1) (through_port port)) (target h c.args.act.request.now.operands 1))) c.number_at-in-Jrnlobj-2.ensures)
 
 pub returns-in-Ensobj : goal.returns-in-Ensobj
 unfolding journals_row
 returns-in-Ensobj c =
-    rw c.in-Ensobj.is (c.ensured.ensures ∙ ap (λ (n : ℕ). Whole n ∷ whole_if (journal_for c.args.world.now.held n)) c.number_at-number.ensures)
+    rw c.in-Ensobj.is (c.ensured.ensures ∙ ap (λ (n : ℕ). Whole n ∷ whole_if (journal_for c.args.world.now.held n)) c.number_at-in-Ensobj.ensures)
