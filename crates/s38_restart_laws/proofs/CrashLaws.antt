@@ -1,5 +1,5 @@
 -- What is durable can restart at each moment of a run, and so can what a crash leaves of it.
-use Rattle.std.proofs.Common.{◌≡◌, ◌≤◌, ◌+◌, ℕ, zero, suc, inl, inr, List, [], ◌∷◌, ◌++◌, None, refl, sym, ap, subst, take, arith}
+use Rattle.std.proofs.Common.{◌≡◌, ◌≤◌, ◌+◌, ℕ, zero, suc, inl, inr, List, [], ◌∷◌, ◌++◌, refl, sym, ap, subst, take, arith}
 use Rattle.s38_code.specs.declared.entry.Entry.{Entry}
 use Rattle.s38_code.specs.declared.reply.Reply.TheVariants.{Done, MustWait, Signal}
 use Rattle.s38_code.specs.declared.reply.Reply.{Reply}

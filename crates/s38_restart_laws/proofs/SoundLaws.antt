@@ -15,7 +15,6 @@ use Rattle.s38_groups.specs.Groups.{groups, parts_of}
 use Rattle.s38_groups.specs.Stores.{first_fault}
 use Rattle.s38_image.specs.Faults.{Group, ceiling_in, ceiling_key, fault_after, fault_by, fault_of, first_by, first_of, first_under, group, has_first_user, header, header_at, is_bad_body, is_on_disk, is_other_kind, is_past, journal_behind, last_behind, last_in, or_next, sound, sound_at, store_fault}
 use Rattle.s38_image.specs.Images.{object_of}
-use Rattle.s38_image.specs.declared.header.Header.{Header}
 use Rattle.s38_image.specs.declared.stored.Stored.{Stored}
 use Rattle.s38_journals.specs.Journals.{JournalList}
 use Rattle.s38_kept_laws.specs.Beginning.{durable_in}

@@ -1,5 +1,5 @@
 -- What a restart asks of what is durable, said of what is durable itself and not of pages.
-use Rattle.std.specs.Prelude.{◌≡◌, ◌≤◌, ◌<◌, ◌+◌, ◌||◌, ◌==◌, ℕ, Bool, false, true, Option, Some, None, is_some, length, map}
+use Rattle.std.specs.Prelude.{◌≡◌, ◌≤◌, ◌+◌, ◌||◌, ℕ, Bool, false, true, Option, Some, None, is_some, length, map}
 use Rattle.std.specs.List.Sorted.{IsStrictlyIncreasing}
 use Rattle.std.specs.Option.{option_and_then}
 use Rattle.s38_base.specs.Ids.{same_id, same_kind}

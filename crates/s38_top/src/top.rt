@@ -27,7 +27,8 @@ pub fn plain_top<D: Disk + Drop, I: Source, O: Sink>(
     ensures back { IsSome result.disk }
 
     // Each status but that of want of memory has its cause, and its text is written; status 0 has what its command promises;
-    // and a good call is served, unless memory is wanted, or what a run leaves finds no room.
+    // a good call is served, unless memory is wanted, or what a run leaves finds no room; and a crash at any moment of a run
+    // leaves a store that restarts to what was durable then, and gives no number again.
     ensures answered { IfSome result.disk (λ new. IsAnswered (command_on false (map (λ w. w.now) words.now)) (outside (I.left deck.old) (I.faults deck.old) (O.written out.old) (O.faults out.old) (D.view disk))
         (outside (I.left deck.new) (I.faults deck.new) (O.written out.new) (O.faults out.new) (D.view new)) result.status result.history.items result.marks.items) }
 {
