@@ -1,12 +1,11 @@
--- A machine with a store: what the room of the store fits, what a step has the store keep anew, and what is prepared for it.
-use Rattle.std.specs.Prelude.{◌≡◌, ◌≤◌, ℕ, List, [], ◌∷◌, length, Option, Some, None, IfSome}
+-- A machine with a store: what a step has the store keep anew, and what is prepared for it.
+pub use Rattle.s38_verdicts.specs.Fitting.{FitsStore}
+use Rattle.std.specs.Prelude.{◌≡◌, ◌≤◌, ℕ, List, [], ◌∷◌, length, Option, Some, None}
 use Rattle.s38_code.specs.declared.deck.Job.{Job}
 use Rattle.s38_code.specs.declared.event.Event.{Event}
 use Rattle.s38_code.specs.declared.made.CheckedTemplate.{CheckedTemplate}
 use Rattle.s38_extents.specs.Keeping.{RoomHeld}
 use Rattle.s38_machine.specs.Log.{with_last}
-use Rattle.s38_object_laws.specs.Well.{AreWell}
-use Rattle.s38_room.specs.Following.{Fits}
 use Rattle.s38_rules.specs.declared.verdict.Verdict.{Verdict}
 use Rattle.s38_rules.specs.declared.verdict.Verdict.TheVariants.{Permit, Wait, Refuse}
 use Rattle.s38_rules.specs.Forcing.{Forced, forced}
@@ -20,10 +19,6 @@ use Rattle.s38_rules.specs.Step.{verdict_of}
 -- the state in which jobs find a machine over a store that has this room
 abbrev pub stored_state_of : Option Room → Held → List CheckedTemplate → List Job → State
 stored_state_of room held templates jobs = record (state_of held templates jobs) { room = room }
-
--- where there is a store, its room fits the objects, and the objects are well
-abbrev pub FitsStore : State → Type 0
-FitsStore s = IfSome s.room (λ room. Fits room.extents s.held × AreWell s)
 
 -- ---- a step
 

@@ -1,20 +1,14 @@
 //! The machine: it answers the events of processes one by one, and keeps their history.
 #![tactic(auto)]
 
-mod addresses;
-mod asking;
-mod blocking;
-mod by_operand;
 mod deliveries;
 mod effects;
 mod log;
 mod machine;
 mod opening;
-mod resolved;
-mod rights;
 mod rows;
 mod storing;
-mod verdicts;
+mod world_machine;
 
 use log::Log;
 pub use machine::{Machine, State};
@@ -23,6 +17,7 @@ use s38_invoke::{Core, Profiles};
 use s38_objects::Objects;
 use s38_verified::World;
 use std::snapshot::Snapshot;
+pub use world_machine::WorldMachine;
 
 /// What is sent between threads.
 fn sends<T: Send + Sync>() {}

@@ -3,7 +3,7 @@ use Rattle.std.proofs.Common.{◌≡◌, ◌≢◌, ◌<◌, ℕ, zero, suc, ◌
 use Rattle.std.proofs.lemmas.Bool.Decides.{nat_tests}
 use Rattle.std.proofs.lemmas.Bool.{and_parts}
 use Rattle.std.proofs.lemmas.List.{length-set}
-use Rattle.std.specs.Prelude.{Option, Some, None, slice_get, slice_set}
+use Rattle.std.specs.Prelude.{Option, Some, None, slice_get, slice_set, if◌then◌else◌}
 use Rattle.s38_base.specs.declared.id.ObjNum.{ObjNum}
 use Rattle.s38_rules.specs.Held.{is_there}
 use Rattle.s38_rules.specs.Authority.{available}
@@ -14,7 +14,7 @@ use Rattle.s38_rules.specs.declared.process.ProcessEntry.{ProcessEntry}
 use Rattle.s38_verified.specs.declared.found.Verified.{Verified}
 use Rattle.s38_verified.specs.declared.found.Visits.{Visits}
 use Rattle.s38_verified.specs.Numbers.{frames_in, last_count, number_at}
-use Rattle.s38_verified.specs.Places.{ArePlacesRight, AreVisited, IsChecked, IsRight, IsRightIn, VisitsBy, found_now, is_current, is_current_in, is_for, is_live, is_live_in, is_of_now, is_told_apart, rights_anew, with_found}
+use Rattle.s38_verified.specs.Places.{ArePlacesRight, AreVisited, IsChecked, IsRight, IsRightIn, RisesBy, found_now, is_current, is_current_in, is_for, is_live, is_live_in, is_of_now, is_told_apart, rights_anew, with_found}
 use Rattle.s38_verified.specs.Worlds.{WorldState, frame_of, frames_of, place_in, place_of}
 use Rattle.s38_verified.proofs.ListLaws.{by_place, get_set_other, get_set_same, get_within, set_there}
 
@@ -153,11 +153,23 @@ found_there w p d o is = ap (λ (places : List (Option Verified)). record w { pl
     in_place None e = cc
     in_place (Some place) e = ap Some e
 
+-- ---- how many rows are visited
+
+-- someone acts
+acting_some : (s : State) (p d : ℕ) → 0 < length (acting s p d)
+unfolding acting
+acting_some s p d = omega arith
+
+rises_some : (before : Visits) (n : ℕ) (after : Visits) → 0 < n → AreVisited before n after → RisesBy before n after
+rises_some before zero after some visits = absurd (omega (arith, some))
+rises_some before (suc n) after some visits = visits
+
 -- rights that were found anew are kept
 pub checked_anew : (w t : WorldState) (p d : ℕ) (o : ObjNum) → ArePlacesRight w → is_live w.state p ≡ true → 0 < d → is_current_in w p d o.0 (place_of w p) ≡ false
     → t ≡ record (with_found w p d o) { visits = t.visits } → AreVisited w.visits (length (acting w.state p d)) t.visits → IsChecked w p d o t
 checked_anew w t p d o right live some old place visits = record {
   place = place;
-  visits = subst (λ (b : Bool). VisitsBy b w.visits (length (acting w.state p d)) t.visits) (sym old) visits;
+  visits = subst (λ (b : Bool). RisesBy w.visits (if b then 0 else length (acting w.state p d)) t.visits) (sym old)
+      (rises_some w.visits (length (acting w.state p d)) t.visits (acting_some w.state p d) visits);
   right = subst ArePlacesRight (sym place) (found_keeps w p d o t.visits right live some);
 }

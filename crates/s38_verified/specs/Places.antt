@@ -1,5 +1,5 @@
 -- When what a place holds is of now, and that it is then what the rule finds from scratch.
-use Rattle.std.specs.Prelude.{◌≡◌, ◌≢◌, ◌<◌, ◌≤◌, ℕ, zero, suc, ◌+◌, ◌-◌, ◌==◌, Bool, true, false, ◌&&◌, ◌||◌, not, All, length, Option, Some, None, is_some, min, slice_set}
+use Rattle.std.specs.Prelude.{◌≡◌, ◌≢◌, ◌<◌, ◌≤◌, ℕ, zero, suc, ◌+◌, ◌-◌, ◌==◌, Bool, true, false, ◌&&◌, ◌||◌, not, All, List, [], ◌∷◌, length, Option, Some, None, is_some, min, slice_set, if◌then◌else◌}
 use Rattle.s38_base.specs.Faults.{counted}
 use Rattle.s38_base.specs.declared.id.ObjNum.{ObjNum}
 use Rattle.s38_base.specs.RightNames as rights
@@ -27,9 +27,15 @@ abbrev pub visited : ℕ → ProfileMaps → ProfileMaps
 visited zero maps = maps
 visited (suc n) maps = visited n (record maps { visits = counted maps.visits })
 
--- so many more rows were visited; where the count of the profiles has come to its end, that is not seen
-abbrev pub AreVisited : Visits → ℕ → Visits → Type 0
-AreVisited before n after = after.spent ≡ false → after.count ≡ min (before.count + n) last_count
+-- so many more rows were visited; where the count of the profiles has come to its end, that is not seen from then on
+pub record AreVisited (before : Visits) (n : ℕ) (after : Visits) : Type 0 where
+  pub count : after.spent ≡ false → after.count ≡ min (before.count + n) last_count
+  pub spent : before.spent ≡ true → after.spent ≡ true
+
+-- the same, where no row may be visited
+abbrev pub RisesBy : Visits → ℕ → Visits → Type 0
+RisesBy before zero after = after ≡ before
+RisesBy before (suc n) after = AreVisited before (suc n) after
 
 -- ---- what is of now
 
@@ -119,11 +125,6 @@ pub record IsSteady (w : WorldState) : Type 0 where
 abbrev pub NobodyLives : State → Type 0
 NobodyLives s = (process : ℕ) → is_live s process ≡ false
 
--- at most the place of a process and the visits are others, and places are right
-pub record IsAsked (w : WorldState) (process : ℕ) (t : WorldState) : Type 0 where
-  pub rest : t ≡ record w { places = slice_set w.places (process - 1) (place_of t process); visits = t.visits }
-  pub steady : IsSteady t
-
 -- ---- behind a check
 
 -- what was found in a world at a depth
@@ -139,17 +140,28 @@ found_now w process depth object = record {
 abbrev pub with_found : WorldState → ℕ → ℕ → ObjNum → WorldState
 with_found w process depth object = record w { places = slice_set w.places (process - 1) (Some (found_now w process depth object)) }
 
-abbrev pub VisitsBy : Bool → Visits → ℕ → Visits → Type 0
-VisitsBy true before n after = after ≡ before
-VisitsBy false before n after = AreVisited before n after
-
--- where the place is current no row was visited, else one of each acting user
-abbrev pub VisitsRows : WorldState → ℕ → ℕ → ℕ → Visits → Type 0
-VisitsRows w process depth n after =
-    VisitsBy (is_current_in w process depth n (place_of w process)) w.visits (length (acting w.state process depth)) after
+-- how many rows a check of an object visits: none where the place is current, else one of each acting user
+abbrev pub rows_of : WorldState → ℕ → ℕ → ℕ → ℕ
+rows_of w process depth n = if is_current_in w process depth n (place_of w process) then 0 else length (acting w.state process depth)
 
 -- behind a check of an object
 pub record IsChecked (w : WorldState) (process depth : ℕ) (object : ObjNum) (t : WorldState) : Type 0 where
   pub place : t ≡ record (with_found w process depth object) { visits = t.visits }
-  pub visits : VisitsRows w process depth object.0 t.visits
+  pub visits : RisesBy w.visits (rows_of w process depth object.0) t.visits
   pub right : ArePlacesRight t
+
+-- ---- behind checks of objects, one after another
+
+abbrev pub all_found : WorldState → ℕ → ℕ → List ObjNum → WorldState
+all_found w process depth [] = w
+all_found w process depth (object ∷ more) = all_found (with_found w process depth object) process depth more
+
+-- how many rows they visit
+abbrev pub rows_of_all : WorldState → ℕ → ℕ → List ObjNum → ℕ
+rows_of_all w process depth [] = 0
+rows_of_all w process depth (object ∷ more) = rows_of w process depth object.0 + rows_of_all (with_found w process depth object) process depth more
+
+pub record AreChecked (w : WorldState) (process depth : ℕ) (objects : List ObjNum) (t : WorldState) : Type 0 where
+  pub places : t ≡ record (all_found w process depth objects) { visits = t.visits }
+  pub visits : RisesBy w.visits (rows_of_all w process depth objects) t.visits
+  pub steady : IsSteady t

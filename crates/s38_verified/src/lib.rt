@@ -11,5 +11,5 @@ mod world;
 
 pub use checks::{Missing, check, verified};
 pub use found::{Verified, Visits};
-pub use laws::{counts_follow, places_stay_right};
+pub use laws::{checks_leave_the_last, counts_follow, places_stay_right};
 pub use world::World;

@@ -1,11 +1,11 @@
-ghost use Rattle.std.specs.Prelude.{◌≡◌, ◌+◌, ◌-◌, ◌<◌, ◌≤◌, ℕ, IfOk, IfSome, Some, is_some, length, min, slice_get, slice_set, true};
+ghost use Rattle.std.specs.Prelude.{◌≡◌, ◌+◌, ◌-◌, ◌<◌, ◌≤◌, [], ◌∷◌, ℕ, IfOk, IfSome, Some, is_some, length, min, slice_get, slice_set, true};
 ghost use Rattle.std.specs.Option.{option_copied};
 ghost use Rattle.s38_rules.specs.Authority.{available};
 ghost use Rattle.s38_rules.specs.Held.{is_there};
 ghost use Rattle.s38_rules.specs.Invocations.{frames_used, stack_of};
 ghost use Rattle.s38_rules.specs.Users.{acting};
 ghost use Rattle.s38_verified.specs.Numbers.{frames_in, last_count, number_at};
-ghost use Rattle.s38_verified.specs.Places.{ArePlacesRight, AreVisited, IsAsked, IsChecked, IsSteady, found_now, is_current_in, is_for, is_live, rights_anew, with_found};
+ghost use Rattle.s38_verified.specs.Places.{AreChecked, ArePlacesRight, AreVisited, IsChecked, IsSteady, found_now, is_current_in, is_for, is_live, rights_anew, with_found};
 ghost use Rattle.s38_verified.specs.Worlds.{begun_world, frame_of, place_in, place_of};
 
 use crate::found::{Verified, Visits};
@@ -236,15 +236,14 @@ impl<T: Table, P: CountedRows> World<T, P> {
     }
 
     /// The rights that are available to a process on an object that is there, with those that a pointer carries.
-    #[tactic(auto, using(crate::proofs::AskLaws::checked_asked), unfolding(s38_rules::specs::Authority::available))]
+    #[tactic(auto, using(crate::proofs::AskLaws::checked_one), unfolding(s38_rules::specs::Authority::available))]
     pub fn available(&mut self, process: u32, depth: u16, object: ObjNum, carried: Rights) -> Rights
         requires live { is_live self.old.state process ≡ true }
         requires depth { 0 < depth }
         requires there { is_there self.old.state.held object.0 ≡ true }
         requires steady { IsSteady self.old }
         ensures rights { result.0 ≡ available self.old.state.held (acting self.old.state process depth) object.0 carried.0 }
-        ensures checked { IsChecked self.old process depth object self.new }
-        ensures asked { IsAsked self.old process self.new }
+        ensures asked { AreChecked self.old process depth (object ∷ []) self.new }
     {
         Rights(carried.0 | self.verify(process, depth, object).0)
     }
@@ -269,6 +268,6 @@ fn behind(visits: Visits, before: u64, after: u64) -> Visits
 {
     Visits {
         count: visits.count.saturating_add(after - before),
-        spent: after == u64::MAX,
+        spent: visits.spent || after == u64::MAX,
     }
 }

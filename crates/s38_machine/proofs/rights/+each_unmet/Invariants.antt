@@ -1,5 +1,0 @@
-use Rattle.std.proofs.Common.{length}
-use Rattle.s38_machine.proofs.rights.+each_unmet.Given as goal
-
-abbrev pub decreases-each_unmet : goal.decreases-each_unmet
-decreases-each_unmet l = length l.needs.now

@@ -1,0 +1,3 @@
+mod AskedLaws
+mod ResolvedLaws
+mod SoleLaws

@@ -1,0 +1,4 @@
+pub mod Asked
+pub mod Fitting
+pub mod Plain
+pub mod Resolved
