@@ -1,11 +1,11 @@
 mod MarkLaws
-mod StateLaws
+pub mod StateLaws
 mod RestartLaws
 mod StandLaws
 mod KeptLaws
 mod StartLaws
-mod BehindLaws
+pub mod BehindLaws
 mod SettledLaws
-mod WantLaws
+pub mod WantLaws
 pub mod SentLaws
 mod AskLaws

@@ -12,7 +12,6 @@ use Rattle.s38_groups.specs.Stores.{first_fault}
 use Rattle.s38_image_printing.specs.Parts.{CanSettle}
 use Rattle.s38_kept_laws.specs.Crashes.{answered, led}
 use Rattle.s38_kept_laws.specs.Kept.{AreImages, HasParts, IsKeptOf}
-use Rattle.s38_object_laws.specs.Well.{IsWell}
 use Rattle.s38_openings.specs.Bodies.{HoldsBody}
 use Rattle.s38_pages.specs.Mounts.{fewest, layout_of}
 use Rattle.s38_put_laws.specs.Trails.{IsTrailOf}
@@ -23,27 +22,12 @@ use Rattle.s38_restart_laws.specs.Restartable.{IsRestartable}
 use Rattle.s38_restart_laws.specs.Restarts.{IsRestartedPrefix, RestartsBetween, RestartsTo, next_behind}
 use Rattle.s38_rules.specs.Legal.{Leads}
 use Rattle.s38_rules.specs.State.{State}
-use Rattle.s38_rules.specs.Storable.{IsStorable}
 use Rattle.s38_state_laws.specs.Order.{AreInOrder}
-use Rattle.s38_stored_machine.specs.Sound.{CanBeStored}
 use Rattle.s38_stores.specs.Stores.{Restarts}
 use Rattle.s38_vault.specs.Content.{Content}
 use Rattle.s38_top.specs.Closing.{RestartLaws}
 use Rattle.s38_top.specs.Crash.{RestartsAgain}
 use Rattle.s38_top.specs.Runs.{kept_of}
-
--- each object of a state that a store can keep fits what is read again
-state_storable : (s : State) → CanBeStored s → All IsStorable s.held.objects
-state_storable s can = All-weaker IsWell IsStorable (λ o well. well.storable) s.held.objects can.well.objects
-
-state_bodies : (s : State) → CanBeStored s → All (HoldsBody body_limit) s.held.objects
-state_bodies s can = subst (λ (limit : ℕ). All (HoldsBody limit) s.held.objects) can.ordered.limit can.ordered.bodies
-
-pub state_fit : (s : State) → CanBeStored s → All IsFit s.held.objects
-state_fit s can =
-    let storable = state_storable s can in
-    let limits = state_bodies s can in
-    λ k d within. record { storable = storable k d within; limits = limits k d within; form = can.forms.objects k d within }
 
 -- what is kept of a state can be read again, where each object is
 pub kept_images : (e : State) → ((s : State) → All (HoldsBody body_limit) s.held.objects → All (λ o. CanSettle s.units o.number.0 o.body) s.held.objects → All IsReadable s.held.objects → AreImages (kept_of s))

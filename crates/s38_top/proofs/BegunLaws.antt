@@ -47,7 +47,7 @@ use Rattle.s38_run.specs.declared.run_end.RunEnd.{RunEnd}
 use Rattle.s38_run.specs.declared.run_end.RunEnd.TheVariants.{Complete, NoMemory, Stopped as Halted}
 use Rattle.s38_state_laws.proofs.StepLaws.{opening_in_order}
 use Rattle.s38_stored_machine.specs.Seen.{StoredBeginning, StoredView, answered_by, beginning_of, run_of, stopped_by, stopped_of}
-use Rattle.s38_stored_machine.specs.Sound.{CanBeStored, IsOf}
+use Rattle.s38_stored_machine.specs.Sound.{CanBeStored, IsEnding, IsOf}
 use Rattle.s38_stored_machine.specs.declared.ending.Ending.{Ending}
 use Rattle.s38_stored_machine.specs.declared.ending.Ending.TheVariants.{Going, Stopped, Wanting}
 use Rattle.s38_stores.specs.Crashes.{GoesOn, KeepsRestarting}
@@ -55,6 +55,7 @@ use Rattle.s38_stores.specs.Opened.{HoldsCleaned, IsFaultless, IsOpenedOn}
 use Rattle.s38_stores.specs.Stores.{Restarts}
 use Rattle.s38_template.specs.Grammar.{Spells}
 use Rattle.s38_vault.specs.Content.{Content}
+use Rattle.s38_vault.specs.Vaults.{VaultView}
 use Rattle.s38_top.proofs.TopLaws.{there_is}
 use Rattle.s38_top.specs.Decks.{IsFrontOfJob, checked_of, checked_template, made_for, opened, order_of}
 use Rattle.s38_top.specs.Ends.{IsReady}
@@ -234,8 +235,8 @@ module _ (deck : Deck) (made : List CreateResult) (x : StoredView WatchedStore) 
         (here, there_is ms k (omega (arith, count, within)))
 
     pub went_over : IsSoundOn y → order_of turns y.machine.origin (run_of y).history → AllByProgram ms js (run_of y).history → (end ≡ Complete → (y.ending ≡ Going) × AllRan ms js (run_of y).history)
-        → (end ≡ Halted → y.ending ≡ Stopped) → WentOver turns deck y end
-    went_over sound order by_program complete stopped = record {
+        → (end ≡ Halted → y.ending ≡ Stopped) → (end ≡ Halted → order_of turns y.machine.origin y.machine.history × AllByProgram ms js y.machine.history) → WentOver turns deck y end
+    went_over sound order by_program complete stopped on = record {
       sound = sound;
       watch = first_same ∙ begins.watch ∙ ap watch_of (sym vault_same);
       origin = subst (λ (s : State). s ≡ opened s.room s.held deck) (sym origin_same) (ap (λ (m : Run). m.origin) begins.machine);
@@ -248,9 +249,19 @@ module _ (deck : Deck) (made : List CreateResult) (x : StoredView WatchedStore) 
       going = λ is. (complete is).0;
       whole = λ is k job at. let one = made_there k job at in ((complete is).1.each k job one.1.0 one.0 one.1.1).whole;
       stopped = stopped;
+      order_on = λ is. (on is).0;
+      each_on = λ is k job at.
+          let one = made_there k job at in
+          record { made = one.1.0; is = made_is k job one.1.0 one.0 one.1.1; ran = (on is).1.each k job one.1.0 one.0 one.1.1 };
     }
 
 -- ---- ends
+
+-- the entry of a call that was answered Stopped is there
+pub some_entry : (k : Ending) (m : Run) (first now : VaultView) → IsEnding k m first now → k ≡ Stopped → 1 ≤ length m.history
+some_entry Going m first now end is = cc
+some_entry Stopped m first now end is = end.1
+some_entry Wanting m first now end is = cc
 
 -- where a call was answered Stopped the machine has stopped
 pub halted_stopped : (k : Ending) (history : List Entry) (call : ℕ × Event) → stopped_by k history ≡ Some call → k ≡ Stopped

@@ -5,6 +5,7 @@ pub mod TopLaws
 mod StoreLaws
 mod SentLaws
 mod OverLaws
+mod NextLaws
 mod BegunLaws
 mod ConfinedLaws
 mod AgainLaws

@@ -178,6 +178,15 @@ module _ (turns : Turns) (deck : Deck) (x : StoredView WatchedStore) (end : Halt
     each = went.each;
   }
 
+  -- where the machine has stopped, the entries with that of the call that failed are of such a run as well
+  pub run_on : end ≡ halts.Stopped → IsRunTo s.room s.held (order_of turns) deck x.machine.history
+  run_on halted = record {
+    state = x.machine.state;
+    legal = subst (λ (o : State). Leads o [] x.machine.history x.machine.state) went.origin went.sound.sound.legal;
+    order = subst (λ (o : State). order_of turns o x.machine.history) went.origin (went.order_on halted);
+    each = went.each_on halted;
+  }
+
   plans : ArePlanned s entries x.machine.history
   plans = record {
     begins = answered_begins x.ending x.machine;
@@ -200,6 +209,9 @@ module _ (turns : Turns) (deck : Deck) (x : StoredView WatchedStore) (end : Halt
   -- where each job ran to its end
   entries_all : end ≡ halts.Complete → entries ≡ x.machine.history
   entries_all complete = ap (λ (k : Ending). (answered_by k x.machine).history) (went.going complete)
+
+  pub run_all : end ≡ halts.Complete → IsRunTo s.room s.held (order_of turns) deck x.machine.history
+  run_all complete = subst (λ (es : List Entry). IsRunTo s.room s.held (order_of turns) deck es) (entries_all complete) run_to
 
   state_is : end ≡ halts.Complete → behind ≡ x.machine.state
   state_is complete = ap (λ (es : List Entry). led s es) (entries_all complete) ∙ led_to s [] x.machine.history x.machine.state went.sound.sound.legal
@@ -287,7 +299,8 @@ module _ (turns : Turns) (deck : Deck) (x : StoredView WatchedStore) (end : Halt
               (subst (λ (limit : ℕ). All (HoldsBody limit) x.machine.state.held.objects) ordered.limit ordered.bodies));
         }
 
-    module _ (again : RestartLaws) (o : Outcome) (reported : (o ≡ NoMemory → ⊥) → (history_of o ≡ entries) × (marks_of o ≡ marks)) where
+    module _ (again : RestartLaws) (o : Outcome) (reported : (o ≡ NoMemory → ⊥) → (history_of o ≡ entries) × (marks_of o ≡ marks))
+        (next : (o ≡ NoMemory → ⊥) → IsRunTo s.room s.held (order_of turns) deck x.machine.history) where
       -- nothing was kept behind it
       pub left_off : new ≡ r.disk → LeftOver turns deck v s new o
       left_off same = record {
@@ -303,6 +316,7 @@ module _ (turns : Turns) (deck : Deck) (x : StoredView WatchedStore) (end : Halt
         running = λ m d holds of large t g low high left. left_running again m d holds of large t g low high (subst (λ (d : DiskView). Leaves d.past t g) same left);
         closing = λ m d holds of large t g low high left. absurd (let here = ap (λ (d : DiskView). moment_of d.past) same in omega (arith, here, low, high));
         reported = reported;
+        next = next;
       }
 
       -- what it left was kept
@@ -349,6 +363,7 @@ module _ (turns : Turns) (deck : Deck) (x : StoredView WatchedStore) (end : Halt
           running = λ m d holds of large t g low high left. left_running again m d holds of large t g low high ((goes.before t g high).1 left);
           closing = closing;
           reported = reported;
+          next = next;
         }
 
     -- what a vault held as the run ended, by what it held as the run began

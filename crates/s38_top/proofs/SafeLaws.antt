@@ -130,5 +130,9 @@ module _ (turns : Turns) (old new : DiskView) (deck : Deck) (made : List CreateR
         subst (λ (u : State). IsClosing new.size (durable (durable_in m) u left.entries) left.run.state g) state_is (left.closing (cleaned m) (durable_in m) one.0 one.1 (large_still f at) t g low high image);
   }
 
+  next_run : (o ≡ NoMemory → ⊥) → IsRunTo (Some ready.room) s.held (order_of turns) deck left.planned
+  next_run not = subst (λ (r : Option Room). IsRunTo r s.held (order_of turns) deck left.planned) ready.has (left.next not)
+
   pub run_safe : (asked : Option Command) → asked ≡ Some (Jobs turns) → IsSafeOf asked old new o
-  run_safe asked is = safe_of asked (Jobs turns) old new o is (inr (record { entries = left.entries; marks_made = left.marks; made = run_made; reported = left.reported }))
+  unfolding run_made
+  run_safe asked is = safe_of asked (Jobs turns) old new o is (inr (record { entries = left.entries; marks_made = left.marks; made = run_made; reported = left.reported; next = next_run }))

@@ -486,12 +486,14 @@ run_told turns old new whole o o' status history marks (inl same) s h n run = re
   marks_made = run.marks_made;
   made = run.made;
   reported = λ not. let told = run.reported (λ is. not (wanted whole o' status (same ∙ is) s)) in (h ∙ ap history_of same ∙ told.0, n ∙ ap marks_of same ∙ told.1);
+  next = λ not. run.next (λ is. not (wanted whole o' status (same ∙ is) s));
 }
 run_told turns old new whole o o' status history marks (inr none) s h n run = record {
   entries = run.entries;
   marks_made = run.marks_made;
   made = run.made;
   reported = λ not. absurd (not (wanted whole o' status none s));
+  next = λ not. absurd (not (wanted whole o' status none s));
 }
 
 pub safe_told : (asked : Option Command) (old new : DiskView) (whole : Bool) (o o' : Outcome) (status : ℕ) (history : List Entry) (marks : List ℕ) → (o' ≡ o) ⊎ (o' ≡ NoMemory)

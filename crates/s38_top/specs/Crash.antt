@@ -22,7 +22,7 @@ use Rattle.s38_rules.specs.Legal.{Leads}
 use Rattle.s38_rules.specs.State.{State}
 use Rattle.s38_stores.specs.Crashes.{AtRest, DuringCall, GoesOn, IsNoneOrInstalled, IsPartlyCleaned, KeepsRestarting}
 use Rattle.s38_stores.specs.Stores.{Restarts}
-use Rattle.s38_top.specs.Decks.{AreStoreMarks, opened}
+use Rattle.s38_top.specs.Decks.{AreStoreMarks, IsRunTo, opened, order_of}
 use Rattle.s38_top.specs.Runs.{RanTo}
 use Rattle.s38_vault.specs.Content.{Content}
 
@@ -90,12 +90,14 @@ pub record MadeRun (turns : Turns) (old new : DiskView) (entries : List Entry) (
   pub closing : AtRest old (λ f. (m : Content) → Stands (layout_of old.size) f m
       → Between last (moment_of new.past) new (λ t g. IsClosing new.size (durable (durable_in m) (opened (Some ran.room) ran.held deck) entries) ran.run.state g))
 
--- A run was made. It is the one that is reported, but that where memory was wanted nothing of it is.
+-- A run was made. Unless memory was wanted it is the one that is reported, and with the entry of the call that failed it is
+-- such a run as well: that entry is what a process asks next, on one thread the one that the next pick chooses.
 pub record KeepsRun (turns : Turns) (old new : DiskView) (wanting : Type 0) (history : List Entry) (marks : List ℕ) : Type 0 where
   pub entries : List Entry
   pub marks_made : List ℕ
   pub made : MadeRun turns old new entries marks_made
   pub reported : (wanting → ⊥) → (history ≡ entries) × (marks ≡ marks_made)
+  pub next : (wanting → ⊥) → IsRunTo (Some made.ran.room) made.ran.held (order_of turns) made.deck made.planned
 
 -- ---- of a whole call
 

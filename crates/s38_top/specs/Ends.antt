@@ -93,6 +93,7 @@ pub record LeftOver (turns : Turns) (deck : Deck) (v : PageStore) (s : State) (n
   pub running : (m : Content) (d : Durable) → page_holds v m → IsOf m d s → fewest ≤ new.size → Between (page_view v).moment last new (λ t g. IsLeftAt new.size d s planned marks t g)
   pub closing : (m : Content) (d : Durable) → page_holds v m → IsOf m d s → fewest ≤ new.size → Between last (moment_of new.past) new (λ t g. IsClosing new.size (durable d s entries) run.state g)
   pub reported : (o ≡ NoMemory → ⊥) → (history_of o ≡ entries) × (marks_of o ≡ marks)
+  pub next : (o ≡ NoMemory → ⊥) → IsRunTo s.room s.held (order_of turns) deck planned
 
 -- the text of a source comes to it, or the source failed
 abbrev pub ReadsFrom : Command → Option (List ℕ) → Option (List ℕ) → ℕ → ℕ → DiskView → DiskView → Outcome → Type 0

@@ -77,3 +77,6 @@ pub record WentOver (turns : Turns) (deck : Deck) (x : StoredView WatchedStore) 
   pub going : end ≡ Complete → x.ending ≡ Going
   pub whole : end ≡ Complete → (k : ℕ) (job : Job) → slice_get deck.jobs k ≡ Some job → IsTrue (ends_by_finish (entries_of (k + 1) (run_of x).history))
   pub stopped : end ≡ Halted → x.ending ≡ Stopped
+  -- where it has stopped, the entries with that of the call that failed are of such a run as well
+  pub order_on : end ≡ Halted → order_of turns x.machine.origin x.machine.history
+  pub each_on : end ≡ Halted → (k : ℕ) (job : Job) → slice_get deck.jobs k ≡ Some job → IsFrontOfJob deck job (entries_of (k + 1) x.machine.history)

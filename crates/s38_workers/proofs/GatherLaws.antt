@@ -1,7 +1,7 @@
 -- The seats of the jobs, as they are gathered.
 use Rattle.std.proofs.Common.{◌≡◌, ℕ, ◌+◌, ◌-◌, ◌<◌, Bool, true, false, List, [], ◌∷◌, ◌++◌, length, refl, sym, ap, ◌∙◌, subst, ⊎_elim, arith, take, take-take, length-append, slice_index_or}
 use Rattle.std.proofs.lemmas.Option.{same_Some}
-use Rattle.std.specs.Prelude.{Option, Some, slice_get}
+use Rattle.std.specs.Prelude.{Option, Some, None, IfSome, slice_get}
 use Rattle.std.proofs.Math.ListN.{get_or-append}
 use Rattle.std.proofs.Math.Seq.{get_or-append_seam}
 use native.Mathlib.Decide.{ℕ_discrete}
@@ -9,11 +9,14 @@ use mathlib.Core.Logic.{dite}
 use lib.Seq.{length-take-le, get_or-take}
 use Rattle.s38_code.specs.declared.deck.Job.{Job}
 use Rattle.s38_code.specs.declared.made.CreateResult.{CreateResult}
+use Rattle.s38_code.specs.declared.event.Event.{Event}
+use Rattle.s38_turn.specs.declared.item.Item.{Item}
+use Rattle.s38_turn.specs.declared.item.Item.TheVariants.{Stopped}
 use Rattle.s38_turn.specs.declared.view.ProcessList.{ProcessList}
-use Rattle.s38_turn.specs.Items.{entries_in}
+use Rattle.s38_turn.specs.Rule.{IsOneOf}
 use Rattle.s38_turn.specs.Lists.{has, list_of}
 use Rattle.s38_turn.specs.Seats.{IsSeatOf, SeatView, TurnView}
-use Rattle.s38_turn.proofs.ListLaws.{has_either, has_first, has_second}
+use Rattle.s38_turn.proofs.ListLaws.{has_either, has_first, has_second, no_list}
 use Rattle.s38_workers.specs.declared.runner.Runner.{Runner}
 use Rattle.s38_workers.specs.Going.{IsRunning, Stands}
 use Rattle.s38_workers.specs.Runs.{AreGathered, AreSeated, HasRun}
@@ -52,14 +55,14 @@ module _ {M : Type 0} (Halted : Type 0) (turn : TurnView M) (made : List CreateR
       let place : runner.number - 1 ≡ n = omega (arith, number) in
       record {
         has_it = ap (has (n + 1)) e ∙ has_second (n + 1) ks runner.seat.lists own;
-        stands = λ job one job_at one_at. subst (λ items. Stands Halted one job.budget (entries_in items) runner.progress) list
+        stands = λ job one job_at one_at. subst (λ items. Stands Halted one job.budget items runner.progress) list
             (running.stands job one (ap (slice_get jobs) place ∙ job_at) (ap (slice_get made) place ∙ one_at));
       }
 
   run_still : (runner : Runner M) (k : ℕ) (ks more ls : List ProcessList) → ls ≡ ks ++ more → HasRun Halted made jobs k runner ks → HasRun Halted made jobs k runner ls
   run_still runner k ks more ls e r = record {
     has_it = ap (has (k + 1)) e ∙ has_first (k + 1) ks more r.has_it;
-    stands = λ job one job_at one_at. subst (λ items. Stands Halted one job.budget (entries_in items) runner.progress) (sym (list_front (k + 1) ks more r.has_it) ∙ ap (list_of (k + 1)) (sym e)) (r.stands job one job_at one_at);
+    stands = λ job one job_at one_at. subst (λ items. Stands Halted one job.budget items runner.progress) (sym (list_front (k + 1) ks more r.has_it) ∙ ap (list_of (k + 1)) (sym e)) (r.stands job one job_at one_at);
   }
 
   pub gathered_more : (left left' : List (Runner M)) (runner : Runner M) (seat seat' : SeatView M) (n : ℕ) → AreSeated Halted turn made jobs all → AreGathered Halted turn made jobs all left seat → length left ≡ n + 1
@@ -81,7 +84,26 @@ module _ {M : Type 0} (Halted : Type 0) (turn : TurnView M) (made : List CreateR
         none = λ p h. ⊎_elim (λ a. let lt = g.none p a in omega (arith, lt, len, len'))
             (λ b. let e : p ≡ runner.number = running.alone p b in omega (arith, e, number, len'))
             (has_either p seat.lists runner.seat.lists (ap (has p) (sym lists) ∙ h));
+        last = λ p h. ⊎_elim (λ a. g.last p a)
+            (λ b. let e : p ≡ runner.number = running.alone p b in let le = running.last in omega (arith, e, le))
+            (has_either p seat.lists runner.seat.lists (ap (has p) (sym lists) ∙ h));
         each = λ k d le lt. dite (ℕ_discrete k n)
             (λ e. subst (λ (x : Runner M × ℕ). HasRun Halted made jobs x.1 x.0 seat'.lists) (λ i. ((at_n d ∙ ap (λ m. slice_index_or all m d) (sym e)) i, sym e i)) (run_here runner n seat.lists seat'.lists running number lists apart))
             (λ ne. run_still (slice_index_or all k d) k seat.lists runner.seat.lists seat'.lists lists (g.each k d (omega (arith, le, ne, len, len')) lt));
       }
+
+-- ---- the call that is noted
+
+some_item : (before : List Item) (x : Item) → before ++ x ∷ [] ≡ [] → ⊥
+some_item [] x e = cc
+some_item (y ∷ before) x e = cc
+
+has_noted : (p : ℕ) (event : Event) (lists : List ProcessList) (before : List Item) (b : Bool) → has p lists ≡ b → list_of p lists ≡ before ++ Stopped p event ∷ [] → has p lists ≡ true
+has_noted p event lists before true is e = is
+has_noted p event lists before false is e = absurd (some_item before (Stopped p event) (sym e ∙ no_list p lists is))
+
+-- it is that of a process whose list is there
+pub named : (stopped : Option (ℕ × Event)) (people : ℕ) (lists : List ProcessList) → ((p : ℕ) → has p lists ≡ true → IsOneOf people p) → IfSome stopped (λ s. (before : List Item) × (list_of s.0 lists ≡ before ++ Stopped s.0 s.1 ∷ []))
+    → IfSome stopped (λ s. IsOneOf people s.0)
+named None people lists one noted = tt
+named (Some s) people lists one noted = one s.0 (has_noted s.0 s.1 lists noted.0 (has s.0 lists) refl noted.1)

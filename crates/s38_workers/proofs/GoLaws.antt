@@ -6,12 +6,15 @@ use Rattle.s38_code.specs.declared.made.CreateResult.{CreateResult}
 use Rattle.s38_code.specs.declared.step.StepFault.{StepFault}
 use Rattle.s38_code.specs.declared.step.StepFault.TheVariants as faults
 use Rattle.s38_process.specs.Process.{ProcessState, RanFrom, absorbed, behind, fresh}
+use Rattle.s38_turn.specs.declared.item.Item.{Item}
+use Rattle.s38_turn.specs.Items.{entries_in}
 use Rattle.s38_workers.specs.declared.hearer.Heard.{Heard}
 use Rattle.s38_workers.specs.declared.hearer.Hearer.{Hearer}
 use Rattle.s38_workers.specs.declared.runner.Progress.{Progress}
 use Rattle.s38_workers.specs.declared.runner.Progress.TheVariants.{Running}
-use Rattle.s38_workers.specs.Asking.{StandsTold, Went}
+use Rattle.s38_workers.specs.Asking.{NotedFrom, StandsTold, Went}
 use Rattle.s38_workers.specs.Going.{IsSoFar, Moved, Stands, progress_behind}
+use Rattle.s38_workers.proofs.NoteLaws.{entries_append, noted_append}
 
 -- ---- the entries of a process
 
@@ -31,17 +34,22 @@ so_far_told Halted there d hearer (Ok None) s = s
 so_far_told Halted there d hearer (Err faults.Stopped) s = s
 so_far_told Halted there d hearer (Err faults.NoMemory) s = s
 
-stands_on : (Halted : Type 0) (made : CreateResult) (budget : ℕ) (h h' : Hearer) (answer : Result (Option Heard) StepFault) (es es' : List Entry) → Went Halted h.process es answer h'.process es' → Stands Halted made budget es (Running h)
-    → Stands Halted made budget es' (progress_behind answer (Running h'))
-stands_on Halted made budget h h' answer es es' w s = record {
-  by_program = subst (RanFrom (fresh made budget)) (sym w.now) (ran_append (fresh made budget) es w.added s.by_program (subst (λ x. RanFrom x w.added) s.so_far w.by_program));
-  so_far = subst (λ there. IsSoFar Halted there (progress_behind answer (Running h')) (fresh made budget))
-      (ap (λ x. behind x w.added) s.so_far ∙ (sym (behind_append (fresh made budget) es w.added) ∙ ap (behind (fresh made budget)) (sym w.now)))
-      (so_far_told Halted (behind h.process w.added) (fresh made budget) h' answer w.stands);
-}
+stands_on : (Halted : Type 0) (made : CreateResult) (budget : ℕ) (h h' : Hearer) (answer : Result (Option Heard) StepFault) (xs xs' : List Item) → Went Halted h.process xs answer h'.process xs' → Stands Halted made budget xs (Running h)
+    → Stands Halted made budget xs' (progress_behind answer (Running h'))
+stands_on Halted made budget h h' answer xs xs' w s =
+    let first = fresh made budget in
+    let es = entries_in xs in
+    let more = entries_in w.added in
+    let now : entries_in xs' ≡ es ++ more = ap entries_in w.now ∙ entries_append xs w.added in
+    record {
+      by_program = subst (RanFrom first) (sym now) (ran_append first es more s.by_program (subst (λ x. RanFrom x more) s.so_far w.by_program));
+      noted = subst (NotedFrom first) (sym w.now) (noted_append first xs w.added s.noted (subst (λ x. NotedFrom x w.added) s.so_far w.noted));
+      so_far = subst (λ there. IsSoFar Halted there (progress_behind answer (Running h')) first) (ap (λ x. behind x more) s.so_far ∙ (sym (behind_append first es more) ∙ ap (behind first) (sym now)))
+          (so_far_told Halted (behind h.process more) first h' answer w.stands);
+    }
 
-pub moved : (Halted : Type 0) (h h' : Hearer) (answer : Result (Option Heard) StepFault) (es es' : List Entry) (old new : Progress) → old ≡ Running h → new ≡ progress_behind answer (Running h') → Went Halted h.process es answer h'.process es'
-    → Moved Halted old es new es'
-moved Halted h h' answer es es' old new was is w = record {
-  stands = λ made budget s. subst (Stands Halted made budget es') (sym is) (stands_on Halted made budget h h' answer es es' w (subst (Stands Halted made budget es) was s));
+pub moved : (Halted : Type 0) (h h' : Hearer) (answer : Result (Option Heard) StepFault) (xs xs' : List Item) (old new : Progress) → old ≡ Running h → new ≡ progress_behind answer (Running h') → Went Halted h.process xs answer h'.process xs'
+    → Moved Halted old xs new xs'
+moved Halted h h' answer xs xs' old new was is w = record {
+  stands = λ made budget s. subst (Stands Halted made budget xs') (sym is) (stands_on Halted made budget h h' answer xs xs' w (subst (Stands Halted made budget xs) was s));
 }

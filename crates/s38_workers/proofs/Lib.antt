@@ -1,3 +1,4 @@
+pub mod NoteLaws
 pub mod AskLaws
 pub mod GoLaws
 pub mod ListLaws

@@ -1,5 +1,5 @@
 -- What a process asks of the machine that it shares, and what it is told.
-use Rattle.std.specs.Prelude.{◌≡◌, ℕ, ◌<◌, ◌≤◌, List, ◌++◌, Option, Some, None, Result, Ok, Err, ⊤}
+use Rattle.std.specs.Prelude.{◌≡◌, ℕ, ◌<◌, ◌≤◌, List, [], ◌∷◌, ◌++◌, Option, Some, None, Result, Ok, Err, ⊤}
 use Rattle.s38_base.specs.declared.fault.NoMemory.{NoMemory}
 use Rattle.s38_code.specs.declared.entry.Entry.{Entry}
 use Rattle.s38_code.specs.declared.event.Event.{Event}
@@ -7,9 +7,12 @@ use Rattle.s38_code.specs.declared.reply.Reply.{Reply}
 use Rattle.s38_code.specs.declared.step.StepFault.{StepFault}
 use Rattle.s38_code.specs.declared.step.StepFault.TheVariants as faults
 use Rattle.s38_process.specs.declared.status.Status.TheVariants.{Ended}
-use Rattle.s38_process.specs.Process.{ProcessState, RanFrom, behind}
+use Rattle.s38_process.specs.Process.{ProcessState, RanFrom, absorbed, behind, event_of}
+use Rattle.s38_turn.specs.declared.item.Item.{Item}
+use Rattle.s38_turn.specs.declared.item.Item.TheVariants.{Entered, Stopped}
 use Rattle.s38_turn.specs.declared.view.ProcessList.{ProcessList}
 use Rattle.s38_turn.specs.Calls.{IsLike}
+use Rattle.s38_turn.specs.Items.{entries_in}
 use Rattle.s38_turn.specs.Lists.{has}
 use Rattle.s38_workers.specs.declared.hearer.Heard.{Heard}
 
@@ -43,9 +46,16 @@ StandsTold Halted there (Ok None) d = there.status ≡ Ended
 StandsTold Halted there (Err faults.Stopped) d = Halted
 StandsTold Halted there (Err faults.NoMemory) d = Unit {0}
 
--- the entries of a process went on by what it asks, and it went on by the replies
-pub record Went (Halted : Type 0) (d : ProcessState) (entries : List Entry) (answer : Result (Option Heard) StepFault) (d' : ProcessState) (entries' : List Entry) : Type 0 where
-  pub added : List Entry
-  pub by_program : RanFrom d added
-  pub now : entries' ≡ entries ++ added
-  pub stands : StandsTold Halted (behind d added) answer d'
+-- each call that is noted as stopped is what the process asks there, behind the entries before it
+abbrev pub NotedFrom : ProcessState → List Item → Type 0
+NotedFrom d [] = Unit {0}
+NotedFrom d (Entered e ∷ items) = NotedFrom (absorbed d e.reply) items
+NotedFrom d (Stopped process event ∷ items) = (event_of d ≡ Some event) × NotedFrom d items
+
+-- the items of a process went on by what it asks, and it went on by the replies
+pub record Went (Halted : Type 0) (d : ProcessState) (items : List Item) (answer : Result (Option Heard) StepFault) (d' : ProcessState) (items' : List Item) : Type 0 where
+  pub added : List Item
+  pub by_program : RanFrom d (entries_in added)
+  pub noted : NotedFrom d added
+  pub now : items' ≡ items ++ added
+  pub stands : StandsTold Halted (behind d (entries_in added)) answer d'

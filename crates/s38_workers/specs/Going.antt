@@ -1,15 +1,16 @@
 -- How far the jobs have come, while they are run.
 use Rattle.std.specs.Prelude.{◌≡◌, ℕ, ◌-◌, ◌<◌, ◌≤◌, true, List, Option, Some, None, Result, Ok, Err, slice_get}
 use Rattle.s38_code.specs.declared.deck.Job.{Job}
-use Rattle.s38_code.specs.declared.entry.Entry.{Entry}
 use Rattle.s38_code.specs.declared.made.CreateResult.{CreateResult}
 use Rattle.s38_code.specs.declared.step.StepFault.{StepFault}
 use Rattle.s38_code.specs.declared.step.StepFault.TheVariants as faults
 use Rattle.s38_process.specs.declared.status.Status.TheVariants.{Ended}
 use Rattle.s38_process.specs.Process.{ProcessState, RanFrom, behind, fresh}
+use Rattle.s38_turn.specs.declared.item.Item.{Item}
 use Rattle.s38_turn.specs.Items.{entries_in}
 use Rattle.s38_turn.specs.Lists.{has, list_of}
 use Rattle.s38_turn.specs.Seats.{IsSeatOf, TurnView}
+use Rattle.s38_workers.specs.Asking.{NotedFrom}
 use Rattle.s38_workers.specs.declared.hearer.Heard.{Heard}
 use Rattle.s38_workers.specs.declared.hearer.Heard.TheVariants.{GoesOn}
 use Rattle.s38_workers.specs.declared.runner.Progress.{Progress}
@@ -37,14 +38,15 @@ IsSoFar Halted there Over d = there.status ≡ Ended
 IsSoFar Halted there (Failed faults.Stopped) d = Halted
 IsSoFar Halted there (Failed faults.NoMemory) d = Unit {0}
 
--- the entries of a job's process are by its program, and it is so far
-pub record Stands (Halted : Type 0) (made : CreateResult) (budget : ℕ) (entries : List Entry) (progress : Progress) : Type 0 where
-  pub by_program : RanFrom (fresh made budget) entries
-  pub so_far : IsSoFar Halted (behind (fresh made budget) entries) progress (fresh made budget)
+-- the items of a job's process are by its program, and it is so far
+pub record Stands (Halted : Type 0) (made : CreateResult) (budget : ℕ) (items : List Item) (progress : Progress) : Type 0 where
+  pub by_program : RanFrom (fresh made budget) (entries_in items)
+  pub noted : NotedFrom (fresh made budget) items
+  pub so_far : IsSoFar Halted (behind (fresh made budget) (entries_in items)) progress (fresh made budget)
 
--- a job went on: where its process stood behind its entries, it stands behind them now
-pub record Moved (Halted : Type 0) (old : Progress) (entries : List Entry) (new : Progress) (entries' : List Entry) : Type 0 where
-  pub stands : (made : CreateResult) (budget : ℕ) → Stands Halted made budget entries old → Stands Halted made budget entries' new
+-- a job went on: where its process stood behind its items, it stands behind them now
+pub record Moved (Halted : Type 0) (old : Progress) (items : List Item) (new : Progress) (items' : List Item) : Type 0 where
+  pub stands : (made : CreateResult) (budget : ℕ) → Stands Halted made budget items old → Stands Halted made budget items' new
 
 -- a job between two events
 pub record IsRunning {M : Type 0} (Halted : Type 0) (turn : TurnView M) (made : List CreateResult) (jobs : List Job) (runner : Runner M) : Type 0 where
@@ -55,7 +57,7 @@ pub record IsRunning {M : Type 0} (Halted : Type 0) (turn : TurnView M) (made : 
   pub own : has runner.number runner.seat.lists ≡ true
   pub alone : (process : ℕ) → has process runner.seat.lists ≡ true → process ≡ runner.number
   pub stands : (job : Job) (one : CreateResult) → slice_get jobs (runner.number - 1) ≡ Some job → slice_get made (runner.number - 1) ≡ Some one
-      → Stands Halted one job.budget (entries_in (list_of runner.number runner.seat.lists)) runner.progress
+      → Stands Halted one job.budget (list_of runner.number runner.seat.lists) runner.progress
 
 -- the same job, further on
 pub record IsFurther {M : Type 0} (Halted : Type 0) (turn : TurnView M) (made : List CreateResult) (jobs : List Job) (old new : Runner M) : Type 0 where

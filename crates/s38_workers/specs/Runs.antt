@@ -1,10 +1,13 @@
 -- Whole runs on threads.
-use Rattle.std.specs.Prelude.{◌≡◌, ℕ, ◌+◌, ◌<◌, ◌≤◌, true, List, [], Some, length, slice_get, slice_index_or, take}
+use Rattle.std.specs.Prelude.{◌≡◌, ℕ, ◌+◌, ◌-◌, ◌<◌, ◌≤◌, true, List, [], Some, length, slice_get, slice_index_or, take}
 use Rattle.s38_code.specs.declared.deck.Job.{Job}
+use Rattle.s38_code.specs.declared.entry.Entry.{Entry}
+use Rattle.s38_code.specs.declared.event.Event.{Event}
 use Rattle.s38_code.specs.declared.made.CreateResult.{CreateResult}
 use Rattle.s38_code.specs.declared.step.StepFault.{StepFault}
+use Rattle.s38_code.specs.History.{entries_of}
+use Rattle.s38_process.specs.Process.{behind, event_of, fresh}
 use Rattle.s38_turn.specs.declared.view.ProcessList.{ProcessList}
-use Rattle.s38_turn.specs.Items.{entries_in}
 use Rattle.s38_turn.specs.Lists.{has, list_of}
 use Rattle.s38_turn.specs.Seats.{IsSeatOf, SeatView, TurnView}
 use Rattle.s38_workers.specs.Going.{IsFurther, IsRunning, Stands}
@@ -43,7 +46,7 @@ pub record AreSeated {M : Type 0} (Halted : Type 0) (turn : TurnView M) (made : 
 -- the list of a process is that of the job
 pub record HasRun {M : Type 0} (Halted : Type 0) (made : List CreateResult) (jobs : List Job) (k : ℕ) (runner : Runner M) (lists : List ProcessList) : Type 0 where
   pub has_it : has (k + 1) lists ≡ true
-  pub stands : (job : Job) (one : CreateResult) → slice_get jobs k ≡ Some job → slice_get made k ≡ Some one → Stands Halted one job.budget (entries_in (list_of (k + 1) lists)) runner.progress
+  pub stands : (job : Job) (one : CreateResult) → slice_get jobs k ≡ Some job → slice_get made k ≡ Some one → Stands Halted one job.budget (list_of (k + 1) lists) runner.progress
 
 -- of all jobs some are left, and the seat has the processes of the others
 pub record AreGathered {M : Type 0} (Halted : Type 0) (turn : TurnView M) (made : List CreateResult) (jobs : List Job) (all left : List (Runner M)) (seat : SeatView M) : Type 0 where
@@ -51,4 +54,14 @@ pub record AreGathered {M : Type 0} (Halted : Type 0) (turn : TurnView M) (made 
   pub left_is : left ≡ take (length left) all
   pub count : length left ≤ length all
   pub none : (process : ℕ) → has process seat.lists ≡ true → length left < process
+  pub last : (process : ℕ) → has process seat.lists ≡ true → process ≤ turn.processes
   pub each : (k : ℕ) (d : Runner M) → length left ≤ k → k < length all → HasRun Halted made jobs k (slice_index_or all k d) seat.lists
+
+-- ---- the call that was answered Stopped
+
+-- a call of one of the jobs' processes, for what this process asks next behind its entries
+pub record IsNextOf (made : List CreateResult) (jobs : List Job) (history : List Entry) (call : ℕ × Event) : Type 0 where
+  pub first : 0 < call.0
+  pub last : call.0 ≤ length jobs
+  pub asks : (job : Job) (one : CreateResult) → slice_get jobs (call.0 - 1) ≡ Some job → slice_get made (call.0 - 1) ≡ Some one
+      → event_of (behind (fresh one job.budget) (entries_of call.0 history)) ≡ Some call.1

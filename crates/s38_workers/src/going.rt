@@ -1,6 +1,5 @@
 //! One process goes on.
 ghost use Rattle.std.specs.Prelude.{◌≡◌, ◌-◌, ◌<◌, ◌≤◌, length, true};
-ghost use Rattle.s38_turn.specs.Items.{entries_in};
 ghost use Rattle.s38_turn.specs.Lists.{has, list_of};
 ghost use Rattle.s38_turn.specs.Seats.{IsSeatOf};
 ghost use Rattle.s38_workers.specs.Asking.{AllMayAsk, HasSame, WasStopped, Went};
@@ -32,7 +31,7 @@ fn ask<M: Stepper + Drop, R: Wait, G: Gate>(
     requires may { AllMayAsk M.may_ask (M.origin turn.now.machine) turn.now.processes }
     ensures seat { IsSeatOf turn.now seat.new }
     ensures processes { HasSame seat.old.lists seat.new.lists }
-    ensures went { Went (WasStopped M.is_sound M.origin M.steps turn.now.machine) hearer.old.process (entries_in (list_of number seat.old.lists)) result hearer.new.process (entries_in (list_of number seat.new.lists)) }
+    ensures went { Went (WasStopped M.is_sound M.origin M.steps turn.now.machine) hearer.old.process (list_of number seat.old.lists) result hearer.new.process (list_of number seat.new.lists) }
 {
     match hearer.process.next() {
         Err(_) => Err(StepFault::NoMemory),
@@ -61,7 +60,7 @@ fn move_on<M: Stepper + Drop, R: Wait, G: Gate>(
     requires may { AllMayAsk M.may_ask (M.origin turn.now.machine) turn.now.processes }
     ensures seat { IsSeatOf turn.now seat.new }
     ensures processes { HasSame seat.old.lists seat.new.lists }
-    ensures moved { Moved (WasStopped M.is_sound M.origin M.steps turn.now.machine) progress.old (entries_in (list_of number seat.old.lists)) progress.new (entries_in (list_of number seat.new.lists)) }
+    ensures moved { Moved (WasStopped M.is_sound M.origin M.steps turn.now.machine) progress.old (list_of number seat.old.lists) progress.new (list_of number seat.new.lists) }
 {
     let told = match progress {
         Progress::Running(hearer) => ask(rt, turn, gate, number, seat, hearer),

@@ -1,7 +1,8 @@
-ghost use Rattle.std.specs.Prelude.{◌≡◌, ◌-◌, ◌<◌, ◌^◌, [], None, length};
+ghost use Rattle.std.specs.Prelude.{◌≡◌, ◌-◌, ◌<◌, ◌^◌, [], IfSome, None, length};
 ghost use Rattle.s38_run.specs.Whole.{AllByProgram, AllRan};
 ghost use Rattle.s38_run.specs.declared.run_end.RunEnd.{RunEnd};
 ghost use Rattle.s38_workers.specs.Asking.{AllMayAsk, WasStopped};
+ghost use Rattle.s38_workers.specs.Runs.{IsNextOf};
 
 use crate::gate::Gate;
 use crate::passes::passes_of;
@@ -37,6 +38,7 @@ pub fn run_jobs<M: Stepper + Drop + Send, R: Threads + Wait + Sync, G: Gate + Sy
     ensures by_program { AllByProgram made.now jobs.now (M.history result.0) }
     ensures complete { result.1 ≡ RunEnd.Complete → AllRan made.now jobs.now (M.history result.0) }
     ensures stopped { result.1 ≡ RunEnd.Stopped → WasStopped M.is_sound M.origin M.steps machine }
+    ensures asked { IfSome (M.stopped result.0) (λ call. IsNextOf made.now jobs.now (M.history result.0) call) }
 {
     let Ok(mut runners) = Vec::with_capacity(alloc, jobs.len()) else {
         return (machine, RunEnd::NoMemory);

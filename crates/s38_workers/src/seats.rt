@@ -1,9 +1,10 @@
 //! The seats of the processes: one for each, and all in one again.
-ghost use Rattle.std.specs.Prelude.{◌≡◌, ◌+◌, ◌-◌, ◌<◌, ◌≤◌, ◌^◌, ◌++◌, ℕ, List, [], Some, false, length, slice_get, slice_index_or, vec_capacity};
+ghost use Rattle.std.specs.Prelude.{◌≡◌, ◌+◌, ◌-◌, ◌<◌, ◌≤◌, ◌^◌, ◌++◌, ℕ, IfSome, List, [], Some, false, length, slice_get, slice_index_or, vec_capacity};
 ghost use Rattle.s38_code.specs.declared.deck.Job.{Job};
 ghost use Rattle.s38_code.specs.declared.made.CreateResult.{CreateResult};
-ghost use Rattle.s38_code.specs.History.{entries_of};
+ghost use Rattle.s38_turn.specs.Items.{items_by, items_of};
 ghost use Rattle.s38_turn.specs.Lists.{has};
+ghost use Rattle.s38_turn.specs.Rule.{IsOneOf};
 ghost use Rattle.s38_turn.specs.Seats.{IsSeatOf};
 ghost use Rattle.s38_workers.specs.Asking.{WasStopped};
 ghost use Rattle.s38_workers.specs.Going.{IsRunning, Stands};
@@ -101,7 +102,7 @@ fn gather_all<M: Stepper + Drop>(
     }
 }
 
-/// Gathers the seats, and ends the turn: the entries of each process are those of its job.
+/// Gathers the seats, and ends the turn: the items of each process are those of its job.
 pub fn closed<M: Stepper + Drop>(
     turn: Turn<M>,
     seat: Seat<M>,
@@ -116,7 +117,8 @@ pub fn closed<M: Stepper + Drop>(
     ensures sound { M.is_sound result }
     ensures origin { M.origin result ≡ M.origin turn.machine }
     ensures stands { (k : ℕ) (d : Runner M) (job : Job) (one : CreateResult) → k < length runners.items → slice_get jobs.now k ≡ Some job → slice_get made.now k ≡ Some one
-        → Stands (WasStopped M.is_sound M.origin M.steps turn.machine) one job.budget (entries_of (k + 1) (M.history result)) (slice_index_or runners.items k d).progress }
+        → Stands (WasStopped M.is_sound M.origin M.steps turn.machine) one job.budget (items_by (k + 1) (items_of M.history M.stopped result)) (slice_index_or runners.items k d).progress }
+    ensures named { IfSome (M.stopped result) (λ call. IsOneOf turn.processes call.0) }
 {
     let mut seat = seat;
     gather_all(&turn, &mut seat, jobs, made, runners);

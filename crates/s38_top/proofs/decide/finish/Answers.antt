@@ -10,8 +10,8 @@ use Rattle.s38_rules.specs.State.{State}
 use Rattle.s38_step_parts.specs.Stepping.{HaveHeaders}
 use Rattle.s38_stores.specs.Crashes.{DuringCall, IsBetween}
 use Rattle.s38_vault.specs.Content.{Content}
-use Rattle.s38_top.proofs.AgainLaws.{state_fit}
-use Rattle.s38_top.proofs.OverLaws.{came_kept, came_stopped, closes, given_back, going_faultless, left_kept, left_off, reported_kept, reported_stopped, stopped_rose}
+use Rattle.s38_stored_machine.proofs.StateLaws.{stored_fit}
+use Rattle.s38_top.proofs.OverLaws.{came_kept, came_stopped, closes, given_back, going_faultless, left_kept, left_off, reported_kept, reported_stopped, run_all, run_on, stopped_rose}
 use Rattle.s38_top.specs.Runs.{kept_of}
 use Rattle.s38_top.specs.declared.outcome.Outcome.TheVariants.{NoMemory}
 use Rattle.s38_top.specs.declared.outcome.Whole.{Whole}
@@ -25,7 +25,7 @@ of_whole-requires-clause-end g c =
     (closes c.args.turns c.args.run.deck x c.args.run.end c.requires c.end-vault-2.result given (subst (λ (s : State). IsLawful s.held) (c.state.view_is ∙ c.end-vault.ensures.state) c.len-objects.ensures.lawful))
 
 pub of_whole-requires-clause-fit : goal.of_whole-requires-clause-fit
-of_whole-requires-clause-fit g c = subst (λ (s : State). All IsFit s.held.objects) (sym c.end-vault.ensures.state) (state_fit c.args.run.machine.machine.state c.requires.sound.state)
+of_whole-requires-clause-fit g c = subst (λ (s : State). All IsFit s.held.objects) (sym c.end-vault.ensures.state) (stored_fit c.args.run.machine.machine.state c.requires.sound.state)
 
 pub of_whole-requires-clause-faultless : goal.of_whole-requires-clause-faultless
 of_whole-requires-clause-faultless g c =
@@ -50,6 +50,7 @@ returns-in-Complete-clause-left g c =
     left_kept c.args.turns c.args.run.deck x c.args.run.end c.requires c.end-vault-2.result given new c.of_whole.ensures.placed c.restart_laws.ensures c.of_whole.result.outcome
     (reported_kept c.args.turns c.args.run.deck x c.args.run.end c.requires c.end-vault-2.result given new c.of_whole.ensures.placed left refl c.end-vault.ensures.history c.end-vault.ensures.marks c.in-Complete.is c.end-vault.ensures.state
     c.of_whole.ensures.goes c.of_whole.result.outcome c.of_whole.ensures.end)
+    (λ not. run_all c.args.turns c.args.run.deck x c.args.run.end c.requires c.end-vault-2.result given c.in-Complete.is)
     c.closing_laws.ensures
     c.in-Complete.is
     (subst (λ (s : State). HaveHeaders (kept_of s)) c.end-vault.ensures.state c.of_whole.ensures.headers)
@@ -78,10 +79,11 @@ returns-in-Stopped-clause-left g c =
     left_off c.args.turns c.args.run.deck x c.args.run.end c.requires c.end-vault-2.result given new c.of_stopped.ensures.placed c.restart_laws.ensures c.of_stopped.result.outcome
     (λ not. reported_stopped c.args.turns c.args.run.deck x c.args.run.end c.requires c.end-vault-2.result given new c.of_stopped.ensures.placed left refl c.end-vault.ensures.history c.end-vault.ensures.marks
     c.of_stopped.result.outcome c.of_stopped.ensures.outcome)
+    (λ not. run_on c.args.turns c.args.run.deck x c.args.run.end c.requires c.end-vault-2.result given c.in-Stopped.is)
     c.of_stopped.ensures.disk
 
 pub returns-in-NoMemory-clause-left : goal.returns-in-NoMemory-clause-left
 returns-in-NoMemory-clause-left g c =
     let x = c.args.run.machine in
     let given = given_back x c.end-vault.result.vault c.end-vault-2.result c.end-vault.ensures.vault c.end-vault-2.ensures.vault c.end-vault-2.ensures.watched c.most-most.ensures.limits in
-    left_off c.args.turns c.args.run.deck x c.args.run.end c.requires c.end-vault-2.result given (g.D.Disk.view c.release.result) c.release.ensures.layout c.restart_laws.ensures NoMemory (λ not. absurd (not refl)) c.release.ensures.disk
+    left_off c.args.turns c.args.run.deck x c.args.run.end c.requires c.end-vault-2.result given (g.D.Disk.view c.release.result) c.release.ensures.layout c.restart_laws.ensures NoMemory (λ not. absurd (not refl)) (λ not. absurd (not refl)) c.release.ensures.disk

@@ -2,9 +2,11 @@ use Rattle.std.proofs.Common.{◌∙◌, ℕ, length, subst}
 use Rattle.s38_command.specs.declared.turns.Turns.TheVariants.{Serial}
 use Rattle.s38_rules.specs.State.{State}
 use Rattle.s38_run.specs.Picked.{Picked}
-use Rattle.s38_run.specs.Pickers.{number_after, number_answer, picks_of}
-use Rattle.s38_stored_machine.specs.Seen.{run_of}
+use Rattle.s38_run.specs.Pickers.{behind_picks, number_after, number_answer, picks_of}
+use Rattle.s38_run.specs.Whole.{WasHalted}
+use Rattle.s38_stored_machine.specs.Seen.{run_of, stopped_of}
 use Rattle.s38_top.proofs.BegunLaws.{as_many, few_jobs, halted_stopped, run_begun, same_origin, went_over}
+use Rattle.s38_top.proofs.NextLaws.{halted_on}
 use Rattle.s38_top.proofs.stored.run_over.Goals as goal
 
 pub serial-machine-requires-clause-begun : goal.serial-machine-requires-clause-begun
@@ -20,9 +22,16 @@ pub returns-clause-went : goal.returns-clause-went
 returns-clause-went g c =
     let e = c.serial-machine.ensures in
     let y = c.serial-machine.result.0 in
+    let made = c.as_slice-2.result.now in
+    let jobs = c.as_slice.result.now in
+    let begins = c.new-picker.ensures ∙ c.from.ensures in
+    let picked = subst (λ (n : ℕ). Picked (picks_of number_answer number_after (length (run_of y).history) n) (run_of y).origin (run_of y).history) begins e.picked in
     went_over c.args.started.deck c.args.started.made.items c.args.started.machine c.requires c.as_slice.result.now c.as_slice.ensures.items
     (Serial c.args.pick) y c.serial-machine.result.1 e.origin c.as_slice-2.result.now c.as_slice-2.ensures.value
     e.sound
     (subst (λ (o : State). Picked (picks_of number_answer number_after (length (run_of y).history) c.args.pick) o (run_of y).history) (same_origin y.ending y.machine)
-    (subst (λ (n : ℕ). Picked (picks_of number_answer number_after (length (run_of y).history) n) (run_of y).origin (run_of y).history) (c.new-picker.ensures ∙ c.from.ensures) e.picked))
+    picked)
     e.by_program (λ is. (e.going is, e.ran is)) (λ is. let h = e.stopped is in halted_stopped y.ending y.machine.history (h.process, h.event) h.is)
+    (λ is.
+        halted_on made jobs c.args.pick y.ending y.machine picked e.by_program
+        (subst (λ (n : ℕ). WasHalted made jobs (number_answer (behind_picks number_after (length (run_of y).history) n)) (run_of y) (stopped_of y)) begins (e.stopped is)))

@@ -1,7 +1,8 @@
 use denote.Param.Send.{sendable}
 use Rattle.std.proofs.Common.{◌∙◌, sym}
 use Rattle.s38_command.specs.declared.turns.Turns.TheVariants.{Workers}
-use Rattle.s38_top.proofs.BegunLaws.{as_many, few_jobs, may_ask, none_stopped, over_complete, over_stopped, run_empty, went_over}
+use Rattle.s38_top.proofs.BegunLaws.{as_many, few_jobs, may_ask, none_stopped, over_complete, over_stopped, run_empty, some_entry, went_over}
+use Rattle.s38_top.proofs.NextLaws.{shared_on}
 use Rattle.s38_top.proofs.SentLaws.{over_send}
 use Rattle.s38_top.proofs.stored.run_shared_over.Goals as goal
 
@@ -33,3 +34,6 @@ returns-clause-went g c =
     e.sound tt e.by_program
     (λ is. let h = over_complete c.ending.result c.run_jobs-machine.result.1 (sym c.end_over-end.ensures ∙ is) in (sym c.ending.ensures ∙ h.0, e.complete h.1))
     (λ is. sym c.ending.ensures ∙ over_stopped c.ending.result c.run_jobs-machine.result.1 (sym c.end_over-end.ensures ∙ is))
+    (λ is.
+        let stopped = sym c.ending.ensures ∙ over_stopped c.ending.result c.run_jobs-machine.result.1 (sym c.end_over-end.ensures ∙ is) in
+        (tt, shared_on c.as_slice-2.result.now c.as_slice.result.now y.ending y.machine stopped (some_entry y.ending y.machine _ _ e.sound.ending stopped) e.by_program e.asked))

@@ -1,11 +1,8 @@
-use Rattle.std.proofs.Common.{arith, ◌≡◌, ◌+◌, ◌-◌, ◌<◌, length, slice_index_or, true, sym, ap, subst, ◌∙◌}
-use Rattle.s38_code.specs.History.{entries_of}
-use Rattle.s38_turn.specs.Items.{items, entries_in}
-use Rattle.s38_turn.specs.Lists.{has, list_of}
-use Rattle.s38_turn.proofs.HistoryLaws.{entries_are, own_entries}
+use Rattle.std.proofs.Common.{arith, ◌≡◌, ◌+◌, ◌-◌, ◌<◌, length, slice_index_or, true, sym, subst}
+use Rattle.s38_turn.specs.Lists.{has}
 use Rattle.s38_workers.specs.Asking.{WasStopped}
 use Rattle.s38_workers.specs.Going.{Stands}
-use Rattle.s38_workers.proofs.GatherLaws.{head_of}
+use Rattle.s38_workers.proofs.GatherLaws.{head_of, named}
 use Rattle.s38_workers.proofs.seats.closed.Goals as goal
 
 pub close-requires-clause-all : goal.close-requires-clause-all
@@ -24,7 +21,12 @@ returns-clause-stands g c k d job one lt job_at one_at =
     let made = c.gather_all.ensures in
     let none = made.1 in
     let run = made.2.each k d (omega (arith, none)) lt in
-    let m = c.close.result in
-    let own : entries_in (list_of (k + 1) c.gather_all.new.seat.lists) ≡ entries_of (k + 1) (S.history m) =
-    ap entries_in (sym (c.close.ensures.lists (k + 1))) ∙ (own_entries (k + 1) (items (S.history m) (S.stopped m)) ∙ ap (entries_of (k + 1)) (entries_are (S.history m) (S.stopped m))) in
-    subst (λ es. Stands (WasStopped S.is_sound S.origin S.steps c.args.turn.machine) one job.budget es (slice_index_or c.args.runners.items k d).progress) own (run.stands job one job_at one_at)
+    subst (λ items. Stands (WasStopped S.is_sound S.origin S.steps c.args.turn.machine) one job.budget items (slice_index_or c.args.runners.items k d).progress) (sym (c.close.ensures.lists (k + 1))) (run.stands job one job_at one_at)
+
+pub returns-clause-named : goal.returns-clause-named
+returns-clause-named g c =
+    let S = g.M.Stepper in
+    let made = c.gather_all.ensures in
+    let none = made.1 in
+    named (S.stopped c.close.result) c.args.turn.processes c.gather_all.new.seat.lists
+    (λ p h. (let lt = made.2.none p h in omega (arith, lt), made.2.last p h)) c.close.ensures.stopped
