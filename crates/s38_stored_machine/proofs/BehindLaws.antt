@@ -144,16 +144,16 @@ module _ {V : Type 0} (view : V → VaultView) (holds : V → Content → Type 0
     abbrev new : Durable
     new = durable d m.origin (m.history ++ one ∷ [])
 
-    is_old : IsKeptOf s old
+    pub is_old : IsKeptOf s old
     is_old = history_kept laws m.origin d [] m.history s of.kept is.sound.legal
 
-    trails_old : IsTrailOf s old
+    pub trails_old : IsTrailOf s old
     trails_old = history_trail laws m.origin d [] m.history s of.kept of.trail is.sound.legal
 
-    short_old : AreShort old
+    pub short_old : AreShort old
     short_old = kept.short
 
-    held : HoldsOf holds x.vault old
+    pub held : HoldsOf holds x.vault old
     held = subst (λ (k : Ending). HoldsWhile holds k x.vault old) going kept.now
 
     crash : (view x.first).shape.most ≡ most_changes → (k : ℕ) (n : Content) → (view x.first).moment ≤ k → k ≤ (view x.vault).moment → leaves x.vault k n → IsKeptPrefix d m.origin m.history m.marks k n
@@ -175,7 +175,7 @@ module _ {V : Type 0} (view : V → VaultView) (holds : V → Content → Type 0
     done_by (Signal signal) same does = absurd does
     done_by MustWait same does = absurd does
 
-    done_is : IsDone (step s p e).reply → new ≡ durable_after (forced s p e) old t
+    pub done_is : IsDone (step s p e).reply → new ≡ durable_after (forced s p e) old t
     done_is does = new_is ∙ done_by (step s p e).reply refl does
 
     -- behind another
@@ -195,7 +195,7 @@ module _ {V : Type 0} (view : V → VaultView) (holds : V → Content → Type 0
     short_by (inl not) = subst (λ (y : Durable). AreShort y) (sym (other_is not)) short_old
     short_by (inr does) = subst (λ (y : Durable). AreShort y) (sym (done_is does)) (short_on laws s p e old is_old does (stored_bodies t can) short_old)
 
-    short_new : AreShort new
+    pub short_new : AreShort new
     short_new = short_by (is_done (step s p e).reply)
 
     -- and all can be read again, if what is forced is
@@ -252,7 +252,7 @@ module _ {V : Type 0} (view : V → VaultView) (holds : V → Content → Type 0
     -- ---- where something is
 
     module _ (does : IsDone (step s p e).reply) (v : V) (k : Ending) (keeps : KeepsStep view holds leaves x.vault v t.held t.units (numbered (forced s p e)) k) where
-      precedes : Precedes t.held t.units held.content old t
+      pub precedes : Precedes t.held t.units held.content old t
       precedes = goes_before laws s p e old is_old does held.content held.headers held.stands (begins_on laws s p e old is_old does trails_old.trailing)
 
       due : IsDue (numbered (forced s p e)) old t
@@ -264,7 +264,7 @@ module _ {V : Type 0} (view : V → VaultView) (holds : V → Content → Type 0
       kept_is : durable_after (numbered (forced s p e)) old t ≡ new
       kept_is = numbered_same laws s p e old is_old does ∙ sym (done_is does)
 
-      kept_now : k ≡ Going → HoldsOf holds v new
+      pub kept_now : k ≡ Going → HoldsOf holds v new
       kept_now goes = subst (λ (y : Durable). HoldsOf holds v y) kept_is (keeps.kept goes held.content old t held.held precedes due)
 
       fits : (view x.first).shape.most ≡ most_changes → HaveHeaders (durable_after (numbered (forced s p e)) old t)

@@ -63,15 +63,17 @@ pub keeps_step : {V : Type 0} (view : V → VaultView) (holds : V → Content �
     → ((m : Content) (d : Durable) (s : State) → holds old m → Precedes h us m d s → IsDue all d s → length (first_changes (view old).shape.most (durable_after all d s) (object_changes all (get m) (durable_after all d s))) ≤ (view old).shape.most
     → (t : ℕ) (n : Content) → (view old).moment < t → t ≤ (view new).moment → leaves new t n → Stands n d ⊎ (Stands n (raised d s) ⊎ StandsBut n (durable_after all d s)))
     → ((m : Content) (d : Durable) (s : State) → holds old m → Precedes h us m d s → IsDue all d s → (view old).moment < (view new).moment → HaveHeaders (durable_after all d s))
-    → ((m n : Content) → holds new m → leaves new (view new).moment n → n ≡ m)
+    → ((m n : Content) → holds old m → holds old n → m ≡ n) → ((m n : Content) → holds new m → leaves new (view new).moment n → n ≡ m)
     → ((t : ℕ) (m : Content) → t ≤ (view old).moment → leaves old t m ↔ leaves new t m) → (view old).moment ≤ (view new).moment → (view new).shape ≡ (view old).shape
     → HasCauseOf (view old).faults (view new).faults r fails.Failed → OnOk r ((view new).faults ≡ (view old).faults) → KeepsStep view holds leaves old new h us all ending
-keeps_step view holds leaves old new h us all r ending is again stands held headers once moved present past later shape cause count = record {
+keeps_step view holds leaves old new h us all r ending is again stands held headers once moved one present past later shape cause count = record {
   again = again;
   kept = λ goes m d s holds_old precedes due.
       let ok = is_ok goes in
       let put = went_on r held ok m d s holds_old precedes in
       record { content = put_forced all m (durable_after all d s); held = put; stands = went_on r stands ok m (put_forced all m (durable_after all d s)) d s holds_old put precedes due; headers = went_on r headers ok m d s holds_old precedes due };
+  put = λ goes m d s holds_old precedes. went_on r held (is_ok goes) m d s holds_old precedes;
+  one = one;
   during = λ m d s holds_old precedes due fits t n low high left.
       between_but n d s (durable_after all d s) (once m d s holds_old precedes due (fits (moved m d s holds_old precedes due (omega (arith, low, high)))) t n low high left);
   present = present;

@@ -6,6 +6,7 @@ mod KeptLaws
 mod StartLaws
 pub mod BehindLaws
 mod SettledLaws
+mod FewLaws
 pub mod WantLaws
 pub mod SentLaws
 mod AskLaws

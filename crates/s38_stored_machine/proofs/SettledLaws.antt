@@ -183,7 +183,7 @@ module _ {V : Type 0} (view : V → VaultView) (holds : V → Content → Type 0
   nothing_by false enters nothing =
       subst (λ (r : Run). Behind (record { machine = r; vault = x.vault; first = x.first; ending = x.ending }) (Ok asked)) (sym (after_silent m p e enters)) (silent enters)
 
-  takes : (one : Forced) (more : List Forced) → one ∷ more ≡ kept_anew m.state p e → (IsDone (step m.state p e).reply → ⊥) ⊎ IsDone (step m.state p e).reply → IsDone (step m.state p e).reply
+  pub takes : (one : Forced) (more : List Forced) → one ∷ more ≡ kept_anew m.state p e → (IsDone (step m.state p e).reply → ⊥) ⊎ IsDone (step m.state p e).reply → IsDone (step m.state p e).reply
   takes one more same (inl not) = absurd (let h : one ∷ more ≡ [] = same ∙ kept_none m.state p e not in cc)
   takes one more same (inr does) = does
 

@@ -18,7 +18,7 @@ use Rattle.s38_rules.specs.State.{State}
 use Rattle.s38_rules.specs.declared.object.Object.{Object}
 use Rattle.s38_step_parts.specs.Numbers.{numbered}
 use Rattle.s38_step_parts.specs.Leftovers.{first_changes}
-use Rattle.s38_step_parts.specs.Stepping.{HaveHeaders, IsDue, Precedes, object_changes}
+use Rattle.s38_step_parts.specs.Stepping.{HaveHeaders, IsDue, Precedes, object_changes, put_forced}
 use Rattle.s38_step_parts.specs.declared.fault.ForceFault.{ForceFault}
 use Rattle.s38_step_parts.specs.declared.fault.ForceFault.TheVariants as fails
 use Rattle.s38_vault.specs.Content.{Content}
@@ -46,6 +46,10 @@ pub record KeepsStep {V : Type 0} (view : V → VaultView) (holds : V → Conten
   pub again : (n : ℕ) (o : Object) → is_forced n all ≡ true → object h n ≡ Some o → IsAgain o
   -- where it does, it holds what is durable behind the step
   pub kept : ending ≡ Going → (m : Content) (d : Durable) (s : State) → holds old m → Precedes h us m d s → IsDue all d s → HoldsOf holds new (durable_after all d s)
+  -- and that is what it held, with what differs of the ceiling and of the objects put into it
+  pub put : ending ≡ Going → (m : Content) (d : Durable) (s : State) → holds old m → Precedes h us m d s → holds new (put_forced all m (durable_after all d s))
+  -- it held one content
+  pub one : (m n : Content) → holds old m → holds old n → m ≡ n
   -- a crash leaves what was durable before the step, or that with the ceiling, or what is durable behind it
   pub during : (m : Content) (d : Durable) (s : State) → holds old m → Precedes h us m d s → IsDue all d s
       → (HaveHeaders (durable_after all d s) → FitsOnePut (view old).shape.most m all (durable_after all d s))

@@ -3,3 +3,4 @@ pub mod Sound
 pub mod Keeping
 pub mod Laws
 pub mod Asking
+pub mod Commits

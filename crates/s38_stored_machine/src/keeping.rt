@@ -45,6 +45,8 @@ pub fn keep<V: Vault>(
     let forced = numbered.as_slice();
     // Its contract says that what is forced is read again.
     forced_are_readable(objects, forced);
+    // Its contract says that the vault holds one content.
+    let _before = vault.moment();
     let kept = force(alloc, vault, objects, units, forced);
     // Its contract says that a crash now leaves what is held.
     let _moment = vault.moment();

@@ -10,6 +10,7 @@ ghost use Rattle.s38_rules.specs.State.{ready_list};
 ghost use Rattle.s38_rules.specs.Step.{step};
 ghost use Rattle.s38_step_parts.specs.Numbers.{numbered};
 ghost use Rattle.s38_step_parts.specs.Stepping.{AreNumbers};
+ghost use Rattle.s38_stored_machine.specs.Commits.{CommitsFew};
 ghost use Rattle.s38_stored_machine.specs.Keeping.{IsSettled};
 ghost use Rattle.s38_stored_machine.specs.Seen.{beginning_of, run_of, stopped_of};
 ghost use Rattle.s38_stored_machine.specs.Sound.{CanBeStored, IsSoundOver};
@@ -23,6 +24,7 @@ use s38_code::{Asked, Checked, Entry, Event, Job, StepFault};
 use s38_extents::{Forcings, Room};
 use s38_machine::{Machine, State};
 use s38_objects::Objects;
+use s38_put_laws::a_commit_puts_few_parts;
 use s38_vault::Vault;
 use std::alloc::Global;
 use std::marker::Model;
@@ -120,7 +122,8 @@ impl<V: Vault> StoredMachine<V> {
     }
 
     /// Answers one event of a job's process by one step of the machine. What the step forces is kept in the vault before the
-    /// answer. Where the vault fails, or memory is refused, the step has no answer, and the history is as it was.
+    /// answer. Where the vault fails, or memory is refused, the step has no answer, and the history is as it was. A COMMIT of
+    /// a unit that takes effect puts few parts.
     pub fn ask(&mut self, process: u32, event: Event) -> Result<Asked, StepFault>
         requires sound { IsSoundOver V.view V.holds V.leaves self.old }
         requires going { self.old.ending ≡ Ending.Going }
@@ -135,8 +138,10 @@ impl<V: Vault> StoredMachine<V> {
         ensures marks { OnErr result ((run_of self.new).marks ≡ (run_of self.old).marks) }
         ensures stopped { IsErrOf result StepFault.Stopped → stopped_of self.new ≡ Some (process, event) }
         ensures refused { IsErrOf result StepFault.NoMemory → stopped_of self.new ≡ stopped_of self.old }
+        ensures commits { OnOk result (CommitsFew V.holds self.old self.new process event) }
     {
         durable_laws();
+        a_commit_puts_few_parts();
         match self.machine.ask_anew(process, event) {
             Err(_) => Err(StepFault::NoMemory),
             Ok((asked, all)) => self.settle(asked, &all),

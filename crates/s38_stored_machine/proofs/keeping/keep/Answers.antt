@@ -20,4 +20,4 @@ returns g c =
     let S = g.V.Vault in
     subst (λ (all : List Forced). KeepsStep S.view S.holds S.leaves c.args.vault.now c.force-kept.new.vault c.args.objects.now c.args.units.now all c.ending_of.result) (c.as_slice-forced.ensures.value ∙ c.numbered-numbered.ensures)
     (keeps_step S.view S.holds S.leaves c.args.vault.now c.force-kept.new.vault c.args.objects.now c.args.units.now _ c.force-kept.result c.ending_of.result c.ending_of.ensures c.forced_are_readable.ensures
-    f.stands f.holds f.headers f.once f.moved c.moment-moment.ensures.present f.past f.later f.shape f.cause f.count)
+    f.stands f.holds f.headers f.once f.moved c.moment-before.ensures.one c.moment-moment.ensures.present f.past f.later f.shape f.cause f.count)

@@ -1,5 +1,5 @@
 use Rattle.std.proofs.Common.{◌≡◌, All, List, ap, subst, sym, ◌∙◌}
-use Rattle.std.specs.Prelude.{IfOk, Some}
+use Rattle.std.specs.Prelude.{IfOk, OnOk, Some}
 use Rattle.s38_code.specs.Asking.{reply_by}
 use Rattle.s38_kept_laws.proofs.KeepLaws.{DurableLaws}
 use Rattle.s38_image_printing.specs.Parts.{CanSettle}
@@ -10,10 +10,12 @@ use Rattle.s38_rules.specs.State.{State}
 use Rattle.s38_rules.specs.Step.{step}
 use Rattle.s38_step_parts.specs.Numbers.{numbered}
 use Rattle.s38_step_parts.specs.Stepping.{AreNumbers}
+use Rattle.s38_stored_machine.specs.Commits.{CommitsFew}
 use Rattle.s38_stored_machine.specs.Keeping.{IsSettled}
 use Rattle.s38_stored_machine.specs.Seen.{StoredView, run_of}
 use Rattle.s38_stored_machine.specs.Sound.{CanBeStored, IsSoundOver}
 use Rattle.s38_stored_machine.specs.declared.ending.Ending.TheVariants.{Going}
+use Rattle.s38_stored_machine.proofs.FewLaws.{CommitLaws, few_settled}
 use Rattle.s38_stored_machine.proofs.SettledLaws.{IsBehind, after_state, behind_settled, replied, same_beginning}
 use Rattle.s38_stored_machine.proofs.StateLaws.{anew_numbers, step_stored, stored_fit, stored_settles}
 use Rattle.s38_stored_machine.proofs.machine.StoredMachine.ask.Goals as goal
@@ -39,6 +41,7 @@ pub returns-in-Ok : goal.returns-in-Ok
 returns-in-Ok g c =
     let S = g.V.Vault in
     let laws : DurableLaws = record { follows = c.durable_laws.ensures.follows; counts = c.durable_laws.ensures.counts; stays = c.durable_laws.ensures.stays } in
+    let commit_laws : CommitLaws = record { few = c.a_commit_puts_few_parts.ensures.few; ceiling = c.a_commit_puts_few_parts.ensures.ceiling } in
     let x : StoredView _ = record { machine = c.self.inside.machine; vault = c.self.inside.vault; first = c.self.inside.first.value; ending = c.self.inside.ending } in
     let sound = subst (λ (z : StoredView _). IsSoundOver S.view S.holds S.leaves z) (sym c.self.view_is) c.requires.sound in
     let going = subst (λ (z : StoredView _). z.ending ≡ Going) (sym c.self.view_is) c.requires.going in
@@ -59,4 +62,6 @@ returns-in-Ok g c =
       marks = b.marks;
       stopped = b.stopped;
       refused = b.refused;
+      commits = subst (λ (z : StoredView _). OnOk c.settle.result (CommitsFew S.holds z c.settle.new.self c.args.process c.args.event)) c.self.view_is
+          (few_settled S.view S.holds S.leaves laws commit_laws x c.args.process c.args.event sound going may c.settle.new.self c.in-Ok.all c.in-Ok.asked c.settle.result c.in-Ok.ensures.anew settled);
     }
