@@ -33,5 +33,5 @@ returns-clause-went g c =
     picked)
     e.by_program (λ is. (e.going is, e.ran is)) (λ is. let h = e.stopped is in halted_stopped y.ending y.machine.history (h.process, h.event) h.is)
     (λ is.
-        halted_on made jobs c.args.pick y.ending y.machine picked e.by_program
-        (subst (λ (n : ℕ). WasHalted made jobs (number_answer (behind_picks number_after (length (run_of y).history) n)) (run_of y) (stopped_of y)) begins (e.stopped is)))
+    halted_on made jobs c.args.pick y.ending y.machine picked e.by_program
+    (subst (λ (n : ℕ). WasHalted made jobs (number_answer (behind_picks number_after (length (run_of y).history) n)) (run_of y) (stopped_of y)) begins (e.stopped is)))

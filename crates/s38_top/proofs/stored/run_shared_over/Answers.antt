@@ -35,5 +35,5 @@ returns-clause-went g c =
     (λ is. let h = over_complete c.ending.result c.run_jobs-machine.result.1 (sym c.end_over-end.ensures ∙ is) in (sym c.ending.ensures ∙ h.0, e.complete h.1))
     (λ is. sym c.ending.ensures ∙ over_stopped c.ending.result c.run_jobs-machine.result.1 (sym c.end_over-end.ensures ∙ is))
     (λ is.
-        let stopped = sym c.ending.ensures ∙ over_stopped c.ending.result c.run_jobs-machine.result.1 (sym c.end_over-end.ensures ∙ is) in
-        (tt, shared_on c.as_slice-2.result.now c.as_slice.result.now y.ending y.machine stopped (some_entry y.ending y.machine _ _ e.sound.ending stopped) e.by_program e.asked))
+    let stopped = sym c.ending.ensures ∙ over_stopped c.ending.result c.run_jobs-machine.result.1 (sym c.end_over-end.ensures ∙ is) in
+    (tt, shared_on c.as_slice-2.result.now c.as_slice.result.now y.ending y.machine stopped (some_entry y.ending y.machine _ _ e.sound.ending stopped) e.by_program e.asked))
