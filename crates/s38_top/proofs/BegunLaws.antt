@@ -1,5 +1,5 @@
 -- Machines over the store of a disk: with what they begin, what a run asks of them, and what it came to.
-use Rattle.std.proofs.Common.{◌≡◌, ◌≢◌, ◌∙◌, ℕ, ◌+◌, ◌-◌, ◌<◌, ◌≤◌, List, [], ◌∷◌, length, map, refl, sym, ap, subst, arith}
+use Rattle.std.proofs.Common.{◌≡◌, ◌∙◌, ℕ, ◌+◌, ◌-◌, ◌<◌, ◌≤◌, List, [], ◌∷◌, length, map, refl, sym, ap, subst, arith}
 use Rattle.std.proofs.lemmas.List.Elements.{All-cons, All-head, All-nil, All-tail}
 use Rattle.std.proofs.lemmas.Option.{slice_get_within}
 use Rattle.std.specs.Prelude.{◌^◌, All, None, Option, Some, slice_get}
@@ -10,7 +10,6 @@ use Rattle.s38_code.specs.declared.entry.Entry.{Entry}
 use Rattle.s38_code.specs.declared.event.Event.{Event}
 use Rattle.s38_code.specs.declared.made.CheckedTemplate.{CheckedTemplate}
 use Rattle.s38_code.specs.declared.made.CreateResult.{CreateResult}
-use Rattle.s38_code.specs.History.{entries_of}
 use Rattle.s38_command.specs.declared.turns.Turns.{Turns}
 use Rattle.s38_create.specs.Checked.{made_of}
 use Rattle.s38_disk.specs.Blocks.{State as Blocks}
@@ -30,7 +29,6 @@ use Rattle.s38_pages.specs.Index.{parts_of}
 use Rattle.s38_pages.specs.Mounts.{layout_of}
 use Rattle.s38_pages.specs.Vaults.{PageStore, page_holds, page_view}
 use Rattle.s38_pages.specs.Watched.{WatchedStore, watched_view}
-use Rattle.s38_process.specs.Process.{ends_by_finish}
 use Rattle.s38_readable.proofs.TemplateLaws.{templates_made}
 use Rattle.s38_readable.specs.Forms.{HoldsForm}
 use Rattle.s38_readable.specs.Templates.{AreMade, IsMade}
@@ -57,7 +55,7 @@ use Rattle.s38_template.specs.Grammar.{Spells}
 use Rattle.s38_vault.specs.Content.{Content}
 use Rattle.s38_vault.specs.Vaults.{VaultView}
 use Rattle.s38_top.proofs.TopLaws.{there_is}
-use Rattle.s38_top.specs.Decks.{IsFrontOfJob, checked_of, checked_template, made_for, opened, order_of}
+use Rattle.s38_top.specs.Decks.{checked_of, checked_template, made_for, opened, order_of}
 use Rattle.s38_top.specs.Ends.{IsReady}
 use Rattle.s38_top.specs.Stored.{IsBegunOver, IsSoundOn, WentOver, end_over, vault_of, watch_of}
 

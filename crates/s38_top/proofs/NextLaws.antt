@@ -1,5 +1,6 @@
 -- Where a machine has stopped, the entry of the call that failed is the next one of the run.
-use Rattle.std.proofs.Common.{◌≡◌, ◌≢◌, ◌⊎◌, inl, inr, ℕ, ◌+◌, ◌-◌, ◌≤◌, ◌==◌, List, [], ◌∷◌, ◌++◌, length, refl, sym, ap, subst, absurd, arith}
+use Rattle.std.proofs.Common.{◌≡◌, ◌≢◌, ◌∙◌, ◌⊎◌, inl, inr, ℕ, ◌+◌, ◌-◌, ◌≤◌, ◌==◌, List, [], ◌∷◌, ◌++◌, length, refl, sym, ap, subst, arith}
+use Rattle.std.proofs.lemmas.Bool.Decides.{nat_tests}
 use Rattle.std.proofs.lemmas.Option.{same_Some}
 use Rattle.std.specs.Option.{option_map}
 use Rattle.std.specs.Prelude.{Bool, true, false, IfSome, Option, Some, slice_get}
@@ -46,7 +47,7 @@ said_of_last : (history : List Entry) (P : ℕ × Event → Type 0) → 1 ≤ le
 said_of_last [] P some said = absurd (omega (arith, some))
 said_of_last (x ∷ xs) P some said =
     let one = split_last x xs in
-    (one.0, one.1, subst (λ (o : Option (ℕ × Event)). IfSome o P) (call_there x xs one.0 one.1) said)
+    (one.0, (one.1, subst (λ (o : Option (ℕ × Event)). IfSome o P) (call_there x xs one.0 one.1) said))
 
 -- ---- one entry more
 

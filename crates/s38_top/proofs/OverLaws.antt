@@ -1,8 +1,8 @@
 -- What a run over the store of a disk came to, and what a crash leaves of it.
-use Rattle.std.proofs.Common.{◌≡◌, ◌∙◌, inl, inr, ℕ, ◌+◌, ◌-◌, ◌<◌, ◌≤◌, List, [], ◌∷◌, ◌++◌, length, take, refl, sym, ap, subst, arith, zero, suc}
+use Rattle.std.proofs.Common.{◌≡◌, ◌∙◌, ℕ, ◌+◌, ◌-◌, ◌<◌, ◌≤◌, List, [], ◌∷◌, ◌++◌, length, take, refl, sym, ap, subst, arith, zero, suc}
 use Rattle.std.proofs.lemmas.List.{length-take, take_all, take_min}
 use Rattle.std.proofs.lemmas.List.Elements.{All-weaker}
-use Rattle.std.specs.Prelude.{All, IsTrue, None, Option, Some, min, slice_get}
+use Rattle.std.specs.Prelude.{All, min}
 use Rattle.s38_base.specs.Faults.{Rose}
 use Rattle.s38_blocks.specs.Store.{Stands}
 use Rattle.s38_blocks.specs.declared.layout.Layout.{Layout}
@@ -11,27 +11,22 @@ use Rattle.s38_close_put_laws.specs.Ending.{IsClosedTo, IsEnding as IsEndingOf, 
 use Rattle.s38_closed_laws.proofs.HomeLaws.{store_parts}
 use Rattle.s38_closed_laws.proofs.NamedLaws.{store_names}
 use Rattle.s38_code.specs.declared.deck.Deck.{Deck}
-use Rattle.s38_code.specs.declared.deck.Job.{Job}
 use Rattle.s38_code.specs.declared.entry.Entry.{Entry}
-use Rattle.s38_code.specs.History.{entries_of}
 use Rattle.s38_command.specs.declared.turns.Turns.{Turns}
-use Rattle.s38_disk.proofs.Times.{images_same, moments_of}
+use Rattle.s38_disk.proofs.Times.{moments_of}
 use Rattle.s38_disk.specs.Disk.{DiskView, Leaves, moment_of}
 use Rattle.s38_disk.specs.declared.block.Block.{Block}
 use Rattle.s38_durable.specs.Durable.{Durable, durable}
 use Rattle.s38_durable.specs.Stands.{Stands as IsOfDurable}
 use Rattle.s38_kept_laws.proofs.KeepLaws.{led_to}
-use Rattle.s38_kept_laws.specs.Crashes.{IsKeptPrefix, led}
-use Rattle.s38_kept_laws.specs.Kept.{AreImages, IsKeptOf}
+use Rattle.s38_kept_laws.specs.Crashes.{led}
+use Rattle.s38_kept_laws.specs.Kept.{AreImages}
 use Rattle.s38_openings.specs.Bodies.{HoldsBody}
 use Rattle.s38_pages.proofs.Watching.{same_first}
 use Rattle.s38_pages.specs.Mounts.{fewest, layout_of}
 use Rattle.s38_pages.specs.Vaults.{PageStore, page_holds, page_leaves, page_view}
 use Rattle.s38_pages.specs.Watched.{IsWatched, WatchedStore, watched_view}
-use Rattle.s38_process.specs.Process.{ends_by_finish}
 use Rattle.s38_put_laws.proofs.ShortLaws.{body_short}
-use Rattle.s38_put_laws.specs.OnePut.{AreShort}
-use Rattle.s38_put_laws.specs.Trails.{IsTrailOf}
 use Rattle.s38_restart_laws.proofs.CrashLaws.{last_images}
 use Rattle.s38_rules.specs.Legal.{AreMoments, Leads, Run}
 use Rattle.s38_rules.specs.State.{State}
@@ -39,7 +34,7 @@ use Rattle.s38_rules.specs.Step.{step}
 use Rattle.s38_run.specs.declared.run_end.RunEnd.{RunEnd as Halt}
 use Rattle.s38_run.specs.declared.run_end.RunEnd.TheVariants as halts
 use Rattle.s38_stored_machine.specs.Seen.{StoredView, answered_by, run_of, without_last}
-use Rattle.s38_stored_machine.specs.Sound.{HoldsOf, HoldsWhile, IsEnding, IsKeptFrom, IsOf}
+use Rattle.s38_stored_machine.specs.Sound.{HoldsOf, HoldsWhile, IsEnding, IsOf}
 use Rattle.s38_stored_machine.specs.declared.ending.Ending.{Ending}
 use Rattle.s38_stored_machine.specs.declared.ending.Ending.TheVariants.{Going, Stopped, Wanting}
 use Rattle.s38_step_parts.specs.Stepping.{HaveHeaders}
@@ -52,18 +47,17 @@ use Rattle.s38_top.specs.Crash.{ArePlanned, Between, IsClosing, IsLeftAt}
 use Rattle.s38_objects.specs.Lawful.{IsLawful}
 use Rattle.s38_openings.proofs.CloseLaws.{end_closes}
 use Rattle.s38_openings.specs.Closing.{CanClose}
-use Rattle.s38_top.specs.Decks.{AreStoreMarks, IsFrontOfJob, IsRunOf, IsRunTo, checked_of, opened, order_of}
+use Rattle.s38_top.specs.Decks.{AreStoreMarks, IsRunOf, IsRunTo, checked_of, order_of}
 use Rattle.s38_top.specs.Ends.{CameFrom, IsEnd, IsRunBehind, IsRunEnded, LeftOver}
 use Rattle.s38_top.specs.Outcome.{history_of, marks_of}
 use Rattle.s38_top.specs.Runs.{LeavesBehind, LeavesBy, kept_of}
 use Rattle.s38_top.specs.declared.outcome.RunEnd.{RunEnd}
 use Rattle.s38_top.specs.declared.outcome.RunEnd.TheVariants as ends
-use Rattle.s38_top.specs.Stored.{WentOver, vault_of, watch_of, watched_holds, watched_leaves}
+use Rattle.s38_top.specs.Stored.{WentOver, vault_of, watched_holds}
 use Rattle.s38_top.specs.declared.outcome.Outcome.{Outcome}
 use Rattle.s38_top.specs.declared.outcome.Outcome.TheVariants.{BadWords, BadDeck, DeckFault, NoMemory, Ran, Checked, Demonstrated, Installed, Listed, Refused, DiskFault}
 use Rattle.s38_top.specs.declared.outcome.Whole.{Whole}
 use Rattle.s38_vault.specs.Content.{Content}
-use Rattle.s38_vault.specs.Directory.{NameObjects, keys_of}
 use Rattle.s38_vault.specs.Vaults.{AreLimits, VaultShape, most_changes}
 
 -- ---- the front of a history

@@ -1,8 +1,7 @@
 -- What a crash leaves of a store while a call goes on.
-use Rattle.std.proofs.Common.{◌≡◌, ◌∙◌, ◌⊎◌, inl, inr, ℕ, ◌<◌, ◌≤◌, List, [], ap, sym, subst, arith}
+use Rattle.std.proofs.Common.{◌≡◌, ◌∙◌, inl, inr, ℕ, ◌≤◌, List, [], ap, sym, subst}
 use Rattle.std.specs.Prelude.{IfErr, Option, Result, Some, None, Ok, Err}
 use Rattle.s38_closing.specs.Closing.{closing}
-use Rattle.s38_blocks.specs.Store.{Stands}
 use Rattle.s38_code.specs.declared.deck.Deck.{Deck}
 use Rattle.s38_code.specs.declared.entry.Entry.{Entry}
 use Rattle.s38_code.specs.declared.made.CreateResult.{CreateResult}
@@ -10,25 +9,24 @@ use Rattle.s38_command.specs.declared.command.Command.{Command}
 use Rattle.s38_command.specs.declared.command.Command.TheVariants.{Jobs, Check, Demo, Install, List as Listing}
 use Rattle.s38_command.specs.declared.turns.Turns.{Turns}
 use Rattle.s38_disk.specs.Blocks.{State as Blocks}
-use Rattle.s38_disk.specs.Disk.{DiskView, IsAt, Leaves, moment_of}
+use Rattle.s38_disk.specs.Disk.{DiskView, IsAt}
 use Rattle.s38_disk.specs.declared.block.Block.{Block}
 use Rattle.s38_durable.specs.Durable.{durable}
 use Rattle.s38_kept_laws.specs.Beginning.{cleaned, durable_in}
-use Rattle.s38_pages.specs.Mounts.{fewest, layout_of}
-use Rattle.s38_pages.specs.Vaults.{PageStore, page_holds, page_view}
+use Rattle.s38_pages.specs.Mounts.{fewest}
+use Rattle.s38_pages.specs.Vaults.{PageStore, page_view}
 use Rattle.s38_pages.specs.Watched.{WatchedStore}
 use Rattle.s38_rules.specs.Legal.{Leads, Run}
 use Rattle.s38_rules.specs.Room.{Room}
 use Rattle.s38_rules.specs.State.{State}
 use Rattle.s38_stored_machine.specs.Seen.{StoredView}
-use Rattle.s38_stored_machine.specs.Sound.{IsOf}
 use Rattle.s38_stores.proofs.CrashLaws.{during_none, goes_then}
 use Rattle.s38_stores.specs.Crashes.{DuringCall, IsBetween, IsPartlyCleaned, KeepsRestarting}
 use Rattle.s38_stores.specs.Stores.{Restarts}
-use Rattle.s38_top.specs.Crash.{ArePlanned, Between, IsClosing, IsLeftAt, IsSafe, KeepsRun, MadeRun}
-use Rattle.s38_top.specs.Decks.{AreStoreMarks, IsRunTo, opened, order_of}
+use Rattle.s38_top.specs.Crash.{ArePlanned, Between, IsClosing, IsLeftAt, IsSafe, MadeRun}
+use Rattle.s38_top.specs.Decks.{IsRunTo, opened, order_of}
 use Rattle.s38_top.specs.Ends.{IsReady, IsSafeOf, LeftOver}
-use Rattle.s38_top.specs.Runs.{BeginsWith, RanTo, kept_of}
+use Rattle.s38_top.specs.Runs.{RanTo, kept_of}
 use Rattle.s38_top.specs.Stored.{vault_of}
 use Rattle.s38_top.specs.declared.outcome.Outcome.{Outcome}
 use Rattle.s38_top.specs.declared.outcome.Outcome.TheVariants.{NoMemory}

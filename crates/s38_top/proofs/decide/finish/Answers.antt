@@ -1,15 +1,12 @@
-use Rattle.std.proofs.Common.{◌≡◌, ◌∙◌, ℕ, All, ap, arith, refl, subst, sym}
+use Rattle.std.proofs.Common.{◌≡◌, ◌∙◌, All, ap, arith, refl, subst, sym}
 use Rattle.s38_disk.specs.Disk.{DiskView, moment_of}
 use Rattle.s38_kept_laws.specs.Kept.{AreImages}
 use Rattle.s38_objects.specs.Lawful.{IsLawful}
 use Rattle.s38_openings.specs.Closing.{CanClose}
-use Rattle.s38_pages.specs.Mounts.{layout_of}
-use Rattle.s38_pages.specs.Vaults.{page_holds}
 use Rattle.s38_readable.specs.Readable.{IsFit}
 use Rattle.s38_rules.specs.State.{State}
 use Rattle.s38_step_parts.specs.Stepping.{HaveHeaders}
 use Rattle.s38_stores.specs.Crashes.{DuringCall, IsBetween}
-use Rattle.s38_vault.specs.Content.{Content}
 use Rattle.s38_stored_machine.proofs.StateLaws.{stored_fit}
 use Rattle.s38_top.proofs.OverLaws.{came_kept, came_stopped, closes, given_back, going_faultless, left_kept, left_off, reported_kept, reported_stopped, run_all, run_on, stopped_rose}
 use Rattle.s38_top.specs.Runs.{kept_of}
