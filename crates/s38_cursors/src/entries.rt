@@ -226,19 +226,20 @@ fn log_journaled(
     log_change(world, process, cursor.block, &change)
 }
 
-/// The same where the data space is journaled; of another nothing is logged, and no memory taken.
+/// The same where the data space, which the caller found, is journaled; of another nothing is logged, and no memory taken.
 fn log_current(
     alloc: Global,
     world: &mut Core<Objects, Profiles>,
     process: u32,
     operands: &[Operand],
+    space: ObjNum,
     entry: Option<&[u8]>,
 ) -> Result<(), NoMemory>
-    requires { current_fails world.old process operands.now (option_copied entry) ≡ None }
+    requires fails { current_fails world.old process operands.now (option_copied entry) ≡ None }
+    requires space { space.0 ≡ (cursor_of world.old.held operands.now 1).space.0 }
     ensures ok { OnOk result (world.new ≡ logged world.old process (cursor_of world.old.held operands.now 1).block.0 (change_at world.old.held operands.now (option_copied entry.entry))) }
     ensures err { OnErr result (world.new ≡ world.old) }
 {
-    let space = cursor_in(world, operands, 1).space;
     match journal_in(world, space) {
         None => Ok(()),
         Some(_) => log_journaled(alloc, world, process, operands, entry),
@@ -261,7 +262,7 @@ fn update_entry(
     ensures err { OnErr result (world.new ≡ world.old) }
 {
     let cursor = cursor_in(world, operands, 1);
-    match log_current(alloc, world, process, operands, Some(entry)) {
+    match log_current(alloc, world, process, operands, cursor.space, Some(entry)) {
         Ok(()) => {
             update_at(world, cursor.space, cursor.position, entry);
             Ok(())
@@ -302,7 +303,7 @@ pub fn deldsen(
     ensures err { OnErr result (world.new ≡ world.old) }
 {
     let cursor = cursor_in(world, operands, 1);
-    match log_current(alloc, world, process, operands, None) {
+    match log_current(alloc, world, process, operands, cursor.space, None) {
         Ok(()) => {
             delete_at(world, cursor.space, cursor.position);
             Ok(())

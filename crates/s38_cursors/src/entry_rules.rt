@@ -1,17 +1,18 @@
 //! What is asked where entries are inserted, read, updated and deleted through a cursor.
-ghost use Rattle.std.specs.Prelude.{◌≡◌, ◌+◌, ◌≤◌, None, length};
+ghost use Rattle.std.specs.Prelude.{◌≡◌, ◌+◌, ◌≤◌, length};
 ghost use Rattle.std.specs.Option.{option_copied, unwrap_or};
 ghost use Rattle.s38_base.specs.Signals.{first};
 ghost use Rattle.s38_commits.specs.Changes.{entry_bytes};
+ghost use Rattle.s38_cursors.specs.Standing.{standing_fails, standing_rule};
 ghost use Rattle.s38_dataspaces.specs.Entries.{Entry};
 ghost use Rattle.s38_rules.specs.Changing.{journal_rule};
-ghost use Rattle.s38_rules.specs.DataSpaces.{change_rules, current, current_fails, desds_fails, entry_rule, insdsen_fails, insertion_limits, position_rule, retdsen_fails, room_rule, table_of, updsen_fails};
+ghost use Rattle.s38_rules.specs.DataSpaces.{change_rules, current, current_fails, desds_fails, entry_rule, insdsen_fails, retdsen_fails, room_rule, updsen_fails};
 ghost use Rattle.s38_rules.specs.Journaling.{journal_for};
 ghost use Rattle.s38_rules.specs.Parts.{no_table};
 
 use crate::reads::{
-    current_len_at, cursor_in, cursor_of, entry_in, entry_len_at, entry_len_in, fields_in,
-    grown_image_in, next_ordinal_at, table_of,
+    cursor_of, entry_in, entry_len_in, fields_in, grown_image_in, next_ordinal_in, standing_len_in,
+    table_at,
 };
 use s38_base::Exception;
 use s38_base::exceptions::{
@@ -67,16 +68,16 @@ fn room_rule(limit: u32, table: Option<&DataSpace>) -> Option<Exception>
 pub fn current<'a>(objects: &'a Objects, operands: &[Operand], k: usize) -> Option<&'a [u8]>
     ensures { option_copied result ≡ current objects.now operands.now k }
 {
-    let position = cursor_of(objects, operands, k).position;
-    entry_in(table_of(objects, operands, k), position)
+    let cursor = cursor_of(objects, operands, k);
+    entry_in(table_at(objects, cursor.space), cursor.position)
 }
 
-/// The cursor stands at an entry.
-fn position_rule(objects: &Objects, operands: &[Operand], k: u8) -> Option<Exception>
-    ensures { result ≡ position_rule objects.now operands.now k }
+/// A cursor stands at an entry of its data space.
+fn standing_rule(table: Option<&DataSpace>, cursor: &Cursor, k: u8) -> Option<Exception>
+    ensures { result ≡ standing_rule (unwrap_or (option_copied table.entry) no_table) cursor.now k }
 {
     fails(
-        current(objects, operands, usize::from(k)).is_none(),
+        entry_in(table, cursor.position).is_none(),
         POSITION_EMPTY,
         k,
     )
@@ -116,47 +117,10 @@ fn journal_room(
     journal_rule(world, cursor.block, bytes, journal)
 }
 
-// ---- the same, in a world
-
-/// Operand 2 is an entry of the data space of the cursor of operand 1.
-fn entry_failure(world: &Core<Objects, Profiles>, operands: &[Operand]) -> Option<Exception>
-    ensures { result ≡ entry_rule (table_of world.now.held operands.now 1).fields world.now.held operands.now }
-{
-    let objects = &world.objects;
-    entry_rule(table_of(objects, operands, 1), objects, operands)
-}
-
-/// One entry more stays within the limit of a body.
-fn room_failure(world: &Core<Objects, Profiles>, operands: &[Operand]) -> Option<Exception>
-    ensures { result ≡ room_rule world.now.limit (table_of world.now.held operands.now 1) }
-{
-    room_rule(world.limit, table_of(&world.objects, operands, 1))
-}
-
-/// The cursor of operand 1 stands at an entry.
-fn position_failure(world: &Core<Objects, Profiles>, operands: &[Operand]) -> Option<Exception>
-    ensures { result ≡ position_rule world.now.held operands.now 1 }
-{
-    position_rule(&world.objects, operands, 1)
-}
-
 // ---- INSDSEN
 
-/// The image of the data space, and the journal, have room for one entry more.
-#[tactic(auto, using(crate::proofs::CursorLaws::entry_sized))]
-fn insertion_limits(world: &Core<Objects, Profiles>, operands: &[Operand]) -> Option<Exception>
-    requires { entry_rule (table_of world.now.held operands.now 1).fields world.now.held operands.now ≡ None }
-    ensures { result ≡ insertion_limits world.now operands.now }
-{
-    if let Some(failure) = room_failure(world, operands) {
-        return Some(failure);
-    }
-    let cursor = cursor_in(world, operands, 1);
-    journal_room(world, &cursor, 0, entry_len_at(world, operands))
-}
-
-/// It is an entry of the data space, the change may be made, and there is room.
-#[tactic(auto, unfolding(s38_rules::specs::DataSpaces::insdsen_fails))]
+/// It is an entry of the data space, the change may be made, and there is room. The cursor and its data space are looked
+/// up once.
 pub fn insdsen_fails(
     world: &Core<Objects, Profiles>,
     process: u32,
@@ -164,15 +128,19 @@ pub fn insdsen_fails(
 ) -> Option<Exception>
     ensures { result ≡ insdsen_fails world.now process operands.now }
 {
-    if let Some(failure) = entry_failure(world, operands) {
+    let objects = &world.objects;
+    let cursor = cursor_of(objects, operands, 1);
+    let table = table_at(objects, cursor.space);
+    if let Some(failure) = entry_rule(table, objects, operands) {
         return Some(failure);
     }
-    let cursor = cursor_in(world, operands, 1);
-    let at = next_ordinal_at(world, operands);
-    if let Some(failure) = change_rules(world, process, &cursor, at) {
+    if let Some(failure) = change_rules(world, process, &cursor, next_ordinal_in(table)) {
         return Some(failure);
     }
-    insertion_limits(world, operands)
+    if let Some(failure) = room_rule(world.limit, table) {
+        return Some(failure);
+    }
+    journal_room(world, &cursor, 0, entry_len_in(table))
 }
 
 // ---- RETDSEN
@@ -186,16 +154,42 @@ pub fn retdsen_fails(
 ) -> Option<Exception>
     ensures { result ≡ retdsen_fails world.now process operands.now }
 {
-    if let Some(failure) = position_rule(&world.objects, operands, 2) {
+    let cursor = cursor_of(&world.objects, operands, 2);
+    let table = table_at(&world.objects, cursor.space);
+    if let Some(failure) = standing_rule(table, &cursor, 2) {
         return Some(failure);
     }
-    let cursor = cursor_of(&world.objects, operands, 2);
     read_rule(&world.units, process, cursor.space, cursor.position)
 }
 
 // ---- UPDSEN and DELDSEN
 
 /// The cursor stands at an entry, the change may be made, and there is room for one that leaves so many bytes.
+fn standing_fails(
+    world: &Core<Objects, Profiles>,
+    process: u32,
+    cursor: &Cursor,
+    table: Option<&DataSpace>,
+    after: usize,
+) -> Option<Exception>
+    requires { after ≤ 4096 }
+    ensures { (entry : Entry) → entry_bytes entry ≡ after → result ≡ standing_fails world.now process cursor.now (unwrap_or (option_copied table.entry) no_table) entry }
+{
+    if let Some(failure) = standing_rule(table, cursor, 1) {
+        return Some(failure);
+    }
+    if let Some(failure) = change_rules(world, process, cursor, cursor.position) {
+        return Some(failure);
+    }
+    journal_room(
+        world,
+        cursor,
+        standing_len_in(table, cursor.position),
+        after,
+    )
+}
+
+/// The same, of the cursor of operand 1.
 #[tactic(auto, unfolding(s38_rules::specs::DataSpaces::current_fails))]
 pub fn current_fails(
     world: &Core<Objects, Profiles>,
@@ -206,18 +200,13 @@ pub fn current_fails(
     requires { after ≤ 4096 }
     ensures { (entry : Entry) → entry_bytes entry ≡ after → result ≡ current_fails world.now process operands.now entry }
 {
-    if let Some(failure) = position_failure(world, operands) {
-        return Some(failure);
-    }
-    let cursor = cursor_in(world, operands, 1);
-    if let Some(failure) = change_rules(world, process, &cursor, cursor.position) {
-        return Some(failure);
-    }
-    journal_room(world, &cursor, current_len_at(world, operands), after)
+    let cursor = cursor_of(&world.objects, operands, 1);
+    let table = table_at(&world.objects, cursor.space);
+    standing_fails(world, process, &cursor, table, after)
 }
 
-/// It is an entry of the data space, and the one at which the cursor stands may be changed.
-#[tactic(auto, using(crate::proofs::CursorLaws::entry_sized), unfolding(s38_rules::specs::DataSpaces::updsen_fails))]
+/// It is an entry of the data space, and the one at which the cursor stands may be changed. The cursor and its data space
+/// are looked up once.
 pub fn updsen_fails(
     world: &Core<Objects, Profiles>,
     process: u32,
@@ -225,8 +214,11 @@ pub fn updsen_fails(
 ) -> Option<Exception>
     ensures { result ≡ updsen_fails world.now process operands.now }
 {
-    if let Some(failure) = entry_failure(world, operands) {
+    let objects = &world.objects;
+    let cursor = cursor_of(objects, operands, 1);
+    let table = table_at(objects, cursor.space);
+    if let Some(failure) = entry_rule(table, objects, operands) {
         return Some(failure);
     }
-    current_fails(world, process, operands, entry_len_at(world, operands))
+    standing_fails(world, process, &cursor, table, entry_len_in(table))
 }

@@ -6,7 +6,7 @@ ghost use Rattle.s38_commits.specs.Changes.{entry_bytes};
 ghost use Rattle.s38_dataspaces.specs.Entries.{entry_at};
 ghost use Rattle.s38_dataspaces.specs.Seeks.{sought};
 ghost use Rattle.s38_dataspaces.specs.Table.{entry_len, image_size};
-ghost use Rattle.s38_rules.specs.DataSpaces.{current, cursor_of, next_ordinal, standing, table_of};
+ghost use Rattle.s38_rules.specs.DataSpaces.{cursor_of, next_ordinal, standing, table_of};
 ghost use Rattle.s38_rules.specs.Journaling.{journal_for};
 ghost use Rattle.s38_rules.specs.Parts.{cursor_at, no_table, table_at};
 
@@ -43,7 +43,7 @@ pub fn cursor_of(objects: &Objects, operands: &[Operand], k: usize) -> Cursor
 }
 
 /// The data space of a number.
-fn table_at(objects: &Objects, number: ObjNum) -> Option<&DataSpace>
+pub fn table_at(objects: &Objects, number: ObjNum) -> Option<&DataSpace>
     ensures { unwrap_or (option_copied result) no_table ≡ table_at objects.now number.0 }
 {
     match objects.data_space(number) {
@@ -53,7 +53,7 @@ fn table_at(objects: &Objects, number: ObjNum) -> Option<&DataSpace>
 }
 
 /// The data space that the cursor of an operand goes through.
-pub fn table_of<'a>(objects: &'a Objects, operands: &[Operand], k: usize) -> Option<&'a DataSpace>
+fn table_of<'a>(objects: &'a Objects, operands: &[Operand], k: usize) -> Option<&'a DataSpace>
     ensures { unwrap_or (option_copied result) no_table ≡ table_of objects.now operands.now k }
 {
     table_at(objects, cursor_of(objects, operands, k).space)
@@ -181,23 +181,6 @@ pub fn next_ordinal_at(world: &Core<Objects, Profiles>, operands: &[Operand]) ->
     ensures { result ≡ next_ordinal (table_of world.now.held operands.now 1) }
 {
     next_ordinal_in(table_of(&world.objects, operands, 1))
-}
-
-/// How many bytes an entry of that data space has.
-pub fn entry_len_at(world: &Core<Objects, Profiles>, operands: &[Operand]) -> usize
-    ensures len { result ≡ entry_len (table_of world.now.held operands.now 1).fields }
-    ensures bound { result ≤ 4096 }
-{
-    entry_len_in(table_of(&world.objects, operands, 1))
-}
-
-/// How many bytes the entry at which the cursor stands has; 0 where there is none.
-pub fn current_len_at(world: &Core<Objects, Profiles>, operands: &[Operand]) -> usize
-    ensures len { result ≡ entry_bytes (current world.now.held operands.now 1) }
-    ensures bound { result ≤ 4096 }
-{
-    let position = cursor_of(&world.objects, operands, 1).position;
-    standing_len_in(table_of(&world.objects, operands, 1), position)
 }
 
 /// The journal space of the data space of a number; None exactly where it is not journaled.

@@ -5,7 +5,7 @@ ghost use Rattle.std.specs.Prelude.{◌≡◌};
 ghost use Rattle.s38_rules.specs.DataSpaces.{at_sought, is_at, ordinal_rule, seek_fails, seek_of, setcr_fails, sought_ordinal};
 
 use crate::changes::stand_at;
-use crate::reads::{cursor_of, ordinal_in, sought_in, table_of};
+use crate::reads::{cursor_of, ordinal_in, sought_in, table_at};
 use s38_base::exceptions::{DECIMAL_DATA, NO_ENTRY};
 use s38_base::{Exception, Seek};
 use s38_code::Operand;
@@ -39,10 +39,11 @@ fn is_at(how: Seek) -> bool
 fn sought_ordinal(how: Seek, objects: &Objects, operands: &[Operand]) -> Option<u32>
     ensures { result ≡ sought_ordinal how objects.now operands.now }
 {
-    let table = table_of(objects, operands, 1);
+    let cursor = cursor_of(objects, operands, 1);
+    let table = table_at(objects, cursor.space);
     match how {
         Seek::At => ordinal_in(table, ordinal_at(objects, operands, 3)),
-        _ => sought_in(table, how, cursor_of(objects, operands, 1).position),
+        _ => sought_in(table, how, cursor.position),
     }
 }
 

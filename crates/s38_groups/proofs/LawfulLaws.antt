@@ -101,7 +101,7 @@ made_headed n h k rs i s same is =
     let own : IsHeaded n h (made n h rs i).object = record { number = refl; context = refl; id = refl; on_disk = refl } in
     subst (λ (x : Stored). IsHeaded n k x.object) (same_stored (made n h rs i) s is) (subst (λ (x : Header). IsHeaded n x (made n h rs i).object) same own)
 
-object_headed : (limit n : ℕ) (parts : List Change) (k : Header) (s : Stored) → header_in n (leading rows_part parts) ≡ Some k → object_of limit n parts ≡ Ok s → IsHeaded n k s.object
+pub object_headed : (limit n : ℕ) (parts : List Change) (k : Header) (s : Stored) → header_in n (leading rows_part parts) ≡ Some k → object_of limit n parts ≡ Ok s → IsHeaded n k s.object
 unfolding object_of
 object_headed limit n parts k s head read =
     let later = after_leading rows_part parts in

@@ -1,20 +1,18 @@
 -- What each group holds, one after another.
-use Rattle.std.proofs.Common.{◌≡◌, ℕ, ◌+◌, ◌<◌, ◌≤◌, Bool, true, false, cond, List, [], ◌∷◌, ◌++◌, length, get_or, take, drop, map, refl, sym, ap, subst, ◌∙◌, arith}
+use Rattle.std.proofs.Common.{◌≡◌, ℕ, ◌+◌, ◌<◌, Bool, true, false, cond, List, [], ◌∷◌, ◌++◌, length, get_or, take, drop, map, refl, sym, ap, subst, ◌∙◌, arith}
 use Rattle.std.proofs.lemmas.Bool.Decides.{nat_tests}
-use Rattle.std.proofs.lemmas.List.{drop_all, drop_more, get_or-map, take_more, take-append-drop, map-append}
+use Rattle.std.proofs.lemmas.List.{drop_more, take_more, take-append-drop, map-append}
 use Rattle.std.proofs.lemmas.List.Folds.{list_any-append}
 use Rattle.std.proofs.lemmas.Map.Keys.{sorted_from_strictly_increasing, sorted_head, sorted_tail}
-use Rattle.std.proofs.lemmas.Option.{slice_get-map}
-use Rattle.std.specs.Prelude.{◌||◌, Option, Some, None, Result, Ok, Err, filter_map, nat_lt, slice_get}
+use Rattle.std.specs.Prelude.{◌||◌, Option, Some, None, Result, Ok, Err, nat_lt}
 use Rattle.std.specs.BTreeMap.{is_at}
 use Rattle.std.specs.BTreeSet.{BTreeSet, Updates, contains}
-use Rattle.std.specs.List.{AllByRecursion, list_any, position_or_len}
+use Rattle.std.specs.List.{AllByRecursion, list_any}
 use Rattle.std.specs.List.Sorted.{IsStrictlyIncreasing, IsStrictlySortedBy}
-use Rattle.std.specs.Option.{option_and_then, option_map}
 use Rattle.std.specs.Ordering.{nat_cmp}
 use Rattle.std.specs.Result.{result_ok}
 use Rattle.std.specs.declared.cmp.Ordering.TheVariants.{Less}
-use Rattle.s38_image.specs.Faults.{Group, fault_after, fault_by, fault_of, first_of, group, has_same, header_at, is_bad_header, is_number, is_same_in, or_next, sound, sound_at, sound_by}
+use Rattle.s38_image.specs.Faults.{Group, fault_after, fault_by, fault_of, has_same, header_at, is_bad_header, is_same_in, sound, sound_by}
 use Rattle.s38_image.specs.Images.{object_of}
 use Rattle.s38_image.specs.declared.header.Header.{Header}
 use Rattle.s38_image.specs.declared.stored.Stored.{Stored}
@@ -23,7 +21,6 @@ use Rattle.s38_objects.specs.NameOrder.{key, name_cmp}
 use Rattle.s38_objects.proofs.NameLaws.{key_same}
 use Rattle.s38_groups.specs.Readings.{is_entered, is_repeated, outcome, outcome_by, repeats_in}
 use Rattle.s38_groups.specs.Runs.{number_of}
-use Rattle.s38_groups.proofs.LookupLaws.{group_at}
 
 -- ---- identifications that lower groups have
 
@@ -132,47 +129,3 @@ fault_outcome gs limit ceiling g = by (header_at g)
     by : (h : Option Header) → fault_by gs limit ceiling g h ≡ fault_after gs limit ceiling (outcome_by gs ceiling g.number h (object_of limit g.number g.parts))
     by None = refl
     by (Some h) = elim (is_bad_header gs ceiling g.number h) as (λ b. cond b (Some 0) (fault_after gs limit ceiling (object_of limit g.number g.parts)) ≡ fault_after gs limit ceiling (cond b (bad 0) (object_of limit g.number g.parts))) [ true ↦ refl | false ↦ refl ]
-
--- the first fault of the groups from a place on
-pub first_step : (all gs : List Group) (limit ceiling i : ℕ) (d : Group) → i < length gs →
-    first_of all limit ceiling (drop i gs) ≡ or_next (get_or gs i d).number (fault_after all limit ceiling (outcome all limit ceiling (get_or gs i d))) (first_of all limit ceiling (drop (i + 1) gs))
-first_step all gs limit ceiling i d lt =
-    let g = get_or gs i d in
-    ap (first_of all limit ceiling) (drop_more gs i d lt) ∙ ap (λ (o : Option ℕ). or_next g.number o (first_of all limit ceiling (drop (i + 1) gs))) (fault_outcome all limit ceiling g)
-
-pub first_end : (all gs : List Group) (limit ceiling i : ℕ) → length gs ≤ i → first_of all limit ceiling (drop i gs) ≡ None
-first_end all gs limit ceiling i le = ap (first_of all limit ceiling) (drop_all i gs le)
-
-found_is : (gs : List Group) (limit ceiling at : ℕ) (found : List (Result Stored ℕ)) (r : Result Stored ℕ) (d : Group) → at < length gs → found ≡ map (outcome gs limit ceiling) gs → r ≡ get_or found at r → r ≡ outcome gs limit ceiling (get_or gs at d)
-found_is gs limit ceiling at found r d lt is here = here ∙ ap (λ (l : List (Result Stored ℕ)). get_or l at r) is ∙ get_or-map (outcome gs limit ceiling) gs at d r lt
-
-pub fault_some : (gs : List Group) (limit ceiling at n part : ℕ) (found : List (Result Stored ℕ)) (r : Result Stored ℕ) (g : Group) → at < length gs → found ≡ map (outcome gs limit ceiling) gs → r ≡ get_or found at r → g ≡ get_or gs at g → n ≡ g.number →
-    fault_after gs limit ceiling r ≡ Some part → first_of gs limit ceiling (drop at gs) ≡ Some (n, part)
-fault_some gs limit ceiling at n part found r g lt is here group_is number fault =
-    let e : fault_after gs limit ceiling (outcome gs limit ceiling (get_or gs at g)) ≡ Some part = ap (fault_after gs limit ceiling) (sym (found_is gs limit ceiling at found r g lt is here)) ∙ fault in
-    first_step gs gs limit ceiling at g lt
-    ∙ ap (λ (o : Option ℕ). or_next (get_or gs at g).number o (first_of gs limit ceiling (drop (at + 1) gs))) e
-    ∙ ap (λ (k : ℕ). Some (k, part)) (ap (λ (x : Group). x.number) (sym group_is) ∙ sym number)
-
-pub fault_none : (gs : List Group) (limit ceiling at : ℕ) (found : List (Result Stored ℕ)) (r : Result Stored ℕ) → at < length gs → found ≡ map (outcome gs limit ceiling) gs → r ≡ get_or found at r →
-    fault_after gs limit ceiling r ≡ None → first_of gs limit ceiling (drop at gs) ≡ first_of gs limit ceiling (drop (at + 1) gs)
-fault_none gs limit ceiling at found r lt is here fault =
-    let d : Group = record { number = 0; parts = [] } in
-    let e : fault_after gs limit ceiling (outcome gs limit ceiling (get_or gs at d)) ≡ None = ap (fault_after gs limit ceiling) (sym (found_is gs limit ceiling at found r d lt is here)) ∙ fault in
-    first_step gs gs limit ceiling at d lt ∙ ap (λ (o : Option ℕ). or_next (get_or gs at d).number o (first_of gs limit ceiling (drop (at + 1) gs))) e
-
--- what is found at the place of a number
-pub found_sound : (gs : List Group) (limit ceiling n : ℕ) (found : List (Result Stored ℕ)) → found ≡ map (outcome gs limit ceiling) gs →
-    option_and_then result_ok (slice_get found (position_or_len (is_number n) gs)) ≡ sound_at gs limit ceiling n
-found_sound gs limit ceiling n found is =
-    ap (λ (l : List (Result Stored ℕ)). option_and_then result_ok (slice_get l (position_or_len (is_number n) gs))) is
-    ∙ ap (option_and_then result_ok) (slice_get-map (outcome gs limit ceiling) gs (position_or_len (is_number n) gs) ∙ ap (option_map (outcome gs limit ceiling)) (group_at n gs))
-    ∙ by (group gs n)
-  where
-    by : (o : Option Group) → option_and_then result_ok (option_map (outcome gs limit ceiling) o) ≡ option_and_then (sound gs limit ceiling) o
-    by None = refl
-    by (Some g) = ok_outcome gs limit ceiling g
-
-pub all_outcomes : (all : List Group) (limit ceiling : ℕ) (gs : List Group) → filter_map result_ok (map (outcome all limit ceiling) gs) ≡ filter_map (sound all limit ceiling) gs
-all_outcomes all limit ceiling [] = refl
-all_outcomes all limit ceiling (g ∷ gs) = rw (ok_outcome all limit ceiling g, all_outcomes all limit ceiling gs) refl

@@ -1,9 +1,9 @@
 -- What each group holds by itself, where its header is looked at beside the others.
-use Rattle.std.specs.Prelude.{ℕ, Bool, false, List, Option, Some, None, Result, Err, filter_map, if◌then◌else◌}
+use Rattle.std.specs.Prelude.{ℕ, Bool, false, ◌==◌, List, [], ◌∷◌, Option, Some, None, Result, Ok, Err, filter_map, nat_lt, if◌then◌else◌}
 use Rattle.std.specs.BTreeSet.{BTreeSet, contains}
 use Rattle.std.specs.List.{list_any}
-use Rattle.s38_image.specs.Faults.{Group, header_at, is_bad_header, is_same_in, sound}
-use Rattle.s38_image.specs.Images.{object_of}
+use Rattle.s38_image.specs.Faults.{Group, header_at, is_bad_body, is_bad_header, is_same_in, sound}
+use Rattle.s38_image.specs.Images.{body_part, object_of}
 use Rattle.s38_image.specs.declared.header.Header.{Header}
 use Rattle.s38_image.specs.declared.stored.Stored.{Stored}
 use Rattle.s38_rules.specs.declared.object.Object.{Object}
@@ -38,8 +38,39 @@ outcome gs limit ceiling g = outcome_by gs ceiling g.number (header_at g) (objec
 abbrev pub all_sound : List Group → ℕ → ℕ → List Stored
 all_sound gs limit ceiling = filter_map (sound gs limit ceiling) gs
 
+abbrev pub number_in : Stored → ℕ
+number_in s = s.object.number.0
+
+abbrev pub is_object : ℕ → Stored → Bool
+is_object n s = number_in s == n
+
 abbrev pub object_in_stored : Stored → Object
 object_in_stored s = s.object
+
+-- ---- faults
+
+abbrev pub fault_in : ℕ → Result Stored ℕ → Option (ℕ × ℕ)
+fault_in n (Ok s) = None
+fault_in n (Err part) = Some (n, part)
+
+-- the number of a group and its first part at fault, where its body is not looked at beside the others
+abbrev pub fault_alone : List Group → ℕ → ℕ → Group → Option (ℕ × ℕ)
+fault_alone gs limit ceiling g = fault_in g.number (outcome gs limit ceiling g)
+
+-- all these faults of some groups, in the order of the groups
+abbrev pub all_faults : List Group → ℕ → ℕ → List (ℕ × ℕ)
+all_faults gs limit ceiling = filter_map (fault_alone gs limit ceiling) gs
+
+-- the first object whose body has a fault beside the others, with the first part of its body
+abbrev pub first_beside : List Group → ℕ → ℕ → List Stored → Option (ℕ × ℕ)
+first_beside gs limit ceiling [] = None
+first_beside gs limit ceiling (s ∷ ss) = if is_bad_body gs limit ceiling s.sequence s.object.body then Some (number_in s, body_part) else first_beside gs limit ceiling ss
+
+-- of two faults that of the lower number, and the second where both have one number
+abbrev pub lower : Option (ℕ × ℕ) → Option (ℕ × ℕ) → Option (ℕ × ℕ)
+lower None second = second
+lower (Some one) None = Some one
+lower (Some one) (Some other) = if nat_lt one.0 other.0 then Some one else Some other
 
 -- groups that were read, with the longest body and the ceiling of numbers
 pub record Reading : Type 0 where

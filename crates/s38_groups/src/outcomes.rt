@@ -1,7 +1,8 @@
 //! What each group holds by itself.
-ghost use Rattle.std.specs.Prelude.{◌≡◌, ◌≤◌, IfOk, filter_map, map};
-ghost use Rattle.std.specs.Result.{result_ok};
-ghost use Rattle.s38_groups.specs.Readings.{is_repeated, outcome};
+ghost use Rattle.std.specs.Prelude.{◌≡◌, ◌≤◌, IfOk, OnOk, map};
+ghost use Rattle.std.specs.List.Sorted.{IsStrictlyIncreasing};
+ghost use Rattle.s38_groups.specs.Readings.{all_faults, all_sound, is_repeated, outcome};
+ghost use Rattle.s38_groups.specs.Runs.{number_of};
 
 use crate::group::Group;
 use crate::groups::Groups;
@@ -40,35 +41,37 @@ fn outcome(
     }
 }
 
-/// The outcome of each group. `NoMemory` where memory was refused.
+/// What groups hold by themselves.
+#[derive(Drop)]
+pub struct Found {
+    /// The objects, in rising order of number.
+    pub stored: Vec<Stored>,
+    /// The numbers of the other groups, in rising order, each with its first part at fault.
+    pub faults: Vec<(u64, u32)>,
+}
+
+/// What each group holds by itself. `NoMemory` where memory was refused.
 pub fn outcomes(
     alloc: Global,
     limit: u32,
     ceiling: u64,
     groups: &Groups<'_>,
-) -> Result<Vec<Result<Stored, u32>>, NoMemory>
+) -> Result<Found, NoMemory>
     requires { limit ≤ 16777216 }
-    ensures { IfOk result (λ found. found.items ≡ map (outcome groups.now limit ceiling) groups.now) }
+    ensures stored { IfOk result (λ found. found.stored.items ≡ all_sound groups.now limit ceiling) }
+    ensures faults { IfOk result (λ found. found.faults.items ≡ all_faults groups.now limit ceiling) }
+    ensures rising { OnOk result (IsStrictlyIncreasing (map number_of groups.now)) }
 {
     let repeats = repeats(alloc, groups)?;
-    let mut found = Vec::new(alloc);
-    for at in 0..repeats.len() {
-        let group = &groups.as_slice()[at];
-        let result = outcome(alloc, limit, ceiling, groups, group, repeats[at])?;
-        found.push(result)?;
-    }
-    Ok(found)
-}
-
-/// The objects that were found, in their order. `NoMemory` where memory was refused.
-pub fn all_ok(alloc: Global, found: Vec<Result<Stored, u32>>) -> Result<Vec<Stored>, NoMemory>
-    ensures { IfOk result (λ stored. stored.items ≡ filter_map result_ok found.items) }
-{
+    let groups_read = groups.as_slice();
     let mut stored = Vec::new(alloc);
-    for result in found {
-        if let Ok(object) = result {
-            stored.push(object)?;
+    let mut faults = Vec::new(alloc);
+    for at in 0..repeats.len() {
+        let group = &groups_read[at];
+        match outcome(alloc, limit, ceiling, groups, group, repeats[at])? {
+            Ok(object) => stored.push(object)?,
+            Err(part) => faults.push((group.number(), part))?,
         }
     }
-    Ok(stored)
+    Ok(Found { stored, faults })
 }

@@ -1,14 +1,13 @@
-ghost use Rattle.std.specs.Prelude.{◌≡◌, ◌≤◌, ◌<◌, ◌+◌, IfOk, drop, length, map};
+ghost use Rattle.std.specs.Prelude.{◌≡◌, ◌≤◌, IfOk, find, length, map};
 ghost use Rattle.std.specs.List.Sorted.{IsStrictlyIncreasing};
-ghost use Rattle.std.specs.Option.{option_and_then, option_copied, option_map, option_or};
-ghost use Rattle.std.specs.Result.{result_ok};
-ghost use Rattle.s38_image.specs.Faults.{fault_after, first_of, is_bad_body, is_past, journal_behind, last_behind, last_in as last_of, sound_at};
+ghost use Rattle.std.specs.Option.{option_and_then, option_copied, option_map};
+ghost use Rattle.s38_image.specs.Faults.{first_of, is_bad_body, is_past, journal_behind, last_behind, last_in as last_of, sound_at};
 ghost use Rattle.s38_rules.specs.Parts.{journal_of, port_of};
-ghost use Rattle.s38_groups.specs.Readings.{all_sound};
+ghost use Rattle.s38_groups.specs.Readings.{all_sound, first_beside, is_object, lower, number_in};
 ghost use Rattle.s38_groups.specs.Runs.{number_of};
 
 use crate::groups::Groups;
-use crate::outcomes::{all_ok, outcomes};
+use crate::outcomes::{Found, outcomes};
 use s38_base::NoMemory;
 use s38_image::Stored;
 use s38_rules::{Body, Port};
@@ -25,27 +24,41 @@ pub struct Reading<'a> {
     groups: Groups<'a>,
     limit: u32,
     ceiling: u64,
-    found: Vec<Result<Stored, u32>>,
+    found: Found,
 }
 
 impl<'a> Model for Reading<'a> {
     ghost use Rattle.std.specs.Prelude.{◌≡◌, map};
-    ghost use Rattle.s38_groups.specs.Readings.{Reading as Read, outcome};
+    ghost use Rattle.std.specs.List.Sorted.{IsStrictlyIncreasing};
+    ghost use Rattle.s38_groups.specs.Readings.{Reading as Read, all_faults, all_sound};
+    ghost use Rattle.s38_groups.specs.Runs.{number_of};
 
     ghost Value = { Read };
 
     ghost view = { λ r. record { groups = r.groups; limit = r.limit; ceiling = r.ceiling } };
 
-    ghost invariant = { λ r. r.found.items ≡ map (outcome r.groups r.limit r.ceiling) r.groups };
+    ghost invariant = { λ r. record { stored : r.found.stored.items ≡ all_sound r.groups r.limit r.ceiling; faults : r.found.faults.items ≡ all_faults r.groups r.limit r.ceiling; rising : IsStrictlyIncreasing (map number_of r.groups) } };
 }
 
-/// The object that was found, if there is no fault.
-fn whole(found: &Result<Stored, u32>) -> Option<&Stored>
-    ensures { option_copied result ≡ result_ok found.now }
+/// The object of a number, among objects whose numbers rise. In logarithmic time.
+fn object_in(stored: &[Stored], number: u64) -> Option<&Stored>
+    requires { IsStrictlyIncreasing (map number_in stored.now) }
+    ensures { option_copied result ≡ find (is_object number) stored.now }
 {
-    match found {
-        Ok(stored) => Some(stored),
+    match stored.binary_search_by_key(&number, |one| one.object.number.0) {
+        Ok(at) => Some(&stored[at]),
         Err(_) => None,
+    }
+}
+
+/// Of two faults that of the lower number, and the second where both have one number.
+fn lower(first: Option<(u64, u32)>, second: Option<(u64, u32)>) -> Option<(u64, u32)>
+    ensures { result ≡ lower first second }
+{
+    match (first, second) {
+        (Some(one), Some(other)) => { if one.0 < other.0 { first } else { second } }
+        (Some(_), None) => first,
+        (None, _) => second,
     }
 }
 
@@ -98,10 +111,7 @@ impl<'a> Reading<'a> {
     fn sound_at(&self, number: u64) -> Option<&Stored>
         ensures { option_copied result ≡ sound_at self.now.groups self.now.limit self.now.ceiling number }
     {
-        match self.found.get(self.groups.place_of(number)) {
-            Some(found) => whole(found),
-            None => None,
-        }
+        object_in(self.found.stored.as_slice(), number)
     }
 
     /// The port of a number.
@@ -147,32 +157,16 @@ impl<'a> Reading<'a> {
         }
     }
 
-    /// The first part at fault of a group, by what it holds.
-    fn fault_after(&self, found: &Result<Stored, u32>) -> Option<u32>
-        ensures { result ≡ fault_after self.now.groups self.now.limit self.now.ceiling found.now }
+    /// The first of some objects whose body has a fault beside the others, with the first part of its body.
+    fn first_beside(&self, stored: &[Stored]) -> Option<(u64, u32)>
+        ensures { result ≡ first_beside self.now.groups self.now.limit self.now.ceiling stored.now }
     {
-        match found {
-            Err(part) => Some(*part),
-            Ok(stored) => {
-                if self.is_bad_body(stored.sequence, &stored.object.body) {
-                    Some(BODY_PART)
-                } else {
-                    None
-                }
+        for one in stored {
+            if self.is_bad_body(one.sequence, &one.object.body) {
+                return Some((one.object.number.0, BODY_PART));
             }
         }
-    }
-
-    /// The first part at fault of the group at a place, with its number.
-    fn fault_at(&self, at: usize) -> Option<(u64, u32)>
-        requires { at < length self.now.groups }
-        ensures { first_of self.now.groups self.now.limit self.now.ceiling (drop at self.now.groups)
-            ≡ option_or result (first_of self.now.groups self.now.limit self.now.ceiling (drop (at + 1) self.now.groups)) }
-    {
-        match self.fault_after(&self.found[at]) {
-            Some(part) => Some((self.groups.as_slice()[at].number(), part)),
-            None => None,
-        }
+        None
     }
 
     /// The least number with a fault, and its first part at fault.
@@ -180,21 +174,15 @@ impl<'a> Reading<'a> {
         ensures fault { result ≡ first_of self.now.groups self.now.limit self.now.ceiling self.now.groups }
         ensures rising { IsStrictlyIncreasing (map number_of self.now.groups) }
     {
-        let count = self.groups.as_slice().len();
-        for at in 0..count {
-            let fault = self.fault_at(at);
-            if fault.is_some() {
-                return fault;
-            }
-        }
-        None
+        let beside = self.first_beside(self.found.stored.as_slice());
+        lower(beside, self.found.faults.first().copied())
     }
 
-    /// The objects that have no fault by themselves, in rising order of number. `NoMemory` where memory was refused.
-    pub fn into_stored(self, alloc: Global) -> Result<Vec<Stored>, NoMemory>
-        ensures { IfOk result (λ stored. stored.items ≡ all_sound self.entry.groups self.entry.limit self.entry.ceiling) }
+    /// The objects that have no fault by themselves, in rising order of number.
+    pub fn into_stored(self) -> Vec<Stored>
+        ensures { result.items ≡ all_sound self.entry.groups self.entry.limit self.entry.ceiling }
     {
-        let stored = all_ok(alloc, self.found)?;
-        Ok(stored)
+        let found = self.found;
+        found.stored
     }
 }

@@ -74,7 +74,7 @@ fn objects_of(
     if let Some((object, part)) = reading.first_fault() {
         return Err(ImageFault::BadImage { object, part });
     }
-    Ok(reading.into_stored(alloc)?)
+    Ok(reading.into_stored())
 }
 
 /// What all parts of a store hold, where bodies have so many bytes at most, and those of journal spaces 16,777,216. The

@@ -13,6 +13,7 @@ use Rattle.s38_machine.specs.Answered.{IsAnsweredWorld, IsCheckedWorld, WorldRun
 use Rattle.s38_machine.specs.Stored.{anew_by, kept_anew}
 use Rattle.s38_rules.specs.declared.verdict.Verdict.{Verdict}
 use Rattle.s38_rules.specs.declared.verdict.Verdict.TheVariants.{Permit, Wait, Refuse}
+use Rattle.s38_rules.specs.Forcing.{Forced}
 use Rattle.s38_rules.specs.Legal.{after, after_by}
 use Rattle.s38_rules.specs.State.{State, waits}
 use Rattle.s38_rules.specs.Step.{Stepped, awake_verdict, by_verdict, by_waiting, step, verdict_of}
@@ -68,6 +69,10 @@ judged_verdict m x p e v judged = ap (λ (s : State). awake_verdict s p e) (judg
 pub judged_last : (m x : WorldRun) (p : ℕ) (e : Event) (v : Verdict) → IsJudged m x p e v → p ≤ length m.world.state.processes → p ≤ length x.world.state.processes
 judged_last m x p e v judged last = subst (λ (s : State). p ≤ length s.processes) (sym (judged_state m x p e v judged)) last
 
+-- what the store is to keep anew is that of the state in which the verdict was given
+pub judged_anew : (m x : WorldRun) (p : ℕ) (e : Event) (v : Verdict) (all : List Forced) → IsJudged m x p e v → all ≡ anew_by m.world.state p e v → all ≡ anew_by x.world.state p e v
+judged_anew m x p e v all judged are = are ∙ ap (λ (s : State). anew_by s p e v) (sym (judged_state m x p e v judged))
+
 -- the event was entered
 pub answered_run : (m x n : WorldRun) (p : ℕ) (e : Event) (v : Verdict) → waits m.world.state p ≡ false → IsJudged m x p e v
     → n ≡ entered x p e v (by_verdict x.world.state p e v) → run_of n ≡ after (run_of m) m.moment p e
@@ -100,12 +105,11 @@ answered_reply m x p e v awake judged =
     ap (λ (made : Stepped). made.reply) (by_same m.world.state x.world.state p e v awake judged.verdict (judged_state m x p e v judged))
 
 -- what the store keeps anew
-pub answered_anew : (m x : WorldRun) (p : ℕ) (e : Event) (v : Verdict) → waits m.world.state p ≡ false → IsJudged m x p e v → anew_by x.world.state p e v ≡ kept_anew m.world.state p e
+pub answered_anew : (s : State) (p : ℕ) (e : Event) (v : Verdict) → waits s p ≡ false → v ≡ awake_verdict s p e → anew_by s p e v ≡ kept_anew s p e
 unfolding verdict_of
-answered_anew m x p e v awake judged =
-    let s : State = m.world.state in
+answered_anew s p e v awake is =
     let told : verdict_of s p e ≡ awake_verdict s p e = ap (λ (b : Bool). if b then Wait else awake_verdict s p e) awake in
-    ap (λ (t : State). anew_by t p e v) (judged_state m x p e v judged) ∙ ap (anew_by s p e) (judged.verdict ∙ sym told)
+    ap (anew_by s p e) (is ∙ sym told)
 
 -- the world behind it
 answered_by : (w x t : WorldState) (p : ℕ) (e : Event) (v : Verdict) → waits w.state p ≡ false → AreChecked w p (depth_of e) (checks_of w.state p e) x → v ≡ awake_verdict w.state p e

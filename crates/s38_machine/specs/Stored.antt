@@ -1,4 +1,5 @@
 -- A machine with a store: what a step has the store keep anew, and what is prepared for it.
+pub use Rattle.s38_verdicts.specs.Anew.{anew, anew_by, anew_in}
 pub use Rattle.s38_verdicts.specs.Fitting.{FitsStore}
 use Rattle.std.specs.Prelude.{◌≡◌, ◌≤◌, ℕ, List, [], ◌∷◌, length, Option, Some, None}
 use Rattle.s38_code.specs.declared.deck.Job.{Job}
@@ -6,9 +7,7 @@ use Rattle.s38_code.specs.declared.event.Event.{Event}
 use Rattle.s38_code.specs.declared.made.CheckedTemplate.{CheckedTemplate}
 use Rattle.s38_extents.specs.Keeping.{RoomHeld}
 use Rattle.s38_machine.specs.Log.{with_last}
-use Rattle.s38_rules.specs.declared.verdict.Verdict.{Verdict}
-use Rattle.s38_rules.specs.declared.verdict.Verdict.TheVariants.{Permit, Wait, Refuse}
-use Rattle.s38_rules.specs.Forcing.{Forced, forced}
+use Rattle.s38_rules.specs.Forcing.{Forced}
 use Rattle.s38_rules.specs.Held.{Held}
 use Rattle.s38_rules.specs.Legal.{Run}
 use Rattle.s38_rules.specs.Opening.{state_of}
@@ -21,19 +20,6 @@ abbrev pub stored_state_of : Option Room → Held → List CheckedTemplate → L
 stored_state_of room held templates jobs = record (state_of held templates jobs) { room = room }
 
 -- ---- a step
-
--- what a permitted event has the store keep anew; nothing without a store
-abbrev pub anew_in : Option Room → List Forced → List Forced
-anew_in None all = []
-anew_in (Some room) all = all
-
-abbrev pub anew : State → ℕ → Event → List Forced
-anew s p event = anew_in s.room (forced s p event)
-
-abbrev pub anew_by : State → ℕ → Event → Verdict → List Forced
-anew_by s p event Permit = anew s p event
-anew_by s p event Wait = []
-anew_by s p event (Refuse x) = []
 
 -- what an event has the store keep anew: nothing where it is not permitted
 abbrev pub kept_anew : State → ℕ → Event → List Forced

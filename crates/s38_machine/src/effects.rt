@@ -16,7 +16,7 @@ ghost use Rattle.s38_verified.specs.Places.{IsSteady};
 
 use crate::deliveries::{parted, put};
 use crate::rows;
-use crate::storing::{anew, keep, prepared};
+use crate::storing::{keep, prepared};
 use s38_base::{NoMemory, Seq};
 use s38_code::{Event, Val, Vals};
 use s38_extents::{Forcings, Room};
@@ -154,8 +154,8 @@ fn take_stored(
     }
 }
 
-/// A permitted event takes effect, with the value that goes into the space of its receiver, nobody waits any more, and what
-/// the store is to keep anew of it is given back; where memory is refused nothing changes.
+/// A permitted event takes effect, with the value that goes into the space of its receiver, the store keeps this anew of it,
+/// and nobody waits any more; where memory is refused nothing changes.
 #[tactic(auto, using(crate::proofs::StoredLaws::stored_keeps))]
 pub fn apply(
     alloc: Global,
@@ -163,23 +163,23 @@ pub fn apply(
     process: u32,
     event: &Event,
     value: Option<Val>,
-) -> Result<Forcings, NoMemory>
+    all: &Forcings,
+) -> Result<(), NoMemory>
     requires permit { awake_verdict world.old process event.now ≡ Verdict.Permit }
     requires value { GoesAsThatOf world.old process event.now value }
     requires fits { FitsStore world.old }
+    requires anew { all.now ≡ anew world.old process event.now }
     ensures ok { OnOk result (world.new ≡ awake (stored world.old process event.now (effect_of world.old process event.now).state)) }
-    ensures anew { IfOk result (λ all. all ≡ anew world.old process event.now) }
     ensures err { OnErr result (world.new ≡ world.old) }
     ensures kept { OnOk result (length world.new.processes ≡ length world.old.processes) }
     ensures fits { OnOk result (FitsStore world.new) }
 {
-    let all = anew(world, process, event);
-    let spare = prepared(alloc, world, &all)?;
-    match take_stored(alloc, world, process, event, value, &all, spare) {
+    let spare = prepared(alloc, world, all)?;
+    match take_stored(alloc, world, process, event, value, all, spare) {
         Err(fault) => Err(fault),
         Ok(()) => {
             world.waiting.clear();
-            Ok(all)
+            Ok(())
         }
     }
 }
@@ -191,22 +191,23 @@ pub fn take_up(
     process: u32,
     event: &Event,
     value: Option<Val>,
-) -> Result<Forcings, NoMemory>
+    all: &Forcings,
+) -> Result<(), NoMemory>
     requires permit { awake_verdict world.old.state process event.now ≡ Verdict.Permit }
     requires value { GoesAsThatOf world.old.state process event.now value }
     requires fits { FitsStore world.old.state }
+    requires anew { all.now ≡ anew world.old.state process event.now }
     requires steady { IsSteady world.old }
     ensures ok { OnOk result (world.new ≡ behind world.old process event.now (awake (stored world.old.state process event.now (effect_of world.old.state process event.now).state))) }
     ensures state { OnOk result (world.new.state ≡ awake (stored world.old.state process event.now (effect_of world.old.state process event.now).state)) }
-    ensures anew { IfOk result (λ all. all ≡ anew world.old.state process event.now) }
     ensures err { OnErr result (world.new ≡ world.old) }
     ensures kept { OnOk result (length world.new.state.processes ≡ length world.old.state.processes) }
     ensures fits { OnOk result (FitsStore world.new.state) }
     ensures steady { OnOk result (IsSteady world.new) }
 {
-    let all = apply(alloc, &mut world.core, process, event, value)?;
+    apply(alloc, &mut world.core, process, event, value, all)?;
     world.follow(process, event);
-    Ok(all)
+    Ok(())
 }
 
 /// A process joins those that wait, in a core.

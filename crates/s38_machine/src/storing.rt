@@ -2,29 +2,18 @@
 ghost use Rattle.std.specs.Prelude.{◌≡◌, ◌≤◌, All, IfOk, IfSome, Some, length};
 ghost use Rattle.s38_extents.specs.Forcings.{all_forced, forced_as};
 ghost use Rattle.s38_journals.specs.Journals.{forced as forced_journal};
-ghost use Rattle.s38_machine.specs.Stored.{IsPrepared, anew};
+ghost use Rattle.s38_machine.specs.Stored.{IsPrepared};
 ghost use Rattle.s38_room.specs.Following.{FitsBut};
 ghost use Rattle.s38_rules.specs.Parts.{on_journal};
 ghost use Rattle.s38_rules.specs.Storable.{IsStorable};
 ghost use Rattle.s38_rules.specs.Storing.{all_kept, kept_one, stored_in};
 
 use s38_base::{NoMemory, ObjNum};
-use s38_code::Event;
 use s38_extents::{Forcing, Forcings, Room};
 use s38_invoke::{Core, Profiles};
 use s38_objects::Objects;
-use s38_room::{follow, forced};
+use s38_room::follow;
 use std::alloc::Global;
-
-/// What a permitted event has the store keep anew; nothing without a store.
-pub fn anew(world: &Core<Objects, Profiles>, process: u32, event: &Event) -> Forcings
-    ensures { result ≡ anew world.now process event.now }
-{
-    match &world.room {
-        None => Forcings::none(),
-        Some(_) => forced(world, process, event),
-    }
-}
 
 /// The room of the store once more, with the memory for what is kept anew; None where nothing is.
 pub fn prepared(

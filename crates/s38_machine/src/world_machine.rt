@@ -22,7 +22,7 @@ use s38_extents::Forcings;
 use s38_invoke::{Core, Profiles};
 use s38_objects::Objects;
 use s38_rules::Verdict;
-use s38_verdicts::ask_verdict;
+use s38_verdicts::{Judged, ask_verdict};
 use s38_verified::World;
 use std::alloc::Global;
 use std::marker::Model;
@@ -98,8 +98,8 @@ impl WorldMachine {
         self.world.core.waits(process)
     }
 
-    /// A permitted event takes effect and is entered, with the values of its reply, and the value that goes into the
-    /// space of its receiver; what the store is to keep anew is given back.
+    /// A permitted event that has the store keep this anew takes effect and is entered, with the values of its reply, and the
+    /// value that goes into the space of its receiver.
     #[inline(always)]
     fn enter_permitted(
         &mut self,
@@ -107,49 +107,56 @@ impl WorldMachine {
         event: Event,
         values: Vals,
         value: Option<Val>,
-    ) -> Result<Forcings, NoMemory>
+        all: &Forcings,
+    ) -> Result<(), NoMemory>
         requires first { 0 < process }
         requires last { process ≤ length self.old.world.state.processes }
         requires permit { awake_verdict self.old.world.state process event ≡ Verdict.Permit }
         requires values { values ≡ (effect_of self.old.world.state process event).values }
         requires value { GoesAsThatOf self.old.world.state process event value }
+        requires anew { all.now ≡ anew self.old.world.state process event }
         ensures ok { OnOk result (self.new ≡ entered self.old process event Verdict.Permit (by_verdict self.old.world.state process event Verdict.Permit)) }
-        ensures anew { IfOk result (λ all. all ≡ anew self.old.world.state process event) }
         ensures err { OnErr result (self.new ≡ self.old) }
     {
         self.log.reserve()?;
-        let all = take_up(self.alloc, &mut self.world, process, &event, value)?;
+        take_up(self.alloc, &mut self.world, process, &event, value, all)?;
         self.log.push(process, event, Reply::Done(values));
-        Ok(all)
+        Ok(())
     }
 
-    /// A permitted event takes effect and is entered; what the store is to keep anew is given back.
+    /// A permitted event that has the store keep this anew takes effect and is entered.
     #[inline(always)]
-    fn permit(&mut self, process: u32, event: Event) -> Result<Forcings, NoMemory>
+    fn permit(&mut self, process: u32, event: Event, all: &Forcings) -> Result<(), NoMemory>
         requires first { 0 < process }
         requires last { process ≤ length self.old.world.state.processes }
         requires permit { awake_verdict self.old.world.state process event ≡ Verdict.Permit }
+        requires anew { all.now ≡ anew self.old.world.state process event }
         ensures ok { OnOk result (self.new ≡ entered self.old process event Verdict.Permit (by_verdict self.old.world.state process event Verdict.Permit)) }
-        ensures anew { IfOk result (λ all. all ≡ anew self.old.world.state process event) }
         ensures err { OnErr result (self.new ≡ self.old) }
     {
         let (values, value) = parted_values(self.alloc, &self.world.core, process, &event)?;
-        self.enter_permitted(process, event, values, value)
+        self.enter_permitted(process, event, values, value, all)
     }
 
-    /// The same, with a copy of the reply in place of what the store is to keep.
-    fn permit_copied(&mut self, process: u32, event: Event) -> Result<Reply, NoMemory>
+    /// The same, with a copy of the reply.
+    fn permit_copied(
+        &mut self,
+        process: u32,
+        event: Event,
+        all: &Forcings,
+    ) -> Result<Reply, NoMemory>
         requires first { 0 < process }
         requires last { process ≤ length self.old.world.state.processes }
         requires permit { awake_verdict self.old.world.state process event ≡ Verdict.Permit }
+        requires anew { all.now ≡ anew self.old.world.state process event }
         ensures ok { IfOk result (λ r. (r ≡ (by_verdict self.old.world.state process event Verdict.Permit).reply)
             × (self.new ≡ entered self.old process event Verdict.Permit (by_verdict self.old.world.state process event Verdict.Permit))) }
         ensures err { OnErr result (self.new ≡ self.old) }
     {
         let (values, value) = parted_values(self.alloc, &self.world.core, process, &event)?;
         let copy = try_clones(self.alloc, values.as_slice())?;
-        match self.enter_permitted(process, event, values, value) {
-            Ok(_) => Ok(Reply::Done(copy)),
+        match self.enter_permitted(process, event, values, value, all) {
+            Ok(()) => Ok(Reply::Done(copy)),
             Err(fault) => Err(fault),
         }
     }
@@ -179,34 +186,36 @@ impl WorldMachine {
         Ok(())
     }
 
-    /// What becomes of an event of a process that doesn't wait. What is found of its rights stands in the process's place.
-    fn judge(&mut self, process: u32, event: &Event) -> Verdict
-        ensures verdict { result ≡ awake_verdict self.old.world.state process event.now }
+    /// What becomes of an event of a process that doesn't wait, and what the store is to keep anew of it. What is found of its
+    /// rights stands in the process's place.
+    fn judge(&mut self, process: u32, event: &Event) -> Judged
+        ensures verdict { result.verdict ≡ awake_verdict self.old.world.state process event.now }
+        ensures anew { result.anew ≡ anew_by self.old.world.state process event.now result.verdict }
         ensures checked { AreChecked self.old.world process (depth_of event.now) (checks_of self.old.world.state process event.now) self.new.world }
         ensures same { self.new ≡ record self.old { world = self.new.world } }
     {
         ask_verdict(&mut self.world, process, event)
     }
 
-    /// An event that was given this verdict is entered; what the store is to keep anew is given back.
-    fn answer(&mut self, process: u32, event: Event, verdict: Verdict) -> Result<Forcings, NoMemory>
+    /// An event that was given this verdict is entered, where the store is to keep this anew of it.
+    fn answer(
+        &mut self,
+        process: u32,
+        event: Event,
+        verdict: Verdict,
+        all: &Forcings,
+    ) -> Result<(), NoMemory>
         requires first { 0 < process }
         requires last { process ≤ length self.old.world.state.processes }
         requires verdict { awake_verdict self.old.world.state process event ≡ verdict }
+        requires anew { all.now ≡ anew_by self.old.world.state process event verdict }
         ensures ok { OnOk result (self.new ≡ entered self.old process event verdict (by_verdict self.old.world.state process event verdict)) }
-        ensures anew { IfOk result (λ all. all ≡ anew_by self.old.world.state process event verdict) }
         ensures err { OnErr result (self.new ≡ self.old) }
     {
         match verdict {
-            Verdict::Permit => self.permit(process, event),
-            Verdict::Wait => match self.wait(process, event) {
-                Ok(()) => Ok(Forcings::none()),
-                Err(fault) => Err(fault),
-            },
-            Verdict::Refuse(exception) => match self.refuse(process, event, exception) {
-                Ok(()) => Ok(Forcings::none()),
-                Err(fault) => Err(fault),
-            },
+            Verdict::Permit => self.permit(process, event, all),
+            Verdict::Wait => self.wait(process, event),
+            Verdict::Refuse(exception) => self.refuse(process, event, exception),
         }
     }
 
@@ -228,27 +237,31 @@ impl WorldMachine {
         if self.waits(process) {
             return Ok((Asked::WaitsStill, Forcings::none()));
         }
-        let verdict = self.judge(process, &event);
-        match self.answer(process, event, verdict) {
-            Ok(all) => Ok((Asked::Entered, all)),
+        let judged = self.judge(process, &event);
+        match self.answer(process, event, judged.verdict, &judged.anew) {
+            Ok(()) => Ok((Asked::Entered, judged.anew)),
             Err(fault) => Err(fault),
         }
     }
 
+    /// An event that was given this verdict is entered, where the store is to keep this anew of it, and a copy of its reply is
+    /// given.
     fn answer_copied(
         &mut self,
         process: u32,
         event: Event,
         verdict: Verdict,
+        all: &Forcings,
     ) -> Result<Reply, NoMemory>
         requires first { 0 < process }
         requires last { process ≤ length self.old.world.state.processes }
         requires verdict { awake_verdict self.old.world.state process event ≡ verdict }
+        requires anew { all.now ≡ anew_by self.old.world.state process event verdict }
         ensures ok { IfOk result (λ r. (r ≡ (by_verdict self.old.world.state process event verdict).reply) × (self.new ≡ entered self.old process event verdict (by_verdict self.old.world.state process event verdict))) }
         ensures err { OnErr result (self.new ≡ self.old) }
     {
         match verdict {
-            Verdict::Permit => self.permit_copied(process, event),
+            Verdict::Permit => self.permit_copied(process, event, all),
             Verdict::Wait => match self.wait(process, event) {
                 Ok(()) => Ok(Reply::MustWait),
                 Err(fault) => Err(fault),
@@ -273,9 +286,9 @@ impl WorldMachine {
         if self.waits(process) {
             return Ok(Reply::MustWait);
         }
-        let verdict = self.judge(process, event);
+        let judged = self.judge(process, event);
         let own = event.try_clone(self.alloc)?;
-        match self.answer_copied(process, own, verdict) {
+        match self.answer_copied(process, own, judged.verdict, &judged.anew) {
             Ok(reply) => Ok(reply),
             Err(fault) => Err(fault),
         }

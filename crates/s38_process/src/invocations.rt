@@ -3,14 +3,14 @@ ghost use Rattle.std.specs.Prelude.{◌≡◌, ◌<◌, ◌+◌, ◌^◌, IfOk, 
 ghost use Rattle.std.specs.Option.{option_copied};
 ghost use Rattle.s38_local.specs.declared.local_end.LocalEnd.{LocalEnd};
 ghost use Rattle.s38_process.specs.Exceptions.{takes};
-ghost use Rattle.s38_process.specs.Invocations.{argument_places, arguments_in, code_in, deepest, depth_of, entered, exchanged, first_stack, first_values, instruction_of, invoked, places_for, popped, rows_in};
+ghost use Rattle.s38_process.specs.Invocations.{arguments_in, code_in, deepest, depth_of, entered, exchanged, first_stack, instruction_of, invoked, places_for, popped, rows_in};
 ghost use Rattle.s38_process.specs.Process.{alone_there, is_none, ran, went_on, with_frame};
 ghost use Rattle.s38_requests.specs.Requests.{request_of};
 
-use crate::homes::{argument_places, first_frame, own_places};
+use crate::homes::{first_frame, invoked_frame, own_places};
 use crate::made::{code_of, rows_of};
 use crate::standing::Standing;
-use crate::variables::{blank_values, first_values, next_instruction, receive};
+use crate::variables::{add_first_values, blank_values, first_values, next_instruction, receive};
 use s38_base::NoMemory;
 use s38_code::{Arg, Code, CreateResult, Instruction, Request, Val};
 use s38_local::{Frame, LocalEnd};
@@ -40,34 +40,6 @@ impl Model for Invocations {
     ghost view = { λ s. record { values = s.values.items; top = s.top; callers = reverse s.callers.items } };
 
     ghost invariant = { λ s. length s.callers.items < deepest };
-}
-
-/// A program that is to begin, and what its variables begin with.
-#[derive(Drop)]
-struct Entrant {
-    invocation: Standing,
-    values: Vec<Val>,
-}
-
-/// What a program needs that begins behind so many variables, with arguments at these places.
-fn prepared(
-    alloc: Global,
-    code: Code,
-    homes: &[usize],
-    base: usize,
-    arguments: &[Arg],
-) -> Result<Entrant, NoMemory>
-    ensures invocation { IfOk result (λ e. e.invocation ≡ invoked code base (argument_places homes.now base arguments.now)) }
-    ensures values { IfOk result (λ e. e.values.items ≡ first_values code.rows) }
-{
-    let rows = code.program().rows.as_slice();
-    let values = first_values(alloc, rows)?;
-    let places = argument_places(alloc, homes, base, arguments)?;
-    let frame = first_frame(alloc, rows, base, places.as_slice())?;
-    Ok(Entrant {
-        invocation: Standing::new(CreateResult::Created(code), frame),
-        values,
-    })
 }
 
 /// The operands of a call behind the program.
@@ -202,13 +174,20 @@ impl Invocations {
         }
     }
 
-    /// What a program needs that the next instruction begins behind so many variables.
-    fn prepared(&self, alloc: Global, code: Code, base: usize) -> Result<Entrant, NoMemory>
-        ensures invocation { IfOk result (λ e. e.invocation ≡ invoked code base (places_for self.now.top base)) }
-        ensures values { IfOk result (λ e. e.values.items ≡ first_values code.rows) }
+    /// A program that the next instruction begins behind so many variables, with its arguments.
+    fn entrant(&self, alloc: Global, code: Code, base: usize) -> Result<Standing, NoMemory>
+        ensures { IfOk result (λ entrant. entrant ≡ invoked code base (places_for self.now.top base)) }
     {
         let homes = self.top.frame().homes.as_slice();
-        prepared(alloc, code, homes, base, arguments_in(self.instruction()))
+        let arguments = arguments_in(self.instruction());
+        let frame = invoked_frame(
+            alloc,
+            code.program().rows.as_slice(),
+            base,
+            homes,
+            arguments,
+        )?;
+        Ok(Standing::new(CreateResult::Created(code), frame))
     }
 
     /// A program is called by the next instruction. An error changes nothing.
@@ -219,7 +198,7 @@ impl Invocations {
         ensures err { OnErr result (self.new ≡ self.old) }
     {
         let behind = behind_next(&self.top);
-        let mut entrant = match self.prepared(alloc, code, self.values.len()) {
+        let entrant = match self.entrant(alloc, code, self.values.len()) {
             Ok(entrant) => entrant,
             Err(fault) => return Err(fault),
         };
@@ -227,11 +206,11 @@ impl Invocations {
             Ok(()) => {}
             Err(_) => return Err(NoMemory),
         }
-        match self.values.append(&mut entrant.values) {
+        match add_first_values(alloc, &mut self.values, rows_of(entrant.made())) {
             Ok(()) => {}
-            Err(_) => return Err(NoMemory),
+            Err(fault) => return Err(fault),
         }
-        let mut caller = mem::replace(&mut self.top, entrant.invocation);
+        let mut caller = mem::replace(&mut self.top, entrant);
         caller.go_to(behind);
         self.callers.push_reserved(caller);
         Ok(())
@@ -243,17 +222,21 @@ impl Invocations {
         ensures err { OnErr result (self.new ≡ self.old) }
     {
         let base = self.top.frame().base;
-        let mut entrant = match self.prepared(alloc, code, base) {
+        let entrant = match self.entrant(alloc, code, base) {
             Ok(entrant) => entrant,
             Err(fault) => return Err(fault),
         };
-        match self.values.reserve(entrant.values.len()) {
+        let mut values = match first_values(alloc, rows_of(entrant.made())) {
+            Ok(values) => values,
+            Err(fault) => return Err(fault),
+        };
+        match self.values.reserve(values.len()) {
             Ok(()) => {}
             Err(_) => return Err(NoMemory),
         }
         self.values.truncate(base);
-        self.values.append(&mut entrant.values).unwrap();
-        self.top = entrant.invocation;
+        self.values.append(&mut values).unwrap();
+        self.top = entrant;
         Ok(())
     }
 

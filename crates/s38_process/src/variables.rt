@@ -1,4 +1,4 @@
-ghost use Rattle.std.specs.Prelude.{◌≡◌, ◌<◌, ◌+◌, ◌^◌, ◌||◌, ◌∷◌, [], IfOk, IsTrue, OnErr, OnOk, Some, length, slice_get, slice_set};
+ghost use Rattle.std.specs.Prelude.{◌≡◌, ◌<◌, ◌+◌, ◌^◌, ◌||◌, ◌∷◌, ◌++◌, [], IfOk, IsTrue, OnErr, OnOk, Some, length, slice_get, slice_set, take};
 ghost use Rattle.std.specs.Option.{option_copied};
 ghost use Rattle.s38_code.specs.Operations.{classes};
 ghost use Rattle.s38_code.specs.declared.class.Class.{Class};
@@ -61,6 +61,33 @@ pub fn first_values(alloc: Global, rows: &[Row]) -> Result<Vec<Val>, NoMemory>
         values.push(value)?;
     }
     Ok(values)
+}
+
+/// Adds the values with which the variables begin; after an error some of them may stand behind the others.
+fn add_each(alloc: Global, values: &mut Vec<Val>, rows: &[Row]) -> Result<(), NoMemory>
+    ensures ok { OnOk result (values.new.items ≡ values.old.items ++ first_values rows.now) }
+    ensures err { OnErr result (take (length values.old.items) values.new.items ≡ values.old.items) }
+{
+    for row in rows {
+        let value = first_value(alloc, &row.form)?;
+        values.push(value)?;
+    }
+    Ok(())
+}
+
+/// Adds the values with which the variables begin behind others. An error changes nothing.
+pub fn add_first_values(alloc: Global, values: &mut Vec<Val>, rows: &[Row]) -> Result<(), NoMemory>
+    ensures ok { OnOk result (values.new.items ≡ values.old.items ++ first_values rows.now) }
+    ensures err { OnErr result (values.new.items ≡ values.old.items) }
+{
+    let count = values.len();
+    match add_each(alloc, values, rows) {
+        Ok(()) => Ok(()),
+        Err(fault) => {
+            values.truncate(count);
+            Err(fault)
+        }
+    }
 }
 
 /// The variables that a job gives, one for each parameter of its template.

@@ -1,5 +1,7 @@
 -- How many new parts an event needs: those of its changes. A value that goes to its receiver needs none.
-use Rattle.std.proofs.Common.{◌≡◌, ℕ, true, false, List, [], ◌∷◌, length, ◌*◌, refl, ◌∙◌, ap}
+use Rattle.std.proofs.Common.{◌≡◌, ◌==◌, ℕ, true, false, List, [], ◌∷◌, length, ◌*◌, refl, ◌∙◌, ap}
+use Rattle.std.proofs.lemmas.Bool.{eqb-true}
+use Rattle.std.proofs.lemmas.List.{nil_from_length}
 use Rattle.std.specs.Prelude.{Option, Some, None}
 use Rattle.s38_base.specs.declared.op.Op.{Op}
 use Rattle.s38_base.specs.declared.op.Op.TheVariants.{Callx, Crtctx, Crtinx, Crtpg, Crtq, Crts, Lock, Rename, Rslvsp}
@@ -42,7 +44,7 @@ use Rattle.s38_room.proofs.GrowthLaws.{fits_by, growth_is, new_same, parts_left}
 use Rattle.s38_room.proofs.NumberLaws.{AreNumbered, all_decommitted_numbered}
 use Rattle.s38_room.proofs.SumLaws.{parts_counted}
 use Rattle.s38_room.specs.Following.{Fits}
-use Rattle.s38_room.specs.Growing.{growth, is_nothing}
+use Rattle.s38_room.specs.Growing.{growth}
 
 -- ---- a value goes to its receiver
 
@@ -135,10 +137,9 @@ resolving_still _ room s p d r = refl
 
 -- ---- whether there is room
 
-pub store_none : (room : Room) (all : List Forced) (os : List Object) → is_nothing all ≡ true → store_rule (Some room) all os ≡ None
-store_none room [] os is = refl
-store_none room (one ∷ more) os is = cc
+pub store_none : (room : Room) (all : List Forced) (os : List Object) → (length all == 0) ≡ true → store_rule (Some room) all os ≡ None
+store_none room all os is = ap (λ (l : List Forced). store_rule (Some room) l os) (nil_from_length all (eqb-true (length all) 0 is))
 
-pub store_some : (room : Room) (all : List Forced) (os : List Object) → is_nothing all ≡ false → store_rule (Some room) all os ≡ room_rule room (new_parts room all os)
+pub store_some : (room : Room) (all : List Forced) (os : List Object) → (length all == 0) ≡ false → store_rule (Some room) all os ≡ room_rule room (new_parts room all os)
 store_some room [] os is = cc
 store_some room (one ∷ more) os is = refl

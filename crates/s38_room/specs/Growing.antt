@@ -1,5 +1,5 @@
 -- How many new parts a change needs, said of the state before it: one case for each word of change.
-use Rattle.std.specs.Prelude.{ℕ, ◌+◌, ◌-◌, ◌*◌, ◌==◌, Bool, true, false, ◌&&◌, List, [], ◌∷◌, length, Option, Some, None, is_some, nat_le, nat_lt, if◌then◌else◌}
+use Rattle.std.specs.Prelude.{ℕ, ◌+◌, ◌-◌, ◌*◌, ◌==◌, ◌&&◌, List, length, Option, Some, None, is_some, nat_le, nat_lt, if◌then◌else◌}
 use Rattle.std.specs.Option.{option_map}
 use Rattle.s38_commits.specs.Changes.{entry_bytes}
 use Rattle.s38_commits.specs.Unit.{CommitUnit}
@@ -8,7 +8,7 @@ use Rattle.s38_journals.specs.Journals.{JournalList}
 use Rattle.s38_rules.specs.declared.object.Object.{Object}
 use Rattle.s38_rules.specs.Changes.{Changes, Committed, Ensured, Entered, Journaled, Made, OnCursor, Stands, Then, done, through_port}
 use Rattle.s38_rules.specs.Changing.{next_sequence}
-use Rattle.s38_rules.specs.Forcing.{Forced, forced_by, most_unforced, new_parts}
+use Rattle.s38_rules.specs.Forcing.{forced_by, most_unforced, new_parts}
 use Rattle.s38_rules.specs.Held.{Held, kept_on_disk, object}
 use Rattle.s38_rules.specs.Journaling.{journal_for, journal_for_block}
 use Rattle.s38_rules.specs.Parts.{journal_at, on_data}
@@ -72,7 +72,3 @@ growth room s p (Then (Journaled n port) (Ensured m)) =
 growth room s p (Then first (OnCursor n f)) = growth room s p first
 growth room s p (Then first second) = new_parts room (forced_by s p (Then first second)) (done s p (Then first second)).held.objects
 growth room s p _ = 0
-
-abbrev pub is_nothing : List Forced → Bool
-is_nothing [] = true
-is_nothing (one ∷ more) = false

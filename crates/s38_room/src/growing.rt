@@ -13,9 +13,8 @@ ghost use Rattle.s38_rules.specs.Rows.{row};
 ghost use Rattle.s38_rules.specs.Storable.{IsStorable};
 ghost use Rattle.s38_objects.specs.Lawful.{IsLawful};
 ghost use Rattle.s38_room.specs.Following.{Fits};
-ghost use Rattle.s38_room.specs.Growing.{growth, is_nothing};
+ghost use Rattle.s38_room.specs.Growing.{growth};
 
-use crate::events::forced;
 use crate::growth::{
     commit_growth, ensured, entered_growth, grant_growth, journaled, retract_growth,
     transfer_growth,
@@ -25,7 +24,7 @@ use crate::words::{is_named, number_at};
 use s38_base::exceptions::STORE_FULL;
 use s38_base::{Exception, Op, Rule};
 use s38_code::{Event, Family, family_of};
-use s38_extents::Room;
+use s38_extents::{Forcings, Room};
 use s38_invoke::{Core, Profiles};
 use s38_objects::Objects;
 use s38_operands::Act;
@@ -169,25 +168,21 @@ fn room_rule(room: &Room, needed: u32) -> Option<Exception>
     None
 }
 
-fn forces_nothing(world: &Core<Objects, Profiles>, process: u32, event: &Event) -> bool
-    ensures { result ≡ is_nothing (forced world.now process event.now) }
-{
-    forced(world, process, event).as_slice().is_empty()
-}
-
-/// The exception of a step that needs more new parts than are free, where the room fits the objects. A step that has the
-/// store keep nothing anew needs no room.
+/// The exception of a step that has the store keep this anew, where that needs more new parts than are free, and the room
+/// fits the objects. A step that has the store keep nothing anew needs no room.
 pub fn room_failure(
     room: &Room,
     world: &Core<Objects, Profiles>,
     process: u32,
     event: &Event,
+    all: &Forcings,
 ) -> Option<Exception>
     requires fits { Fits room.now.room.extents world.now.held }
     requires storable { All IsStorable world.now.held.objects }
+    requires anew { all.now ≡ forced world.now process event.now }
     ensures { result ≡ store_rule (Some room.now.room) (forced world.now process event.now) (effect_of world.now process event.now).state.held.objects }
 {
-    if forces_nothing(world, process, event) {
+    if all.is_empty() {
         return None;
     }
     room_rule(room, new_parts(room, world, process, event))

@@ -2,7 +2,7 @@
 
 use crate::given::{event, room, world};
 use s38_base::{Kind, Op, Rule};
-use s38_room::{new_parts, room_failure};
+use s38_room::{forced, new_parts, room_failure};
 use std::alloc::Global;
 use std::test::Fail;
 
@@ -27,7 +27,8 @@ fn answered(alloc: Global, parts: u32, op: Op, kind: Kind) -> Result<(u32, Optio
     let world = world(alloc)?;
     let event = event(alloc, op, kind)?;
     let needed = new_parts(&room, &world, 1, &event);
-    match room_failure(&room, &world, 1, &event) {
+    let all = forced(&world, 1, &event);
+    match room_failure(&room, &world, 1, &event, &all) {
         Some(exception) => Ok((needed, Some(exception.rule))),
         None => Ok((needed, None)),
     }

@@ -1,3 +1,4 @@
+pub mod Anew
 pub mod Asked
 pub mod Fitting
 pub mod Plain

@@ -4,6 +4,7 @@ ghost use Rattle.std.specs.Prelude.{◌≡◌, ◌≤◌, length};
 ghost use Rattle.s38_base.specs.Pointers.{carried_in};
 ghost use Rattle.s38_base.specs.Signals.{first};
 ghost use Rattle.s38_verdicts.specs.Resolved.{Each, IsResolved, needs_of};
+ghost use Rattle.s38_verdicts.specs.Anew.{anew_by};
 ghost use Rattle.s38_verdicts.specs.Fitting.{FitsStore};
 ghost use Rattle.s38_rules.specs.Authority.{available, is_governed, lacks_special};
 ghost use Rattle.s38_rules.specs.Headers.{public_of};
@@ -18,10 +19,11 @@ ghost use Rattle.s38_verified.specs.Places.{AreChecked, IsSteady};
 
 use crate::addresses::address_rules;
 use crate::blocking::lock_rules;
+use crate::judged::{Judged, with_room};
 use crate::resolved::{Resolved, resolve, resolve_all};
 use crate::rights::{granting_rule, public_of};
 use crate::rows;
-use crate::verdicts::{of_failure, of_request, start_verdict, store_failure};
+use crate::verdicts::{of_request, start_verdict};
 use s38_authority::{available_on, is_governed, lacks_special, missing};
 use s38_base::exceptions::OWNERSHIP_REQUIRED;
 use s38_base::{Exception, ObjNum, Pointer, Rights, Special};
@@ -294,17 +296,17 @@ fn ask_ruled(world: &mut Seen, process: u32, event: &Event) -> Verdict
 }
 
 /// What becomes of an event of a process that doesn't wait: what the rules make of it, and where they permit it, whether the
-/// store has room for what it keeps. What is found of its rights stands in the process's place.
+/// store has room for what it keeps; and what the store is to keep anew of it. What is found of its rights stands in the
+/// process's place.
 #[tactic(auto, unfolding(s38_rules::specs::Step::awake_verdict))]
-pub fn ask_verdict(world: &mut Seen, process: u32, event: &Event) -> Verdict
+pub fn ask_verdict(world: &mut Seen, process: u32, event: &Event) -> Judged
     requires steady { IsSteady world.old }
     requires fits { FitsStore world.old.state }
-    ensures verdict { result ≡ awake_verdict world.old.state process event.now }
+    ensures verdict { result.verdict ≡ awake_verdict world.old.state process event.now }
+    ensures anew { result.anew ≡ anew_by world.old.state process event.now result.verdict }
     ensures checked { AreChecked world.old process (depth_of event.now) (checks_of world.old.state process event.now) world.new }
     ensures state { world.new.state ≡ world.old.state }
 {
-    match ask_ruled(world, process, event) {
-        Verdict::Permit => of_failure(store_failure(&world.core, process, event)),
-        verdict => verdict,
-    }
+    let ruled = ask_ruled(world, process, event);
+    with_room(&world.core, process, event, ruled)
 }

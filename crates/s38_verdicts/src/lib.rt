@@ -6,10 +6,12 @@ mod addresses;
 mod asking;
 mod blocking;
 mod by_operand;
+mod judged;
 mod resolved;
 mod rights;
 mod rows;
 mod verdicts;
 
 pub use asking::ask_verdict;
+pub use judged::Judged;
 pub use verdicts::verdict_of;

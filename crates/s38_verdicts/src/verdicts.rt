@@ -5,8 +5,6 @@ ghost use Rattle.s38_base.specs.Signals.{first};
 ghost use Rattle.s38_verdicts.specs.Resolved.{Each, IsResolved, needs_of};
 ghost use Rattle.s38_verdicts.specs.Fitting.{FitsStore};
 ghost use Rattle.s38_rules.specs.Authority.{lacks_special};
-ghost use Rattle.s38_rules.specs.Effect.{effect_of};
-ghost use Rattle.s38_rules.specs.Forcing.{forced, store_rule};
 ghost use Rattle.s38_rules.specs.Needs.{first_of};
 ghost use Rattle.s38_rules.specs.Rows.{row};
 ghost use Rattle.s38_rules.specs.Users.{acting};
@@ -15,6 +13,7 @@ ghost use Rattle.s38_rules.specs.Step.{awake_verdict, verdict_of};
 
 use crate::addresses::address_rules;
 use crate::blocking::lock_rules;
+use crate::judged::with_room;
 use crate::resolved::{Resolved, resolve, resolve_all};
 use crate::rights::first_unmet;
 use crate::rows;
@@ -25,7 +24,6 @@ use s38_code::{Event, Operand, Request};
 use s38_invoke::{Acting, Core, Profiles, start_failure};
 use s38_objects::Objects;
 use s38_operands::{Act, word_at};
-use s38_room::room_failure;
 use s38_rules::{Need, ProcessEntry, Verdict};
 
 /// The special authority, and then the authority over each object, that an instruction needs of these users.
@@ -145,7 +143,7 @@ fn refused_by(world: &Core<Objects, Profiles>, act: Act<'_>) -> Option<Exception
     }
 }
 
-pub fn of_failure(failure: Option<Exception>) -> Verdict
+fn of_failure(failure: Option<Exception>) -> Verdict
     ensures { result ≡ of_failure failure }
 {
     match failure {
@@ -244,21 +242,6 @@ fn ruled_verdict(world: &Core<Objects, Profiles>, process: u32, event: &Event) -
     }
 }
 
-/// The exception of a permitted event for which the store has no room; none without a store.
-pub fn store_failure(
-    world: &Core<Objects, Profiles>,
-    process: u32,
-    event: &Event,
-) -> Option<Exception>
-    requires { FitsStore world.now }
-    ensures { result ≡ store_rule world.now.room (forced world.now process event.now) (effect_of world.now process event.now).state.held.objects }
-{
-    match &world.room {
-        None => None,
-        Some(room) => room_failure(room, world, process, event),
-    }
-}
-
 /// What becomes of an event of a process that doesn't wait: what the rules make of it, and where they permit it, whether the
 /// store has room for what it keeps.
 #[tactic(auto, unfolding(s38_rules::specs::Step::awake_verdict))]
@@ -266,10 +249,8 @@ pub fn awake_verdict(world: &Core<Objects, Profiles>, process: u32, event: &Even
     requires { FitsStore world.now }
     ensures { result ≡ awake_verdict world.now process event.now }
 {
-    match ruled_verdict(world, process, event) {
-        Verdict::Permit => of_failure(store_failure(world, process, event)),
-        verdict => verdict,
-    }
+    let ruled = ruled_verdict(world, process, event);
+    with_room(world, process, event, ruled).verdict
 }
 
 /// What becomes of an event; a process that waits goes on waiting.

@@ -2,7 +2,6 @@ use Rattle.std.proofs.Common.{◌≡◌, ap, sym, ◌∙◌}
 use Rattle.std.specs.Prelude.{None, Option}
 use Rattle.std.specs.Option.{option_copied, option_map}
 use Rattle.s38_base.specs.declared.id.ObjNum.{ObjNum}
-use Rattle.s38_rules.specs.declared.cursor.Cursor.{Cursor}
 use Rattle.s38_rules.specs.DataSpaces.{change_at, cursor_of}
 use Rattle.s38_rules.specs.Journaling.{journal_for}
 use Rattle.s38_cursors.proofs.CursorLaws.{unlogged}
@@ -13,5 +12,5 @@ returns-in-None-clause-ok c =
     let s = c.args.world.now in
     let ops = c.args.operands.now in
     let none : journal_for s.held (cursor_of s.held ops 1).space.0 ≡ None =
-    ap (λ (k : Cursor). journal_for s.held k.space.0) (sym c.cursor_in.ensures) ∙ sym c.journal_in.ensures ∙ ap (λ (o : Option ObjNum). option_map (λ n. n.0) o) c.in-None.is in
+    ap (journal_for s.held) (sym c.requires.space) ∙ sym c.journal_in.ensures ∙ ap (λ (o : Option ObjNum). option_map (λ n. n.0) o) c.in-None.is in
     unlogged s c.args.process (cursor_of s.held ops 1).block.0 (change_at s.held ops (option_copied c.args.entry)) none

@@ -5,8 +5,8 @@ use Rattle.s38_cursors.proofs.CursorLaws.{updsen_current, updsen_met, updsen_val
 use Rattle.s38_cursors.proofs.InsertLaws.{logged_table}
 use Rattle.s38_cursors.proofs.entries.update_entry.Goals as goal
 
-pub log_current-requires : goal.log_current-requires
-log_current-requires c =
+pub log_current-requires-clause-fails : goal.log_current-requires-clause-fails
+log_current-requires-clause-fails c =
     subst (λ (bytes : List ℕ). current_fails c.args.world.now c.args.process c.args.operands.now (Some bytes) ≡ None) (sym c.requires.entry)
     (updsen_current c.args.world.now c.args.process c.args.operands.now c.requires.fails)
 

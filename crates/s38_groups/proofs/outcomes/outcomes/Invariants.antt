@@ -1,6 +1,11 @@
-use Rattle.std.proofs.Common.{◌≡◌, map, take}
-use Rattle.s38_groups.specs.Readings.{outcome}
+use Rattle.std.proofs.Common.{◌≡◌, take}
+use Rattle.std.specs.Prelude.{filter_map}
+use Rattle.s38_image.specs.Faults.{sound}
+use Rattle.s38_groups.specs.Readings.{fault_alone}
 use Rattle.s38_groups.proofs.outcomes.outcomes.Given as goal
 
 abbrev pub invariant-loop-at : goal.invariant-loop-at
-invariant-loop-at l = l.found.items ≡ map (outcome l.groups l.limit l.ceiling) (take l.at l.groups)
+invariant-loop-at l = record {
+  stored : l.stored.items ≡ filter_map (sound l.groups l.limit l.ceiling) (take l.at l.groups);
+  faults : l.faults.items ≡ filter_map (fault_alone l.groups l.limit l.ceiling) (take l.at l.groups);
+}

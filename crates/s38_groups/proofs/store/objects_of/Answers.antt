@@ -23,4 +23,4 @@ returns-clause-lawful c =
     let none : first_of r.groups r.limit r.ceiling r.groups ≡ None = sym c.in_default-first_fault.ensures.fault in
     let law = are_lawful r.groups r.limit r.ceiling none c.in_default-first_fault.ensures.rising in
     let here = subst (λ (k : ℕ). AreLawful k (all_sound r.groups r.limit r.ceiling)) (ap (λ (x : Reading). x.ceiling) c.in_ok-reading.ensures) law in
-    subst (λ (ss : List Stored). AreLawful c.args.ceiling ss) (sym c.in_ok-into_stored.ensures) here
+    subst (λ (ss : List Stored). AreLawful c.args.ceiling ss) (sym c.into_stored.ensures) here
