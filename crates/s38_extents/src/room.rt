@@ -112,9 +112,12 @@ impl Room {
         ensures room { IfOk result (λ copy. copy.room ≡ self.now.room) }
         ensures spare { IfOk result (λ copy. extents ≤ copy.spare) }
     {
+        let wanted = self.extents.len().saturating_add(extents);
+        let mut copied = Vec::with_capacity(alloc, wanted)?;
+        copied.extend_from_slice(self.extents.as_slice())?;
         let mut copy = Room {
             parts: self.parts,
-            extents: self.extents.as_slice().to_vec(alloc)?,
+            extents: copied,
             left: self.left,
         };
         copy.reserve(extents)?;

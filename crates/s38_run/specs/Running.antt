@@ -17,7 +17,7 @@ use Rattle.s38_rules.specs.Legal.{Run, IsSound, after}
 use Rattle.s38_process.specs.Process.{ProcessState, RanFrom, absorbed, behind, ends_by_finish, event_of, fresh}
 use Rattle.s38_run.specs.Picked.{Picked}
 use Rattle.s38_run.specs.Pickers.{behind_picks, picks_of}
-use Rattle.s38_run.specs.Whole.{AllByProgram, AllRan, WasHalted, opened_for}
+use Rattle.s38_run.specs.Whole.{AllByProgram, AllRan, AsksNext, WasHalted, opened_for}
 use Rattle.s38_run.specs.declared.job_state.JobState.{JobState}
 use Rattle.s38_run.specs.declared.job_state.JobState.TheVariants as states
 use Rattle.s38_run.specs.declared.outcome.Outcome.{Outcome}
@@ -191,8 +191,7 @@ pub record CameToHalt (made : List CreateResult) (jobs : List Job) (m : Run) (re
   pub event : Event
   pub is : call ≡ Some (process, event)
   pub by : slice_get ready place ≡ Some process
-  pub asks : (job : Job) (one : CreateResult) → slice_get jobs (process - 1) ≡ Some job → slice_get made (process - 1) ≡ Some one
-      → event_of (behind (fresh one job.budget) (entries_of process m.history)) ≡ Some event
+  pub asks : AsksNext made jobs m.history process event
 
 -- ---- whole runs
 

@@ -26,6 +26,11 @@ pub record IsBegun (jobs : List Job) (m : Run) : Type 0 where
 
 -- ---- the entries of the jobs
 
+-- an event is what a process asks next, behind its entries
+abbrev pub AsksNext : List CreateResult → List Job → List Entry → ℕ → Event → Type 0
+AsksNext made jobs history process event = (job : Job) (one : CreateResult) → slice_get jobs (process - 1) ≡ Some job → slice_get made (process - 1) ≡ Some one
+    → event_of (behind (fresh one job.budget) (entries_of process history)) ≡ Some event
+
 -- the entries of each job's process are by its program
 pub record AllByProgram (made : List CreateResult) (jobs : List Job) (history : List Entry) : Type 0 where
   pub each : (k : ℕ) (job : Job) (one : CreateResult) → slice_get jobs k ≡ Some job → slice_get made k ≡ Some one → RanFrom (fresh one job.budget) (entries_of (k + 1) history)
@@ -55,5 +60,4 @@ pub record WasHalted (made : List CreateResult) (jobs : List Job) (pick : ℕ) (
   pub state : State
   pub led : Leads m.origin [] m.history state
   pub picked : chosen state pick ≡ Some process
-  pub asks : (job : Job) (one : CreateResult) → slice_get jobs (process - 1) ≡ Some job → slice_get made (process - 1) ≡ Some one
-      → event_of (behind (fresh one job.budget) (entries_of process m.history)) ≡ Some event
+  pub asks : AsksNext made jobs m.history process event

@@ -1,9 +1,8 @@
 -- Where a machine has stopped, the entry of the call that failed is the next one of the run.
-use Rattle.std.proofs.Common.{◌≡◌, ◌≢◌, ◌∙◌, ◌⊎◌, inl, inr, ℕ, ◌+◌, ◌-◌, ◌≤◌, ◌==◌, List, [], ◌∷◌, ◌++◌, length, refl, sym, ap, subst, arith}
-use Rattle.std.proofs.lemmas.Bool.Decides.{nat_tests}
+use Rattle.std.proofs.Common.{◌≡◌, ◌∙◌, inl, inr, ℕ, ◌+◌, ◌-◌, ◌≤◌, List, [], ◌∷◌, ◌++◌, length, sym, ap, subst, arith}
 use Rattle.std.proofs.lemmas.Option.{same_Some}
 use Rattle.std.specs.Option.{option_map}
-use Rattle.std.specs.Prelude.{Bool, true, false, IfSome, Option, Some, slice_get}
+use Rattle.std.specs.Prelude.{IfSome, Option, Some, slice_get}
 use Rattle.s38_code.specs.History.{entries_of}
 use Rattle.s38_code.specs.declared.deck.Job.{Job}
 use Rattle.s38_code.specs.declared.entry.Entry.{Entry}
@@ -16,7 +15,8 @@ use Rattle.s38_run.proofs.JobLaws.{picked_more}
 use Rattle.s38_run.proofs.Running.{entries_other, entries_own}
 use Rattle.s38_run.specs.Picked.{Picked}
 use Rattle.s38_run.specs.Pickers.{behind_picks, number_after, number_answer, picks_of}
-use Rattle.s38_run.specs.Whole.{AllByProgram, WasHalted}
+use Rattle.s38_run.proofs.TurnLaws.{same_or_not}
+use Rattle.s38_run.specs.Whole.{AllByProgram, AsksNext, WasHalted}
 use Rattle.s38_stored_machine.proofs.BehindLaws.{last_call}
 use Rattle.s38_stored_machine.proofs.WantLaws.{split_last}
 use Rattle.s38_stored_machine.specs.Seen.{answered_by, call_of, stopped_by, without_last}
@@ -51,19 +51,7 @@ said_of_last (x ∷ xs) P some said =
 
 -- ---- one entry more
 
--- a call is of what its process asks next, behind its entries
-abbrev Asks : List CreateResult → List Job → List Entry → ℕ × Event → Type 0
-Asks made jobs front call = (job : Job) (one : CreateResult) → slice_get jobs (call.0 - 1) ≡ Some job → slice_get made (call.0 - 1) ≡ Some one
-    → event_of (behind (fresh one job.budget) (entries_of call.0 front)) ≡ Some call.1
-
-same_or_not : (a b : ℕ) → (a ≡ b) ⊎ (a ≢ b)
-same_or_not a b = by_test (a == b) refl
-  where
-    by_test : (t : Bool) → (a == b) ≡ t → (a ≡ b) ⊎ (a ≢ b)
-    by_test true e = inl (grind (arith, nat_tests))
-    by_test false e = inr (λ g. absurd (grind (arith, nat_tests)))
-
-module _ (made : List CreateResult) (jobs : List Job) (front : List Entry) (e : Entry) (asks : Asks made jobs front (call_of e)) (all : AllByProgram made jobs front) where
+module _ (made : List CreateResult) (jobs : List Job) (front : List Entry) (e : Entry) (asks : AsksNext made jobs front (call_of e).0 (call_of e).1) (all : AllByProgram made jobs front) where
   own_asks : (k : ℕ) (job : Job) (one : CreateResult) → slice_get jobs k ≡ Some job → slice_get made k ≡ Some one → k + 1 ≡ e.process → event_of (behind (fresh one job.budget) (entries_of (k + 1) front)) ≡ Some e.event
   own_asks k job one job_at one_at own =
       let index : k ≡ e.process - 1 = omega (arith, own) in
@@ -94,7 +82,7 @@ halted_on made jobs pick Stopped m picked all halted =
     let by : halted.process ≡ end.last.process = ap (λ (c : ℕ × Event). c.0) end.of_call in
     subst (λ (es : List Entry). Picked (picks_of number_answer number_after (length es) pick) m.origin es × AllByProgram made jobs es) (sym end.is) (
       picked_more number_answer number_after pick m.origin [] (without_last m.history) halted.state end.last halted.led picked (halted.picked ∙ ap Some by),
-      by_program_on made jobs (without_last m.history) end.last (subst (λ (c : ℕ × Event). Asks made jobs (without_last m.history) c) end.of_call halted.asks) all,
+      by_program_on made jobs (without_last m.history) end.last (subst (λ (c : ℕ × Event). AsksNext made jobs (without_last m.history) c.0 c.1) end.of_call halted.asks) all,
     )
 
 -- on threads

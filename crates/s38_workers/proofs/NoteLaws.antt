@@ -48,6 +48,3 @@ stop_asked d h call n =
 pub if_call : (o : Option (ℕ × Event)) (P Q : (ℕ × Event) → Type 0) → IfSome o P → ((call : ℕ × Event) → o ≡ Some call → P call → Q call) → IfSome o Q
 if_call None P Q h k = tt
 if_call (Some call) P Q h k = k call refl h
-
-pub no_call : (o : Option (ℕ × Event)) (P : (ℕ × Event) → Type 0) → o ≡ None → IfSome o P
-no_call o P none = subst (λ (z : Option (ℕ × Event)). IfSome z P) (sym none) tt

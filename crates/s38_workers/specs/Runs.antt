@@ -1,12 +1,11 @@
 -- Whole runs on threads.
-use Rattle.std.specs.Prelude.{◌≡◌, ℕ, ◌+◌, ◌-◌, ◌<◌, ◌≤◌, true, List, [], Some, length, slice_get, slice_index_or, take}
+use Rattle.std.specs.Prelude.{◌≡◌, ℕ, ◌+◌, ◌<◌, ◌≤◌, true, List, [], Some, length, slice_get, slice_index_or, take}
 use Rattle.s38_code.specs.declared.deck.Job.{Job}
 use Rattle.s38_code.specs.declared.entry.Entry.{Entry}
 use Rattle.s38_code.specs.declared.event.Event.{Event}
 use Rattle.s38_code.specs.declared.made.CreateResult.{CreateResult}
 use Rattle.s38_code.specs.declared.step.StepFault.{StepFault}
-use Rattle.s38_code.specs.History.{entries_of}
-use Rattle.s38_process.specs.Process.{behind, event_of, fresh}
+use Rattle.s38_run.specs.Whole.{AsksNext}
 use Rattle.s38_turn.specs.declared.view.ProcessList.{ProcessList}
 use Rattle.s38_turn.specs.Lists.{has, list_of}
 use Rattle.s38_turn.specs.Seats.{IsSeatOf, SeatView, TurnView}
@@ -63,5 +62,4 @@ pub record AreGathered {M : Type 0} (Halted : Type 0) (turn : TurnView M) (made 
 pub record IsNextOf (made : List CreateResult) (jobs : List Job) (history : List Entry) (call : ℕ × Event) : Type 0 where
   pub first : 0 < call.0
   pub last : call.0 ≤ length jobs
-  pub asks : (job : Job) (one : CreateResult) → slice_get jobs (call.0 - 1) ≡ Some job → slice_get made (call.0 - 1) ≡ Some one
-      → event_of (behind (fresh one job.budget) (entries_of call.0 history)) ≡ Some call.1
+  pub asks : AsksNext made jobs history call.0 call.1
