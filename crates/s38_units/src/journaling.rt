@@ -112,6 +112,14 @@ pub fn open_units(objects: &Objects, units: &Units, journal: ObjNum) -> usize
     count_blocks(objects, units, journal)
 }
 
+/// How many units are open in all journal spaces together, without counting them.
+pub(crate) fn all_units(units: &Units) -> usize
+    ensures count { result ≡ length units.now }
+    ensures few { result < 2 ^ 63 }
+{
+    units.blocks().len()
+}
+
 /// A change begins a unit where its commit block, if it has one, has none.
 pub(crate) fn begins_unit(units: &Units, block: ObjNum) -> bool
     ensures { result ≡ begins_unit units.now block.0 }

@@ -5,7 +5,9 @@ ghost use Rattle.s38_journals.specs.Journals.{room_refusal};
 ghost use Rattle.s38_rules.specs.Changing.{are_units_full, block_rule, block_rules, held_rule, is_journal_full, is_unit_full, journal_rule, of_unit, read_rule, unit_rule};
 ghost use Rattle.s38_rules.specs.Parts.{no_journal};
 
-use crate::journaling::{begins_unit, block_port, is_journaled_to, open_behind, open_units};
+use crate::journaling::{
+    all_units, begins_unit, block_port, is_journaled_to, open_behind, open_units,
+};
 use s38_base::exceptions::{
     ENTRY_HELD, LIMIT_EXCEEDED, NOT_JOURNALED, OBJECT_DESTROYED, OBJECT_TYPE_INVALID,
     UNIT_OF_ANOTHER,
@@ -147,6 +149,8 @@ fn is_full(journal: Option<&Journal>, bytes: u32, units: usize) -> bool
     u128::from(entries) + wanted > LARGEST_JOURNAL
 }
 
+/// A journal space has no room for a change of so many bytes and for the ends of all units that are then open in it.
+/// They are counted only where there is no room for the ends of all units of all journal spaces, and of one more.
 fn is_journal_full(
     objects: &Objects,
     units: &Units,
@@ -156,14 +160,21 @@ fn is_journal_full(
 ) -> bool
     ensures { result ≡ is_journal_full objects.now units.now journal.0 block.0 bytes }
 {
+    if !is_full(objects.journal(journal), bytes, all_units(units) + 1) {
+        return false;
+    }
     let behind = open_behind(objects, units, journal, block);
     is_full(objects.journal(journal), bytes, behind)
 }
 
-/// One unit too many would be open in a journal space.
+/// One unit too many would be open in a journal space. They are counted only where so many are open in all journal
+/// spaces together.
 fn are_units_full(objects: &Objects, units: &Units, journal: ObjNum, block: ObjNum) -> bool
     ensures { result ≡ are_units_full objects.now units.now journal.0 block.0 }
 {
+    if all_units(units) < MOST_UNITS {
+        return false;
+    }
     begins_unit(units, block) && open_units(objects, units, journal) >= MOST_UNITS
 }
 
