@@ -6,6 +6,7 @@ ghost use Rattle.s38_queues.specs.Places.{is_short, without_at};
 
 use crate::keyed::KeyedMessages;
 use crate::message::{Message, Order};
+use crate::messages::Messages;
 use s38_base::{NoMemory, Relation};
 use std::alloc::Global;
 use std::collections::VecDeque;
@@ -99,6 +100,17 @@ impl Kept {
             Kept::Fifo(messages) => messages.get(at),
             Kept::Lifo(messages) => messages.get(at),
             Kept::Keyed(messages) => messages.get(at),
+        }
+    }
+
+    /// The messages in the order of their arrival.
+    pub fn messages(&self) -> Messages<'_>
+        ensures { result ≡ messages_of self.now }
+    {
+        match self {
+            Kept::Fifo(messages) => Messages::of_plain(messages.iter()),
+            Kept::Lifo(messages) => Messages::of_plain(messages.iter()),
+            Kept::Keyed(messages) => messages.messages(),
         }
     }
 

@@ -5,6 +5,7 @@ ghost use Rattle.s38_queues.specs.Places.{found_by_key, is_short, without_at};
 
 use crate::key::Key;
 use crate::message::Message;
+use crate::messages::Messages;
 use crate::place::{Place, first_place};
 use s38_base::{NoMemory, Relation};
 use std::alloc::Global;
@@ -58,6 +59,13 @@ impl KeyedMessages {
         ensures { option_copied result ≡ slice_get self.now at }
     {
         self.messages.values().nth(at)
+    }
+
+    /// The messages in the order of their arrival.
+    pub fn messages(&self) -> Messages<'_>
+        ensures { result ≡ self.now }
+    {
+        Messages::of_keyed(self.messages.values())
     }
 
     /// Puts a message behind the others, in logarithmic time; an error leaves them as they were.

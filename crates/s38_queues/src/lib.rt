@@ -5,10 +5,12 @@ mod kept;
 mod key;
 mod keyed;
 mod message;
+mod messages;
 mod place;
 mod queue;
 
 pub use message::{Message, Order};
+pub use messages::Messages;
 pub use queue::{Queue, QueueFault};
 
 /// What is sent between threads.

@@ -4,6 +4,7 @@ ghost use Rattle.s38_queues.specs.MessageQueue.{found_message, image_size, is_as
 
 use crate::kept::Kept;
 use crate::message::{Message, Order};
+use crate::messages::Messages;
 use s38_base::{Bytes, NoMemory, Relation};
 use std::alloc::Global;
 use std::marker::Model;
@@ -117,6 +118,13 @@ impl Queue {
         ensures { option_copied result ≡ slice_get self.now.messages at }
     {
         self.kept.get(at)
+    }
+
+    /// The messages in the order of their arrival, each reached in constant time.
+    pub fn messages(&self) -> Messages<'_>
+        ensures { result ≡ self.now.messages }
+    {
+        self.kept.messages()
     }
 
     /// Puts a message behind the others. It is refused for its key, then for its length, then where the image
