@@ -13,8 +13,8 @@ enum Left<'a> {
     Keyed(btree_map::Values<'a, u64, Message>),
 }
 
-/// Messages of a queue in the order of their arrival, each reached in constant time. Contracts see them as the list of
-/// the messages that are still to come.
+/// Messages of a queue in the order of their arrival, each reached in at most logarithmic time. Contracts see them as
+/// the list of the messages that are still to come.
 #[derive(Drop)]
 pub struct Messages<'a> {
     left: Left<'a>,

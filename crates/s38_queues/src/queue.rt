@@ -120,7 +120,7 @@ impl Queue {
         self.kept.get(at)
     }
 
-    /// The messages in the order of their arrival, each reached in constant time.
+    /// The messages in the order of their arrival, each reached in at most logarithmic time.
     pub fn messages(&self) -> Messages<'_>
         ensures { result ≡ self.now.messages }
     {
