@@ -1,3 +1,4 @@
+pub mod CountLaws
 pub mod KeptLaws
 pub mod OpenLaws
 pub mod UnitLaws

@@ -2,7 +2,7 @@
 ghost use Rattle.std.specs.Prelude.{◌≡◌, ◌<◌, ◌^◌, filter, length};
 ghost use Rattle.std.specs.Map.{keys_of};
 ghost use Rattle.std.specs.Option.{option_copied, option_map};
-ghost use Rattle.s38_rules.specs.Journaling.{begins_unit, block_port, data_port, is_journal, is_journaled_to, journal_behind, journal_for, journal_for_block, journal_named, open_behind, open_units};
+ghost use Rattle.s38_rules.specs.Journaling.{begins_unit, block_port, data_port, is_journal, is_journaled_to, is_number, journal_behind, journal_for, journal_for_block, journal_named, open_behind, open_units};
 ghost use Rattle.s38_units.specs.Blocks.{leads_to};
 
 use s38_base::ObjNum;
@@ -80,25 +80,51 @@ pub(crate) fn is_journaled_to(objects: &Objects, space: ObjNum, port: ObjNum) ->
     data_port(objects, space).0 == port.0 && journal_for(objects, space).is_some()
 }
 
-/// The unit of a commit block goes to a journal space.
-#[tactic(auto, unfolding(crate::specs::Blocks::leads_to))]
-fn leads_to(objects: &Objects, journal: ObjNum, block: &u64) -> bool
-    ensures { result ≡ leads_to objects.now journal.0 block.now }
+/// A unit whose commit block names a port goes to a journal space.
+fn does_lead(objects: &Objects, journal: ObjNum, port: ObjNum) -> bool
+    ensures { result ≡ is_number journal.0 (journal_behind objects.now port.0) }
 {
-    match journal_for_block(objects, ObjNum(*block)) {
+    match journal_behind(objects, port) {
         Some(other) => other.0 == journal.0,
         None => false,
     }
 }
 
-/// How many commit blocks have a unit that goes to a journal space.
+/// The same, where it is known of the last port: of that port nothing is looked up again.
+fn is_known_to_lead(
+    objects: &Objects,
+    journal: ObjNum,
+    port: ObjNum,
+    last: ObjNum,
+    leads: bool,
+) -> bool
+    requires { leads ≡ is_number journal.0 (journal_behind objects.now last.0) }
+    ensures { result ≡ is_number journal.0 (journal_behind objects.now port.0) }
+{
+    if port.0 == last.0 {
+        leads
+    } else {
+        does_lead(objects, journal, port)
+    }
+}
+
+/// How many commit blocks have a unit that goes to a journal space. Where a block names the port of the one before, its
+/// block alone is looked up.
 fn count_blocks(objects: &Objects, units: &Units, journal: ObjNum) -> usize
     ensures { result ≡ length (filter (leads_to objects.now journal.0) (keys_of units.now)) }
 {
-    units
-        .blocks()
-        .filter(|block| leads_to(objects, journal, block))
-        .count()
+    let mut port = ObjNum(0);
+    let mut leads = does_lead(objects, journal, port);
+    let mut count = 0;
+    for block in units.blocks() {
+        let next = block_port(objects, ObjNum(*block));
+        leads = is_known_to_lead(objects, journal, next, port, leads);
+        port = next;
+        if leads {
+            count += 1;
+        }
+    }
+    count
 }
 
 /// How many units are open in a journal space.
