@@ -4,9 +4,8 @@ use Rattle.std.specs.List.{flat_map}
 use Rattle.s38_codecs.specs.Codec.{Codec, copies, print_each}
 use Rattle.s38_codecs.specs.Formats.{print_from, u16, u32}
 use Rattle.s38_image.specs.Journals.{entry, journal}
-use Rattle.s38_image.proofs.SpaceReading.{found_first}
 use Rattle.s38_image.specs.Queues.{message, order_number, queue}
-use Rattle.std.specs.Prelude.{Some, drop, slice_get, sum_by}
+use Rattle.std.specs.Prelude.{sum_by}
 use Rattle.std.proofs.lemmas.List.{length-append}
 use Rattle.std.proofs.lemmas.List.Sums.{sum_by-cons}
 use Rattle.s38_journals.specs.Entries.{Entry, entry_image, entry_len, head}
@@ -64,12 +63,13 @@ pub journal_length : (k : ℕ) (es : List Entry) → length (journal_image k es)
 journal_length k [] = refl
 journal_length k (e ∷ es) = omega (arith, entry_length k e, journal_length (suc k) es, length-append (entry_image k e) (journal_image (suc k) es), sum_by-cons entry_len e es)
 
--- ---- the message at a place, and those after it
+-- ---- a message, and those after it
 
-pub message_put : (ms : List Message) (at : ℕ) (m : Message) (old new : List ℕ) → slice_get ms at ≡ Some m → new ≡ old ++ message_bytes m → new ++ flat_map message_bytes (drop (at + 1) ms) ≡ old ++ flat_map message_bytes (drop at ms)
-message_put ms at m old new e n =
-    ap (λ (t : List ℕ). t ++ flat_map message_bytes (drop (at + 1) ms)) n ∙ append_assoc old (message_bytes m) (flat_map message_bytes (drop (at + 1) ms))
-    ∙ ap (λ (q : List Message). old ++ flat_map message_bytes q) (sym (found_first ms at m e))
+pub message_put : (old new : List ℕ) (messages more : List Message) (m : Message) → messages ≡ m ∷ more → new ≡ old ++ message_bytes m → new ++ flat_map message_bytes more ≡ old ++ flat_map message_bytes messages
+message_put old new messages more m is one =
+    ap (λ (t : List ℕ). t ++ flat_map message_bytes more) one
+    ∙ append_assoc old (message_bytes m) (flat_map message_bytes more)
+    ∙ ap (λ (q : List Message). old ++ flat_map message_bytes q) (sym is)
 
-pub message_left : (ms : List Message) (at : ℕ) (m : Message) → slice_get ms at ≡ Some m → message_size m + sum_by message_size (drop (at + 1) ms) ≡ sum_by message_size (drop at ms)
-message_left ms at m e = sym (sum_by-cons message_size m (drop (at + 1) ms)) ∙ ap (sum_by message_size) (sym (found_first ms at m e))
+pub message_left : (messages more : List Message) (m : Message) → messages ≡ m ∷ more → sum_by message_size messages ≡ message_size m + sum_by message_size more
+message_left messages more m is = ap (λ (q : List Message). sum_by message_size q) is ∙ sum_by-cons message_size m more

@@ -1,5 +1,5 @@
 //! What is printed of longer bodies. Nothing here takes memory.
-ghost use Rattle.std.specs.Prelude.{◌≡◌, ◌+◌, ◌*◌, ◌<◌, ◌≤◌, ◌++◌, All, drop, length, sum_by};
+ghost use Rattle.std.specs.Prelude.{◌≡◌, ◌*◌, ◌≤◌, All, length, sum_by};
 ghost use Rattle.std.specs.List.{flat_map};
 ghost use Rattle.s38_image.specs.Journals.{journal};
 ghost use Rattle.s38_image_printing.specs.Printing.{message_bytes};
@@ -57,27 +57,13 @@ fn put_message(into: &mut PageWriter, held: &Message)
     into.put(held.text.as_slice());
 }
 
-/// The message at a place.
-fn put_message_at(into: &mut PageWriter, held: &Queue, at: usize)
-    requires there { at < length held.now.messages }
-    requires room { sum_by message_size (drop at held.now.messages) ≤ into.old.room }
-    ensures bytes { into.new.bytes ++ flat_map message_bytes (drop (at + 1) held.now.messages) ≡ into.old.bytes ++ flat_map message_bytes (drop at held.now.messages) }
-    ensures room { into.new.room + sum_by message_size (drop at held.now.messages) ≡ into.old.room + sum_by message_size (drop (at + 1) held.now.messages) }
-    ensures place { into.new.place ≡ into.old.place }
-{
-    let Some(message) = held.message(at) else {
-        return;
-    };
-    put_message(into, message);
-}
-
 /// The messages of a queue, in the order of their arrival.
 fn put_messages(into: &mut PageWriter, held: &Queue)
     requires room { sum_by message_size held.now.messages ≤ into.old.room }
     ensures { Adds into.old into.new (sum_by message_size held.now.messages) (flat_map message_bytes held.now.messages) }
 {
-    for at in 0..held.len() {
-        put_message_at(into, held, at);
+    for message in held.messages() {
+        put_message(into, message);
     }
 }
 
