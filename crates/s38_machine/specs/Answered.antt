@@ -6,7 +6,7 @@ use Rattle.s38_rules.specs.declared.verdict.Verdict.{Verdict}
 use Rattle.s38_rules.specs.declared.verdict.Verdict.TheVariants.{Permit, Wait, Refuse}
 use Rattle.s38_rules.specs.Legal.{Run, history_after, marks_after}
 use Rattle.s38_rules.specs.State.{State, waits}
-use Rattle.s38_rules.specs.Step.{Stepped, awake_verdict, by_verdict, step}
+use Rattle.s38_rules.specs.Step.{Stepped, awake_verdict, step}
 use Rattle.s38_verdicts.specs.Asked.{checked_world, rows_for}
 use Rattle.s38_verified.specs.Following.{behind}
 use Rattle.s38_verified.specs.Places.{RisesBy}

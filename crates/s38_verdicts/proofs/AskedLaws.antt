@@ -11,7 +11,6 @@ use Rattle.s38_base.specs.declared.rights.Rights.{Rights}
 use Rattle.s38_code.specs.declared.operand.Operand.{Operand}
 use Rattle.s38_rules.specs.declared.need.Claim.{Claim}
 use Rattle.s38_rules.specs.declared.need.Claim.TheVariants.{Granting}
-use Rattle.s38_rules.specs.declared.need.Need.{Need}
 use Rattle.s38_rules.specs.declared.object.Object.{Object}
 use Rattle.s38_rules.specs.Headers.{public_of}
 use Rattle.s38_rules.specs.Held.{Held, is_there, object}

@@ -1,6 +1,6 @@
 use Rattle.std.proofs.Common.{ap, sym, ◌∙◌}
 use Rattle.std.specs.Prelude.{Some}
-use Rattle.s38_machine.proofs.AnsweredLaws.{IsJudged, answered_anew, answered_last, answered_run, answered_world, checked_run, judged_anew, judged_last, judged_verdict, waits_anew, waits_reply, waits_run}
+use Rattle.s38_machine.proofs.AnsweredLaws.{answered_anew, answered_last, answered_run, answered_world, checked_run, judged_anew, judged_last, judged_verdict, waits_anew, waits_reply, waits_run}
 use Rattle.s38_machine.specs.Answered.{run_of}
 use Rattle.s38_machine.proofs.world_machine.WorldMachine.ask.Goals as goal
 
