@@ -4,7 +4,7 @@ use Rattle.s38_turn.specs.Rule.{IsOneOf}
 use Rattle.s38_workers.specs.Asking.{WasStopped}
 use Rattle.s38_workers.specs.Runs.{AreLeft, IsNextOf}
 use Rattle.s38_workers.proofs.ListLaws.{first_left}
-use Rattle.s38_workers.proofs.NoteLaws.{if_call, no_call}
+use Rattle.s38_workers.proofs.NoteLaws.{if_call}
 use Rattle.s38_workers.proofs.RunLaws.{all_by_program, all_ran, halted, next_of}
 use Rattle.s38_workers.proofs.jobs.run_jobs.Goals as goal
 
