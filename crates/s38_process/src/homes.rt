@@ -1,7 +1,8 @@
-ghost use Rattle.std.specs.Prelude.{◌≡◌, IfOk, [], replicate, true};
+ghost use Rattle.std.specs.Prelude.{◌≡◌, ℕ, IfOk, slice_get};
 ghost use Rattle.std.specs.List.{range_with_len};
 ghost use Rattle.std.specs.Option.{option_copied};
-ghost use Rattle.s38_process.specs.Invocations.{argument_places, first_frame, home_for, homes_from, lent};
+ghost use Rattle.s38_process.specs.Invocations.{first_frame, home_for, homes_from, lent};
+ghost use Rattle.s38_process.specs.Passed.{places_passed};
 
 use s38_base::{NoMemory, Pile, Seq};
 use s38_code::{Arg, Form, Row};
@@ -18,13 +19,34 @@ fn lent(base: usize, place: Option<usize>, own: usize) -> usize
     }
 }
 
-/// Where a declared name lies: a parameter with the caller's argument, another name at its own place.
-fn home_for(base: usize, places: &[usize], own: usize, form: &Form) -> usize
-    ensures { result ≡ home_for base places.now own form.now }
+/// What lies under the parameters of an invocation that begins: the variables that a job gives, by their places, or the
+/// arguments of a call, by the caller's homes.
+#[derive(Clone, Copy)]
+pub enum Passed<'a> {
+    Given(&'a [usize]),
+    Arguments {
+        homes: &'a [usize],
+        arguments: &'a [Arg],
+    },
+}
+
+/// The place that is passed for a parameter; what is no item lies nowhere.
+fn place_passed(passed: Passed<'_>, at: usize) -> Option<usize>
+    ensures { (base own : ℕ) → lent base result own ≡ lent base (slice_get (places_passed base passed.entry) at) own }
+{
+    match passed {
+        Passed::Given(places) => places.get(at).copied(),
+        Passed::Arguments { homes, arguments } => place_of(homes, arguments.get(at)),
+    }
+}
+
+/// Where a declared name lies: a parameter with what is passed for it, another name at its own place.
+fn home_for(base: usize, passed: Passed<'_>, own: usize, form: &Form) -> usize
+    ensures { result ≡ home_for base (places_passed base passed.entry) own form.now }
 {
     match form {
         Form::Parm { k, .. } => {
-            let place = places.get((*k as usize).saturating_sub(1)).copied();
+            let place = place_passed(passed, (*k as usize).saturating_sub(1));
             lent(base, place, own)
         }
         _ => own,
@@ -32,53 +54,21 @@ fn home_for(base: usize, places: &[usize], own: usize, form: &Form) -> usize
 }
 
 /// Where the declared names of an invocation lie; each has a place of its own behind the base, in order.
-pub fn homes_from(
+fn homes_from(
     alloc: Global,
     base: usize,
-    places: &[usize],
+    passed: Passed<'_>,
     rows: &[Row],
 ) -> Result<Vec<usize>, NoMemory>
-    ensures { IfOk result (λ homes. homes.items ≡ homes_from base places.now base rows.now) }
+    ensures { IfOk result (λ homes. homes.items ≡ homes_from base (places_passed base passed.entry) base rows.now) }
 {
     let mut homes = Vec::with_capacity(alloc, rows.len())?;
     let mut own = base;
     for row in rows {
-        homes.push(home_for(base, places, own, &row.form))?;
+        homes.push(home_for(base, passed, own, &row.form))?;
         own = own.checked_add(1).ok_or(NoMemory)?;
     }
     Ok(homes)
-}
-
-/// Where a declared name of a program lies that begins with these arguments; the homes are the caller's.
-fn invoked_home(base: usize, homes: &[usize], arguments: &[Arg], own: usize, form: &Form) -> usize
-    ensures { result ≡ home_for base (argument_places homes.now base arguments.now) own form.now }
-{
-    match form {
-        Form::Parm { k, .. } => {
-            let argument = arguments.get((*k as usize).saturating_sub(1));
-            lent(base, place_of(homes, argument), own)
-        }
-        _ => own,
-    }
-}
-
-/// Where the declared names of such a program lie; each has a place of its own behind the base, in order.
-fn invoked_homes(
-    alloc: Global,
-    base: usize,
-    homes: &[usize],
-    arguments: &[Arg],
-    rows: &[Row],
-) -> Result<Vec<usize>, NoMemory>
-    ensures { IfOk result (λ made. made.items ≡ homes_from base (argument_places homes.now base arguments.now) base rows.now) }
-{
-    let mut made = Vec::with_capacity(alloc, rows.len())?;
-    let mut own = base;
-    for row in rows {
-        made.push(invoked_home(base, homes, arguments, own, &row.form))?;
-        own = own.checked_add(1).ok_or(NoMemory)?;
-    }
-    Ok(made)
 }
 
 /// The places of the variables that a job gives.
@@ -89,48 +79,21 @@ pub fn own_places(alloc: Global, count: usize) -> Result<Vec<usize>, NoMemory>
     Ok(places)
 }
 
-/// An invocation over these homes begins with its first instruction, and each description of exceptions is on.
-fn frame_over(
-    alloc: Global,
-    base: usize,
-    homes: Vec<usize>,
-    count: usize,
-) -> Result<Frame, NoMemory>
-    ensures { IfOk result (λ frame. frame ≡ record { at = 0; base = base; homes = homes.items; on = replicate count true; returns = []; latest = 0 }) }
-{
-    Ok(Frame {
-        at: 0,
-        base,
-        homes: Seq::from_vec(homes),
-        on: Seq::from_vec(vec![in alloc; true; count]?),
-        returns: Pile::new(alloc),
-        latest: 0,
-    })
-}
-
-/// How an invocation begins whose arguments lie at these places.
+/// An invocation begins with its first instruction, and each description of exceptions is on.
 pub fn first_frame(
     alloc: Global,
     rows: &[Row],
     base: usize,
-    places: &[usize],
+    passed: Passed<'_>,
 ) -> Result<Frame, NoMemory>
-    ensures { IfOk result (λ frame. frame ≡ first_frame rows.now base places.now) }
+    ensures { IfOk result (λ frame. frame ≡ first_frame rows.now base (places_passed base passed.entry)) }
 {
-    let homes = homes_from(alloc, base, places, rows)?;
-    frame_over(alloc, base, homes, rows.len())
-}
-
-/// How an invocation begins that has these arguments; the homes are the caller's.
-pub fn invoked_frame(
-    alloc: Global,
-    rows: &[Row],
-    base: usize,
-    homes: &[usize],
-    arguments: &[Arg],
-) -> Result<Frame, NoMemory>
-    ensures { IfOk result (λ frame. frame ≡ first_frame rows.now base (argument_places homes.now base arguments.now)) }
-{
-    let made = invoked_homes(alloc, base, homes, arguments, rows)?;
-    frame_over(alloc, base, made, rows.len())
+    Ok(Frame {
+        at: 0,
+        base,
+        homes: Seq::from_vec(homes_from(alloc, base, passed, rows)?),
+        on: Seq::from_vec(vec![in alloc; true; rows.len()]?),
+        returns: Pile::new(alloc),
+        latest: 0,
+    })
 }

@@ -7,7 +7,7 @@ ghost use Rattle.s38_process.specs.Invocations.{arguments_in, code_in, deepest, 
 ghost use Rattle.s38_process.specs.Process.{alone_there, is_none, ran, went_on, with_frame};
 ghost use Rattle.s38_requests.specs.Requests.{request_of};
 
-use crate::homes::{first_frame, invoked_frame, own_places};
+use crate::homes::{Passed, first_frame, own_places};
 use crate::made::{code_of, rows_of};
 use crate::standing::Standing;
 use crate::variables::{add_first_values, blank_values, first_values, next_instruction, receive};
@@ -80,7 +80,8 @@ impl Invocations {
         let mut values = blank_values(alloc, rows_of(&made))?;
         let base = values.len();
         let places = own_places(alloc, base)?;
-        let frame = first_frame(alloc, rows_of(&made), base, places.as_slice())?;
+        let given = Passed::Given(places.as_slice());
+        let frame = first_frame(alloc, rows_of(&made), base, given)?;
         let mut own = first_values(alloc, rows_of(&made))?;
         values.append(&mut own)?;
         Ok(Invocations {
@@ -178,15 +179,11 @@ impl Invocations {
     fn entrant(&self, alloc: Global, code: Code, base: usize) -> Result<Standing, NoMemory>
         ensures { IfOk result (λ entrant. entrant ≡ invoked code base (places_for self.now.top base)) }
     {
-        let homes = self.top.frame().homes.as_slice();
-        let arguments = arguments_in(self.instruction());
-        let frame = invoked_frame(
-            alloc,
-            code.program().rows.as_slice(),
-            base,
-            homes,
-            arguments,
-        )?;
+        let passed = Passed::Arguments {
+            homes: self.top.frame().homes.as_slice(),
+            arguments: arguments_in(self.instruction()),
+        };
+        let frame = first_frame(alloc, code.program().rows.as_slice(), base, passed)?;
         Ok(Standing::new(CreateResult::Created(code), frame))
     }
 

@@ -51,18 +51,6 @@ fn first_value(alloc: Global, form: &Form) -> Result<Val, NoMemory>
     }
 }
 
-/// The values with which the variables begin.
-pub fn first_values(alloc: Global, rows: &[Row]) -> Result<Vec<Val>, NoMemory>
-    ensures { IfOk result (λ values. values.items ≡ first_values rows.now) }
-{
-    let mut values = Vec::with_capacity(alloc, rows.len())?;
-    for row in rows {
-        let value = first_value(alloc, &row.form)?;
-        values.push(value)?;
-    }
-    Ok(values)
-}
-
 /// Adds the values with which the variables begin; after an error some of them may stand behind the others.
 fn add_each(alloc: Global, values: &mut Vec<Val>, rows: &[Row]) -> Result<(), NoMemory>
     ensures ok { OnOk result (values.new.items ≡ values.old.items ++ first_values rows.now) }
@@ -73,6 +61,15 @@ fn add_each(alloc: Global, values: &mut Vec<Val>, rows: &[Row]) -> Result<(), No
         values.push(value)?;
     }
     Ok(())
+}
+
+/// The values with which the variables begin.
+pub fn first_values(alloc: Global, rows: &[Row]) -> Result<Vec<Val>, NoMemory>
+    ensures { IfOk result (λ values. values.items ≡ first_values rows.now) }
+{
+    let mut values = Vec::with_capacity(alloc, rows.len())?;
+    add_each(alloc, &mut values, rows)?;
+    Ok(values)
 }
 
 /// Adds the values with which the variables begin behind others. An error changes nothing.
