@@ -1,4 +1,8 @@
 //! A store is one run's at a time: its file is locked as long as a run looks at it.
+ghost use Rattle.std.specs.Prelude.{◌≡◌, false, map, string_bytes};
+ghost use Rattle.s38.specs.Locking.{looks_at_store};
+ghost use Rattle.s38.specs.declared.locking.Hold.{Hold};
+
 use std::fs::{File, OpenOptions, TryLockError};
 
 /// Whether a run may look at the store of a file, and what keeps others from it meanwhile.
@@ -13,11 +17,13 @@ pub enum Hold {
 }
 
 /// Whether words look at the store: those of `check` and `demo` do not.
-fn look_at_store(words: &[String]) -> bool {
+fn look_at_store(words: &[String]) -> bool
+    ensures { result ≡ looks_at_store (map string_bytes words.now) }
+{
     match words {
         [_, command, ..] => {
-            let command = command.as_bytes();
-            command != b"check".as_slice() && command != b"demo".as_slice()
+            let command = command.as_str();
+            command != "check" && command != "demo"
         }
         _ => false,
     }
@@ -42,7 +48,9 @@ fn lock(rt: &HostRuntime, path: &str) -> Hold {
 
 /// Holds the file of the store that the words name, if they look at it. Where it can't be opened, or its file system has no
 /// locks, nothing is held.
-pub fn hold_store(rt: &HostRuntime, words: &[String]) -> Hold {
+pub fn hold_store(rt: &HostRuntime, words: &[String]) -> Hold
+    ensures { looks_at_store (map string_bytes words.now) ≡ false → result ≡ Hold.Free }
+{
     match words {
         [path, ..] if look_at_store(words) => lock(rt, path.as_str()),
         _ => Hold::Free,
